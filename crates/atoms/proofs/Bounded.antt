@@ -1,0 +1,138 @@
+-- The laws of "each" and "some" below a bound, of "each in a word", and of the word of those of which a test holds.
+use mathlib.Core.Path.{_≡_, refl, sym, ap, _∙_, subst}
+use mathlib.Core.Bool.{Bool, true, false, not, _&&_, _||_}
+use mathlib.Core.Logic.{_⊎_, inl, inr}
+use Prim.Native.Nat.{ℕ, zero, suc, _≤_, _<_}
+use native.Mathlib.Omega.{arith}
+use native.Mathlib.Decide.{ℕ-discrete}
+use Rattle.atoms.specs.Word.{Has, has, _∩_, _∪_, _∖_, atom, below}
+use Rattle.atoms.specs.Bounded.{Decides, allBelow, someBelow, allIn, wordBelow}
+use Rattle.atoms.proofs.Tests.{decides, decided-true, not-both, test-cases, bool-ext, and-true, implies-true}
+use Rattle.atoms.proofs.Sets.{decides-has, has-cut, cut-left, cut-right, has-left, has-right, union-cases, has-without, without-left, without-right, has-atom, atom-only, has-none, has-below, below-lt}
+
+-- ---- each
+
+pub all-at : (n : ℕ) (p : ℕ → Bool) → allBelow n p ≡ true → (i : ℕ) → i < n → p i ≡ true
+unfolding allBelow
+all-at zero p e i l = absurd (omega arith)
+all-at (suc n) p e i l = go (p n) refl e (λ t. all-at n p t i) (ℕ-discrete i n)
+  where
+    go : (b : Bool) → p n ≡ b → (elim b [ true ↦ allBelow n p | false ↦ false ]) ≡ true
+        → (allBelow n p ≡ true → i < n → p i ≡ true) → Dec (i ≡ n) → p i ≡ true
+    go true q h rest (yes e) = ap p e ∙ q
+    go true q h rest (no e) = rest h (omega arith)
+    go false q h rest d = absurd (not-both h refl)
+
+pub all-intro : (n : ℕ) (p : ℕ → Bool) → ((i : ℕ) → i < n → p i ≡ true) → allBelow n p ≡ true
+unfolding allBelow
+all-intro zero p h = refl
+all-intro (suc n) p h = rw (h n (omega arith), allBelow) (all-intro n p (λ i l. h i (omega arith)))
+
+-- ---- some
+
+pub some-at : (n : ℕ) (p : ℕ → Bool) → someBelow n p ≡ true → (i : ℕ) × (i < n) × (p i ≡ true)
+unfolding someBelow
+some-at zero p e = absurd (not-both e refl)
+some-at (suc n) p e = go (p n) refl e (some-at n p)
+  where
+    go : (b : Bool) → p n ≡ b → (elim b [ true ↦ true | false ↦ someBelow n p ]) ≡ true
+        → (someBelow n p ≡ true → (i : ℕ) × (i < n) × (p i ≡ true)) → (i : ℕ) × (i < suc n) × (p i ≡ true)
+    go true q h rest = (n, omega arith, q)
+    go false q h rest = let r = rest h in (r .0, omega (arith, r .1), r .2)
+
+pub some-intro : (n : ℕ) (p : ℕ → Bool) (i : ℕ) → i < n → p i ≡ true → someBelow n p ≡ true
+unfolding someBelow
+some-intro zero p i l e = absurd (omega arith)
+some-intro (suc n) p i l e = go (p n) refl (λ l′. some-intro n p i l′ e) (ℕ-discrete i n)
+  where
+    go : (b : Bool) → p n ≡ b → (i < n → someBelow n p ≡ true) → Dec (i ≡ n)
+        → (elim b [ true ↦ true | false ↦ someBelow n p ]) ≡ true
+    go true q rest d = refl
+    go false q rest (yes j) = absurd (not-both (ap p (sym j) ∙ e) q)
+    go false q rest (no j) = rest (omega arith)
+
+-- ---- as tests of statements
+
+pub decides-all : (n : ℕ) (p : ℕ → Bool) {P : ℕ → Type 0} → ((i : ℕ) → i < n → Decides (P i) (p i))
+    → Decides ((i : ℕ) → i < n → P i) (allBelow n p)
+decides-all n p d =
+    decides (allBelow n p) (λ e i l. d i l .yes (all-at n p e i l))
+    (λ f. all-intro n p (λ i l. decided-true (d i l) (f i l)))
+
+pub decides-some : (n : ℕ) (p : ℕ → Bool) {P : ℕ → Type 0} → ((i : ℕ) → i < n → Decides (P i) (p i))
+    → Decides ((i : ℕ) × (i < n) × P i) (someBelow n p)
+decides-some n p d =
+    decides (someBelow n p) (λ e. let s = some-at n p e in (s .0, s .1, d (s .0) (s .1) .yes (s .2)))
+    (λ s. some-intro n p (s .0) (s .1) (decided-true (d (s .0) (s .1)) (s .2)))
+
+-- ---- each in a word
+
+pub all-in-at : (n w : ℕ) (p : ℕ → Bool) → allIn n w p ≡ true → (i : ℕ) → i < n → Has w i → p i ≡ true
+all-in-at n w p e i l h = implies-true (has w i) (p i) .0 (all-at n (λ j. not (has w j) || p j) e i l) (decided-true (decides-has w i) h)
+
+pub all-in-intro : (n w : ℕ) (p : ℕ → Bool) → ((i : ℕ) → i < n → Has w i → p i ≡ true) → allIn n w p ≡ true
+all-in-intro n w p f =
+    all-intro n (λ j. not (has w j) || p j) (λ i l. implies-true (has w i) (p i) .1 (λ e. f i l (decides-has w i .yes e)))
+
+pub decides-all-in : (n w : ℕ) (p : ℕ → Bool) {P : ℕ → Type 0} → ((i : ℕ) → i < n → Decides (P i) (p i))
+    → Decides ((i : ℕ) → i < n → Has w i → P i) (allIn n w p)
+decides-all-in n w p d =
+    decides (allIn n w p) (λ e i l h. d i l .yes (all-in-at n w p e i l h))
+    (λ f. all-in-intro n w p (λ i l h. decided-true (d i l) (f i l h)))
+
+-- words with the same members below n are alike
+pub all-in-same : (n v w : ℕ) (p : ℕ → Bool) → ((i : ℕ) → i < n → Has v i → Has w i)
+    → ((i : ℕ) → i < n → Has w i → Has v i) → allIn n v p ≡ allIn n w p
+all-in-same n v w p f g =
+    bool-ext (allIn n v p) (allIn n w p)
+    (λ e. all-in-intro n w p (λ i l h. all-in-at n v p e i l (g i l h)))
+    (λ e. all-in-intro n v p (λ i l h. all-in-at n w p e i l (f i l h)))
+
+-- "bits with no rule are ignored"
+pub all-in-cut : (n w : ℕ) (p : ℕ → Bool) → allIn n (w ∩ below n) p ≡ allIn n w p
+all-in-cut n w p =
+    all-in-same n (w ∩ below n) w p (λ i l h. cut-left w (below n) h) (λ i l h. has-cut w (below n) h (has-below n i l))
+
+pub all-in-none : (n : ℕ) (p : ℕ → Bool) → allIn n 0 p ≡ true
+all-in-none n p = all-in-intro n 0 p (λ i l h. absurd (has-none h))
+
+-- one member is tried, and then the rest
+pub all-in-take : (n w : ℕ) (p : ℕ → Bool) (i : ℕ) → i < n → Has w i → allIn n w p ≡ (p i && allIn n (w ∖ atom i) p)
+all-in-take n w p i l h =
+    bool-ext (allIn n w p) (p i && allIn n (w ∖ atom i) p)
+    (λ e. and-true (p i) (allIn n (w ∖ atom i) p) .1 (all-in-at n w p e i l h, all-in-intro n (w ∖ atom i) p (λ j k q. all-in-at n w p e j k (without-left w (atom i) q))))
+    (λ e. let r = and-true (p i) (allIn n (w ∖ atom i) p) .0 e in all-in-intro n w p (λ j k q. go j k q (r .0) (r .1) (ℕ-discrete i j)))
+  where
+    go : (j : ℕ) → j < n → Has w j → p i ≡ true → allIn n (w ∖ atom i) p ≡ true → Dec (i ≡ j) → p j ≡ true
+    go j k q here rest (yes e) = ap p (sym e) ∙ here
+    go j k q here rest (no e) =
+        all-in-at n (w ∖ atom i) p rest j k (has-without w (atom i) q (λ r. e (atom-only i r)))
+
+-- ---- the word of those of which a test holds
+
+pub word-has : (n : ℕ) (p : ℕ → Bool) (i : ℕ) → i < n → p i ≡ true → Has (wordBelow n p) i
+unfolding wordBelow
+word-has zero p i l e = absurd (omega arith)
+word-has (suc n) p i l e = go (p n) refl (λ l′. word-has n p i l′ e) (ℕ-discrete i n)
+  where
+    go : (b : Bool) → p n ≡ b → (i < n → Has (wordBelow n p) i) → Dec (i ≡ n)
+        → Has (elim b [ true ↦ wordBelow n p ∪ atom n | false ↦ wordBelow n p ]) i
+    go true q rest (yes j) = has-right (wordBelow n p) (atom n) (subst (λ (x : ℕ). Has (atom n) x) (sym j) (has-atom n))
+    go true q rest (no j) = has-left (wordBelow n p) (atom n) (rest (omega arith))
+    go false q rest (yes j) = absurd (not-both (ap p (sym j) ∙ e) q)
+    go false q rest (no j) = rest (omega arith)
+
+pub word-at : (n : ℕ) (p : ℕ → Bool) (i : ℕ) → Has (wordBelow n p) i → (i < n) × (p i ≡ true)
+unfolding wordBelow
+word-at zero p i h = absurd (has-none h)
+word-at (suc n) p i h = go (p n) refl h (word-at n p i)
+  where
+    found : p n ≡ true → (Has (wordBelow n p) i → (i < n) × (p i ≡ true)) → Has (wordBelow n p) i ⊎ Has (atom n) i
+        → (i < suc n) × (p i ≡ true)
+    found q rest (inl k) = let r = rest k in (omega (arith, r .0), r .1)
+    found q rest (inr k) = let e : n ≡ i = atom-only n k in (omega arith, ap p (sym e) ∙ q)
+
+    go : (b : Bool) → p n ≡ b → Has (elim b [ true ↦ wordBelow n p ∪ atom n | false ↦ wordBelow n p ]) i
+        → (Has (wordBelow n p) i → (i < n) × (p i ≡ true)) → (i < suc n) × (p i ≡ true)
+    go true q k rest = found q rest (union-cases (wordBelow n p) (atom n) k)
+    go false q k rest = let r = rest k in (omega (arith, r .0), r .1)

@@ -1,0 +1,87 @@
+-- How many atoms a word has, and its lowest atom. The count of a smaller set is smaller: this is what recursion over undecided atoms falls by.
+use mathlib.Core.Path.{_≡_, refl, sym, ap, _∙_, subst}
+use mathlib.Core.Logic.{_⊎_, inl, inr}
+use Prim.Native.Nat.{ℕ, zero, suc, _+_, _-_, _*_, _/_, _%_, _^_, _≤_, _<_}
+use native.Mathlib.Omega.{arith}
+use native.Mathlib.Nat.{pow-suc}
+use native.Mathlib.Decide.{ℕ-discrete}
+use lib.Count.{ones, ones-step, trailingZeros, under}
+use lib.Arith.{bin-ind}
+use Rattle.atoms.specs.Word.{digit, Has, _⊆_, _⊂_, _∖_, atom, Lowest}
+use Rattle.atoms.proofs.Digits.{digit-lt, digit-low, digit-next}
+use Rattle.atoms.proofs.Sets.{has-dec, has-none, some-atom, without-left, without-right, has-atom}
+
+has-half : {w i : ℕ} → Has w (suc i) → Has (w / 2) i
+has-half {w} {i} p = record { bit = sym (digit-next w i) ∙ p .bit }
+
+has-double : (w : ℕ) {i : ℕ} → Has (w / 2) i → Has w (suc i)
+has-double w {i} p = record { bit = digit-next w i ∙ p .bit }
+
+half-subset : {a b : ℕ} → a ⊆ b → a / 2 ⊆ b / 2
+half-subset {a} f = record { each = λ i p. has-half (f .each (suc i) (has-double a p)) }
+
+low-subset : {a b : ℕ} → a ⊆ b → a % 2 ≤ b % 2
+low-subset {a} {b} f = go (ℕ-discrete (a % 2) 1)
+  where
+    go : Dec (a % 2 ≡ 1) → a % 2 ≤ b % 2
+    go (yes e) =
+        let q : digit b 0 ≡ 1 = f .each 0 (record { bit = digit-low a ∙ e }) .bit in
+        let r : digit b 0 ≡ b % 2 = digit-low b in
+        omega arith
+    go (no e) = omega arith
+
+ones-zero : ones 0 ≡ 0
+unfolding ones
+ones-zero = refl
+
+-- a subset has at most as many atoms
+pub count-le : (a b : ℕ) → a ⊆ b → ones a ≤ ones b
+count-le = bin-ind (λ (n : ℕ). (b : ℕ) → n ⊆ b → ones n ≤ ones b) none step
+  where
+    none : (b : ℕ) → 0 ⊆ b → ones 0 ≤ ones b
+    none b f = omega (arith, ones-zero)
+
+    step : (n : ℕ) → ((b : ℕ) → n / 2 ⊆ b → ones (n / 2) ≤ ones b) → (b : ℕ) → n ⊆ b → ones n ≤ ones b
+    step n ih b f = omega (arith, ones-step n, ones-step b, ih (b / 2) (half-subset f), low-subset f)
+
+-- and fewer where it lacks one of them
+pub count-lt : (i a b : ℕ) → a ⊆ b → Has b i → ¬ Has a i → ones a < ones b
+count-lt zero a b f p h =
+    let q : a % 2 ≡ 0 = low-zero in
+    let r : b % 2 ≡ 1 = sym (digit-low b) ∙ p .bit in
+    omega (arith, ones-step a, ones-step b, count-le (a / 2) (b / 2) (half-subset f))
+  where
+    low-zero : a % 2 ≡ 0
+    low-zero =
+        let n : ¬ (a % 2 ≡ 1) = λ e. h (record { bit = digit-low a ∙ e }) in
+        omega arith
+count-lt (suc i) a b f p h =
+    omega
+    (arith, ones-step a, ones-step b, low-subset f, count-lt i (a / 2) (b / 2) (half-subset f) (has-half p) (λ q. h (has-double a q)))
+
+-- one atom fewer
+pub count-without : (w i : ℕ) → Has w i → ones (w ∖ atom i) < ones w
+count-without w i p =
+    count-lt i (w ∖ atom i) w (record { each = λ j q. without-left w (atom i) q }) p
+    (λ q. without-right w (atom i) q (has-atom i))
+
+-- `trailing_zeros` of a word that is not 0 is its lowest atom
+pub trailing-lowest : (k w : ℕ) → ¬ (w ≡ 0) → w < 2 ^ k → Lowest w (trailingZeros k w)
+unfolding trailingZeros
+trailing-lowest zero w h l = absurd (h (omega arith))
+trailing-lowest (suc k) w h l = go (w % 2) refl (λ n. trailing-lowest k (w / 2) n (omega (arith, pow-suc 2 k)))
+  where
+    even : (t : ℕ) → w % 2 ≡ 0 → Lowest (w / 2) t → Lowest w (suc t)
+    even t e r = record { here = has-double w (r .here); least = lower }
+      where
+        lower : (i : ℕ) → i < suc t → ¬ Has w i
+        lower zero q p = omega (arith, digit-low w, p .bit)
+        lower (suc i) q p = r .least i (omega arith) (has-half p)
+
+    go : (d : ℕ) → w % 2 ≡ d → (¬ (w / 2 ≡ 0) → Lowest (w / 2) (trailingZeros k (w / 2)))
+        → Lowest w (under d (trailingZeros k (w / 2)))
+    go zero e r = even (trailingZeros k (w / 2)) e (r (λ q. h (omega arith)))
+    go (suc d) e r = record {
+      here = record { bit = digit-low w ∙ omega arith };
+      least = λ i q. absurd (omega arith);
+    }

@@ -1,0 +1,6 @@
+pub mod Digits
+pub mod Tests
+pub mod Sets
+pub mod Counting
+pub mod Bounded
+pub mod Rising

@@ -1,0 +1,29 @@
+use native.Mathlib.Omega.{arith}
+use mathlib.Core.Path.{_≡_, ap, sym}
+use Prim.Native.Nat.{ℕ, _-_, _^_, _<_}
+use lib.Pow.{pow-pos}
+use Rattle.atoms.specs.Word.{below}
+use Rattle.atoms.proofs.Digits.{shifted-one}
+use borrow.Author.Needs.{needs}
+use Rattle.atoms.proofs.first.Statement.{statement}
+use Rattle.atoms.proofs.first.Tie as tie
+
+returns : tie.Need-returns
+unfolding below
+returns c = ap (λ (n : ℕ). 2 ^ n - 1) (sym (c .if1 .taken))
+
+inside : (c : tie.Else1) → c .before .args .n < 64
+inside c = omega arith
+
+shl-result : tie.Need-shl-result
+shl-result c = search needs
+
+sub-result : tie.Need-sub-result
+sub-result c = omega (arith, shifted-one (c .before .args .n) (inside c), pow-pos (c .before .args .n))
+
+returns-2 : tie.Need-returns-2
+unfolding below
+returns-2 c = ap (λ (x : ℕ). x - 1) (shifted-one (c .before .args .n) (inside c))
+
+pub first-spec : {M : Type 1} → statement M
+first-spec = tie.close (tie.spec returns shl-result sub-result returns-2)

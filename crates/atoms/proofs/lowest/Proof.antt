@@ -1,0 +1,17 @@
+use native.Mathlib.Omega.{arith}
+use lib.Count.{trailing-le}
+use Rattle.atoms.proofs.Counting.{trailing-lowest}
+use Rattle.atoms.proofs.Sets.{has-lt}
+use Rattle.atoms.proofs.lowest.Statement.{statement}
+use Rattle.atoms.proofs.lowest.Tie as tie
+
+cast-result : tie.Need-cast-result
+cast-result c = omega (arith, trailing-le 64 (c .args .w))
+
+returns : tie.Need-returns
+returns c =
+    let low = trailing-lowest 64 (c .args .w) (c .pre) (c .fits .w .fits) in
+    (low, has-lt (c .args .w) 64 (c .fits .w .fits) (low .here))
+
+pub lowest-spec : {M : Type 1} → statement M
+lowest-spec = tie.close (tie.spec cast-result returns)

@@ -1,0 +1,66 @@
+-- A word as a set of atoms. Document 01, Terms: "a set of atoms .., kept as a 64-bit word: atom i is bit i".
+-- The set operations are shut: what is cited above is proofs/Sets.antt, never a bit operation.
+use mathlib.Core.Path.{_≡_}
+use mathlib.Core.Bool.{Bool}
+use Prim.Native.Nat.{ℕ, _-_, _/_, _%_, _^_, _<_}
+use lib.Bits.{bitAnd, bitOr}
+use lib.Dec.{eqb}
+
+infixl 70 _∩_
+infixl 65 _∪_ _∖_
+infix 50 _⊆_ _⊂_
+-- "atom i is bit i": the binary digit of w at place i
+abbrev pub digit : ℕ → ℕ → ℕ
+digit w i = w / 2 ^ i % 2
+
+-- atom i is in the set w
+pub record Has (w i : ℕ) : Type 0 where
+  pub bit : digit w i ≡ 1
+
+-- the same, computed
+unfoldable pub has : ℕ → ℕ → Bool
+has w i = eqb (digit w i) 1
+
+-- every atom of a is in b
+pub record _⊆_ (a b : ℕ) : Type 0 where
+  pub each : (i : ℕ) → Has a i → Has b i
+
+-- the same, computed
+unfoldable pub subset : ℕ → ℕ → Bool
+subset a b = eqb (bitAnd a b) a
+
+-- a proper subset
+pub record _⊂_ (a b : ℕ) : Type 0 where
+  pub within : a ⊆ b
+  pub short : ¬ (b ⊆ a)
+
+-- no atom of a is in b
+pub record Apart (a b : ℕ) : Type 0 where
+  pub none : (i : ℕ) → Has a i → ¬ Has b i
+
+-- the same, computed
+unfoldable pub apart : ℕ → ℕ → Bool
+apart a b = eqb (bitAnd a b) 0
+
+-- the atoms in both, in one or the other, in the first alone
+unfoldable pub _∩_ : ℕ → ℕ → ℕ
+a ∩ b = bitAnd a b
+
+unfoldable pub _∪_ : ℕ → ℕ → ℕ
+a ∪ b = bitOr a b
+
+unfoldable pub _∖_ : ℕ → ℕ → ℕ
+a ∖ b = a - bitAnd a b
+
+-- the set of the one atom i
+unfoldable pub atom : ℕ → ℕ
+atom i = 2 ^ i
+
+-- the set of all atoms below n; `below 64` is every atom there is
+unfoldable pub below : ℕ → ℕ
+below n = 2 ^ n - 1
+
+-- r is the lowest atom of w
+pub record Lowest (w r : ℕ) : Type 0 where
+  pub here : Has w r
+  pub least : (i : ℕ) → i < r → ¬ Has w i

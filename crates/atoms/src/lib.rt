@@ -1,0 +1,77 @@
+// A 64-bit word as a set of atoms: atom i is bit i. Code above takes sets apart through these functions alone.
+ghost use mathlib.Core.Path.{_≡_};
+ghost use Prim.Native.Nat.{_≤_, _<_};
+ghost use lib.Count.{ones};
+ghost use Rattle.atoms.specs.Word.{_∩_, _∪_, _∖_, subset, apart, atom, below, Lowest};
+
+// How many atoms there are.
+pub const ATOMS: usize = 64;
+
+// The atoms that are in both.
+pub fn cut(a: u64, b: u64) -> u64
+    ensures { λ r. ⌜ r ≡ a ∩ b ⌝ }
+{
+    a & b
+}
+
+// The atoms that are in one or the other.
+pub fn union(a: u64, b: u64) -> u64
+    ensures { λ r. ⌜ r ≡ a ∪ b ⌝ }
+{
+    a | b
+}
+
+// The atoms of a that are not in b.
+pub fn without(a: u64, b: u64) -> u64
+    ensures { λ r. ⌜ r ≡ a ∖ b ⌝ }
+{
+    a - (a & b)
+}
+
+// Whether every atom of a is in b.
+pub fn is_subset(a: u64, b: u64) -> bool
+    ensures { λ r. ⌜ r ≡ subset a b ⌝ }
+{
+    a & b == a
+}
+
+// Whether no atom of a is in b.
+pub fn are_apart(a: u64, b: u64) -> bool
+    ensures { λ r. ⌜ r ≡ apart a b ⌝ }
+{
+    a & b == 0
+}
+
+// The set of one atom.
+pub fn single(i: usize) -> u64
+    requires { ⌜ i < 64 ⌝ }
+    ensures { λ r. ⌜ r ≡ atom i ⌝ }
+{
+    1 << i
+}
+
+// The set of the atoms below n.
+pub fn first(n: usize) -> u64
+    requires { ⌜ n ≤ 64 ⌝ }
+    ensures { λ r. ⌜ r ≡ below n ⌝ }
+{
+    if n == ATOMS {
+        return 0xffff_ffff_ffff_ffff;
+    }
+    (1 << n) - 1
+}
+
+// The lowest atom of a word that has one.
+pub fn lowest(w: u64) -> usize
+    requires { ⌜ (w ≡ 0 → ⊥) ⌝ }
+    ensures { λ r. ⌜ Lowest w r × (r < 64) ⌝ }
+{
+    u64::trailing_zeros(w) as usize
+}
+
+// How many atoms a word has.
+pub fn count(w: u64) -> usize
+    ensures { λ r. ⌜ r ≡ ones w ⌝ }
+{
+    u64::count_ones(w) as usize
+}
