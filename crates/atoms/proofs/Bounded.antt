@@ -6,7 +6,7 @@ use Prim.Native.Nat.{ℕ, zero, suc, _≤_, _<_}
 use native.Mathlib.Omega.{arith}
 use native.Mathlib.Decide.{ℕ-discrete}
 use Rattle.atoms.specs.Word.{Has, has, _∩_, _∪_, _∖_, atom, below}
-use Rattle.atoms.specs.Bounded.{Decides, allBelow, someBelow, allIn, wordBelow}
+use Rattle.atoms.specs.Bounded.{Decides, allBelow, someBelow, allIn, wordBelow, unionIn}
 use Rattle.atoms.proofs.Tests.{decides, decided-true, not-both, test-cases, bool-ext, and-true, implies-true}
 use Rattle.atoms.proofs.Sets.{decides-has, has-cut, cut-left, cut-right, has-left, has-right, union-cases, has-without, without-left, without-right, has-atom, atom-only, has-none, has-below, below-lt}
 
@@ -136,3 +136,37 @@ word-at (suc n) p i h = go (p n) refl h (word-at n p i)
         → (Has (wordBelow n p) i → (i < n) × (p i ≡ true)) → (i < suc n) × (p i ≡ true)
     go true q k rest = found q rest (union-cases (wordBelow n p) (atom n) k)
     go false q k rest = let r = rest k in (omega (arith, r .0), r .1)
+
+-- ---- the union of words by number
+
+pub union-has : (n w : ℕ) (f : ℕ → ℕ) (i a : ℕ) → i < n → Has w i → Has (f i) a → Has (unionIn n w f) a
+unfolding unionIn
+union-has zero w f i a l h k = absurd (omega arith)
+union-has (suc n) w f i a l h k = go (has w n) refl (λ l′. union-has n w f i a l′ h k) (ℕ-discrete i n)
+  where
+    go : (b : Bool) → has w n ≡ b → (i < n → Has (unionIn n w f) a) → Dec (i ≡ n)
+        → Has (elim b [ true ↦ unionIn n w f ∪ f n | false ↦ unionIn n w f ]) a
+    go true q rest (yes e) = has-right (unionIn n w f) (f n) (subst (λ (x : ℕ). Has (f x) a) e k)
+    go true q rest (no e) = has-left (unionIn n w f) (f n) (rest (omega arith))
+    go false q rest (yes e) = absurd (decides-has w n .no q (subst (λ (x : ℕ). Has w x) e h))
+    go false q rest (no e) = rest (omega arith)
+
+pub union-at : (n w : ℕ) (f : ℕ → ℕ) (a : ℕ) → Has (unionIn n w f) a → (i : ℕ) × (i < n) × Has w i × Has (f i) a
+unfolding unionIn
+union-at zero w f a h = absurd (has-none h)
+union-at (suc n) w f a h = go (has w n) refl h (union-at n w f a)
+  where
+    front : (Has (unionIn n w f) a → (i : ℕ) × (i < n) × Has w i × Has (f i) a) → Has (unionIn n w f) a
+        → (i : ℕ) × (i < suc n) × Has w i × Has (f i) a
+    front rest k = let r = rest k in (r .0, omega (arith, r .1), r .2, r .3)
+
+    cases : has w n ≡ true → (Has (unionIn n w f) a → (i : ℕ) × (i < n) × Has w i × Has (f i) a)
+        → Has (unionIn n w f) a ⊎ Has (f n) a → (i : ℕ) × (i < suc n) × Has w i × Has (f i) a
+    cases q rest (inl k) = front rest k
+    cases q rest (inr k) = (n, omega arith, decides-has w n .yes q, k)
+
+    go : (b : Bool) → has w n ≡ b → Has (elim b [ true ↦ unionIn n w f ∪ f n | false ↦ unionIn n w f ]) a
+        → (Has (unionIn n w f) a → (i : ℕ) × (i < n) × Has w i × Has (f i) a)
+        → (i : ℕ) × (i < suc n) × Has w i × Has (f i) a
+    go true q k rest = cases q rest (union-cases (unionIn n w f) (f n) k)
+    go false q k rest = front rest k

@@ -85,3 +85,11 @@ trailing-lowest (suc k) w h l = go (w % 2) refl (λ n. trailing-lowest k (w / 2)
       here = record { bit = digit-low w ∙ omega arith };
       least = λ i q. absurd (omega arith);
     }
+
+-- For a loop that takes one atom a turn: what is left, d, is smaller and still within.
+pub taken-less : {w r d : ℕ} → Lowest w r → d ≡ w ∖ atom r → ones d < ones w
+taken-less {w} {r} low e = subst (λ (x : ℕ). ones x < ones w) (sym e) (count-without w r (low .here))
+
+pub taken-within : {v w r d : ℕ} → w ⊆ v → Lowest w r → d ≡ w ∖ atom r → d ⊆ v
+taken-within {v} {w} {r} f low e =
+    subst (λ (x : ℕ). x ⊆ v) (sym e) (record { each = λ i p. f .each i (without-left w (atom r) p) })

@@ -27,3 +27,8 @@ allIn n w p = allBelow n (λ i. not (has w i) || p i)
 unfoldable pub wordBelow : ℕ → (ℕ → Bool) → ℕ
 wordBelow zero p = 0
 wordBelow (suc n) p = elim (p n) [ true ↦ wordBelow n p ∪ atom n | false ↦ wordBelow n p ]
+
+-- the atoms of the words f i, for the numbers i below n that are in the word w
+unfoldable pub unionIn : ℕ → ℕ → (ℕ → ℕ) → ℕ
+unionIn zero w f = 0
+unionIn (suc n) w f = elim (has w n) [ true ↦ unionIn n w f ∪ f n | false ↦ unionIn n w f ]

@@ -75,3 +75,11 @@ pub fn count(w: u64) -> usize
 {
     u64::count_ones(w) as usize
 }
+
+// The set without one atom.
+pub fn drop(w: u64, i: usize) -> u64
+    requires { ⌜ i < 64 ⌝ }
+    ensures { λ r. ⌜ r ≡ w ∖ atom i ⌝ }
+{
+    without(w, single(i))
+}

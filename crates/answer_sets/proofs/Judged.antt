@@ -1,0 +1,109 @@
+-- The computing twins decide what they are twins of. Rule numbers are bits of a word, so `which` is below 2 ^ 64.
+use mathlib.Core.Path.{_≡_, refl, sym, _∙_}
+use mathlib.Core.Bool.{Bool, true, false, not, _&&_, _||_}
+use Prim.Native.Nat.{ℕ, _^_, _<_}
+use Rattle.atoms.specs.Word.{Has, has, _⊆_, _⊂_, subset, Apart, apart, _∩_}
+use Rattle.atoms.specs.Bounded.{Decides, allIn, someBelow, wordBelow}
+use Rattle.atoms.proofs.Tests.{decides, decides-iff, decides-and, decides-not, decides-implies, decided-true, and-true, not-both}
+use Rattle.atoms.proofs.Sets.{decides-has, decides-subset, decides-apart, has-lt, lt-of-has, subset-lt, subset-of-eq, subset-le, apart-of-cut, cut-of-apart, shared-atom}
+use Rattle.atoms.proofs.Bounded.{decides-all-in, decides-some, word-has, word-at}
+use native.Mathlib.Omega.{arith}
+use Rattle.answer_sets.specs.Program.{Program, Body, Satisfies, SatisfiesAll}
+use Rattle.answer_sets.specs.AnswerSet.{Kept, ReductModel, AnswerSet}
+use Rattle.answer_sets.specs.Test.{body, satisfies, satisfiesAll, kept, Smaller, someSmaller, answerSet}
+
+module _ (P : Program) where
+  pub decides-body : (r M : ℕ) → Decides (Body P r M) (body P r M)
+  unfolding body
+  decides-body r M =
+      decides-iff (λ h. record { positive-up = h .0; rest-holds = h .1 }) (λ h. (h .positive-up, h .rest-holds))
+      (decides-and (decides-subset (P .positive r) M) (record { yes = λ e. e; no = λ f e. not-both e f }))
+
+  -- a head atom is up exactly if head and position are not apart
+  decides-head : (r M : ℕ) → Decides ((a : ℕ) × Has (P .head r) a × Has M a) (not (apart (P .head r) M))
+  decides-head r M =
+      decides-iff (λ h. shared-atom (P .head r) M (λ e. h (apart-of-cut (P .head r) M e)))
+      (λ s h. h .none (s .0) (s .1) (s .2)) (decides-not (decides-apart (P .head r) M))
+
+  pub decides-satisfies : (r M : ℕ) → Decides (Satisfies P r M) (satisfies P r M)
+  unfolding satisfies
+  decides-satisfies r M =
+      decides-iff (λ f. record { head-up = f }) (λ s. s .head-up) (decides-implies (decides-body r M) (decides-head r M))
+
+  pub decides-all-satisfied : (which M : ℕ) → which < 2 ^ 64 → Decides (SatisfiesAll P which M) (satisfiesAll P which M)
+  unfolding satisfiesAll
+  decides-all-satisfied which M fits =
+      decides-iff (λ f. record { each = λ r h. f r (has-lt which 64 fits h) h }) (λ s r l h. s .each r h)
+      (decides-all-in 64 which (λ r. satisfies P r M) (λ r l. decides-satisfies r M))
+
+  -- ---- the reduct
+
+  pub kept-has : (which M r : ℕ) → which < 2 ^ 64 → Kept P which M r → Has (kept P which M) r
+  unfolding kept
+  kept-has which M r fits k =
+      word-has 64 (λ i. has which i && body P i M) r (has-lt which 64 fits (k .numbered))
+      (and-true (has which r) (body P r M) .1 (decided-true (decides-has which r) (k .numbered), decided-true (decides-body r M) (k .holds)))
+
+  pub kept-at : (which M r : ℕ) → Has (kept P which M) r → Kept P which M r
+  unfolding kept
+  kept-at which M r h =
+      let b = and-true (has which r) (body P r M) .0 (word-at 64 (λ i. has which i && body P i M) r h .1) in
+      record { numbered = decides-has which r .yes (b .0); holds = decides-body r M .yes (b .1) }
+
+  pub kept-fits : (which M : ℕ) → kept P which M < 2 ^ 64
+  unfolding kept
+  kept-fits which M = lt-of-has (kept P which M) 64 (λ r h. word-at 64 (λ i. has which i && body P i M) r h .0)
+
+  -- a model of the reduct is a position that has the facts and satisfies the word of kept rules
+  pub reduct-model : (which facts M N : ℕ) → facts ⊆ N → SatisfiesAll P (kept P which M) N → which < 2 ^ 64
+      → ReductModel P which facts M N
+  reduct-model which facts M N f s fits =
+      record { facts-up = f; each = λ r k. s .each r (kept-has which M r fits k) }
+
+  pub reduct-satisfied : (which facts M N : ℕ) → ReductModel P which facts M N → SatisfiesAll P (kept P which M) N
+  reduct-satisfied which facts M N m = record { each = λ r h. m .each r (kept-at which M r h) }
+
+  -- ---- the subset test
+
+  proper-of-less : (N M : ℕ) → N < M → N ⊆ M → N ⊂ M
+  proper-of-less N M l f = record { within = f; short = λ g. absurd (omega (arith, subset-le g)) }
+
+  pub decides-smaller : (numbers facts M : ℕ) → numbers < 2 ^ 64
+      → Decides (Smaller P numbers facts M) (someSmaller P numbers facts M)
+  unfolding someSmaller
+  decides-smaller numbers facts M fits =
+      decides-iff
+      (λ s. record { set = s .0; proper = proper-of-less (s .0) M (s .1) (s .2 .0); facts-up = s .2 .1 .0; satisfied = s .2 .1 .1 })
+      (λ s. (s .set, subset-lt (s .proper), (s .proper .within, (s .facts-up, s .satisfied))))
+      (decides-some M (λ N. subset N M && (subset facts N && satisfiesAll P numbers N))
+      (λ N l. decides-and (decides-subset N M) (decides-and (decides-subset facts N) (decides-all-satisfied numbers N fits))))
+
+  -- ---- the answer set
+
+  pub decides-answer-set : (which facts M : ℕ) → which < 2 ^ 64
+      → Decides (AnswerSet P which facts M) (answerSet P which facts M)
+  unfolding answerSet
+  decides-answer-set which facts M fits =
+      decides-iff into from
+      (decides-and (decides-subset facts M)
+      (decides-and (decides-all-satisfied (kept P which M) M (kept-fits which M))
+      (decides-not (decides-smaller (kept P which M) facts M (kept-fits which M)))))
+    where
+      into : (facts ⊆ M) × (SatisfiesAll P (kept P which M) M × ¬ Smaller P (kept P which M) facts M)
+          → AnswerSet P which facts M
+      into h = record {
+        model = reduct-model which facts M M (h .0) (h .1 .0) fits;
+        minimal = λ N p m.
+          h .1 .1
+          (record { set = N; proper = p; facts-up = m .facts-up; satisfied = reduct-satisfied which facts M N m })
+      }
+
+      from : AnswerSet P which facts M
+          → (facts ⊆ M) × (SatisfiesAll P (kept P which M) M × ¬ Smaller P (kept P which M) facts M)
+      from a = (
+        a .model .facts-up,
+        (
+          reduct-satisfied which facts M M (a .model),
+          λ s. a .minimal (s .set) (s .proper) (reduct-model which facts M (s .set) (s .facts-up) (s .satisfied) fits),
+        ),
+      )

@@ -1,0 +1,5 @@
+pub mod Program
+pub mod AnswerSet
+pub mod Test
+pub mod Lent
+pub mod State

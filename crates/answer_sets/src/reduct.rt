@@ -1,0 +1,49 @@
+// A word of rule numbers at a position: whether all are satisfied, and the rules that the reduct keeps.
+use super::rule::body_holds;
+use super::rule::satisfies;
+ghost use mathlib.Core.Path.{_≡_};
+ghost use Rattle.answer_sets.specs.Lent.{lent, IsLent, Lent};
+ghost use Prim.Native.Nat.{_<_};
+ghost use Rattle.answer_sets.specs.Test.{satisfiesAll, kept, keptIf};
+
+// Whether the position satisfies each rule numbered in `which`.
+pub fn all_satisfied(rules: &[u64], which: u64, position: u64) -> bool
+    requires { ⌜ Lent (now rules) which ⌝ }
+    ensures { λ r. ⌜ r ≡ satisfiesAll (lent (now (rules .entry))) which position ⌝ }
+{
+    let mut rest = which;
+    while rest != 0 {
+        let rule = atoms::lowest(rest);
+        if !satisfies(rules, rule, position) {
+            return false;
+        }
+        rest = atoms::drop(rest, rule);
+    }
+    true
+}
+
+// The word without the rule where its body fails at the position.
+fn kept_if(rules: &[u64], rule: usize, position: u64, word: u64) -> u64
+    requires { ⌜ IsLent (now rules) rule × (rule < 64) ⌝ }
+    ensures { λ r. ⌜ r ≡ keptIf (lent (now (rules .entry))) rule position word ⌝ }
+{
+    if body_holds(rules, rule, position) {
+        return word;
+    }
+    atoms::drop(word, rule)
+}
+
+// The word of the rules numbered in `which` whose body holds at the position.
+pub fn kept_rules(rules: &[u64], which: u64, position: u64) -> u64
+    requires { ⌜ Lent (now rules) which ⌝ }
+    ensures { λ r. ⌜ r ≡ kept (lent (now (rules .entry))) which position ⌝ }
+{
+    let mut rest = which;
+    let mut word = which;
+    while rest != 0 {
+        let rule = atoms::lowest(rest);
+        word = kept_if(rules, rule, position, word);
+        rest = atoms::drop(rest, rule);
+    }
+    word
+}

@@ -1,0 +1,19 @@
+-- The difference with the set of the one atom.
+use mathlib.Core.Path.{ap, _∙_}
+use Prim.Native.Nat.{ℕ}
+use borrow.Author.Needs.{needs}
+use Rattle.atoms.specs.Word.{_∖_}
+use Rattle.atoms.proofs.drop.Statement.{statement}
+use Rattle.atoms.proofs.drop.Tie as tie
+
+single-requires : tie.Need-single-requires
+single-requires c κs = search needs
+
+without-requires : tie.Need-without-requires
+without-requires c κs = search needs
+
+returns : tie.Need-returns
+returns c = c .without .ensures ∙ ap (λ (x : ℕ). c .before .before .args .w ∖ x) (c .before .single .ensures)
+
+pub drop-spec : {M : Type 1} → statement M
+drop-spec = tie.close (tie.spec single-requires without-requires returns)

@@ -1,0 +1,3 @@
+pub mod Units
+pub mod Graph
+pub mod Heads

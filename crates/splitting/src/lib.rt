@@ -1,0 +1,1 @@
+// The theory of unit lists: no code, only theorems on definitions.
