@@ -62,20 +62,26 @@ module _ (rules : List ℕ) (r up dropped N : ℕ) (has-up : up ⊆ N) (no-dropp
   pub known-holds : bodyKnown rules r up dropped ≡ Holds → Body (lent rules) r N
   unfolding bodyKnown lent
   known-holds e =
-      let both = and-true (subset (lent rules .positive r) up) (subset (negative rules r) (dropped ∖ up)) .0 (is-holds _ _ e) in
+      let held = is-holds
+      (not (apart (lent rules .positive r) (dropped ∖ up)) || not (apart (negative rules r) up))
+      (subset (lent rules .positive r) up && subset (negative rules r) (dropped ∖ up)) e in
+      let both = and-true (subset (lent rules .positive r) up) (subset (negative rules r) (dropped ∖ up)) .0 held in
       let pos = decides-subset (lent rules .positive r) up .yes (both .0) in
       let neg = decides-subset (negative rules r) (dropped ∖ up) .yes (both .1) in
       record {
         positive-up = subset-trans pos has-up;
         rest-holds = decided-true (decides-apart (negative rules r) N)
-          (record { none = λ i p q. no-dropped .none i (neg .each i p) q })
+            (record { none = λ i p q. no-dropped .none i (neg .each i p) q });
       }
 
   -- and one that is known to fail fails
   pub known-fails : bodyKnown rules r up dropped ≡ Fails → ¬ Body (lent rules) r N
   unfolding bodyKnown lent
   known-fails e b =
-      go (or-true (not (apart (lent rules .positive r) (dropped ∖ up))) (not (apart (negative rules r) up)) .0 (is-fails _ _ e))
+      let failed = is-fails
+      (not (apart (lent rules .positive r) (dropped ∖ up)) || not (apart (negative rules r) up))
+      (subset (lent rules .positive r) up && subset (negative rules r) (dropped ∖ up)) e in
+      go (or-true (not (apart (lent rules .positive r) (dropped ∖ up))) (not (apart (negative rules r) up)) .0 failed)
     where
       go : (not (apart (lent rules .positive r) (dropped ∖ up)) ≡ true) ⊎ (not (apart (negative rules r) up) ≡ true) → ⊥
       go (inl f) =
@@ -119,6 +125,6 @@ pub undecided-shrinks : (up dropped up′ dropped′ : ℕ) → up ⊆ up′ →
     → undecided up′ dropped′ ⊆ undecided up dropped
 undecided-shrinks up dropped up′ dropped′ f g = record {
   each = λ i h.
-    undecided-intro up dropped i (undecided-lt up′ dropped′ h) (λ p. undecided-up up′ dropped′ h (f .each i p))
-    (λ p. undecided-dropped up′ dropped′ h (g .each i p))
+      undecided-intro up dropped i (undecided-lt up′ dropped′ h) (λ p. undecided-up up′ dropped′ h (f .each i p))
+      (λ p. undecided-dropped up′ dropped′ h (g .each i p));
 }

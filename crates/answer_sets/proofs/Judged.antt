@@ -94,8 +94,8 @@ module _ (P : Program) where
       into h = record {
         model = reduct-model which facts M M (h .0) (h .1 .0) fits;
         minimal = λ N p m.
-          h .1 .1
-          (record { set = N; proper = p; facts-up = m .facts-up; satisfied = reduct-satisfied which facts M N m })
+            h .1 .1
+            (record { set = N; proper = p; facts-up = m .facts-up; satisfied = reduct-satisfied which facts M N m });
       }
 
       from : AnswerSet P which facts M

@@ -3,19 +3,18 @@ use mathlib.Core.Path.{_≡_, refl, sym, ap, ap₂, _∙_, subst}
 use mathlib.Core.Bool.{Bool, true, false, not, _&&_, _||_}
 use mathlib.Core.Logic.{_⊎_, inl, inr, ⊎-elim}
 use mathlib.Core.List.{List}
-use Prim.Native.Nat.{ℕ, _<_, _^_}
+use Prim.Native.Nat.{ℕ, _*_, _/_, _^_, _≤_, _<_, min}
+use native.Mathlib.Omega.{arith}
+use lib.ListN.{length}
 use native.Mathlib.Decide.{ℕ-discrete}
-use Rattle.atoms.specs.Word.{Has, _⊆_, subset, apart, _∖_, atom, Lowest}
+use Rattle.atoms.specs.Word.{Has, _⊆_, subset, apart, _∩_, _∖_, atom, below}
 use Rattle.atoms.specs.Bounded.{allIn, Decides}
-use Rattle.atoms.proofs.Sets.{ext, subset-refl, has-none, has-without, without-left, without-right, has-atom, atom-only}
+use Rattle.atoms.proofs.Sets.{ext, subset-refl, has-none, has-without, without-left, without-right, has-atom, atom-only, cut-right, below-lt}
 use Rattle.atoms.proofs.Bounded.{all-in-take, all-in-none}
 use Rattle.answer_sets.specs.Program.{Program, Body}
-use Rattle.answer_sets.specs.Lent.{lent, negative, IsLent, Lent}
-use Rattle.answer_sets.specs.Test.{body, satisfies, satisfiesAll, kept, keptIf}
+use Rattle.answer_sets.specs.Lent.{lent, IsLent, Lent, numbered}
+use Rattle.answer_sets.specs.Test.{body, satisfies, satisfiesAll, kept, keptIf, someSmaller, answerSet}
 use Rattle.answer_sets.proofs.Judged.{decides-body, kept-has, kept-at}
-use Rattle.answer_sets.specs.State.{bodyKnown, known}
-use Rattle.answer_sets.specs.declared.Truth.{Truth}
-use Rattle.answer_sets.specs.declared.Truth.the-variants.{Holds, Fails, Open}
 
 -- ---- a body
 
@@ -46,10 +45,6 @@ pub satisfied-take : (P : Program) (w M r : ℕ) → r < 64 → Has w r
 unfolding satisfiesAll
 satisfied-take P w M r l h = all-in-take 64 w (λ i. satisfies P i M) r l h
 
-pub satisfied-stop : (P : Program) (w M r : ℕ) → r < 64 → Has w r → satisfies P r M ≡ false → satisfiesAll P w M ≡ false
-satisfied-stop P w M r l h e =
-    satisfied-take P w M r l h ∙ ap (λ (b : Bool). b && satisfiesAll P (w ∖ atom r) M) e
-
 pub satisfied-step : (P : Program) (w M r : ℕ) → r < 64 → Has w r → satisfies P r M ≡ true
     → satisfiesAll P w M ≡ satisfiesAll P (w ∖ atom r) M
 satisfied-step P w M r l h e =
@@ -67,7 +62,7 @@ kept-start P which M = record {
   rest-in = subset-refl;
   word-in = subset-refl;
   tried = λ r h. inl h;
-  complete = λ r h b. h
+  complete = λ r h b. h;
 }
 
 pub kept-end : (P : Program) (which M word : ℕ) → which < 2 ^ 64 → KeptSoFar P which M 0 word → word ≡ kept P which M
@@ -104,13 +99,51 @@ kept-next P which M rest word r k = go (body P r M) (decides-body P r M)
       rest-in = less;
       word-in = k .word-in;
       tried = λ i h. same (d .yes refl) i h (ℕ-discrete r i);
-      complete = k .complete
+      complete = k .complete;
     }
     go false d = record {
       rest-in = less;
       word-in = record { each = λ i h. k .word-in .each i (without-left word (atom r) h) };
       tried = dropped;
       complete = λ i h b.
-        has-without word (atom r) (k .complete i h b)
-        (λ p. d .no refl (subst (λ (x : ℕ). Body P x M) (sym (atom-only r p)) b))
+          has-without word (atom r) (k .complete i h b)
+          (λ p. d .no refl (subst (λ (x : ℕ). Body P x M) (sym (atom-only r p)) b));
     }
+
+-- ---- the answer-set test
+
+pub no-facts : (P : Program) (which facts M : ℕ) → subset facts M ≡ false → false ≡ answerSet P which facts M
+unfolding answerSet
+no-facts P which facts M e = simp e
+
+pub no-model : (P : Program) (which facts M : ℕ) → subset facts M ≡ true → satisfiesAll P (kept P which M) M ≡ false
+    → false ≡ answerSet P which facts M
+unfolding answerSet
+no-model P which facts M e f = simp (e, f)
+
+pub model-judged : (P : Program) (which facts M : ℕ) → subset facts M ≡ true → satisfiesAll P (kept P which M) M ≡ true
+    → not (someSmaller P (kept P which M) facts M) ≡ answerSet P which facts M
+unfolding answerSet
+model-judged P which facts M e f = simp (e, f)
+
+-- ---- which rules are lent
+
+pub lent-kept : (rules : List ℕ) (which M : ℕ) → Lent rules which → Lent rules (kept (lent rules) which M)
+lent-kept rules which M l = record { each = λ r h. l .each r (kept-at (lent rules) which M r h .numbered) }
+
+pub lent-numbered : (rules : List ℕ) (n which : ℕ) → Lent rules (numbered rules n which)
+unfolding numbered
+lent-numbered rules n which = record { each = go }
+  where
+    go : (r : ℕ) → Has (which ∩ below (min 64 (min n (length rules / 3)))) r → IsLent rules r
+    go r h =
+        let l : r < min 64 (min n (length rules / 3)) =
+        below-lt (min 64 (min n (length rules / 3))) (cut-right which (below (min 64 (min n (length rules / 3)))) h) in
+        omega arith
+
+-- where all n rules are there, their numbers are just those below n
+pub numbered-all : (rules : List ℕ) (n which : ℕ) → n ≤ 64 → 3 * n ≤ length rules → numbered rules n which ≡ which ∩ below n
+unfolding numbered
+numbered-all rules n which small long =
+    let e : min 64 (min n (length rules / 3)) ≡ n = omega arith in
+    ap (λ (k : ℕ). which ∩ below k) e

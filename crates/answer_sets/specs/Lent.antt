@@ -14,7 +14,7 @@ unfoldable pub lent : List ℕ → Program
 lent rules = record {
   head = λ r. getD rules (3 * r) 0;
   positive = λ r. getD rules (3 * r + 1) 0;
-  rest = λ r M. apart (negative rules r) M
+  rest = λ r M. apart (negative rules r) M;
 }
 
 -- all three words of rule r are there

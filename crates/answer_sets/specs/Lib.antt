@@ -3,3 +3,4 @@ pub mod AnswerSet
 pub mod Test
 pub mod Lent
 pub mod State
+pub mod Growth

@@ -2,7 +2,7 @@
 use mathlib.Core.Bool.{Bool, true, false, _&&_, _||_, not}
 use mathlib.Core.List.{List}
 use Prim.Native.Nat.{ℕ}
-use Rattle.atoms.specs.Word.{Has, _⊆_, subset, Apart, apart, _∖_, below}
+use Rattle.atoms.specs.Word.{Has, _⊆_, subset, Apart, apart, _∪_, _∖_, atom, below}
 use Rattle.answer_sets.specs.Program.{Program}
 use Rattle.answer_sets.specs.Lent.{lent, negative}
 use Rattle.answer_sets.specs.declared.Truth.{Truth}
@@ -30,6 +30,10 @@ unfoldable pub bodyKnown : List ℕ → ℕ → ℕ → ℕ → Truth
 bodyKnown rules r up dropped =
     known (not (apart (lent rules .positive r) (dropped ∖ up)) || not (apart (negative rules r) up))
     (subset (lent rules .positive r) up && subset (negative rules r) (dropped ∖ up))
+
+-- an atom that is both up and dropped: "an overlap" means that nothing completes the state
+unfoldable pub clashed : State → State
+clashed s = record { up = s .up ∪ atom 0; dropped = s .dropped ∪ atom 0 }
 
 -- One contract for every narrowing pass: the state only grows, and every position of interest that completes the old state completes the new one.
 pub record Narrows (Wanted : ℕ → Type 0) (s t : State) : Type 0 where

@@ -4,22 +4,41 @@ use super::rule::satisfies;
 ghost use mathlib.Core.Path.{_≡_};
 ghost use Rattle.answer_sets.specs.Lent.{lent, IsLent, Lent};
 ghost use Prim.Native.Nat.{_<_};
+ghost use Rattle.answer_sets.specs.Growth.{Unsatisfied};
 ghost use Rattle.answer_sets.specs.Test.{satisfiesAll, kept, keptIf};
+
+// A rule that a position does not satisfy, if there is one.
+pub enum Found {
+    Rule(usize),
+    Nothing,
+}
+
+// A rule numbered in `which` that the position does not satisfy, if there is one.
+pub fn find_unsatisfied(rules: &[u64], which: u64, position: u64) -> Found
+    requires { ⌜ Lent (now rules) which ⌝ }
+    ensures { λ r. ⌜ Unsatisfied (lent (now (rules .entry))) which position r ⌝ }
+{
+    let mut rest = which;
+    while rest != 0 {
+        let rule = atoms::lowest(rest);
+        if !satisfies(rules, rule, position) {
+            return Found::Rule(rule);
+        }
+        rest = atoms::drop(rest, rule);
+    }
+    Found::Nothing
+}
 
 // Whether the position satisfies each rule numbered in `which`.
 pub fn all_satisfied(rules: &[u64], which: u64, position: u64) -> bool
     requires { ⌜ Lent (now rules) which ⌝ }
     ensures { λ r. ⌜ r ≡ satisfiesAll (lent (now (rules .entry))) which position ⌝ }
 {
-    let mut rest = which;
-    while rest != 0 {
-        let rule = atoms::lowest(rest);
-        if !satisfies(rules, rule, position) {
-            return false;
-        }
-        rest = atoms::drop(rest, rule);
+    let found = find_unsatisfied(rules, which, position);
+    match found {
+        Found::Nothing => true,
+        Found::Rule(_) => false,
     }
-    true
 }
 
 // The word without the rule where its body fails at the position.

@@ -9,7 +9,7 @@ use lib.Count.{ones, ones-step, trailingZeros, under}
 use lib.Arith.{bin-ind}
 use Rattle.atoms.specs.Word.{digit, Has, _⊆_, _⊂_, _∖_, atom, Lowest}
 use Rattle.atoms.proofs.Digits.{digit-lt, digit-low, digit-next}
-use Rattle.atoms.proofs.Sets.{has-dec, has-none, some-atom, without-left, without-right, has-atom}
+use Rattle.atoms.proofs.Sets.{has-dec, has-none, some-atom, has-without, without-left, without-right, has-atom, subset-antisym}
 
 has-half : {w i : ℕ} → Has w (suc i) → Has (w / 2) i
 has-half {w} {i} p = record { bit = sym (digit-next w i) ∙ p .bit }
@@ -93,3 +93,16 @@ taken-less {w} {r} low e = subst (λ (x : ℕ). ones x < ones w) (sym e) (count-
 pub taken-within : {v w r d : ℕ} → w ⊆ v → Lowest w r → d ≡ w ∖ atom r → d ⊆ v
 taken-within {v} {w} {r} f low e =
     subst (λ (x : ℕ). x ⊆ v) (sym e) (record { each = λ i p. f .each i (without-left w (atom r) p) })
+
+-- a subset that is not the whole set has fewer atoms
+pub count-proper : (a b : ℕ) → a ⊆ b → ¬ (a ≡ b) → ones a < ones b
+count-proper a b f n =
+    let s = some-atom (b ∖ a) (λ z. n (subset-antisym f (covered z))) in
+    count-lt (s .0) a b f (without-left b a (s .1)) (without-right b a (s .1))
+  where
+    covered : b ∖ a ≡ 0 → b ⊆ a
+    covered z = record { each = λ i p. go i p (has-dec a i) }
+      where
+        go : (i : ℕ) → Has b i → Dec (Has a i) → Has a i
+        go i p (yes q) = q
+        go i p (no q) = absurd (has-none (subst (λ (x : ℕ). Has x i) z (has-without b a p q)))

@@ -36,7 +36,7 @@ pub data Path (S : Units) : ℕ → ℕ → Type 0 where
 -- the rest of a body depends on nothing but the atoms that it looks at
 pub record LooksOnly (S : Units) : Type 0 where
   pub same : (r M N : ℕ) → ((a : ℕ) → Has (S .looks r) a → Has M a ↔ Has N a)
-    → S .program .rest r M ≡ S .program .rest r N
+      → S .program .rest r M ≡ S .program .rest r N
 
 -- no given atom is in a head
 pub record GivenFree (S : Units) : Type 0 where

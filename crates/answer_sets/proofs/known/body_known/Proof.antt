@@ -14,28 +14,28 @@ use Rattle.answer_sets.proofs.known.body_known.Tie as tie
 positive-apart : (c : tie.After-are-apart)
     → c .are-apart .result
     ≡ apart (lent (now (c .before .before .before .before .before .args .rules)) .positive (c .before .before .before .before .before .args .rule))
-      (c .before .before .before .before .before .args .dropped ∖ c .before .before .before .before .before .args .up)
+    (c .before .before .before .before .before .args .dropped ∖ c .before .before .before .before .before .args .up)
 positive-apart c =
     c .are-apart .ensures ∙ ap₂ apart (c .before .before .before .positive-body .ensures) (c .before .without .ensures)
 
 negative-apart : (c : tie.After-are-apart2)
     → c .are-apart2 .result
     ≡ apart (negative (now (c .before .before .before .before .before .before .before .args .rules)) (c .before .before .before .before .before .before .before .args .rule))
-      (c .before .before .before .before .before .before .before .args .up)
+    (c .before .before .before .before .before .before .before .args .up)
 negative-apart c =
     c .are-apart2 .ensures ∙ ap (λ (w : ℕ). apart w (c .before .before .before .before .before .before .before .args .up)) (c .before .before .before .before .negative-body .ensures)
 
 positive-subset : (c : tie.After-is-subset)
     → c .is-subset .result
     ≡ subset (lent (now (c .before .before .before .before .before .before .before .before .before .args .rules)) .positive (c .before .before .before .before .before .before .before .before .before .args .rule))
-      (c .before .before .before .before .before .before .before .before .before .args .up)
+    (c .before .before .before .before .before .before .before .before .before .args .up)
 positive-subset c =
     c .is-subset .ensures ∙ ap (λ (w : ℕ). subset w (c .before .before .before .before .before .before .before .before .before .args .up)) (c .before .before .before .before .before .before .before .positive-body .ensures)
 
 negative-subset : (c : tie.After-is-subset2)
     → c .is-subset2 .result
     ≡ subset (negative (now (c .before .before .before .before .before .before .before .before .before .before .before .args .rules)) (c .before .before .before .before .before .before .before .before .before .before .before .args .rule))
-      (c .before .before .before .before .before .before .before .before .before .before .before .args .dropped ∖ c .before .before .before .before .before .before .before .before .before .before .before .args .up)
+    (c .before .before .before .before .before .before .before .before .before .before .before .args .dropped ∖ c .before .before .before .before .before .before .before .before .before .before .before .args .up)
 negative-subset c =
     c .is-subset2 .ensures ∙ ap₂ subset (c .before .before .before .before .before .before .before .before .negative-body .ensures) (c .before .before .before .before .before .before .before .without .ensures)
 

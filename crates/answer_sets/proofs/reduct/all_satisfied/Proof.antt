@@ -1,84 +1,38 @@
-use Prim.Native.Nat.{ℕ}
+-- What the search found, or that it found nothing.
+use mathlib.Core.Path.{sym, subst}
 use denote.Ref.{now}
-use borrow.Author.Tests.{not-true, not-false}
-use Rattle.atoms.proofs.Counting.{taken-less, taken-within}
-use Rattle.answer_sets.proofs.Steps.{satisfied-none, satisfied-step, satisfied-stop}
--- The loop's invariant: what is left to be tried gives the same answer as the whole word. The measure is how many are left.
-use mathlib.Core.Path.{_≡_, refl, ap, sym, _∙_}
-use lib.Count.{ones}
-use Rattle.atoms.specs.Word.{_⊆_}
-use Rattle.atoms.proofs.Sets.{subset-refl}
+use Rattle.atoms.proofs.Tests.{decided-true, decided-false}
 use Rattle.answer_sets.specs.Lent.{lent}
-use Rattle.answer_sets.specs.Test.{satisfiesAll}
+use Rattle.answer_sets.specs.Growth.{Unsatisfied}
+use Rattle.answer_sets.proofs.Judged.{decides-all-satisfied}
+use borrow.Author.Needs.{needs}
 use Rattle.answer_sets.proofs.reduct.all_satisfied.Statement.{statement}
 use Rattle.answer_sets.proofs.reduct.all_satisfied.Tie as tie
 
-abbrev Inv-loop : tie.InvT-loop
-Inv-loop rules which position rest₀ rest =
-    (rest ⊆ which) × (satisfiesAll (lent rules) which position ≡ satisfiesAll (lent rules) rest position)
+find-unsatisfied-requires : tie.Need-find-unsatisfied-requires
+find-unsatisfied-requires c κs = search needs
 
-abbrev μ-loop : tie.MeasureT-loop
-μ-loop rules which position rest₀ rest = ones rest
+enum-told : tie.Need-enum-told
+enum-told c = search needs
 
-loop-holds : tie.Need-loop-holds Inv-loop μ-loop
-loop-holds c = (subset-refl, refl)
+enum-told-2 : tie.Need-enum-told-2
+enum-told-2 c = search needs
 
-lowest-requires : tie.Need-lowest-requires Inv-loop μ-loop
-lowest-requires c κs = c .loop-test .taken
-
-satisfies-requires : tie.Need-satisfies-requires Inv-loop μ-loop
-satisfies-requires c κs =
-    c .before .before .before .before .pre .each (c .lowest .result)
-    (c .before .before .loop .inv .0 .each (c .lowest .result) (c .lowest .ensures .0 .here))
-
-returns : tie.Need-returns Inv-loop μ-loop
+returns : tie.Need-returns
 returns c =
-    let at = c .before .before .before .before .before .before .args in
-    let low = c .before .before .lowest in
+    let at = c .before .before .before .before .args in
     sym
-    (c .before .before .before .before .loop .inv .1
-    ∙ satisfied-stop (lent (now (at .rules))) (c .before .before .before .before .loop .rest) (at .position) (low .result) (low .ensures .1)
-      (low .ensures .0 .here)
-      (sym (c .before .satisfies .ensures) ∙ not-true (c .before .satisfies .result) (c .if1 .taken)))
+    (decided-true (decides-all-satisfied (lent (now (at .rules))) (at .which) (at .position) (c .before .before .before .before .fits .which .fits))
+    (subst (Unsatisfied (lent (now (at .rules))) (at .which) (at .position)) (c .enum-told .given .1) (c .before .before .find-unsatisfied .ensures)))
 
-drop-requires : tie.Need-drop-requires Inv-loop μ-loop
-drop-requires c κs = c .before .before .lowest .ensures .1
-
-loop-less : tie.Need-loop-less Inv-loop μ-loop
-loop-less c = taken-less (c .before .before .before .lowest .ensures .0) (c .drop .ensures)
-
-loop-again : tie.Need-loop-again Inv-loop μ-loop
-loop-again c =
-    let at = c .before .before .before .before .before .before .before .args in
-    let low = c .before .before .before .lowest in
-    let rest = c .before .before .before .before .before .loop .rest in
-    let inv = c .before .before .before .before .before .loop .inv in (
-      taken-within (inv .0) (low .ensures .0) (c .drop .ensures),
-      inv .1
-      ∙ satisfied-step (lent (now (at .rules))) rest (at .position) (low .result) (low .ensures .1) (low .ensures .0 .here)
-        (sym (c .before .before .satisfies .ensures) ∙ not-false (c .before .before .satisfies .result) (c .before .if1 .left))
-      ∙ ap (λ (w : ℕ). satisfiesAll (lent (now (at .rules))) w (at .position)) (sym (c .drop .ensures)),
-    )
-
-returns-2 : tie.Need-returns-2 Inv-loop μ-loop
+returns-2 : tie.Need-returns-2
 returns-2 c =
-    let at = c .before .before .before .args in
+    let at = c .before .before .before .before .args in
+    let found = subst (Unsatisfied (lent (now (at .rules))) (at .which) (at .position)) (c .enum-told2 .given .1) (c .before .before .find-unsatisfied .ensures) in
     sym
-    (c .before .loop .inv .1
-    ∙ ap (λ (w : ℕ). satisfiesAll (lent (now (at .rules))) w (at .position)) (c .loop-test .left)
-    ∙ satisfied-none (lent (now (at .rules))) (at .position))
+    (decided-false (decides-all-satisfied (lent (now (at .rules))) (at .which) (at .position) (c .before .before .before .before .fits .which .fits))
+    (λ all. found .1 (all .each _ (found .0))))
 
 pub all-satisfied-spec : {M : Type 1} → statement M
 all-satisfied-spec =
-    tie.close
-    (tie.spec
-    Inv-loop
-    μ-loop
-    loop-holds
-    lowest-requires
-    satisfies-requires
-    returns
-    drop-requires
-    loop-less
-    loop-again
-    returns-2)
+    tie.close (tie.spec find-unsatisfied-requires enum-told enum-told-2 returns returns-2)

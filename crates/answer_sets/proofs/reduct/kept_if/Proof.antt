@@ -25,8 +25,8 @@ returns-2 c =
     let at = c .before .before .before .before .args in
     c .drop .ensures
     ∙ sym
-      (ap (λ (b : Bool). elim b [ true ↦ at .word | false ↦ at .word ∖ atom (at .rule) ])
-      (sym (c .before .before .body-holds .ensures) ∙ c .before .if1 .left))
+    (ap (λ (b : Bool). elim b [ true ↦ at .word | false ↦ at .word ∖ atom (at .rule) ])
+    (sym (c .before .before .body-holds .ensures) ∙ c .before .if1 .left))
 
 pub kept-if-spec : {M : Type 1} → statement M
 kept-if-spec = tie.close (tie.spec body-holds-requires returns drop-requires returns-2)

@@ -26,7 +26,7 @@ lowest-requires c κs = c .loop-test .taken
 kept-if-requires : tie.Need-kept-if-requires Inv-loop μ-loop
 kept-if-requires c κs = (
   c .before .before .before .before .pre .each (c .lowest .result)
-  (c .before .before .loop .inv .rest-in .each (c .lowest .result) (c .lowest .ensures .0 .here)),
+      (c .before .before .loop .inv .rest-in .each (c .lowest .result) (c .lowest .ensures .0 .here)),
   c .lowest .ensures .1,
 )
 

@@ -35,9 +35,9 @@ returns-2 c =
     let at = c .before .before .before .before .before .before .args in
     c .are-apart .ensures ∙ ap (λ (w : ℕ). apart w (at .position)) (c .before .negative-body .ensures)
     ∙ body-rest (lent (now (at .rules))) (at .rule) (at .position)
-      (ap (λ (w : ℕ). subset w (at .position)) (sym (c .before .before .before .before .positive-body .ensures))
-      ∙ sym (c .before .before .before .is-subset .ensures)
-      ∙ not-false (c .before .before .before .is-subset .result) (c .before .before .if1 .left))
+    (ap (λ (w : ℕ). subset w (at .position)) (sym (c .before .before .before .before .positive-body .ensures))
+    ∙ sym (c .before .before .before .is-subset .ensures)
+    ∙ not-false (c .before .before .before .is-subset .result) (c .before .before .if1 .left))
 
 pub body-holds-spec : {M : Type 1} → statement M
 body-holds-spec =

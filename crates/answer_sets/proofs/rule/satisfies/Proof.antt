@@ -31,7 +31,7 @@ returns-2 c =
     let at = c .before .before .before .before .before .args in
     ap not (c .are-apart .ensures ∙ ap (λ (w : ℕ). apart w (at .position)) (c .before .head .ensures))
     ∙ satisfies-holds (lent (now (at .rules))) (at .rule) (at .position)
-      (sym (c .before .before .before .body-holds .ensures) ∙ not-false (c .before .before .before .body-holds .result) (c .before .before .if1 .left))
+    (sym (c .before .before .before .body-holds .ensures) ∙ not-false (c .before .before .before .body-holds .result) (c .before .before .if1 .left))
 
 pub satisfies-spec : {M : Type 1} → statement M
 satisfies-spec =

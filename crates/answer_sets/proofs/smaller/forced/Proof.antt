@@ -1,0 +1,55 @@
+-- No head atom left, one left, or more.
+use mathlib.Core.Path.{sym, subst, _∙_}
+use Prim.Native.Nat.{ℕ}
+use Rattle.answer_sets.specs.State.{Narrows}
+use Rattle.answer_sets.specs.Growth.{HeadUp}
+use Rattle.answer_sets.specs.declared.State.{State}
+use Rattle.answer_sets.proofs.Narrowing.{head-clash, head-forced}
+use borrow.Author.Needs.{needs}
+use Rattle.answer_sets.proofs.smaller.forced.Statement.{statement}
+use Rattle.answer_sets.proofs.smaller.forced.Tie as tie
+
+without-requires : tie.Need-without-requires
+without-requires c κs = search needs
+
+clash-requires : tie.Need-clash-requires
+clash-requires c κs = search needs
+
+returns : tie.Need-returns
+returns c =
+    let at = c .before .before .before .args in
+    subst (λ (t : State). Narrows (HeadUp (at .head)) (at .s) t) (sym (c .clash .ensures))
+    (head-clash (at .head) (at .s) (c .before .before .without .result) (c .before .before .without .ensures) (c .before .if1 .taken))
+
+lowest-requires : tie.Need-lowest-requires
+lowest-requires c κs = search needs
+
+drop-requires : tie.Need-drop-requires
+drop-requires c κs = search needs
+
+union-requires : tie.Need-union-requires
+union-requires c κs = search needs
+
+returns-2 : tie.Need-returns-2
+returns-2 c =
+    let at = c .before .before .before .before .before .before .args in
+    let left = c .before .before .before .before .before .without in
+    subst (λ (w : ℕ). Narrows (HeadUp (at .head)) (at .s) (record { up = w; dropped = at .s .dropped })) (sym (c .union .ensures))
+    (head-forced (at .head) (at .s) (left .result) (c .before .before .before .lowest .result) (left .ensures)
+    (sym (c .before .before .drop .ensures) ∙ c .before .if2 .taken))
+
+returns-3 : tie.Need-returns-3
+returns-3 c = search needs
+
+pub forced-spec : {M : Type 1} → statement M
+forced-spec =
+    tie.close
+    (tie.spec
+    without-requires
+    clash-requires
+    returns
+    lowest-requires
+    drop-requires
+    union-requires
+    returns-2
+    returns-3)

@@ -1,0 +1,4 @@
+pub mod Heads
+pub mod Along
+pub mod Under
+pub mod Seen

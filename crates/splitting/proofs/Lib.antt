@@ -1,0 +1,9 @@
+pub mod Cuts
+pub mod Form
+pub mod Local
+pub mod Filled
+pub mod Whole
+pub mod Top
+pub mod Last
+pub mod Antichain
+pub mod Agreement
