@@ -5,7 +5,7 @@ use Prim.Native.Nat.{ℕ, zero, suc, _+_, _-_, _*_, _/_, _%_, _^_, _≤_, _<_}
 use native.Mathlib.Omega.{arith}
 use native.Mathlib.Nat.{pow-suc}
 use native.Mathlib.Decide.{ℕ-discrete}
-use lib.Count.{ones, ones-step, trailingZeros, under}
+use lib.Count.{ones, ones-step, ones-le, leadingZeros, leading-le, trailingZeros, trailing-le, under}
 use lib.Arith.{bin-ind}
 use Rattle.atoms.specs.Word.{digit, Has, _⊆_, _⊂_, _∖_, atom, Lowest}
 use Rattle.atoms.proofs.Digits.{digit-lt, digit-low, digit-next}
@@ -106,3 +106,7 @@ count-proper a b f n =
         go : (i : ℕ) → Has b i → Dec (Has a i) → Has a i
         go i p (yes q) = q
         go i p (no q) = absurd (has-none (subst (λ (x : ℕ). Has x i) z (has-without b a p q)))
+
+-- no count of a word's bits is above 64
+pub counts-small : (w : ℕ) → w < 2 ^ 64 → (ones w ≤ 64) × (leadingZeros 64 w ≤ 64) × (trailingZeros 64 w ≤ 64)
+counts-small w h = (ones-le 64 w h, leading-le 64 w, trailing-le 64 w)

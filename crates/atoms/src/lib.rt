@@ -32,14 +32,14 @@ pub fn without(a: u64, b: u64) -> u64
 pub fn is_subset(a: u64, b: u64) -> bool
     ensures { λ r. ⌜ r ≡ subset a b ⌝ }
 {
-    a & b == a
+    cut(a, b) == a
 }
 
 // Whether no atom of a is in b.
 pub fn are_apart(a: u64, b: u64) -> bool
     ensures { λ r. ⌜ r ≡ apart a b ⌝ }
 {
-    a & b == 0
+    cut(a, b) == 0
 }
 
 // The set of one atom.

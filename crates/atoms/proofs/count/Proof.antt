@@ -1,11 +1,11 @@
+use Rattle.atoms.proofs.Counting.{counts-small}
 use native.Mathlib.Omega.{arith}
-use lib.Count.{ones-le}
 use borrow.Author.Needs.{needs}
 use Rattle.atoms.proofs.count.Statement.{statement}
 use Rattle.atoms.proofs.count.Tie as tie
 
 cast-result : tie.Need-cast-result
-cast-result c = omega (arith, ones-le 64 (c .args .w) (c .fits .w .fits))
+cast-result c = omega (arith, counts-small (c .args .w) (c .fits .w .fits))
 
 returns : tie.Need-returns
 returns c = search needs

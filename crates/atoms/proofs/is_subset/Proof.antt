@@ -1,11 +1,18 @@
+-- Every atom of a is in the cut.
+use mathlib.Core.Path.{ap}
+use Prim.Native.Nat.{ℕ}
+use lib.Dec.{eqb}
 use borrow.Author.Needs.{needs}
-use Rattle.atoms.specs.Word.{subset}
+use Rattle.atoms.specs.Word.{_∩_, subset}
 use Rattle.atoms.proofs.is_subset.Statement.{statement}
 use Rattle.atoms.proofs.is_subset.Tie as tie
 
+cut-requires : tie.Need-cut-requires
+cut-requires c κs = search needs
+
 returns : tie.Need-returns
-unfolding subset
-returns c = search needs
+unfolding subset _∩_
+returns c = ap (λ (x : ℕ). eqb x (c .before .args .a)) (c .cut .ensures)
 
 pub is-subset-spec : {M : Type 1} → statement M
-is-subset-spec = tie.close (tie.spec returns)
+is-subset-spec = tie.close (tie.spec cut-requires returns)

@@ -1,12 +1,11 @@
 use native.Mathlib.Omega.{arith}
-use lib.Count.{trailing-le}
-use Rattle.atoms.proofs.Counting.{trailing-lowest}
+use Rattle.atoms.proofs.Counting.{counts-small, trailing-lowest}
 use Rattle.atoms.proofs.Sets.{has-lt}
 use Rattle.atoms.proofs.lowest.Statement.{statement}
 use Rattle.atoms.proofs.lowest.Tie as tie
 
 cast-result : tie.Need-cast-result
-cast-result c = omega (arith, trailing-le 64 (c .args .w))
+cast-result c = omega (arith, counts-small (c .args .w) (c .fits .w .fits))
 
 returns : tie.Need-returns
 returns c =
