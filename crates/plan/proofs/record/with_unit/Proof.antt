@@ -1,0 +1,27 @@
+use mathlib.Core.Path.{refl}
+use Rattle.plan.specs.Record.{withUnit}
+use borrow.Author.Needs.{needs}
+use Rattle.plan.proofs.record.with_unit.Statement.{statement}
+use Rattle.plan.proofs.record.with_unit.Tie as tie
+use Rattle.plan.proofs.record.with_unit.Reads as reads
+use Rattle.plan.proofs.record.with_unit.Lts as lts
+
+-- src/record.rt:57:5
+mul-next : tie.Need-mul-next
+mul-next c = search needs
+
+-- src/record.rt:57:5
+element-write-next : tie.Need-element-write-next
+element-write-next c = search needs
+
+-- src/record.rt:58:23
+add-next : tie.Need-add-next
+add-next c = search needs
+
+-- src/record.rt:51:1
+returns : tie.Need-returns
+unfolding withUnit
+returns c = refl
+
+pub with-unit-spec : {M : Type 1} → statement M
+with-unit-spec = tie.close (tie.spec mul-next element-write-next add-next returns)

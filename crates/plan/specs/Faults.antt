@@ -1,0 +1,40 @@
+-- The numbers and spots of faults. Document 01, "Faults, by where they are found": columns "no." and "spot".
+use Prim.Native.Nat.{ℕ}
+use Rattle.plan.specs.declared.fault.Fault.{Fault}
+use Rattle.plan.specs.declared.fault.Fault.the-variants.{TableShort, Truncated, UnknownCommand, OutOfOrder, TooMany, EmptyRule, AbsentRule, BadEdge, TrailingBytes, RuleInNoUnit, HeadedRuleInSeveral, Cycle, NonmonotonicUnseen, MonotonicUnseen, LongList}
+
+-- column "no."
+abbrev pub number : Fault → ℕ
+number (TableShort s) = 1
+number (Truncated s) = 2
+number (UnknownCommand s) = 3
+number (OutOfOrder s) = 4
+number (TooMany s) = 5
+number (EmptyRule s) = 6
+number (AbsentRule s) = 7
+number (BadEdge s) = 8
+number (TrailingBytes s) = 9
+number (RuleInNoUnit s) = 10
+number (HeadedRuleInSeveral s) = 11
+number (Cycle s) = 12
+number (NonmonotonicUnseen s) = 13
+number (MonotonicUnseen s) = 14
+number (LongList s) = 15
+
+-- column "spot"
+abbrev pub spot : Fault → ℕ
+spot (TableShort s) = s
+spot (Truncated s) = s
+spot (UnknownCommand s) = s
+spot (OutOfOrder s) = s
+spot (TooMany s) = s
+spot (EmptyRule s) = s
+spot (AbsentRule s) = s
+spot (BadEdge s) = s
+spot (TrailingBytes s) = s
+spot (RuleInNoUnit s) = s
+spot (HeadedRuleInSeveral s) = s
+spot (Cycle s) = s
+spot (NonmonotonicUnseen s) = s
+spot (MonotonicUnseen s) = s
+spot (LongList s) = s

@@ -1,0 +1,75 @@
+-- The record of a plan, and how each command adds to it.
+use Prim.Native.Nat.{ℕ, _+_, _*_, _≤_}
+use lib.ListN.{getD, set, replicate}
+use Rattle.atoms.specs.Word.{_∪_, atom}
+use Rattle.plan.specs.declared.record.Plan.{Plan}
+
+-- column "most"
+abbrev pub MAX_RULES : ℕ
+MAX_RULES = 64
+
+abbrev pub MAX_UNITS : ℕ
+MAX_UNITS = 16
+
+abbrev pub MAX_EDGES : ℕ
+MAX_EDGES = 240
+
+-- "head, positive, negative: three words"
+abbrev pub RULE_WORDS : ℕ
+RULE_WORDS = 3
+
+-- no more rules and units than there may be
+pub record Fitting (p : Plan) : Type 0 where
+  pub rules-fit : p .«rule_count» ≤ MAX_RULES
+  pub units-fit : p .«unit_count» ≤ MAX_UNITS
+
+-- the record of no commands: all zero
+unfoldable pub emptyPlan : Plan
+emptyPlan =
+    record {
+      rules = replicate {A = ℕ} (RULE_WORDS * MAX_RULES) 0;
+      «rule_count» = 0;
+      units = replicate {A = ℕ} MAX_UNITS 0;
+      «unit_count» = 0;
+      predecessors = replicate {A = ℕ} MAX_UNITS 0;
+      «edge_count» = 0;
+    }
+
+-- "Rules and units are numbered from 0 as they come": one RULE more
+unfoldable pub withRule : Plan → ℕ → ℕ → ℕ → Plan
+withRule p head positive negative =
+    record {
+      rules =
+          set (set (set (p .rules) (RULE_WORDS * p .«rule_count») head) (RULE_WORDS * p .«rule_count» + 1) positive)
+          (RULE_WORDS * p .«rule_count» + 2)
+          negative;
+      «rule_count» = p .«rule_count» + 1;
+      units = p .units;
+      «unit_count» = p .«unit_count»;
+      predecessors = p .predecessors;
+      «edge_count» = p .«edge_count»;
+    }
+
+-- one UNIT more
+unfoldable pub withUnit : Plan → ℕ → Plan
+withUnit p word =
+    record {
+      rules = p .rules;
+      «rule_count» = p .«rule_count»;
+      units = set (p .units) (p .«unit_count») word;
+      «unit_count» = p .«unit_count» + 1;
+      predecessors = p .predecessors;
+      «edge_count» = p .«edge_count»;
+    }
+
+-- "Edge (u,v) says that unit u depends on unit v, a direct predecessor of u": one EDGE more
+unfoldable pub withEdge : Plan → ℕ → ℕ → Plan
+withEdge p u v =
+    record {
+      rules = p .rules;
+      «rule_count» = p .«rule_count»;
+      units = p .units;
+      «unit_count» = p .«unit_count»;
+      predecessors = set (p .predecessors) u (getD (p .predecessors) u 0 ∪ atom v);
+      «edge_count» = p .«edge_count» + 1;
+    }

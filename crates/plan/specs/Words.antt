@@ -1,0 +1,17 @@
+-- The words of a plan.
+use mathlib.Core.List.{List, [], _∷_}
+use Prim.Native.Nat.{ℕ, _+_, _*_}
+use lib.ListN.{take, drop}
+
+-- "Words are 64 bits": their bytes
+abbrev pub WORD_BYTES : ℕ
+WORD_BYTES = 8
+
+-- "lowest byte first": the number that the bytes spell
+unfoldable pub number : List ℕ → ℕ
+number [] = 0
+number (b ∷ bytes) = b + 256 * number bytes
+
+-- the word that starts at byte `at`
+unfoldable pub wordAt : ℕ → List ℕ → ℕ
+wordAt at bytes = number (take WORD_BYTES (drop at bytes))

@@ -1,0 +1,68 @@
+// The faults of a plan, each with its spot.
+ghost use mathlib.Core.Path.{_≡_};
+ghost use Rattle.plan.specs.Faults.{number, spot};
+
+// A refusal: what is wrong, and its spot (document 01, "Faults, by where they are found").
+pub enum Fault {
+    TableShort(usize),
+    Truncated(usize),
+    UnknownCommand(usize),
+    OutOfOrder(usize),
+    TooMany(usize),
+    EmptyRule(usize),
+    AbsentRule(usize),
+    BadEdge(usize),
+    TrailingBytes(usize),
+    RuleInNoUnit(usize),
+    HeadedRuleInSeveral(usize),
+    Cycle(usize),
+    NonmonotonicUnseen(usize),
+    MonotonicUnseen(usize),
+    LongList(usize),
+}
+
+// The number of the fault.
+pub fn fault_number(f: Fault) -> u64
+    ensures { λ r. ⌜ r ≡ number f ⌝ }
+{
+    match f {
+        Fault::TableShort(_) => 1,
+        Fault::Truncated(_) => 2,
+        Fault::UnknownCommand(_) => 3,
+        Fault::OutOfOrder(_) => 4,
+        Fault::TooMany(_) => 5,
+        Fault::EmptyRule(_) => 6,
+        Fault::AbsentRule(_) => 7,
+        Fault::BadEdge(_) => 8,
+        Fault::TrailingBytes(_) => 9,
+        Fault::RuleInNoUnit(_) => 10,
+        Fault::HeadedRuleInSeveral(_) => 11,
+        Fault::Cycle(_) => 12,
+        Fault::NonmonotonicUnseen(_) => 13,
+        Fault::MonotonicUnseen(_) => 14,
+        Fault::LongList(_) => 15,
+    }
+}
+
+// The spot of the fault.
+pub fn fault_spot(f: Fault) -> usize
+    ensures { λ r. ⌜ r ≡ spot f ⌝ }
+{
+    match f {
+        Fault::TableShort(spot) => spot,
+        Fault::Truncated(spot) => spot,
+        Fault::UnknownCommand(spot) => spot,
+        Fault::OutOfOrder(spot) => spot,
+        Fault::TooMany(spot) => spot,
+        Fault::EmptyRule(spot) => spot,
+        Fault::AbsentRule(spot) => spot,
+        Fault::BadEdge(spot) => spot,
+        Fault::TrailingBytes(spot) => spot,
+        Fault::RuleInNoUnit(spot) => spot,
+        Fault::HeadedRuleInSeveral(spot) => spot,
+        Fault::Cycle(spot) => spot,
+        Fault::NonmonotonicUnseen(spot) => spot,
+        Fault::MonotonicUnseen(spot) => spot,
+        Fault::LongList(spot) => spot,
+    }
+}
