@@ -10,7 +10,7 @@ use borrow.Author.Tests.{eqb-true, eqb-false, not-true, not-false}
 use Rattle.atoms.specs.Word.{Has, _⊆_, _⊂_, Apart, apart, _∪_, _∖_, atom, below}
 use Rattle.atoms.specs.Bounded.{Decides}
 use Rattle.atoms.proofs.Tests.{decides, decides-iff, decides-same, decided-true, not-both}
-use Rattle.atoms.proofs.Sets.{decides-apart, has-dec, has-lt, subset-refl, subset-trans, subset-antisym, has-left, has-right, union-cases, has-without, without-left, without-right, has-atom, atom-only, has-below}
+use Rattle.atoms.proofs.Sets.{decides-apart, has-dec, has-lt, subset-refl, subset-trans, subset-antisym, has-left, has-right, has-without, without-right, has-atom, has-below}
 use Rattle.atoms.proofs.Counting.{count-lt}
 use Rattle.answer_sets.specs.Program.{Program, Body, Satisfies, SatisfiesAll}
 use Rattle.answer_sets.specs.Lent.{lent, negative}
@@ -18,7 +18,7 @@ use Rattle.answer_sets.specs.State.{Completes, Narrows, undecided}
 use Rattle.answer_sets.specs.Growth.{Between, Confines, InRule, in-head, in-positive, in-negative}
 use Rattle.answer_sets.specs.Test.{Smaller, someSmaller}
 use Rattle.answer_sets.specs.declared.State.{State}
-use Rattle.answer_sets.proofs.Narrowing.{completes-back, overlap-none}
+use Rattle.answer_sets.proofs.Narrowing.{completes-back, overlap-none, with-up, with-dropped, without-up, without-dropped}
 use Rattle.answer_sets.proofs.HalfDecided.{decided-cases, undecided-up, undecided-dropped, undecided-intro, undecided-lt, undecided-shrinks}
 use Rattle.answer_sets.proofs.Judged.{decides-smaller}
 
@@ -81,28 +81,6 @@ module _ (P : Program) (which M : ℕ) where
               (b .proper .short (subst (λ (x : ℕ). x ⊆ b .set) (eqb-true (t .up) M q) (b .completes .has-up)))
 
   -- one atom is tried both ways
-  with-up : (s : State) (i N : ℕ) → Completes s N → Has N i
-      → Completes (record { up = s .up ∪ atom i; dropped = s .dropped }) N
-  with-up s i N c h = record {
-    has-up = record { each = λ j p. go j (union-cases (s .up) (atom i) p) };
-    no-dropped = c .no-dropped;
-  }
-    where
-      go : (j : ℕ) → Has (s .up) j ⊎ Has (atom i) j → Has N j
-      go j (inl p) = c .has-up .each j p
-      go j (inr p) = subst (λ (x : ℕ). Has N x) (atom-only i p) h
-
-  with-dropped : (s : State) (i N : ℕ) → Completes s N → ¬ Has N i
-      → Completes (record { up = s .up; dropped = s .dropped ∪ atom i }) N
-  with-dropped s i N c h = record {
-    has-up = c .has-up;
-    no-dropped = record { none = λ j p q. go j q (union-cases (s .dropped) (atom i) p) };
-  }
-    where
-      go : (j : ℕ) → Has N j → Has (s .dropped) j ⊎ Has (atom i) j → ⊥
-      go j q (inl p) = c .no-dropped .none j p q
-      go j q (inr p) = h (subst (λ (x : ℕ). Has N x) (sym (atom-only i p)) q)
-
   back-from-up : (s : State) (i : ℕ) → Between P which M (record { up = s .up ∪ atom i; dropped = s .dropped })
       → Between P which M s
   back-from-up s i b = record {
@@ -143,11 +121,11 @@ module _ (P : Program) (which M : ℕ) where
       go b (yes h) =
           absurd
           (d .no e
-          (record { set = b .set; proper = b .proper; completes = with-up s i (b .set) (b .completes) h; satisfied = b .satisfied }))
+          (record { set = b .set; proper = b .proper; completes = with-up s i (b .completes) h; satisfied = b .satisfied }))
       go b (no h) = record {
         set = b .set;
         proper = b .proper;
-        completes = with-dropped s i (b .set) (b .completes) h;
+        completes = with-dropped s i (b .completes) h;
         satisfied = b .satisfied;
       }
 

@@ -35,6 +35,43 @@ completes-back n p = record {
   no-dropped = record { none = λ i d. p .no-dropped .none i (n .dropped-grows .each i d) };
 }
 
+-- a completion that has an atom completes the state with the atom up, and one that has it not the state with it dropped
+pub with-up : (s : State) (i : ℕ) {N : ℕ} → Completes s N → Has N i
+    → Completes (record { up = s .up ∪ atom i; dropped = s .dropped }) N
+with-up s i {N} c h = record {
+  has-up = record { each = λ j p. go j (union-cases (s .up) (atom i) p) };
+  no-dropped = c .no-dropped;
+}
+  where
+    go : (j : ℕ) → Has (s .up) j ⊎ Has (atom i) j → Has N j
+    go j (inl p) = c .has-up .each j p
+    go j (inr p) = subst (λ (x : ℕ). Has N x) (atom-only i p) h
+
+pub with-dropped : (s : State) (i : ℕ) {N : ℕ} → Completes s N → ¬ Has N i
+    → Completes (record { up = s .up; dropped = s .dropped ∪ atom i }) N
+with-dropped s i {N} c h = record {
+  has-up = c .has-up;
+  no-dropped = record { none = λ j p q. go j q (union-cases (s .dropped) (atom i) p) };
+}
+  where
+    go : (j : ℕ) → Has N j → Has (s .dropped) j ⊎ Has (atom i) j → ⊥
+    go j q (inl p) = c .no-dropped .none j p q
+    go j q (inr p) = h (subst (λ (x : ℕ). Has N x) (sym (atom-only i p)) q)
+
+-- and back
+pub without-up : (s : State) (i : ℕ) {N : ℕ} → Completes (record { up = s .up ∪ atom i; dropped = s .dropped }) N → Completes s N
+without-up s i c = record {
+  has-up = record { each = λ j p. c .has-up .each j (has-left (s .up) (atom i) p) };
+  no-dropped = c .no-dropped;
+}
+
+pub without-dropped : (s : State) (i : ℕ) {N : ℕ} → Completes (record { up = s .up; dropped = s .dropped ∪ atom i }) N
+    → Completes s N
+without-dropped s i c = record {
+  has-up = c .has-up;
+  no-dropped = record { none = λ j p. c .no-dropped .none j (has-left (s .dropped) (atom i) p) };
+}
+
 -- nothing completes a state in which an atom is both up and dropped
 pub overlap-none : {s : State} {N : ℕ} → ¬ Apart (s .up) (s .dropped) → Completes s N → ⊥
 overlap-none h p = h (record { none = λ i u d. p .no-dropped .none i d (p .has-up .each i u) })

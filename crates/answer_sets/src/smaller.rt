@@ -64,7 +64,7 @@ fn grow_by(rules: &[u64], rule: usize, s: State) -> State
 }
 
 // The state after one round over the rules of the word.
-fn grow(rules: &[u64], which: u64, s: State) -> State
+pub fn grow(rules: &[u64], which: u64, s: State) -> State
     requires { ⌜ Lent (now rules) which ⌝ }
     ensures { λ t. ⌜ Narrows (SatisfiesAll (lent (now (rules .entry))) which) s t ⌝ }
 {

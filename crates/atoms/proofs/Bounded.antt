@@ -7,7 +7,7 @@ use native.Mathlib.Omega.{arith}
 use native.Mathlib.Decide.{ℕ-discrete}
 use Rattle.atoms.specs.Word.{Has, has, _∩_, _∪_, _∖_, atom, below}
 use Rattle.atoms.specs.Bounded.{Decides, allBelow, someBelow, allIn, wordBelow, unionIn}
-use Rattle.atoms.proofs.Tests.{decides, decided-true, not-both, test-cases, bool-ext, and-true, implies-true}
+use Rattle.atoms.proofs.Tests.{decides, decided-true, false-of-not-true, not-both, test-cases, bool-ext, and-true, implies-true}
 use Rattle.atoms.proofs.Sets.{decides-has, has-cut, cut-left, cut-right, has-left, has-right, union-cases, has-without, without-left, without-right, has-atom, atom-only, has-none, has-below, below-lt}
 
 -- ---- each
@@ -170,3 +170,7 @@ union-at (suc n) w f a h = go (has w n) refl h (union-at n w f a)
         → (i : ℕ) × (i < suc n) × Has w i × Has (f i) a
     go true q k rest = cases q rest (union-cases (unionIn n w f) (f n) k)
     go false q k rest = front rest k
+
+-- no number below n passes the test
+pub some-none : (n : ℕ) (p : ℕ → Bool) → ((i : ℕ) → i < n → ¬ (p i ≡ true)) → someBelow n p ≡ false
+some-none n p h = false-of-not-true (someBelow n p) (λ e. let s = some-at n p e in h (s .0) (s .1) (s .2))

@@ -1,0 +1,135 @@
+-- The join pass: a position that joins a list and completes the state is one of the list's agreeing entries, cut to the head atoms.
+use mathlib.Core.Path.{_≡_, refl, sym, ap, _∙_, subst}
+use mathlib.Core.Bool.{Bool, true, false, not, _&&_, _||_}
+use mathlib.Core.Logic.{_⊎_, inl, inr}
+use mathlib.Core.List.{List}
+use Prim.Native.Nat.{ℕ, _+_, _*_, _^_, _≤_, _<_}
+use native.Mathlib.Omega.{arith}
+use native.Mathlib.Decide.{ℕ-discrete}
+use lib.Dec.{eqb}
+use lib.ListN.{length, getD}
+use borrow.Author.Tests.{eqb-true}
+use Rattle.atoms.specs.Word.{Has, _⊆_, subset, Apart, apart, _∩_, _∪_, _∖_, atom}
+use Rattle.atoms.proofs.Sets.{decides-subset, decides-apart, has-cut, cut-left, cut-right, has-left, has-right, union-cases, has-without, without-left, without-right, has-lt, has-dec, subset-refl, subset-trans}
+use Rattle.atoms.proofs.Bounded.{some-at, all-in-at, all-in-none, all-in-take}
+use Rattle.answer_sets.specs.State.{Completes, Narrows, clashed}
+use Rattle.answer_sets.specs.declared.State.{State}
+use Rattle.answer_sets.proofs.Narrowing.{clash-narrows}
+use Rattle.unit_search.specs.Listing.{isListed}
+use Rattle.unit_search.specs.Job.{joins, Joinable}
+use Rattle.unit_search.specs.Agreeing.{Agrees, Spans, TakenIn, SpansAll, JoinsOne, JoinsAll}
+use Rattle.unit_search.specs.declared.join.Agreement.{Agreement}
+
+-- ---- one entry
+
+pub passes-up : (r : Agreement) (up dropped entry : ℕ) → subset up entry ≡ false → TakenIn r up dropped entry r
+passes-up r up dropped entry e = record { still = λ x s. s; new = λ a. absurd (decides-subset up entry .no e (a .has-up)) }
+
+pub passes-dropped : (r : Agreement) (up dropped entry : ℕ) → apart dropped entry ≡ false → TakenIn r up dropped entry r
+passes-dropped r up dropped entry e = record {
+  still = λ x s. s;
+  new = λ a. absurd (decides-apart dropped entry .no e (a .no-dropped));
+}
+
+pub taken-in : (r : Agreement) (up dropped entry : ℕ)
+    → TakenIn r up dropped entry (record { all = r .all ∩ entry; some = r .some ∪ entry })
+taken-in r up dropped entry = record {
+  still = λ x s. record {
+    from-all = record { each = λ i p. s .from-all .each i (cut-left (r .all) entry p) };
+    to-some = record { each = λ i p. has-left (r .some) entry (s .to-some .each i p) };
+  };
+  new = λ a. record {
+    from-all = record { each = λ i p. cut-right (r .all) entry p };
+    to-some = record { each = λ i p. has-right (r .some) entry p };
+  };
+}
+
+-- ---- a list
+
+pub spans-start : (words : List ℕ) (base up dropped : ℕ) (r : Agreement) → SpansAll words base 0 up dropped r
+spans-start words base up dropped r = record { each = λ i l. absurd (omega arith) }
+
+pub spans-next : (words : List ℕ) (base i up dropped : ℕ) (r r′ : Agreement) → SpansAll words base i up dropped r
+    → TakenIn r up dropped (getD words (base + i) 0) r′ → SpansAll words base (i + 1) up dropped r′
+spans-next words base i up dropped r r′ s t = record { each = λ j l a. go j l a (ℕ-discrete j i) }
+  where
+    go : (j : ℕ) → j < i + 1 → Agrees up dropped (getD words (base + j) 0) → Dec (j ≡ i) → Spans r′ (getD words (base + j) 0)
+    go j l a (yes e) =
+        subst (λ (k : ℕ). Spans r′ (getD words (base + k) 0)) (sym e)
+        (t .new (subst (λ (k : ℕ). Agrees up dropped (getD words (base + k) 0)) e a))
+    go j l a (no n) = t .still (getD words (base + j) 0) (s .each j (omega arith) a)
+
+-- ---- one predecessor
+
+module _ (words : List ℕ) (base count heads : ℕ) (s : State) (r : Agreement)
+    (spans : SpansAll words base count (s .up ∩ heads) (s .dropped) r) where
+  -- the position's own entry agrees, so that it is spanned
+  own-entry : (M : ℕ) → JoinsOne words base count heads M → Completes s M → Spans r (M ∩ heads)
+  unfolding isListed
+  own-entry M j c =
+      let found = some-at count (λ i. eqb (getD words (base + i) 0) (M ∩ heads)) (j .listed) in
+      let e : getD words (base + found .0) 0 ≡ M ∩ heads = eqb-true (getD words (base + found .0) 0) (M ∩ heads) (found .2) in
+      subst (Spans r) e (spans .each (found .0) (found .1) (subst (Agrees (s .up ∩ heads) (s .dropped)) (sym e) agrees))
+    where
+      agrees : Agrees (s .up ∩ heads) (s .dropped) (M ∩ heads)
+      agrees = record {
+        has-up = record {
+          each = λ i p. has-cut M heads (c .has-up .each i (cut-left (s .up) heads p)) (cut-right (s .up) heads p);
+        };
+        no-dropped = record { none = λ i p q. c .no-dropped .none i p (cut-left M heads q) };
+      }
+
+  pub join-clash : subset (r .all) heads ≡ false → Narrows (JoinsOne words base count heads) s (clashed s)
+  join-clash e =
+      clash-narrows s
+      (λ M j c.
+      decides-subset (r .all) heads .no e
+      (record { each = λ i p. cut-right M heads (own-entry M j c .from-all .each i p) }))
+
+  pub join-narrows : Narrows (JoinsOne words base count heads) s
+      (record { up = s .up ∪ r .all; dropped = s .dropped ∪ (heads ∖ r .some) })
+  join-narrows = record {
+    up-grows = record { each = λ i p. has-left (s .up) (r .all) p };
+    dropped-grows = record { each = λ i p. has-left (s .dropped) (heads ∖ r .some) p };
+    keeps = λ M j c. record {
+      has-up = record { each = λ i p. up M j c i (union-cases (s .up) (r .all) p) };
+      no-dropped = record { none = λ i p q. down M j c i q (union-cases (s .dropped) (heads ∖ r .some) p) };
+    };
+  }
+    where
+      up : (M : ℕ) → JoinsOne words base count heads M → Completes s M → (i : ℕ) → Has (s .up) i ⊎ Has (r .all) i → Has M i
+      up M j c i (inl p) = c .has-up .each i p
+      up M j c i (inr p) = cut-left M heads (own-entry M j c .from-all .each i p)
+
+      down : (M : ℕ) → JoinsOne words base count heads M → Completes s M → (i : ℕ) → Has M i
+          → Has (s .dropped) i ⊎ Has (heads ∖ r .some) i → ⊥
+      down M j c i q (inl p) = c .no-dropped .none i p q
+      down M j c i q (inr p) =
+          without-right heads (r .some) p
+          (own-entry M j c .to-some .each i (has-cut M heads q (without-left heads (r .some) p)))
+
+-- ---- all predecessors
+
+pub joins-none : (table counts heads : List ℕ) (M : ℕ) → joins table counts heads 0 M ≡ true
+unfolding joins
+joins-none table counts heads M =
+    all-in-none 16 (λ v. isListed table (256 * v) (getD counts v 0) (M ∩ getD heads v 0))
+
+pub joins-take : (table counts heads : List ℕ) (w M v : ℕ) → v < 16 → Has w v
+    → joins table counts heads w M
+    ≡ (isListed table (256 * v) (getD counts v 0) (M ∩ getD heads v 0) && joins table counts heads (w ∖ atom v) M)
+unfolding joins
+joins-take table counts heads w M v l h =
+    all-in-take 16 w (λ u. isListed table (256 * u) (getD counts u 0) (M ∩ getD heads u 0)) v l h
+
+pub joins-one : (table counts heads : List ℕ) (predecessors M v : ℕ) → v < 16 → Has predecessors v
+    → JoinsAll table counts heads predecessors M → JoinsOne table (256 * v) (getD counts v 0) (getD heads v 0) M
+unfolding joins
+joins-one table counts heads predecessors M v l h j = record {
+  listed = all-in-at 16 predecessors (λ u. isListed table (256 * u) (getD counts u 0) (M ∩ getD heads u 0)) (j .joined) v l h;
+}
+
+-- a predecessor that is still to be joined is below 16, and its list is in the table
+pub joined-lt : {table counts heads : List ℕ} {predecessors rest v : ℕ} → Joinable table counts heads predecessors
+    → rest ⊆ predecessors → Has rest v → v < 16
+joined-lt {predecessors = predecessors} {v = v} j f h = has-lt predecessors 16 (j .few) (f .each v h)

@@ -1,0 +1,4 @@
+pub mod Insertion
+pub mod Gathering
+pub mod Joining
+pub mod Searching

@@ -1,0 +1,75 @@
+-- No word passed so far is the value.
+use native.Mathlib.Omega.{arith}
+use borrow.Author.Needs.{needs}
+use mathlib.Core.Path.{_≡_, sym}
+use denote.Ref.{now}
+use borrow.Author.Count.{below-none, below-more}
+use borrow.Author.Tests.{eqb-true, eq-eqb}
+use Prim.Native.Nat.{ℕ, _+_, _-_, _≤_, _<_}
+use lib.Dec.{eqb}
+use lib.ListN.{getD}
+use Rattle.atoms.proofs.Bounded.{some-intro, some-none}
+use Rattle.unit_search.specs.Listing.{isListed}
+use Rattle.unit_search.proofs.listing.contains.Statement.{statement}
+use Rattle.unit_search.proofs.listing.contains.Tie as tie
+
+abbrev Inv-loop : tie.InvT-loop
+Inv-loop words base count value i₀ i = (i ≤ count) × ((k : ℕ) → k < i → getD words (base + k) 0 ≡ value → ⊥)
+
+abbrev μ-loop : tie.MeasureT-loop
+μ-loop words base count value i₀ i = count - i
+
+loop-holds : tie.Need-loop-holds Inv-loop μ-loop
+loop-holds c = (omega arith, below-none _)
+
+add-if1 : tie.Need-add-if1 Inv-loop μ-loop
+add-if1 c = omega arith
+
+mul-if1 : tie.Need-mul-if1 Inv-loop μ-loop
+mul-if1 c = omega arith
+
+shared-slice-read-if1 : tie.Need-shared-slice-read-if1 Inv-loop μ-loop
+shared-slice-read-if1 c = omega arith
+
+returns : tie.Need-returns Inv-loop μ-loop
+unfolding isListed
+returns c =
+    let at = c .before .before .before .before .args in
+    let i = c .before .before .before .loop .i in
+    sym
+    (some-intro (at .count) (λ (k : ℕ). eqb (getD (now (at .words)) (at .base + k) 0) (at .value)) i (omega arith)
+    (eq-eqb (getD (now (at .words)) (at .base + i) 0) (at .value) (c .if1 .taken)))
+
+add-i : tie.Need-add-i Inv-loop μ-loop
+add-i c = omega arith
+
+loop-less : tie.Need-loop-less Inv-loop μ-loop
+loop-less c = omega arith
+
+loop-again : tie.Need-loop-again Inv-loop μ-loop
+loop-again c = (omega arith, below-more _ _ (c .before .before .before .loop .inv .1) (c .if1 .left))
+
+returns-2 : tie.Need-returns-2 Inv-loop μ-loop
+unfolding isListed
+returns-2 c =
+    let at = c .before .before .args in
+    sym
+    (some-none (at .count) (λ (k : ℕ). eqb (getD (now (at .words)) (at .base + k) 0) (at .value))
+    (λ k l e.
+    c .before .loop .inv .1 k (omega arith) (eqb-true (getD (now (at .words)) (at .base + k) 0) (at .value) e)))
+
+pub contains-spec : {M : Type 1} → statement M
+contains-spec =
+    tie.close
+    (tie.spec
+    Inv-loop
+    μ-loop
+    loop-holds
+    add-if1
+    mul-if1
+    shared-slice-read-if1
+    returns
+    add-i
+    loop-less
+    loop-again
+    returns-2)

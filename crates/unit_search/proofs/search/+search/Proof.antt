@@ -1,0 +1,187 @@
+-- The measure is the count of undecided atoms. Each return says what its step of the search adds to the list.
+use mathlib.Core.Path.{_≡_, ap, sym, subst, _∙_}
+use Prim.Native.Nat.{_≤_}
+use native.Mathlib.Nat.{lt-of-lt-of-le}
+use denote.Ref.{now}
+use borrow.Author.Tests.{not-true, not-false}
+use Rattle.atoms.specs.Word.{Has, _∪_}
+use Rattle.atoms.proofs.Counting.{count-le}
+use Rattle.answer_sets.proofs.HalfDecided.{undecided-shrinks}
+use Rattle.answer_sets.proofs.Between.{raise-falls, lower-falls}
+use Rattle.unit_search.specs.Listing.{Gathered, Grown}
+use Rattle.unit_search.specs.Job.{Wanted}
+use Rattle.unit_search.proofs.Gathering.{gathered-ordered}
+use Rattle.unit_search.proofs.Searching.{search-narrowed, search-clash, search-leaf, search-over, search-both}
+use Rattle.answer_sets.specs.State.{undecided}
+use lib.Count.{ones}
+use borrow.Author.Needs.{needs}
+use Prim.Native.Nat.{ℕ, _<_}
+use borrow.Fn.Kinds.{In}
+use borrow.Fn.PlainCycle.{Measures, is, falls, and}
+use Rattle.unit_search.proofs.search.search.Reads as search′
+use Rattle.unit_search.proofs.search.search.Kinds as search-kinds
+use Rattle.unit_search.proofs.search.+search.Lts-search as search-lts
+use Rattle.answer_sets.proofs.known.undecided.Reads as undecided-reads
+use Rattle.atoms.proofs.are_apart.Reads as are-apart-reads
+use Rattle.atoms.proofs.lowest.Reads as lowest-reads
+use Rattle.atoms.proofs.single.Reads as single-reads
+use Rattle.atoms.proofs.union.Reads as union-reads
+use Rattle.unit_search.proofs.search.narrow.Reads as narrow-reads
+use Rattle.unit_search.proofs.search.offer.Reads as offer-reads
+use Rattle.unit_search.proofs.search.+search.{statement}
+use Rattle.unit_search.proofs.search.+search.Tie.{close}
+
+abbrev μ-search : Measures 5 search-kinds.ps ℕ
+μ-search κs a = ones (undecided (a .1 .1 .1 .1 .1 .1 .1 .0) (a .1 .1 .1 .1 .1 .1 .1 .1 .0))
+
+abbrev search-at : ℕ → In 5 search-kinds.ps
+search-at t = and 5 search-kinds.ps (is 5 search-kinds.ps μ-search t) search′.Pre
+
+abbrev search-below : ℕ → In 5 search-kinds.ps
+search-below t = and 5 search-kinds.ps (falls 5 search-kinds.ps _<_ μ-search t) search′.Pre
+
+abbrev calls : ℕ → search-lts.Claims
+calls t = (
+  narrow-reads.Asked,
+  narrow-reads.Learnt,
+  are-apart-reads.Asked,
+  are-apart-reads.Learnt,
+  undecided-reads.Asked,
+  undecided-reads.Learnt,
+  offer-reads.Asked,
+  offer-reads.Learnt,
+  lowest-reads.Asked,
+  lowest-reads.Learnt,
+  single-reads.Asked,
+  single-reads.Learnt,
+  union-reads.Asked,
+  union-reads.Learnt,
+  search-below t,
+  search′.Post,
+)
+
+-- the atom that is tried is undecided
+chosen : (t : ℕ) (c : search-lts.After-lowest (calls t) (search-at t) search′.Post)
+    → Has (undecided (c .before .before .before .before .before .narrow .result .up) (c .before .before .before .before .before .narrow .result .dropped)) (c .lowest .result)
+chosen t c = subst (λ (w : ℕ). Has w (c .lowest .result)) (c .before .before .undecided .ensures) (c .lowest .ensures .0 .here)
+
+-- the passes leave no more undecided
+no-more : (t : ℕ) (c : search-lts.After-lowest (calls t) (search-at t) search′.Post)
+    → ones (undecided (c .before .before .before .before .before .narrow .result .up) (c .before .before .before .before .before .narrow .result .dropped)) ≤ t
+no-more t c =
+    subst (λ (n : ℕ). ones (undecided (c .before .before .before .before .before .narrow .result .up) (c .before .before .before .before .before .narrow .result .dropped)) ≤ n) (c .before .before .before .before .before .before .before .before .before .before .before .pre .0)
+    (count-le (undecided (c .before .before .before .before .before .narrow .result .up) (c .before .before .before .before .before .narrow .result .dropped)) (undecided (c .before .before .before .before .before .before .before .before .before .before .before .args .up) (c .before .before .before .before .before .before .before .before .before .before .before .args .dropped))
+    (undecided-shrinks (c .before .before .before .before .before .before .before .before .before .before .before .args .up) (c .before .before .before .before .before .before .before .before .before .before .before .args .dropped) (c .before .before .before .before .before .narrow .result .up) (c .before .before .before .before .before .narrow .result .dropped) (c .before .before .before .before .before .narrow .ensures .up-grows) (c .before .before .before .before .before .narrow .ensures .dropped-grows)))
+
+search-narrow-requires : (t : ℕ) → search-lts.Need-narrow-requires (calls t) (search-at t) search′.Post
+search-narrow-requires t c κs = c .before .before .before .before .before .pre .1 .0
+
+search-are-apart-requires : (t : ℕ) → search-lts.Need-are-apart-requires (calls t) (search-at t) search′.Post
+search-are-apart-requires t c κs = search needs
+
+search-returns : (t : ℕ) → search-lts.Need-returns (calls t) (search-at t) search′.Post
+search-returns t c =
+    let at = c .before .before .before .before .before .before .before .before .args in
+    search-narrowed (now (at .rules)) (now (at .table)) (now (at .counts)) (now (at .heads)) (at .unit) (now (at .list)) (at .count) (record { up = at .up; dropped = at .dropped }) (c .before .before .narrow .result) (c .before .before .narrow .ensures)
+    (search-clash (now (at .rules)) (now (at .table)) (now (at .counts)) (now (at .heads)) (at .unit) (now (at .list)) (at .count) (c .before .before .narrow .result) (c .before .before .before .before .before .before .before .before .pre .1 .1)
+    (sym (c .before .are-apart .ensures) ∙ not-true (c .before .are-apart .result) (c .if1 .taken)))
+
+search-undecided-requires : (t : ℕ) → search-lts.Need-undecided-requires (calls t) (search-at t) search′.Post
+search-undecided-requires t c κs = search needs
+
+search-offer-requires : (t : ℕ) → search-lts.Need-offer-requires (calls t) (search-at t) search′.Post
+search-offer-requires t c κs = (c .before .before .before .before .before .before .before .before .before .before .before .pre .1 .0, c .before .before .before .before .before .before .before .before .before .before .before .pre .1 .1)
+
+search-same-length : (t : ℕ) → search-lts.Need-same-length (calls t) (search-at t) search′.Post
+search-same-length t c = c .before .before .offer .kept .1 .1 .1 .1 .1 .0
+
+search-returns-2 : (t : ℕ) → search-lts.Need-returns-2 (calls t) (search-at t) search′.Post
+search-returns-2 t c =
+    let at = c .before .before .before .before .before .before .before .before .before .before .before .before .before .before .args in
+    search-narrowed (now (at .rules)) (now (at .table)) (now (at .counts)) (now (at .heads)) (at .unit) (now (at .list)) (at .count) (record { up = at .up; dropped = at .dropped }) (c .before .before .before .before .before .before .before .before .narrow .result) (c .before .before .before .before .before .before .before .before .narrow .ensures)
+    (search-leaf (now (at .rules)) (now (at .table)) (now (at .counts)) (now (at .heads)) (at .unit) (now (at .list)) (at .count) (c .before .before .before .before .before .before .before .before .narrow .result) (sym (c .before .before .before .before .before .before .before .are-apart .ensures) ∙ not-false (c .before .before .before .before .before .before .before .are-apart .result) (c .before .before .before .before .before .before .if1 .left))
+    (sym (c .before .before .before .before .before .undecided .ensures) ∙ c .before .before .before .before .if2 .taken) (c .before .before .offer .ensures))
+
+search-lowest-requires : (t : ℕ) → search-lts.Need-lowest-requires (calls t) (search-at t) search′.Post
+search-lowest-requires t c κs = c .if2 .left
+
+search-single-requires : (t : ℕ) → search-lts.Need-single-requires (calls t) (search-at t) search′.Post
+search-single-requires t c κs = c .lowest .ensures .1
+
+search-union-requires : (t : ℕ) → search-lts.Need-union-requires (calls t) (search-at t) search′.Post
+search-union-requires t c κs = search needs
+
+search-search-requires : (t : ℕ) → search-lts.Need-search-requires (calls t) (search-at t) search′.Post
+search-search-requires t c κs =
+    let at = c .before .before .before .before .before .before .before .before .before .before .before .before .before .before .args in
+    let n = c .before .before .before .before .before .before .before .before .narrow .result in
+    let low = c .before .before .before .lowest .result in
+    let lower = c .before .union .ensures ∙ ap (λ (w : ℕ). n .dropped ∪ w) (c .before .before .single .ensures) in (
+      subst (λ (w : ℕ). ones (undecided (n .up) w) < t) (sym lower)
+          (lt-of-lt-of-le (lower-falls (n .up) (n .dropped) low (chosen t (c .before .before .before))) (no-more t (c .before .before .before))),
+      (c .before .before .before .before .before .before .before .before .before .before .before .before .before .before .pre .1 .0, c .before .before .before .before .before .before .before .before .before .before .before .before .before .before .pre .1 .1),
+    )
+
+search-same-length-2 : (t : ℕ) → search-lts.Need-same-length-2 (calls t) (search-at t) search′.Post
+search-same-length-2 t c = c .before .before .before .search .kept .1 .1 .1 .1 .1 .0
+
+search-returns-3 : (t : ℕ) → search-lts.Need-returns-3 (calls t) (search-at t) search′.Post
+search-returns-3 t c =
+    let at = c .before .before .before .before .before .before .before .before .before .before .before .before .before .before .before .before .before .before .args in
+    let n = c .before .before .before .before .before .before .before .before .before .before .before .before .narrow .result in
+    search-narrowed (now (at .rules)) (now (at .table)) (now (at .counts)) (now (at .heads)) (at .unit) (now (at .list)) (at .count) (record { up = at .up; dropped = at .dropped }) (c .before .before .before .before .before .before .before .before .before .before .before .before .narrow .result) (c .before .before .before .before .before .before .before .before .before .before .before .before .narrow .ensures)
+    (search-over (now (at .rules)) (now (at .table)) (now (at .counts)) (now (at .heads)) (at .unit) (now (at .list)) (at .count) n (c .before .before .before .before .before .before .before .lowest .result) (c .before .before .before .search .last .1 .1 .1 .1 .1 .0) (c .before .before .before .search .result)
+    (subst (λ (w : ℕ). Gathered (Grown (now (at .list)) (at .count) (Wanted (now (at .rules)) (now (at .table)) (now (at .counts)) (now (at .heads)) (at .unit) (record { up = n .up; dropped = w }))) (c .before .before .before .search .last .1 .1 .1 .1 .1 .0) (c .before .before .before .search .result))
+    (c .before .before .before .before .before .union .ensures ∙ ap (λ (w : ℕ). n .dropped ∪ w) (c .before .before .before .before .before .before .single .ensures)) (c .before .before .before .search .ensures))
+    (c .if3 .taken))
+
+search-union-requires-2 : (t : ℕ) → search-lts.Need-union-requires-2 (calls t) (search-at t) search′.Post
+search-union-requires-2 t c κs = search needs
+
+search-search-requires-2 : (t : ℕ) → search-lts.Need-search-requires-2 (calls t) (search-at t) search′.Post
+search-search-requires-2 t c κs =
+    let at = c .before .before .before .before .before .before .before .before .before .before .before .before .before .before .before .before .before .before .before .before .args in
+    let n = c .before .before .before .before .before .before .before .before .before .before .before .before .before .before .narrow .result in
+    let low = c .before .before .before .before .before .before .before .before .before .lowest .result in
+    let upper = c .before .union2 .ensures ∙ ap (λ (w : ℕ). n .up ∪ w) (c .before .before .before .before .before .before .before .before .single .ensures) in (
+      subst (λ (w : ℕ). ones (undecided w (n .dropped)) < t) (sym upper)
+          (lt-of-lt-of-le (raise-falls (n .up) (n .dropped) low (chosen t (c .before .before .before .before .before .before .before .before .before))) (no-more t (c .before .before .before .before .before .before .before .before .before))),
+      (c .before .before .before .before .before .before .before .before .before .before .before .before .before .before .before .before .before .before .before .before .pre .1 .0, gathered-ordered (c .before .before .if3 .left) (c .before .before .before .before .before .search .ensures)),
+    )
+
+search-same-length-3 : (t : ℕ) → search-lts.Need-same-length-3 (calls t) (search-at t) search′.Post
+search-same-length-3 t c = c .before .before .search2 .kept .1 .1 .1 .1 .1 .0 ∙ c .before .before .before .before .before .before .before .before .search .kept .1 .1 .1 .1 .1 .0
+
+search-returns-4 : (t : ℕ) → search-lts.Need-returns-4 (calls t) (search-at t) search′.Post
+search-returns-4 t c =
+    let at = c .before .before .before .before .before .before .before .before .before .before .before .before .before .before .before .before .before .before .before .before .before .before .before .args in
+    let n = c .before .before .before .before .before .before .before .before .before .before .before .before .before .before .before .before .before .narrow .result in
+    search-narrowed (now (at .rules)) (now (at .table)) (now (at .counts)) (now (at .heads)) (at .unit) (now (at .list)) (at .count) (record { up = at .up; dropped = at .dropped }) (c .before .before .before .before .before .before .before .before .before .before .before .before .before .before .before .before .before .narrow .result) (c .before .before .before .before .before .before .before .before .before .before .before .before .before .before .before .before .before .narrow .ensures)
+    (search-both (now (at .rules)) (now (at .table)) (now (at .counts)) (now (at .heads)) (at .unit) (now (at .list)) (at .count) n (c .before .before .before .before .before .before .before .before .before .before .before .before .lowest .result) (c .before .before .before .before .before .before .before .before .search .last .1 .1 .1 .1 .1 .0) (c .before .before .before .before .before .before .before .before .search .result)
+    (subst (λ (w : ℕ). Gathered (Grown (now (at .list)) (at .count) (Wanted (now (at .rules)) (now (at .table)) (now (at .counts)) (now (at .heads)) (at .unit) (record { up = n .up; dropped = w }))) (c .before .before .before .before .before .before .before .before .search .last .1 .1 .1 .1 .1 .0) (c .before .before .before .before .before .before .before .before .search .result))
+    (c .before .before .before .before .before .before .before .before .before .before .union .ensures ∙ ap (λ (w : ℕ). n .dropped ∪ w) (c .before .before .before .before .before .before .before .before .before .before .before .single .ensures)) (c .before .before .before .before .before .before .before .before .search .ensures))
+    (c .before .before .before .before .before .if3 .left)
+    (subst (λ (w : ℕ). Gathered (Grown (c .before .before .before .before .before .before .before .before .search .last .1 .1 .1 .1 .1 .0) (c .before .before .before .before .before .before .before .before .search .result) (Wanted (now (at .rules)) (now (at .table)) (now (at .counts)) (now (at .heads)) (at .unit) (record { up = w; dropped = n .dropped }))) (c .before .before .search2 .last .1 .1 .1 .1 .1 .0) (c .before .before .search2 .result))
+    (c .before .before .before .before .union2 .ensures ∙ ap (λ (w : ℕ). n .up ∪ w) (c .before .before .before .before .before .before .before .before .before .before .before .single .ensures)) (c .before .before .search2 .ensures)))
+
+pub +search-spec : {M : Type 1} → statement M
++search-spec = close μ-search λ t. search-lts.spec (calls t)
+    (search-at t)
+    search′.Post
+    (search-narrow-requires t)
+    (search-are-apart-requires t)
+    (search-returns t)
+    (search-undecided-requires t)
+    (search-offer-requires t)
+    (search-same-length t)
+    (search-returns-2 t)
+    (search-lowest-requires t)
+    (search-single-requires t)
+    (search-union-requires t)
+    (search-search-requires t)
+    (search-same-length-2 t)
+    (search-returns-3 t)
+    (search-union-requires-2 t)
+    (search-search-requires-2 t)
+    (search-same-length-3 t)
+    (search-returns-4 t)

@@ -1,0 +1,36 @@
+-- It joins the lists, and it is an answer set with its input as facts.
+use mathlib.Core.Path.{ap, sym, _∙_}
+use Prim.Native.Nat.{ℕ}
+use denote.Ref.{now}
+use borrow.Author.Tests.{not-true, not-false}
+use Rattle.answer_sets.specs.Lent.{lent}
+use Rattle.answer_sets.specs.Test.{answerSet}
+use Rattle.unit_search.proofs.Searching.{not-joined, joined-settled}
+use borrow.Author.Needs.{needs}
+use Rattle.unit_search.proofs.search.belongs.Statement.{statement}
+use Rattle.unit_search.proofs.search.belongs.Tie as tie
+
+joins-requires : tie.Need-joins-requires
+joins-requires c κs = search needs
+
+returns : tie.Need-returns
+returns c =
+    let at = c .before .before .before .before .before .before .args in
+    not-joined (now (at .rules)) (now (at .table)) (now (at .counts)) (now (at .heads)) (at .unit) (at .position) (sym (c .before .joins .ensures) ∙ not-true (c .before .joins .result) (c .if1 .taken))
+
+cut-requires : tie.Need-cut-requires
+cut-requires c κs = search needs
+
+is-answer-set-requires : tie.Need-is-answer-set-requires
+is-answer-set-requires c κs = search needs
+
+returns-2 : tie.Need-returns-2
+returns-2 c =
+    let at = c .before .before .before .before .before .before .before .before .args in
+    joined-settled (now (at .rules)) (now (at .table)) (now (at .counts)) (now (at .heads)) (at .unit) (at .position) (c .is-answer-set .result) (c .before .before .before .before .before .before .before .before .fits .position .fits)
+    (sym (c .before .before .before .joins .ensures) ∙ not-false (c .before .before .before .joins .result) (c .before .before .if1 .left))
+    (c .is-answer-set .ensures ∙ ap (λ (w : ℕ). answerSet (lent (now (at .rules))) (at .unit .rules) w (at .position)) (c .before .cut .ensures))
+
+pub belongs-spec : {M : Type 1} → statement M
+belongs-spec =
+    tie.close (tie.spec joins-requires returns cut-requires is-answer-set-requires returns-2)

@@ -1,0 +1,54 @@
+-- A rising list in 256 words, zeros behind it, and what is said of one that grows or has become too long.
+use mathlib.Core.Path.{_≡_}
+use mathlib.Core.Bool.{Bool, true, false}
+use mathlib.Core.List.{List, [], _∷_, _++_, List·Memᴰ}
+use mathlib.Core.Logic.{_⊎_}
+use Prim.Native.Nat.{ℕ, _+_, _-_, _≤_}
+use lib.Dec.{eqb, ltb}
+use lib.ListN.{length, take, drop, getD, replicate}
+use Rattle.atoms.specs.Bounded.{someBelow}
+use Rattle.atoms.specs.Rising.{Rising}
+
+-- "Each list rises as unsigned numbers and zeros fill up its 256 words."
+unfoldable pub padded : List ℕ → List ℕ
+padded xs = xs ++ replicate (256 - length xs) 0
+
+-- v put into its place in a rising list, unless it is there already
+unfoldable pub insertInto : ℕ → List ℕ → List ℕ
+insertInto v [] = v ∷ []
+insertInto v (x ∷ xs) =
+    elim (ltb v x) [ true ↦ v ∷ insertInto x xs | false ↦ elim (eqb v x) [ true ↦ x ∷ xs | false ↦ x ∷ insertInto v xs ] ]
+
+-- the value is one of the `count` words from `base` on
+unfoldable pub isListed : List ℕ → ℕ → ℕ → ℕ → Bool
+isListed words base count value = someBelow count (λ i. eqb (getD words (base + i) 0) value)
+
+-- the 256 words hold a rising list of `count` members and zeros behind it
+pub record Ordered (list : List ℕ) (count : ℕ) : Type 0 where
+  pub long : length list ≡ 256
+  pub small : count ≤ 256
+  pub rising : Rising (take count list)
+  pub zeros : drop count list ≡ replicate (256 - count) 0
+
+-- more than 256 positions are wanted
+pub record Overfull (Wanted : ℕ → Type 0) : Type 0 where
+  pub many : List ℕ
+  pub rising : Rising many
+  pub long : length many ≡ 257
+  pub sound : (x : ℕ) → List·Memᴰ x many → Wanted x
+
+-- the list holds just what is wanted; or more than 256 positions are wanted, and the count says 257
+pub data Gathered (Wanted : ℕ → Type 0) (list : List ℕ) : ℕ → Type 0 where
+  fits : {count : ℕ} → Ordered list count → ((x : ℕ) → List·Memᴰ x (take count list) → Wanted x)
+      → ((x : ℕ) → Wanted x → List·Memᴰ x (take count list)) → Gathered Wanted list count
+  over : Overfull Wanted → Gathered Wanted list 257
+
+-- a member of the list so far, or one of those that are added
+abbrev pub Grown : List ℕ → ℕ → (ℕ → Type 0) → ℕ → Type 0
+Grown list count Added x = List·Memᴰ x (take count list) ⊎ Added x
+
+-- what an insertion leaves: the list with the value in its place, or that this list is too long
+pub data Inserted (list : List ℕ) (count value : ℕ) (after : List ℕ) : ℕ → Type 0 where
+  room : {r : ℕ} → r ≡ length (insertInto value (take count list)) → r ≤ 256
+      → after ≡ insertInto value (take count list) ++ drop r list → Inserted list count value after r
+  no-room : length (insertInto value (take count list)) ≡ 257 → Inserted list count value after 257

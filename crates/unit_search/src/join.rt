@@ -1,0 +1,114 @@
+// Joining the lists of the direct predecessors.
+use crate::LIST_WORDS;
+use crate::listing::contains;
+use answer_sets::State;
+use answer_sets::smaller::clash;
+ghost use mathlib.Core.Path.{_≡_};
+ghost use Prim.Native.Nat.{_+_, _≤_};
+ghost use lib.ListN.{length};
+ghost use Rattle.answer_sets.specs.State.{Narrows};
+ghost use Rattle.unit_search.specs.Job.{Joinable, joins as joinsOf};
+ghost use Rattle.unit_search.specs.Agreeing.{TakenIn, SpansAll, JoinsOne, JoinsAll};
+
+// Whether the position cut to each direct predecessor's head atoms is in that one's list.
+pub fn joins(
+    table: &[u64],
+    counts: &[usize],
+    heads: &[u64],
+    predecessors: u64,
+    position: u64,
+) -> bool
+    requires { ⌜ Joinable (now table) (now counts) (now heads) predecessors ⌝ }
+    ensures { λ r. ⌜ r ≡ joinsOf (now (table .entry)) (now (counts .entry)) (now (heads .entry)) predecessors position ⌝ }
+{
+    let mut rest = predecessors;
+    while rest != 0 {
+        let v = atoms::lowest(rest);
+        if !contains(
+            table,
+            LIST_WORDS * v,
+            counts[v],
+            atoms::cut(position, heads[v]),
+        ) {
+            return false;
+        }
+        rest = atoms::drop(rest, v);
+    }
+    true
+}
+
+// Of the entries of a list that agree with a state: the atoms in all of them and those in some.
+pub struct Agreement {
+    pub all: u64,
+    pub some: u64,
+}
+
+// What is known with one more entry, which counts where it has every atom of `up` and none of `dropped`.
+fn take_in(found: Agreement, up: u64, dropped: u64, entry: u64) -> Agreement
+    ensures { λ r. ⌜ TakenIn found up dropped entry r ⌝ }
+{
+    if !atoms::is_subset(up, entry) {
+        return found;
+    }
+    if !atoms::are_apart(dropped, entry) {
+        return found;
+    }
+    Agreement {
+        all: atoms::cut(found.all, entry),
+        some: atoms::union(found.some, entry),
+    }
+}
+
+// Of the entries of a list that have every atom of `up` and none of `dropped`: what is in all of them and what is in some.
+fn agreeing_entries(words: &[u64], base: usize, count: usize, up: u64, dropped: u64) -> Agreement
+    requires { ⌜ base + count ≤ length (now words) ⌝ }
+    ensures { λ r. ⌜ SpansAll (now (words .entry)) base count up dropped r ⌝ }
+{
+    let mut found = Agreement {
+        all: atoms::first(64),
+        some: 0,
+    };
+    let mut i = 0;
+    while i < count {
+        found = take_in(found, up, dropped, words[base + i]);
+        i += 1;
+    }
+    found
+}
+
+// The state after one predecessor: what all agreeing entries of its list have goes up, what none has is dropped.
+// Where no entry agrees, `all` has every atom and `some` none.
+fn join_one(words: &[u64], base: usize, count: usize, heads: u64, s: State) -> State
+    requires { ⌜ base + count ≤ length (now words) ⌝ }
+    ensures { λ t. ⌜ Narrows (JoinsOne (now (words .entry)) base count heads) s t ⌝ }
+{
+    let found = agreeing_entries(words, base, count, atoms::cut(s.up, heads), s.dropped);
+    if !atoms::is_subset(found.all, heads) {
+        return clash(s);
+    }
+    State {
+        up: atoms::union(s.up, found.all),
+        dropped: atoms::union(s.dropped, atoms::without(heads, found.some)),
+    }
+}
+
+// The state after all direct predecessors.
+pub fn join_all(
+    table: &[u64],
+    counts: &[usize],
+    heads: &[u64],
+    predecessors: u64,
+    s: State,
+) -> State
+    requires { ⌜ Joinable (now table) (now counts) (now heads) predecessors ⌝ }
+    ensures { λ t. ⌜ Narrows (JoinsAll (now (table .entry)) (now (counts .entry)) (now (heads .entry)) predecessors) s t ⌝ }
+{
+    let mut rest = predecessors;
+    let mut t = s;
+    while rest != 0 {
+        let v = atoms::lowest(rest);
+        t = join_one(table, LIST_WORDS * v, counts[v], heads[v], t);
+        rest = atoms::drop(rest, v);
+    }
+    t
+}

@@ -1,0 +1,47 @@
+// A rising list of positions in 256 lent words.
+use crate::LIST_WORDS;
+ghost use mathlib.Core.Path.{_≡_};
+ghost use mathlib.Core.List.{_++_};
+ghost use Prim.Native.Nat.{_+_, _≤_, _<_};
+ghost use lib.ListN.{length, take, drop};
+ghost use Rattle.unit_search.specs.Listing.{insertInto, isListed, Inserted};
+
+// Whether the value is one of the `count` words from `base` on.
+pub fn contains(words: &[u64], base: usize, count: usize, value: u64) -> bool
+    requires { ⌜ base + count ≤ length (now words) ⌝ }
+    ensures { λ r. ⌜ r ≡ isListed (now (words .entry)) base count value ⌝ }
+{
+    let mut i = 0;
+    while i < count {
+        if words[base + i] == value {
+            return true;
+        }
+        i += 1;
+    }
+    false
+}
+
+// Puts the value into its place among the first `count` words, unless it is there: the new count, or 257 where there is no room.
+pub fn insert(list: &mut [u64], count: usize, value: u64) -> usize
+    requires { ⌜ (count ≤ 256) × (length (now list) ≡ 256) ⌝ }
+    ensures { λ r. ⌜ Inserted (now (list .entry)) count value (now (list .exit)) r ⌝ }
+{
+    let mut carried = value;
+    let mut i = 0;
+    while i < count {
+        let here = list[i];
+        if carried == here {
+            return count;
+        }
+        if carried < here {
+            list[i] = carried;
+            carried = here;
+        }
+        i += 1;
+    }
+    if count == LIST_WORDS {
+        return LIST_WORDS + 1;
+    }
+    list[count] = carried;
+    count + 1
+}

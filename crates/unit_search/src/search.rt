@@ -1,0 +1,119 @@
+// The search over undecided atoms.
+use crate::LIST_WORDS;
+use crate::Unit;
+use crate::join::join_all;
+use crate::join::joins;
+use crate::listing::insert;
+use answer_sets::State;
+use answer_sets::is_answer_set;
+use answer_sets::known::undecided;
+use answer_sets::smaller::grow;
+ghost use Rattle.atoms.specs.Bounded.{Decides};
+ghost use Rattle.answer_sets.specs.State.{Narrows};
+ghost use Rattle.unit_search.specs.Listing.{Ordered, Gathered, Grown};
+ghost use Rattle.unit_search.specs.Job.{Belongs, Searchable, Wanted, Offered};
+
+// Whether the position belongs to the unit's list.
+pub fn belongs(
+    rules: &[u64],
+    table: &[u64],
+    counts: &[usize],
+    heads: &[u64],
+    unit: Unit,
+    position: u64,
+) -> bool
+    requires { ⌜ Searchable (now rules) (now table) (now counts) (now heads) unit ⌝ }
+    ensures { λ r. ⌜ Decides (Belongs (now (rules .entry)) (now (table .entry)) (now (counts .entry)) (now (heads .entry)) unit position) r ⌝ }
+{
+    if !joins(table, counts, heads, unit.predecessors, position) {
+        return false;
+    }
+    is_answer_set(
+        rules,
+        unit.rules,
+        atoms::cut(position, unit.inputs),
+        position,
+    )
+}
+
+// The state after the narrowing passes.
+fn narrow(
+    rules: &[u64],
+    table: &[u64],
+    counts: &[usize],
+    heads: &[u64],
+    unit: Unit,
+    s: State,
+) -> State
+    requires { ⌜ Searchable (now rules) (now table) (now counts) (now heads) unit ⌝ }
+    ensures { λ t. ⌜ Narrows (Belongs (now (rules .entry)) (now (table .entry)) (now (counts .entry)) (now (heads .entry)) unit) s t ⌝ }
+{
+    grow(
+        rules,
+        unit.rules,
+        join_all(table, counts, heads, unit.predecessors, s),
+    )
+}
+
+// Adds the position to the list if it belongs there: the new count, or 257 where there is no room.
+fn offer(
+    rules: &[u64],
+    table: &[u64],
+    counts: &[usize],
+    heads: &[u64],
+    unit: Unit,
+    list: &mut [u64],
+    count: usize,
+    position: u64,
+) -> usize
+    requires { ⌜ Searchable (now rules) (now table) (now counts) (now heads) unit × Ordered (now list) count ⌝ }
+    ensures { λ r. ⌜ Gathered (Grown (now (list .entry)) count (Offered (now (rules .entry)) (now (table .entry)) (now (counts .entry)) (now (heads .entry)) unit position)) (now (list .exit)) r ⌝ }
+{
+    if !belongs(rules, table, counts, heads, unit, position) {
+        return count;
+    }
+    insert(list, count, position)
+}
+
+// Adds to the list every position that belongs there and completes the state: the new count, or 257 where that is more than 256.
+pub fn search(
+    rules: &[u64],
+    table: &[u64],
+    counts: &[usize],
+    heads: &[u64],
+    unit: Unit,
+    list: &mut [u64],
+    count: usize,
+    up: u64,
+    dropped: u64,
+) -> usize
+    requires { ⌜ Searchable (now rules) (now table) (now counts) (now heads) unit × Ordered (now list) count ⌝ }
+    ensures { λ r. ⌜ Gathered (Grown (now (list .entry)) count (Wanted (now (rules .entry)) (now (table .entry)) (now (counts .entry)) (now (heads .entry)) unit (record { up = up; dropped = dropped }))) (now (list .exit)) r ⌝ }
+{
+    let t = narrow(rules, table, counts, heads, unit, State { up, dropped });
+    if !atoms::are_apart(t.up, t.dropped) {
+        return count;
+    }
+    let free = undecided(t.up, t.dropped);
+    if free == 0 {
+        return offer(rules, table, counts, heads, unit, list, count, t.up);
+    }
+    let atom = atoms::single(atoms::lowest(free));
+    let lower = atoms::union(t.dropped, atom);
+    let found = search(rules, table, counts, heads, unit, list, count, t.up, lower);
+    if LIST_WORDS < found {
+        return found;
+    }
+    let upper = atoms::union(t.up, atom);
+    search(
+        rules,
+        table,
+        counts,
+        heads,
+        unit,
+        list,
+        found,
+        upper,
+        t.dropped,
+    )
+}
