@@ -3,10 +3,10 @@
 use mathlib.Core.Path.{_≡_, refl, subst}
 use mathlib.Core.Bool.{Bool, true, false}
 use mathlib.Core.Logic.{_⊎_, inl, inr}
-use Prim.Native.Nat.{ℕ, zero, suc, _≤_, _<_}
+use Prim.Native.Nat.{ℕ, zero, suc, _<_}
 use native.Mathlib.Omega.{arith}
 use native.Mathlib.Decide.{ℕ-discrete}
-use Rattle.atoms.specs.Word.{Has, has, _∩_, _∪_, below, _⊆_, _⊂_}
+use Rattle.atoms.specs.Word.{Has, has, _∪_, below}
 use Rattle.atoms.specs.Bounded.{unionIn}
 use Rattle.atoms.proofs.Sets.{decides-has, has-cut, cut-left, cut-right, has-left, has-right, union-cases, has-below, below-lt, subset-lt}
 use Rattle.atoms.proofs.Bounded.{union-has, union-at}

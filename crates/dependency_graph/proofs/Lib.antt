@@ -1,4 +1,14 @@
 pub mod Heads
+pub mod Gather
+pub mod Filling
+pub mod Lowest
+pub mod Steps
+pub mod Slices
+pub mod Order
+pub mod Offenders
+pub mod Verdicts
+pub mod Checking
+pub mod Circuits
 pub mod Along
 pub mod Under
 pub mod Seen

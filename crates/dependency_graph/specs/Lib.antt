@@ -1,3 +1,9 @@
 pub mod Units
 pub mod Graph
 pub mod Heads
+pub mod Lowest
+pub mod Order
+pub mod Slices
+pub mod Steps
+pub mod Offenders
+pub mod Check

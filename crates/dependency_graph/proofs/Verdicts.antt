@@ -1,0 +1,108 @@
+-- The verdict passes exactly the graphs that pass, and a refusal names the first row that fits and its lowest rule or unit.
+use mathlib.Core.Path.{_≡_, sym, _∙_, subst}
+use mathlib.Core.Logic.{_↔_}
+use Prim.Native.Nat.{ℕ, _≤_, _<_}
+use native.Mathlib.Omega.{arith}
+use native.Mathlib.Decide.{ℕ-discrete}
+use borrow.Author.Tests.{eq-eqb, ne-eqb}
+use Rattle.atoms.specs.Word.{Has}
+use Rattle.atoms.proofs.Sets.{some-atom}
+use Rattle.dependency_graph.specs.declared.Verdict.{Verdict}
+use Rattle.dependency_graph.specs.declared.Verdict.the-variants.{Passes as GraphPasses}
+use Rattle.dependency_graph.specs.Units.{Units, Path}
+use Rattle.dependency_graph.specs.Graph.{Passes}
+use Rattle.dependency_graph.specs.Lowest.{lowestOf, Least}
+use Rattle.dependency_graph.specs.Check.{row, dependenceRows, verdict, Right, passes, row-10, row-11, row-12, row-13, row-14}
+use Rattle.dependency_graph.proofs.Heads.{path-start}
+use Rattle.dependency_graph.proofs.Lowest.{lowest-of-lowest}
+use Rattle.dependency_graph.proofs.Offenders.{unplaced-at, unplaced-has, a-of-empty, empty-of-a, shared-at, shared-has, b-of-empty, empty-of-b, cyclic-at, cyclic-has, acyclic-of-empty, empty-of-acyclic, nonmonotonic-at, nonmonotonic-has, c-of-empty, empty-of-c, monotonic-at, monotonic-has, d-of-empty, empty-of-d}
+
+-- ---- one row
+
+pub row-misses : (w : ℕ) (f : ℕ → Verdict) (v : Verdict) → w ≡ 0 → row w f v ≡ v
+unfolding row
+row-misses w f v e = rw (eq-eqb w 0 e, row)
+
+pub row-fits : (w : ℕ) (f : ℕ → Verdict) (v : Verdict) → ¬ (w ≡ 0) → row w f v ≡ f (lowestOf w)
+unfolding row
+row-fits w f v n = rw (ne-eqb w 0 n, row)
+
+-- a row whose fault is no pass passes only where it misses
+row-passes : (w : ℕ) (f : ℕ → Verdict) (v : Verdict) → ((r : ℕ) → ¬ (f r ≡ GraphPasses)) → row w f v ≡ GraphPasses
+    → (w ≡ 0) × (v ≡ GraphPasses)
+row-passes w f v n e = go (ℕ-discrete w 0)
+  where
+    go : Dec (w ≡ 0) → (w ≡ 0) × (v ≡ GraphPasses)
+    go (yes k) = (k, sym (row-misses w f v k) ∙ e)
+    go (no k) = absurd (n (lowestOf w) (sym (row-fits w f v k) ∙ e))
+
+-- a row is right where its fault is, and where it misses the rows below are
+row-right : (S : Units) (w : ℕ) (f : ℕ → Verdict) (v : Verdict) → (¬ (w ≡ 0) → Right S (f (lowestOf w)))
+    → (w ≡ 0 → Right S v) → Right S (row w f v)
+row-right S w f v hit miss = go (ℕ-discrete w 0)
+  where
+    go : Dec (w ≡ 0) → Right S (row w f v)
+    go (yes e) = subst (λ (x : Verdict). Right S x) (sym (row-misses w f v e)) (miss e)
+    go (no n) = subst (λ (x : Verdict). Right S x) (sym (row-fits w f v n)) (hit n)
+
+-- the lowest number of a word that holds exactly the numbers of which P does
+least-of : (w : ℕ) (P : ℕ → Type 0) → ((r : ℕ) → Has w r → P r) → ((r : ℕ) → P r → Has w r) → ((r : ℕ) → P r → r < 64)
+    → ¬ (w ≡ 0) → Least P (lowestOf w)
+least-of w P f g b n =
+    let s = some-atom w n in
+    let l = lowest-of-lowest w (s .0) (s .1) (b (s .0) (f (s .0) (s .1))) in
+    record { here = f (lowestOf w) (l .here); least = λ q k p. l .least q k (g q p) }
+
+-- ---- the rows in turn
+
+module _ (S : Units) where
+  pub verdict-of-passes : Passes S → verdict S ≡ GraphPasses
+  unfolding verdict dependenceRows
+  verdict-of-passes p =
+      row-misses _ _ _ (empty-of-a S (p .a))
+      ∙ row-misses _ _ _ (empty-of-b S (p .b))
+      ∙ row-misses _ _ _ (empty-of-acyclic S (p .acyclic))
+      ∙ row-misses _ _ _ (empty-of-c S (p .c))
+      ∙ row-misses _ _ _ (empty-of-d S (p .d))
+
+  pub passes-of-verdict : verdict S ≡ GraphPasses → Passes S
+  unfolding verdict dependenceRows
+  passes-of-verdict e =
+      let a = row-passes _ _ _ (λ r k. let z : _≡_ {A = ℕ} 0 1 = cc in omega arith) e in
+      let b = row-passes _ _ _ (λ r k. let z : _≡_ {A = ℕ} 0 1 = cc in omega arith) (a .1) in
+      let y = row-passes _ _ _ (λ r k. let z : _≡_ {A = ℕ} 0 1 = cc in omega arith) (b .1) in
+      let c = row-passes _ _ _ (λ r k. let z : _≡_ {A = ℕ} 0 1 = cc in omega arith) (y .1) in
+      let d = row-passes _ _ _ (λ r k. let z : _≡_ {A = ℕ} 0 1 = cc in omega arith) (c .1) in
+      record {
+        a = a-of-empty S (a .0);
+        b = b-of-empty S (b .0);
+        acyclic = acyclic-of-empty S (y .0);
+        c = c-of-empty S (c .0);
+        d = d-of-empty S (d .0);
+      }
+
+  -- the verdict is a pass exactly if all conditions hold
+  pub passes-iff : (verdict S ≡ GraphPasses) ↔ Passes S
+  passes-iff = (passes-of-verdict, verdict-of-passes)
+
+  -- a verdict names the first row that fits and its lowest offender
+  pub verdict-right : S .rules ≤ 64 → S .units ≤ 64 → Right S (verdict S)
+  unfolding verdict dependenceRows
+  verdict-right k l =
+      row-right S _ _ _
+      (λ n. row-10 (least-of _ _ (unplaced-at S) (unplaced-has S) (λ r o. omega (arith, o .is-rule)) n))
+      (λ a. row-right S _ _ _
+      (λ n. row-11 (a-of-empty S a) (least-of _ _ (shared-at S) (shared-has S) (λ r o. omega (arith, o .in-first .is-rule)) n))
+      (λ b. row-right S _ _ _
+      (λ n. row-12 (a-of-empty S a) (b-of-empty S b) (least-of _ (λ u. Path S u u) (cyclic-at S) (cyclic-has S) (λ u p. omega (arith, path-start S p)) n))
+      (λ y. row-right S _ _ _
+      (λ n. row-13 (a-of-empty S a) (b-of-empty S b) (acyclic-of-empty S y) (least-of _ _ (nonmonotonic-at S) (nonmonotonic-has S) (λ r o. omega (arith, o .held .is-rule)) n))
+      (λ c. row-right S _ _ _
+      (λ n. row-14 (a-of-empty S a) (b-of-empty S b) (acyclic-of-empty S y) (c-of-empty S c) (least-of _ _ (monotonic-at S) (monotonic-has S) (λ r o. omega (arith, o .is-rule)) n))
+      (λ d. passes (record {
+        a = a-of-empty S a;
+        b = b-of-empty S b;
+        acyclic = acyclic-of-empty S y;
+        c = c-of-empty S c;
+        d = d-of-empty S d;
+      }))))))

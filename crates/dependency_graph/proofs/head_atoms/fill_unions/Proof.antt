@@ -1,0 +1,67 @@
+-- The table is filled from the front (Filling).
+use Prim.Native.Nat.{_-_, _≤_}
+use native.Mathlib.Omega.{arith}
+use lib.ListN.{getD}
+use borrow.Author.Needs.{needs}
+use Rattle.atoms.specs.Bounded.{unionIn}
+use Rattle.dependency_graph.specs.Slices.{Filled}
+use Rattle.dependency_graph.proofs.Filling.{filled-end, filled-none, filled-more}
+use Rattle.dependency_graph.proofs.head_atoms.fill_unions.Statement.{statement}
+use Rattle.dependency_graph.proofs.head_atoms.fill_unions.Tie as tie
+
+abbrev Inv-loop : tie.InvT-loop
+Inv-loop words which unit-count table₀ u₀ table u = Filled u (λ i. unionIn unit-count (getD which i 0) (λ v. getD words v 0)) table₀ table × (u ≤ unit-count)
+
+abbrev μ-loop : tie.MeasureT-loop
+μ-loop words which unit-count table₀ u₀ table u = unit-count - u
+
+loop-holds : tie.Need-loop-holds Inv-loop μ-loop
+loop-holds c = (filled-none, omega arith)
+
+mul-union-of : tie.Need-mul-union-of Inv-loop μ-loop
+mul-union-of c = search needs
+
+shared-slice-read-union-of : tie.Need-shared-slice-read-union-of Inv-loop μ-loop
+shared-slice-read-union-of c = search needs
+
+union-of-requires : tie.Need-union-of-requires Inv-loop μ-loop
+union-of-requires c κs = search needs
+
+mul-table : tie.Need-mul-table Inv-loop μ-loop
+mul-table c = search needs
+
+slice-write-table : tie.Need-slice-write-table Inv-loop μ-loop
+slice-write-table c = search needs
+
+add-u : tie.Need-add-u Inv-loop μ-loop
+add-u c = search needs
+
+loop-less : tie.Need-loop-less Inv-loop μ-loop
+loop-less c = search needs
+
+loop-again : tie.Need-loop-again Inv-loop μ-loop
+loop-again c = (filled-more (c .before .before .before .loop .inv .0) _ (omega arith) (c .union-of .ensures), omega arith)
+
+same-length : tie.Need-same-length Inv-loop μ-loop
+same-length c = c .before .loop .inv .0 .same-length
+
+returns : tie.Need-returns Inv-loop μ-loop
+returns c = filled-end (c .before .loop .inv .0) (c .before .loop .inv .1) (c .loop-test .left)
+
+pub fill-unions-spec : {M : Type 1} → statement M
+fill-unions-spec =
+    tie.close
+    (tie.spec
+    Inv-loop
+    μ-loop
+    loop-holds
+    mul-union-of
+    shared-slice-read-union-of
+    union-of-requires
+    mul-table
+    slice-write-table
+    add-u
+    loop-less
+    loop-again
+    same-length
+    returns)

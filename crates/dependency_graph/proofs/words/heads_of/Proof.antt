@@ -1,0 +1,77 @@
+-- Head atoms gathered rule by rule: what is gathered and what the rest would add make the whole (Gather).
+use mathlib.Core.Path.{refl, ap, _∙_}
+use Prim.Native.Nat.{ℕ, _*_, _-_}
+use native.Mathlib.Omega.{arith}
+use lib.ListN.{getD}
+use lib.Count.{ones}
+use borrow.Author.Needs.{needs}
+use Rattle.atoms.specs.Word.{_∩_, _∖_}
+use Rattle.atoms.proofs.Counting.{count-without}
+use Rattle.dependency_graph.proofs.Gather.{Gathers, gathers-start, gathers-more, gathers-end}
+use Rattle.dependency_graph.proofs.words.heads_of.Statement.{statement}
+use Rattle.dependency_graph.proofs.words.heads_of.Tie as tie
+
+abbrev Inv-loop : tie.InvT-loop
+Inv-loop rules n which all₀ rest₀ all rest = Gathers n (λ i. getD rules (3 * i) 0) which all rest
+
+abbrev μ-loop : tie.MeasureT-loop
+μ-loop rules n which all₀ rest₀ all rest = ones rest
+
+first-requires : tie.Need-first-requires Inv-loop μ-loop
+first-requires c κs = search needs
+
+cut-requires : tie.Need-cut-requires Inv-loop μ-loop
+cut-requires c κs = search needs
+
+loop-holds : tie.Need-loop-holds Inv-loop μ-loop
+loop-holds c = gathers-start _ _ _ _ (c .cut .ensures ∙ ap (λ (w : ℕ). c .before .before .before .args .which ∩ w) (c .before .first .ensures))
+
+lowest-requires : tie.Need-lowest-requires Inv-loop μ-loop
+lowest-requires c κs = search needs
+
+single-requires : tie.Need-single-requires Inv-loop μ-loop
+single-requires c κs = search needs
+
+without-requires : tie.Need-without-requires Inv-loop μ-loop
+without-requires c κs = search needs
+
+mul-union : tie.Need-mul-union Inv-loop μ-loop
+mul-union c = omega (arith, c .before .before .lowest .ensures .1)
+
+mul-union-2 : tie.Need-mul-union-2 Inv-loop μ-loop
+mul-union-2 c = omega (arith, c .before .before .lowest .ensures .1)
+
+shared-slice-read-union : tie.Need-shared-slice-read-union Inv-loop μ-loop
+shared-slice-read-union c = omega (arith, c .before .before .before .before .before .loop .inv .bounded _ (c .before .before .before .lowest .ensures .0 .here))
+
+union-requires : tie.Need-union-requires Inv-loop μ-loop
+union-requires c κs = search needs
+
+loop-less : tie.Need-loop-less Inv-loop μ-loop
+loop-less c = rw (c .before .before .without .ensures, c .before .before .before .single .ensures) (count-without _ _ (c .before .before .before .before .lowest .ensures .0 .here))
+
+loop-again : tie.Need-loop-again Inv-loop μ-loop
+loop-again c = gathers-more (c .before .before .before .before .before .before .loop .inv) (c .before .before .before .before .lowest .result) _ _ _ (c .before .before .before .before .lowest .ensures .0 .here) refl (c .before .before .without .ensures ∙ ap (λ (w : ℕ). c .before .before .before .before .before .before .loop .rest ∖ w) (c .before .before .before .single .ensures)) (c .union .ensures)
+
+returns : tie.Need-returns Inv-loop μ-loop
+returns c = gathers-end (c .before .loop .inv) (c .loop-test .left)
+
+pub heads-of-spec : {M : Type 1} → statement M
+heads-of-spec =
+    tie.close
+    (tie.spec
+    Inv-loop
+    μ-loop
+    first-requires
+    cut-requires
+    loop-holds
+    lowest-requires
+    single-requires
+    without-requires
+    mul-union
+    mul-union-2
+    shared-slice-read-union
+    union-requires
+    loop-less
+    loop-again
+    returns)
