@@ -4,3 +4,4 @@ pub mod Sets
 pub mod Counting
 pub mod Bounded
 pub mod Rising
+pub mod MoreSets

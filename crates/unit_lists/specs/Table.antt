@@ -1,0 +1,43 @@
+-- The lent table and the counts (document 01, The lent table).
+use mathlib.Core.Bool.{true, false}
+use mathlib.Core.List.{List, [], _∷_, _++_}
+use Prim.Native.Nat.{ℕ, zero, suc}
+use lib.Dec.{ltb}
+use lib.ListN.{length, drop, replicate}
+use Rattle.dependency_graph.specs.Units.{Units}
+use Rattle.unit_search.specs.Listing.{padded}
+use Rattle.unit_lists.specs.Lists.{unitList, lastList}
+
+-- "It has at least 4,352 words."
+abbrev pub TABLE_WORDS : ℕ
+TABLE_WORDS = 4352
+
+-- the list of unit i, and no members for "units that aren't there"
+unfoldable pub listAt : Units → ℕ → List ℕ
+listAt S i = elim (ltb i (S .units)) [ true ↦ unitList S i | false ↦ [] ]
+
+-- n runs of words, one behind the other
+unfoldable pub runs : (ℕ → List ℕ) → ℕ → List ℕ
+runs f zero = []
+runs f (suc n) = runs f n ++ f n
+
+-- "The list of unit i starts at word 256·i, the last list at word 4,096. Each list rises .. and zeros fill up its 256 words. ..
+-- Words from 4,352 on are untouched."
+unfoldable pub tableOf : Units → List ℕ → List ℕ
+tableOf S table = runs (λ i. padded (listAt S i)) 16 ++ (padded (lastList S) ++ drop TABLE_WORDS table)
+
+-- "15 makes words 0 to 4,351 zero"
+unfoldable pub cleared : List ℕ → List ℕ
+cleared table = replicate TABLE_WORDS 0 ++ drop TABLE_WORDS table
+
+-- "seventeen counts are returned, each the number of its list's members, the last list's count coming last"
+unfoldable pub countsBelow : Units → ℕ → List ℕ
+countsBelow S zero = []
+countsBelow S (suc n) = countsBelow S n ++ (length (listAt S n) ∷ [])
+
+unfoldable pub countsOf : Units → List ℕ
+countsOf S = countsBelow S 16 ++ (length (lastList S) ∷ [])
+
+-- "A refusal gives its number and spot, and counts all 0."
+unfoldable pub noCounts : List ℕ
+noCounts = replicate {A = ℕ} 17 0

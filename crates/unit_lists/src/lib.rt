@@ -1,0 +1,1 @@
+// Unit work and the lent table.
