@@ -14,7 +14,8 @@ use Rattle.dependency_graph.specs.Slices.{unitsOf, edgesOf}
 use Rattle.dependency_graph.specs.Offenders.{unionBelow, twiceBelow, seen, unseenHeads, clashing, covered, unplaced, shared, cyclic, nonmonotonicUnseen, monotonicUnseen}
 use Rattle.dependency_graph.specs.Check.{row, dependenceRows, verdict}
 
--- plan P and P without its edge; circuits 4, 7, 8, 9, 10 and 11; a rule in no unit; a fact in two units; a unit above a cycle
+-- plan P and P without its edge; circuits 4, 7, 8, 9, 10 and 11; a rule in no unit; a fact in two units; a unit above a cycle;
+-- a path in place of an edge
 abbrev pub graphs : List Units
 graphs =
     unitsOf (3 ∷ 0 ∷ 0 ∷ 4 ∷ 1 ∷ 0 ∷ []) 2 (1 ∷ 2 ∷ []) 2 (0 ∷ 1 ∷ [])
@@ -28,6 +29,7 @@ graphs =
     ∷ unitsOf (1 ∷ 0 ∷ 0 ∷ 2 ∷ 0 ∷ 0 ∷ []) 2 (1 ∷ []) 1 (0 ∷ [])
     ∷ unitsOf (1 ∷ 0 ∷ 0 ∷ []) 1 (1 ∷ 1 ∷ []) 2 (0 ∷ 0 ∷ [])
     ∷ unitsOf [] 0 (0 ∷ 0 ∷ 0 ∷ []) 3 (2 ∷ 4 ∷ 2 ∷ [])
+    ∷ unitsOf (1 ∷ 0 ∷ 0 ∷ 2 ∷ 1 ∷ 0 ∷ []) 2 (1 ∷ 0 ∷ 2 ∷ []) 3 (0 ∷ 1 ∷ 2 ∷ [])
     ∷ []
 
 abbrev pub verdicts : List Verdict
@@ -43,6 +45,7 @@ verdicts =
     ∷ RuleUnplaced 1
     ∷ RuleShared 0
     ∷ UnitCyclic 1
+    ∷ RuleUncovered 1
     ∷ []
 
 pub circuits : map verdict graphs ≡ verdicts
