@@ -1,0 +1,65 @@
+-- The words passed so far are zero.
+use mathlib.Core.Path.{_≡_, refl, ap, _∙_}
+use mathlib.Core.List.{List, _++_}
+use Prim.Native.Nat.{ℕ, _-_, _≤_}
+use native.Mathlib.Omega.{arith}
+use denote.Ref.{now}
+use lib.ListN.{length, drop, replicate, set, length-set}
+use borrow.Author.Fill.{fill-none, fill-more}
+use Rattle.unit_lists.proofs.Storing.{cleared-is}
+use Rattle.unit_lists.proofs.table.clear.Statement.{statement}
+use Rattle.unit_lists.proofs.table.clear.Tie as tie
+
+abbrev Inv-loop : tie.InvT-loop
+Inv-loop table₀ i₀ table i =
+    (i ≤ 4352) × (length table ≡ length table₀) × (table ≡ replicate i 0 ++ drop i table₀)
+
+abbrev μ-loop : tie.MeasureT-loop
+μ-loop table₀ i₀ table i = 4352 - i
+
+loop-holds : tie.Need-loop-holds Inv-loop μ-loop
+loop-holds c = (omega arith, refl, fill-none (now (c .args .table)) 0)
+
+mul-table : tie.Need-mul-table Inv-loop μ-loop
+mul-table c = omega arith
+
+slice-write-table : tie.Need-slice-write-table Inv-loop μ-loop
+slice-write-table c = omega arith
+
+add-i : tie.Need-add-i Inv-loop μ-loop
+add-i c = omega arith
+
+loop-less : tie.Need-loop-less Inv-loop μ-loop
+loop-less c = omega arith
+
+loop-again : tie.Need-loop-again Inv-loop μ-loop
+loop-again c =
+    let at = c .before .before .args in
+    let loop = c .before .loop in (
+      omega arith,
+      length-set (loop .table) (loop .i) 0 ∙ loop .inv .1,
+      ap (λ (l : List ℕ). set l (loop .i) 0) (loop .inv .2) ∙ fill-more (loop .i) 0 (now (at .table)) (omega arith),
+    )
+
+same-length : tie.Need-same-length Inv-loop μ-loop
+same-length c = c .before .loop .inv .1
+
+returns : tie.Need-returns Inv-loop μ-loop
+returns c =
+    let at = c .before .before .args in
+    cleared-is (now (at .table)) (c .before .loop .table) (c .before .loop .i) (omega arith) (c .before .loop .inv .2)
+
+pub clear-spec : {M : Type 1} → statement M
+clear-spec =
+    tie.close
+    (tie.spec
+    Inv-loop
+    μ-loop
+    loop-holds
+    mul-table
+    slice-write-table
+    add-i
+    loop-less
+    loop-again
+    same-length
+    returns)

@@ -1,0 +1,77 @@
+-- The words passed so far are copied.
+use mathlib.Core.Path.{_≡_, refl, ap, _∙_}
+use Prim.Native.Nat.{_+_, _-_, _≤_}
+use native.Mathlib.Omega.{arith}
+use denote.Ref.{now}
+use lib.ListN.{length, getD, length-set}
+use lib.Seq.{paste, paste-zero}
+use Rattle.unit_lists.proofs.Storing.{stored-next}
+use Rattle.unit_lists.proofs.table.store.Statement.{statement}
+use Rattle.unit_lists.proofs.table.store.Tie as tie
+
+abbrev Inv-loop : tie.InvT-loop
+Inv-loop list table₀ base i₀ table i =
+    (i ≤ length list) × (length table ≡ length table₀) × (table ≡ paste table₀ base list i)
+
+abbrev μ-loop : tie.MeasureT-loop
+μ-loop list table₀ base i₀ table i = length list - i
+
+loop-holds : tie.Need-loop-holds Inv-loop μ-loop
+loop-holds c = (omega arith, refl, paste-zero (now (c .args .table)) (c .args .base) (now (c .args .list)))
+
+mul-table : tie.Need-mul-table Inv-loop μ-loop
+mul-table c = omega arith
+
+shared-slice-read-table : tie.Need-shared-slice-read-table Inv-loop μ-loop
+shared-slice-read-table c = omega arith
+
+add-table : tie.Need-add-table Inv-loop μ-loop
+add-table c = omega arith
+
+mul-table-2 : tie.Need-mul-table-2 Inv-loop μ-loop
+mul-table-2 c = omega arith
+
+slice-write-table : tie.Need-slice-write-table Inv-loop μ-loop
+slice-write-table c = omega arith
+
+add-i : tie.Need-add-i Inv-loop μ-loop
+add-i c = omega arith
+
+loop-less : tie.Need-loop-less Inv-loop μ-loop
+loop-less c = omega arith
+
+loop-again : tie.Need-loop-again Inv-loop μ-loop
+loop-again c =
+    let at = c .before .before .before .args in
+    let loop = c .before .before .loop in (
+      omega arith,
+      length-set (loop .table) (at .base + loop .i) (getD (now (at .list)) (loop .i) 0) ∙ loop .inv .1,
+      stored-next (now (at .table)) (at .base) (now (at .list)) (loop .table) (loop .i) (c .before .before .before .pre) (c .before .loop-test .taken) (loop .inv .2),
+    )
+
+same-length : tie.Need-same-length Inv-loop μ-loop
+same-length c = c .before .loop .inv .1
+
+returns : tie.Need-returns Inv-loop μ-loop
+returns c =
+    let at = c .before .before .args in
+    let e : c .before .loop .i ≡ length (now (at .list)) = omega arith in
+    c .before .loop .inv .2 ∙ ap (paste (now (at .table)) (at .base) (now (at .list))) e
+
+pub store-spec : {M : Type 1} → statement M
+store-spec =
+    tie.close
+    (tie.spec
+    Inv-loop
+    μ-loop
+    loop-holds
+    mul-table
+    shared-slice-read-table
+    add-table
+    mul-table-2
+    slice-write-table
+    add-i
+    loop-less
+    loop-again
+    same-length
+    returns)
