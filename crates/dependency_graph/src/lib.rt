@@ -16,5 +16,5 @@ pub enum Verdict {
 pub mod check;
 pub mod head_atoms;
 pub mod reach;
-mod words;
+pub mod words;
 pub mod working_order;

@@ -1,3 +1,4 @@
 pub mod Decided
 pub mod Joined
 pub mod Storing
+pub mod Runs

@@ -2,3 +2,4 @@ pub mod Lists
 pub mod Table
 pub mod Answer
 pub mod Stored
+pub mod Work

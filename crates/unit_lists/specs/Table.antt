@@ -4,6 +4,7 @@ use mathlib.Core.List.{List, [], _∷_, _++_}
 use Prim.Native.Nat.{ℕ, zero, suc}
 use lib.Dec.{ltb}
 use lib.ListN.{length, drop, replicate}
+use Rattle.atoms.specs.Word.{has}
 use Rattle.dependency_graph.specs.Units.{Units}
 use Rattle.unit_search.specs.Listing.{padded}
 use Rattle.unit_lists.specs.Lists.{unitList, lastList}
@@ -30,14 +31,27 @@ tableOf S table = runs (λ i. padded (listAt S i)) 16 ++ (padded (lastList S) ++
 unfoldable pub cleared : List ℕ → List ℕ
 cleared table = replicate TABLE_WORDS 0 ++ drop TABLE_WORDS table
 
--- "seventeen counts are returned, each the number of its list's members, the last list's count coming last"
-unfoldable pub countsBelow : Units → ℕ → List ℕ
-countsBelow S zero = []
-countsBelow S (suc n) = countsBelow S n ++ (length (listAt S n) ∷ [])
+-- f 0, f 1, .. n numbers in all
+unfoldable pub tally : (ℕ → ℕ) → ℕ → List ℕ
+tally f zero = []
+tally f (suc n) = tally f n ++ (f n ∷ [])
 
+-- "seventeen counts are returned, each the number of its list's members, the last list's count coming last"
 unfoldable pub countsOf : Units → List ℕ
-countsOf S = countsBelow S 16 ++ (length (lastList S) ∷ [])
+countsOf S = tally (λ i. length (listAt S i)) 16 ++ (length (lastList S) ∷ [])
 
 -- "A refusal gives its number and spot, and counts all 0."
 unfoldable pub noCounts : List ℕ
 noCounts = replicate {A = ℕ} 17 0
+
+-- ---- while the units of `done` are worked
+
+-- the lists so far
+unfoldable pub listSoFar : Units → ℕ → ℕ → List ℕ
+listSoFar S done i = elim (has done i) [ true ↦ unitList S i | false ↦ [] ]
+
+unfoldable pub tableSoFar : Units → ℕ → List ℕ → List ℕ
+tableSoFar S done table = runs (λ i. padded (listSoFar S done i)) 16 ++ (padded [] ++ drop TABLE_WORDS table)
+
+unfoldable pub countsSoFar : Units → ℕ → List ℕ
+countsSoFar S done = tally (λ i. length (listSoFar S done i)) 16 ++ (0 ∷ [])

@@ -1,5 +1,6 @@
 // Unit work, the lent table and the public listing function.
 mod table;
+mod work;
 
 
 use plan::Fault;

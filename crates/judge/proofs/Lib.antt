@@ -1,0 +1,3 @@
+pub mod Settled
+pub mod Spots
+pub mod Codes

@@ -1,0 +1,112 @@
+-- Demand 2's first half: for every plan that reads the answer is yes exactly if the position is an answer set of all its rules
+-- as one set; and a position with an atom that is in no head gets the answer no.
+use mathlib.Core.Path.{_≡_, refl, ap, sym, _∙_}
+use mathlib.Core.Bool.{Bool, true, false, true≢false}
+use mathlib.Core.List.{List}
+use mathlib.Core.Logic.{inl, inr}
+use Prim.Native.Nat.{ℕ, _*_, _<_}
+use native.Mathlib.Omega.{arith}
+use lib.ListN.{length}
+use Rattle.atoms.specs.Word.{Has, below}
+use Rattle.atoms.specs.Bounded.{Decides}
+use Rattle.atoms.proofs.Sets.{has-none, below-lt, lt-of-has}
+use Rattle.atoms.proofs.Tests.{decided-true, decided-false}
+use Rattle.answer_sets.specs.Lent.{lent, Lent}
+use Rattle.answer_sets.proofs.Judged.{decides-answer-set}
+use Rattle.answer_sets.proofs.Support.{Supported, supported}
+use Rattle.plan.specs.Record.{MAX_RULES, RULE_WORDS, Fitting}
+use Rattle.plan.specs.Reading.{reading}
+use Rattle.plan.proofs.Limits.{record-fits}
+use Rattle.plan.specs.declared.record.Plan.{Plan}
+use Rattle.plan.specs.declared.fault.Fault.{Fault}
+use Rattle.plan.specs.declared.reader.Outcome.the-variants.{Accepted, Refused as RefusedWith}
+use Rattle.plan.specs.declared.reader.Reading.{Reading}
+use Rattle.judge.specs.Settled.{Settles, settled}
+use Rattle.judge.specs.Answers.{yesNo, isYes, judged, Judged}
+use Rattle.judge.specs.declared.Answer.{Answer}
+use Rattle.judge.specs.declared.Answer.the-variants.{Settled, NotSettled, Refused}
+
+-- ---- the whole program of a record
+
+-- each rule of the record is among its words
+pub whole-lent : (p : Plan) (which : ℕ) → Fitting p → length (p .rules) ≡ RULE_WORDS * MAX_RULES → which ≡ below (p .«rule_count») → Lent (p .rules) which
+whole-lent p which f l e =
+    record { each = λ r h. let k : r < p .«rule_count» = below-lt (p .«rule_count») (rw e at h) in omega (arith, f .rules-fit) }
+
+pub decides-settled : (p : Plan) (M : ℕ) → Fitting p → Decides (Settles p M) (settled p M)
+decides-settled p M f =
+    decides-answer-set (lent (p .rules)) (below (p .«rule_count»)) 0 M
+    (lt-of-has (below (p .«rule_count»)) 64 (λ r h. let k : r < p .«rule_count» = below-lt (p .«rule_count») h in omega (arith, f .rules-fit)))
+
+-- ---- the answer
+
+pub judged-refused : (bytes : List ℕ) (position : ℕ) (f : Fault) → reading bytes .outcome ≡ RefusedWith f → judged bytes position ≡ Refused f
+unfolding judged
+judged-refused bytes position f e = rw (e, judged)
+
+pub judged-accepted : (bytes : List ℕ) (position : ℕ) → reading bytes .outcome ≡ Accepted
+    → judged bytes position ≡ yesNo (settled (reading bytes .plan) position)
+unfolding judged
+judged-accepted bytes position e = rw (e, judged)
+
+yes-no : (b : Bool) → isYes (yesNo b) ≡ b
+yes-no true = refl
+yes-no false = refl
+
+-- what the definition says of every plan that reads
+pub judged-decides : (bytes : List ℕ) (position : ℕ) → reading bytes .outcome ≡ Accepted
+    → Decides (Settles (reading bytes .plan) position) (isYes (judged bytes position))
+judged-decides bytes position e =
+    rw (judged-accepted bytes position e, yes-no (settled (reading bytes .plan) position))
+    (decides-settled (reading bytes .plan) position (record-fits bytes))
+
+-- so an answer that is the definition's meets the whole contract
+pub judged-right : (bytes : List ℕ) (position : ℕ) (answer : Answer) → answer ≡ judged bytes position → Judged bytes position answer
+judged-right bytes position answer e = record { is = e; decides = λ a. rw e (judged-decides bytes position a) }
+
+-- ---- the answers of the code, from what reading gave
+
+module _ (bytes : List ℕ) (position : ℕ) (r : Reading) (read : r ≡ reading bytes) where
+  pub refused-judged : (f : Fault) → r .outcome ≡ RefusedWith f → Judged bytes position (Refused f)
+  refused-judged f o =
+      judged-right bytes position (Refused f) (sym (judged-refused bytes position f (ap (λ (x : Reading). x .outcome) (sym read) ∙ o)))
+
+  pub accepted-judged : (b : Bool) → r .outcome ≡ Accepted → b ≡ settled (r .plan) position → Judged bytes position (yesNo b)
+  accepted-judged b o e =
+      judged-right bytes position (yesNo b)
+      (ap yesNo (e ∙ ap (λ (x : Reading). settled (x .plan) position) read)
+      ∙ sym (judged-accepted bytes position (ap (λ (x : Reading). x .outcome) (sym read) ∙ o)))
+
+-- ---- the theorems
+
+-- the atom is in the head of one of the plan's rules
+abbrev pub Headed : Plan → ℕ → Type 0
+Headed p a = (r : ℕ) × (r < p .«rule_count») × Has (lent (p .rules) .head r) a
+
+yes-is-settled : (answer : Answer) → isYes answer ≡ true → answer ≡ Settled
+yes-is-settled Settled e = refl
+yes-is-settled NotSettled e = absurd (true≢false (sym e))
+yes-is-settled (Refused f) e = absurd (true≢false (sym e))
+
+-- for every plan that reads: Settled exactly if the position is an answer set of all its rules as one set
+pub settled-exactly : (bytes : List ℕ) (position : ℕ) → reading bytes .outcome ≡ Accepted
+    → (judged bytes position ≡ Settled → Settles (reading bytes .plan) position)
+    × (Settles (reading bytes .plan) position → judged bytes position ≡ Settled)
+settled-exactly bytes position e =
+    let d = judged-decides bytes position e in
+    (λ s. d .yes (ap isYes s), λ s. yes-is-settled (judged bytes position) (decided-true d s))
+
+-- only head atoms are up
+pub settled-headed : (p : Plan) (M a : ℕ) → Settles p M → Has M a → Headed p a
+settled-headed p M a s h = go (supported (lent (p .rules)) (below (p .«rule_count»)) 0 M a s h)
+  where
+    go : Supported (lent (p .rules)) (below (p .«rule_count»)) 0 a → Headed p a
+    go (inl fact) = absurd (has-none fact)
+    go (inr r) = (r .0, below-lt (p .«rule_count») (r .1), r .2)
+
+-- "A position with an atom that is in no head gets the answer no."
+pub headless-not-settled : (bytes : List ℕ) (position a : ℕ) → reading bytes .outcome ≡ Accepted → Has position a
+    → ¬ Headed (reading bytes .plan) a → judged bytes position ≡ NotSettled
+headless-not-settled bytes position a e h n =
+    judged-accepted bytes position e
+    ∙ ap yesNo (decided-false (decides-settled (reading bytes .plan) position (record-fits bytes)) (λ s. n (settled-headed (reading bytes .plan) position a s h)))

@@ -1,0 +1,46 @@
+-- The answer at each return is the definition's, so it meets the whole contract.
+use mathlib.Core.Path.{sym, _∙_, subst}
+use mathlib.Core.Bool.{true, false}
+use denote.Ref.{now}
+use Rattle.plan.specs.Record.{Fitting}
+use Rattle.plan.specs.declared.reader.Reading.{Reading}
+use Rattle.plan.proofs.Limits.{record-fits}
+use Rattle.judge.proofs.Settled.{refused-judged, accepted-judged}
+use borrow.Author.Needs.{needs}
+use Rattle.judge.proofs.judge.Statement.{statement}
+use Rattle.judge.proofs.judge.Tie as tie
+
+read-plan-requires : tie.Need-read-plan-requires
+read-plan-requires c κs = search needs
+
+enum-known-outcome : tie.Need-enum-known-outcome
+enum-known-outcome c = search needs
+
+returns : tie.Need-returns
+returns c = refused-judged _ _ _ (c .before .before .before .read-plan .ensures) _ (c .before .outcome .given .1)
+
+enum-told : tie.Need-enum-told
+enum-told c = search needs
+
+is-settled-requires : tie.Need-is-settled-requires
+is-settled-requires c κs =
+    let at = c .before .before .before in
+    subst (λ (r : Reading). Fitting (r .plan)) (sym (at .read-plan .ensures)) (record-fits (now (at .before .before .args .plan)))
+
+returns-2 : tie.Need-returns-2
+returns-2 c = accepted-judged _ _ _ (c .before .before .before .before .before .read-plan .ensures) true (c .before .before .before .enum-told .given .1) (sym (c .if1 .taken) ∙ c .before .is-settled .ensures)
+
+returns-3 : tie.Need-returns-3
+returns-3 c = accepted-judged _ _ _ (c .before .before .before .before .before .read-plan .ensures) false (c .before .before .before .enum-told .given .1) (sym (c .if1 .left) ∙ c .before .is-settled .ensures)
+
+pub judge-spec : {M : Type 1} → statement M
+judge-spec =
+    tie.close
+    (tie.spec
+    read-plan-requires
+    enum-known-outcome
+    returns
+    enum-told
+    is-settled-requires
+    returns-2
+    returns-3)

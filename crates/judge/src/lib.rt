@@ -1,0 +1,69 @@
+// The single-position question: whether a position is settled for a plan, or why the plan is refused.
+use plan::Fault;
+use plan::Outcome;
+use plan::Plan;
+ghost use mathlib.Core.Path.{_≡_};
+ghost use Rattle.plan.specs.Record.{Fitting};
+ghost use Rattle.judge.specs.Settled.{settled};
+ghost use Rattle.judge.specs.Answers.{Judged, refusalCode, code};
+
+// What the question is answered: yes, no, or the fault for which the plan is refused.
+pub enum Answer {
+    Settled,
+    NotSettled,
+    Refused(Fault),
+}
+
+// Whether the position is an answer set of all the plan's rules as one set.
+fn is_settled(plan: Plan, position: u64) -> bool
+    requires { ⌜ Fitting plan ⌝ }
+    ensures { λ r. ⌜ r ≡ settled plan position ⌝ }
+{
+    let rules = plan.rules;
+    let whole_program = atoms::first(plan.rule_count);
+    answer_sets::is_answer_set(&rules, whole_program, 0, position)
+}
+
+// The answer for a plan as bytes. Units and edges play no part in it, and neither does the graph.
+pub fn judge(plan: &[u8], position: u64) -> Answer
+    ensures { λ r. ⌜ Judged (now (plan .entry)) position r ⌝ }
+{
+    let reading = plan::read_plan(plan);
+    let outcome = reading.outcome;
+    if let Outcome::Refused(fault) = outcome {
+        return Answer::Refused(fault);
+    }
+    let read = reading.plan;
+    if is_settled(read, position) {
+        return Answer::Settled;
+    }
+    Answer::NotSettled
+}
+
+// A refusal's code is its number times CODE_STEP and its spot, of which WIDEST_SPOT is the most that fits.
+const CODE_STEP: u64 = 65536;
+
+const WIDEST_SPOT: usize = 65535;
+
+// The refusal as one number.
+fn refusal_code(fault: Fault) -> u64
+    ensures { λ r. ⌜ r ≡ refusalCode fault ⌝ }
+{
+    let number = CODE_STEP * plan::fault_number(fault);
+    let spot = plan::fault_spot(fault);
+    if WIDEST_SPOT < spot {
+        return number + WIDEST_SPOT as u64;
+    }
+    number + spot as u64
+}
+
+// The answer as one number, for hosts: 1 settled, 0 not settled, from 65,536 on a refusal.
+pub fn answer_code(answer: Answer) -> u64
+    ensures { λ r. ⌜ r ≡ code answer ⌝ }
+{
+    match answer {
+        Answer::Settled => 1,
+        Answer::NotSettled => 0,
+        Answer::Refused(fault) => refusal_code(fault),
+    }
+}

@@ -1,0 +1,97 @@
+#!/usr/bin/env python3
+"""Writes the plans of this folder, each under its name; PLANS.md says what each is."""
+import pathlib
+
+HERE = pathlib.Path(__file__).parent
+
+
+def word(w):
+    return w.to_bytes(8, "little")
+
+
+def rule(head=0, positive=0, negative=0):
+    return b"\x01" + word(head) + word(positive) + word(negative)
+
+
+def unit(rules=0):
+    return b"\x02" + word(rules)
+
+
+def edge(u, v):
+    return bytes([3, u, v])
+
+
+END = b"\x00"
+FACT = rule(head=1)
+TWO_UNITS = unit() + unit()
+P_RULES = rule(head=3) + rule(head=4, positive=1)
+PLAN_P = P_RULES + unit(1) + unit(2) + edge(1, 0) + END
+EDGES = b"".join(edge(u, v) for u in range(16) for v in range(16) if u != v)
+ALL_UNITS = unit() * 16
+
+PLANS = {
+    "end-alone": END,
+    "plan-p": PLAN_P,
+    "plan-p-without-edge": P_RULES + unit(1) + unit(2) + END,
+    "rule-in-no-unit": rule(head=3) + END,
+    "circuit-7": rule(head=3) + rule(4, 1) + rule(8, 1) + rule(16, 12)
+        + unit(1) + unit(2) + unit(4) + unit(8) + edge(1, 0) + edge(2, 0) + edge(3, 1) + edge(3, 2) + END,
+    "circuit-8": rule(1) + rule(2) + rule(0, 3) + unit(1) + unit(2) + unit(4) + unit(4) + edge(2, 0) + edge(3, 1) + END,
+    "circuit-10": rule(3) + rule(0, 0, 1) + unit(1) + unit(2) + END,
+    "circuit-11": TWO_UNITS + edge(0, 1) + edge(1, 0) + END,
+    "longest": b"".join(rule(1 << i) for i in range(64)) + unit(2**64 - 1) + unit() * 15 + EDGES + END,
+
+    "empty": b"",
+    "no-end": FACT,
+    "rule-without-operands": b"\x01",
+    "second-rule-cut-short": FACT + FACT[:-1],
+    "unit-cut-short": FACT + unit(1)[:-1],
+    "edge-cut-short": TWO_UNITS + edge(1, 0)[:-1],
+
+    "unknown-byte": b"\xff" + END,
+    "unknown-byte-behind-unit": FACT + unit(1) + b"\x07",
+    "command-four": b"\x04" + word(1) + END,
+
+    "rule-behind-unit": FACT + unit(1) + FACT + END,
+    "rule-behind-edge": TWO_UNITS + edge(1, 0) + FACT + END,
+    "unit-behind-edge": TWO_UNITS + edge(1, 0) + unit() + END,
+    "rule-behind-unit-cut-short": FACT + unit(1) + b"\x01",
+    "65th-rule-behind-unit": FACT * 64 + unit(1) + FACT + END,
+    "17th-unit-behind-edge": ALL_UNITS + edge(0, 1) + unit() + END,
+
+    "65th-rule": FACT * 65 + END,
+    "65th-rule-cut-short": FACT * 64 + b"\x01",
+    "65th-rule-of-zeros": FACT * 64 + rule() + END,
+    "17th-unit": unit() * 17 + END,
+    "17th-unit-cut-short": ALL_UNITS + b"\x02",
+    "17th-unit-of-an-absent-rule": ALL_UNITS + unit(1) + END,
+
+    "rule-of-zeros": rule() + END,
+    "second-rule-of-zeros": FACT + rule() + END,
+    "rule-of-zeros-cut-short": rule()[:-1],
+
+    "unit-of-an-absent-rule": FACT + unit(2) + END,
+    "unit-of-rule-63-of-63": FACT * 63 + unit(1 << 63) + END,
+    "unit-of-an-absent-rule-cut-short": FACT + unit(2)[:-1],
+
+    "edge-to-no-unit": TWO_UNITS + edge(0, 2) + END,
+    "edge-from-no-unit": TWO_UNITS + edge(2, 0) + END,
+    "edge-to-unit-64": TWO_UNITS + edge(0, 64) + END,
+    "edge-to-itself": TWO_UNITS + edge(1, 1) + END,
+    "edge-repeated": TWO_UNITS + edge(1, 0) + edge(1, 0) + END,
+    "edge-turned": TWO_UNITS + edge(1, 0) + edge(0, 1) + END,
+    "edge-without-units": edge(0, 1) + END,
+    "241st-edge": ALL_UNITS + EDGES + edge(0, 1) + END,
+    "241st-edge-cut-short": ALL_UNITS + EDGES + b"\x03",
+
+    "two-ends": END + END,
+    "plan-p-and-two-bytes": PLAN_P + b"\x07\x07",
+    "rule-behind-end": END + FACT,
+    "unknown-byte-behind-end": END + b"\xff",
+
+    "5000-ends": END * 5000,
+    "200-rules": FACT * 200,
+}
+
+for name, plan in PLANS.items():
+    (HERE / name).write_bytes(plan)

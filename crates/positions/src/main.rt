@@ -1,0 +1,137 @@
+// The single-position questions of document 01's small circuits, and some that a wrong program gets wrong, one line each.
+use libc::STDOUT_FILENO;
+
+// Every rule number; those with no rule behind them are ignored.
+const EVERY: u64 = 0xffff_ffff_ffff_ffff;
+
+// The atoms of the chain and the words of its rules.
+const CHAIN_ATOMS: usize = 60;
+
+const CHAIN_WORDS: usize = 3 * CHAIN_ATOMS;
+
+// Writes whether the position is an answer set of the rules that the words are, three to a rule.
+fn ask(name: &[u8], rules: &[u64], position: u64) {
+    io::write_all(STDOUT_FILENO, name);
+    io::write_all(STDOUT_FILENO, b" position ");
+    io::print_decimal(STDOUT_FILENO, position);
+    if answer_sets::judge_position(rules, rules.len(), EVERY, 0, position) {
+        io::write_all(STDOUT_FILENO, b" yes\n");
+    } else {
+        io::write_all(STDOUT_FILENO, b" no\n");
+    }
+}
+
+// Circuit 2: fact 0 or 1. Atom 2 is in no head.
+fn circuit_2() {
+    let rules: [u64; 3] = [0x3, 0, 0];
+    ask(b"circuit 2", &rules, 1);
+    ask(b"circuit 2", &rules, 2);
+    ask(b"circuit 2", &rules, 3);
+    ask(b"circuit 2", &rules, 0);
+    ask(b"circuit 2", &rules, 5);
+}
+
+// Circuit 3: 0 if 0.
+fn circuit_3() {
+    let rules: [u64; 3] = [0x1, 0x1, 0];
+    ask(b"circuit 3", &rules, 0);
+    ask(b"circuit 3", &rules, 1);
+}
+
+// Circuit 4: 0 if not 0.
+fn circuit_4() {
+    let rules: [u64; 3] = [0x1, 0, 0x1];
+    ask(b"circuit 4", &rules, 0);
+    ask(b"circuit 4", &rules, 1);
+}
+
+// Circuit 5: 0 if not 1; 1 if not 0.
+fn circuit_5() {
+    let rules: [u64; 6] = [0x1, 0, 0x2, 0x2, 0, 0x1];
+    ask(b"circuit 5", &rules, 0);
+    ask(b"circuit 5", &rules, 1);
+    ask(b"circuit 5", &rules, 2);
+    ask(b"circuit 5", &rules, 3);
+}
+
+// Circuit 6: fact 0 or 1; 0 if 1; 1 if 0.
+fn circuit_6() {
+    let rules: [u64; 9] = [0x3, 0, 0, 0x1, 0x2, 0, 0x2, 0x1, 0];
+    ask(b"circuit 6", &rules, 0);
+    ask(b"circuit 6", &rules, 1);
+    ask(b"circuit 6", &rules, 2);
+    ask(b"circuit 6", &rules, 3);
+}
+
+// Circuit 7, its rules as one set: fact 0 or 1; 2 if 0; 3 if 0; 4 if 2 and 3.
+fn circuit_7() {
+    let rules: [u64; 12] = [0x3, 0, 0, 0x4, 0x1, 0, 0x8, 0x1, 0, 0x10, 0xc, 0];
+    ask(b"circuit 7", &rules, 0x02);
+    ask(b"circuit 7", &rules, 0x1d);
+    ask(b"circuit 7", &rules, 0x1f);
+    ask(b"circuit 7", &rules, 0x0d);
+}
+
+// Circuit 9, its rules as one set: fact 0; fact 1; never both.
+fn circuit_9() {
+    let rules: [u64; 9] = [0x1, 0, 0, 0x2, 0, 0, 0, 0x3, 0];
+    ask(b"circuit 9", &rules, 3);
+}
+
+// Two relays that hold each other up: 0 if 1; 1 if 0.
+fn pair() {
+    let rules: [u64; 6] = [0x1, 0x2, 0, 0x2, 0x1, 0];
+    ask(b"pair", &rules, 3);
+    ask(b"pair", &rules, 0);
+}
+
+// The highest atom as a fact.
+fn top_atom() {
+    let rules: [u64; 3] = [0x8000_0000_0000_0000, 0, 0];
+    ask(b"top atom", &rules, 0x8000_0000_0000_0000);
+    ask(b"top atom", &rules, 0);
+}
+
+// Sixty rules: atom 0 if the atoms of `first`, a fact where there are none; each further atom if the one below it.
+fn chain(first: u64) -> [u64; CHAIN_WORDS] {
+    let mut rules = [0u64; CHAIN_WORDS];
+    rules[0] = 0x1;
+    rules[1] = first;
+    let mut atom = 1;
+    while atom < CHAIN_ATOMS {
+        rules[3 * atom] = atoms::single(atom);
+        rules[3 * atom + 1] = atoms::single(atom - 1);
+        atom += 1;
+    }
+    rules
+}
+
+// From fact 0 all sixty atoms go up, and no others.
+fn sixty_atoms_from_a_fact() {
+    let rules = chain(0);
+    ask(b"chain of 60", &rules, 0x0fff_ffff_ffff_ffff);
+    ask(b"chain of 60", &rules, 0x07ff_ffff_ffff_ffff);
+    ask(b"chain of 60", &rules, 0x1fff_ffff_ffff_ffff);
+}
+
+// Closed to a ring without a fact, sixty atoms hold each other up.
+fn sixty_atoms_in_a_ring() {
+    let rules = chain(0x0800_0000_0000_0000);
+    ask(b"ring of 60", &rules, 0x0fff_ffff_ffff_ffff);
+    ask(b"ring of 60", &rules, 0);
+}
+
+// All questions in order.
+fn main() {
+    circuit_2();
+    circuit_3();
+    circuit_4();
+    circuit_5();
+    circuit_6();
+    circuit_7();
+    circuit_9();
+    pair();
+    top_atom();
+    sixty_atoms_from_a_fact();
+    sixty_atoms_in_a_ring();
+}

@@ -1,0 +1,58 @@
+-- What the functions of unit work say to each other.
+use mathlib.Core.Path.{_≡_}
+use mathlib.Core.Bool.{Bool, true, false}
+use mathlib.Core.List.{List, []}
+use Prim.Native.Nat.{ℕ, _≤_, _<_}
+use lib.ListN.{length, getD, set, replicate}
+use lib.Seq.{paste}
+use Rattle.atoms.specs.Word.{Has, _∖_, below}
+use Rattle.unit_search.specs.Listing.{Gathered, Grown}
+use Rattle.unit_search.specs.Job.{Wanted}
+use Rattle.unit_search.specs.declared.Unit.{Unit}
+use Rattle.plan.specs.declared.fault.Fault.the-variants.{LongList}
+use Rattle.dependency_graph.specs.Units.{Units}
+use Rattle.dependency_graph.specs.Graph.{Passes}
+use Rattle.dependency_graph.specs.Heads.{heads, inputHeads}
+use Rattle.dependency_graph.specs.Slices.{unitsOf, GraphLent}
+use Rattle.dependency_graph.specs.Order.{workingOrder}
+use Rattle.splitting.specs.UnitList.{Clean}
+use Rattle.unit_lists.specs.Lists.{unitList}
+use Rattle.unit_lists.specs.Table.{tableSoFar, countsSoFar, cleared}
+use Rattle.unit_lists.specs.Answer.{refuse, workFrom}
+use Rattle.unit_lists.specs.declared.work.Work.{Work}
+use Rattle.unit_lists.specs.declared.work.Work.the-variants.{Fits, Long}
+
+-- one list is searched for from the start: stored with its count where it fits, and nothing is written where it does not
+pub data ListWorked (rules heads : List ℕ) (unit : Unit) (within base place : ℕ) (table counts table′ counts′ : List ℕ) : Bool → Type 0 where
+  fitted : {list : List ℕ} {r : ℕ} → r ≤ 256
+      → Gathered (Grown (replicate {A = ℕ} 256 0) 0 (Wanted rules table counts heads unit (record { up = 0; dropped = below 64 ∖ within }))) list r
+      → table′ ≡ paste table base list 256 → counts′ ≡ set counts place r
+      → ListWorked rules heads unit within base place table counts table′ counts′ true
+  too-long : {list : List ℕ} {r : ℕ} → 256 < r
+      → Gathered (Grown (replicate {A = ℕ} 256 0) 0 (Wanted rules table counts heads unit (record { up = 0; dropped = below 64 ∖ within }))) list r
+      → table′ ≡ table → counts′ ≡ counts → ListWorked rules heads unit within base place table counts table′ counts′ false
+
+-- what unit work is lent: a plan that passed the graph place, and the head atoms of its units
+pub record Setting (rules : List ℕ) (n : ℕ) (units : List ℕ) (m : ℕ) (predecessors heads′ inputs : List ℕ) : Type 0 where
+  pub lent-words : GraphLent rules n units m predecessors
+  pub passes : Passes (unitsOf rules n units m predecessors)
+  pub clean : Clean (unitsOf rules n units m predecessors)
+  pub heads-long : 16 ≤ length heads′
+  pub inputs-long : 16 ≤ length inputs
+  pub heads-are : (v : ℕ) → v < m → getD heads′ v 0 ≡ heads (unitsOf rules n units m predecessors) v
+  pub inputs-are : (v : ℕ) → v < m → getD inputs v 0 ≡ inputHeads (unitsOf rules n units m predecessors) v
+
+-- the units of `done` are worked: their lists fit and are in the table
+pub record Working (S : Units) (done : ℕ) (table₀ table counts : List ℕ) : Type 0 where
+  pub table-is : table ≡ tableSoFar S done table₀
+  pub counts-are : counts ≡ countsSoFar S done
+  pub long : 4352 ≤ length table₀
+  pub done-units : (v : ℕ) → Has done v → v < S .units
+  pub done-small : (v : ℕ) → Has done v → length (unitList S v) ≤ 256
+
+-- all units are worked, or one whose list is above 256 is found, as the definition of the answer has it
+pub data UnitsWorked (S : Units) (table₀ table counts : List ℕ) : Work → Type 0 where
+  all-fit : {done : ℕ} → workFrom S table₀ (workingOrder S) ≡ workFrom S table₀ [] → ((u : ℕ) → u < S .units → Has done u)
+      → Working S done table₀ table counts → UnitsWorked S table₀ table counts Fits
+  one-long : {u done : ℕ} → workFrom S table₀ (workingOrder S) ≡ refuse (LongList u) (cleared table₀)
+      → Working S done table₀ table counts → UnitsWorked S table₀ table counts (Long u)

@@ -1,0 +1,80 @@
+// Unit work: the list of each unit in working order, and the last list.
+use crate::LAST_COUNT;
+use crate::LAST_LIST;
+use crate::table::store;
+use dependency_graph::working_order::next_unit;
+use unit_search::LIST_WORDS;
+use unit_search::Unit;
+use unit_search::search::search;
+ghost use Prim.Native.Nat.{_+_, _≤_, _<_};
+ghost use lib.ListN.{length};
+ghost use Rattle.unit_search.specs.Job.{Searchable};
+ghost use Rattle.dependency_graph.specs.Slices.{unitsOf};
+ghost use Rattle.unit_lists.specs.Work.{ListWorked, Setting, Working, UnitsWorked};
+
+// Whether all lists fit, or the first unit whose list does not.
+pub enum Work {
+    Fits,
+    Long(usize),
+}
+
+// Lists one unit: its words go into the table from `base` on and its count to its place. Whether the list fits; if not, nothing is written.
+pub fn work_list(
+    rules: &[u64],
+    heads: &[u64],
+    unit: Unit,
+    within: u64,
+    base: usize,
+    place: usize,
+    table: &mut [u64],
+    counts: &mut [usize],
+) -> bool
+    requires { ⌜ Searchable (now rules) (now table) (now counts) (now heads) unit × (base + 256 ≤ length (now table)) × (place < length (now counts)) ⌝ }
+    ensures { λ r. ⌜ ListWorked (now (rules .entry)) (now (heads .entry)) unit within base place (now (table .entry)) (now (counts .entry)) (now (table .exit)) (now (counts .exit)) r ⌝ }
+{
+    let mut list = [0u64; LIST_WORDS];
+    let outside = atoms::without(atoms::first(64), within);
+    let count = search(rules, table, counts, heads, unit, &mut list, 0, 0, outside);
+    if LIST_WORDS < count {
+        return false;
+    }
+    store(&list, table, base);
+    counts[place] = count;
+    true
+}
+
+// Works the units, lowest number first among those whose predecessors are done.
+pub fn work_units(
+    rules: &[u64],
+    rule_count: usize,
+    units: &[u64],
+    unit_count: usize,
+    predecessors: &[u64],
+    heads: &[u64],
+    inputs: &[u64],
+    table: &mut [u64],
+    counts: &mut [usize],
+) -> Work
+    requires { ⌜ Setting (now rules) «rule_count» (now units) «unit_count» (now predecessors) (now heads) (now inputs) × Working (unitsOf (now rules) «rule_count» (now units) «unit_count» (now predecessors)) 0 (now table) (now table) (now counts) ⌝ }
+    ensures { λ r. ⌜ UnitsWorked (unitsOf (now (rules .entry)) «rule_count» (now (units .entry)) «unit_count» (now (predecessors .entry))) (now (table .entry)) (now (table .exit)) (now (counts .exit)) r ⌝ }
+{
+    let mut done = 0;
+    let mut left = unit_count;
+    while 0 < left {
+        let u = next_unit(predecessors, unit_count, done);
+        if unit_count <= u {
+            return Work::Fits;
+        }
+        let unit = Unit {
+            rules: atoms::cut(units[u], atoms::first(rule_count)),
+            inputs: inputs[u],
+            predecessors: predecessors[u],
+        };
+        if !work_list(rules, heads, unit, heads[u], LIST_WORDS * u, u, table, counts) {
+            return Work::Long(u);
+        }
+        done = atoms::union(done, atoms::single(u));
+        left -= 1;
+    }
+    Work::Fits
+}
