@@ -2,3 +2,4 @@ pub mod Decided
 pub mod Joined
 pub mod Storing
 pub mod Runs
+pub mod Working

@@ -1,0 +1,300 @@
+#!/usr/bin/env python3
+"""families.py FOLDER: writes plans that grow, each as NAME.plan and, for clingo, NAME.lp.
+
+Both files hold the same program. Units and edges are only in the plan: clingo lists the answer sets
+of the whole program, and these are the last list.
+"""
+import itertools
+import os
+import struct
+import sys
+
+MAX_ATOMS = 64
+MAX_RULES = 64
+MAX_UNITS = 16
+
+
+class Plan:
+    """Rules as (head, positive, negative, unit), atoms numbered as they are asked for."""
+
+    def __init__(self):
+        self.rules = []
+        self.atoms = 0
+        self.units = 1
+
+    def atom(self):
+        self.atoms += 1
+        return self.atoms - 1
+
+    def next_unit(self):
+        self.units += 1
+
+    def rule(self, head=(), positive=(), negative=()):
+        """Adds a rule to the newest unit."""
+        self.rules.append((tuple(head), tuple(positive), tuple(negative), self.units - 1))
+
+    def choice(self):
+        """One of two new relays by a disjunction."""
+        pair = self.atom(), self.atom()
+        self.rule(pair)
+        return pair
+
+    def even_loop(self):
+        """One of two new relays, each up where the other is not."""
+        a, b = self.atom(), self.atom()
+        self.rule([a], negative=[b])
+        self.rule([b], negative=[a])
+        return a, b
+
+    def fits(self):
+        return self.atoms <= MAX_ATOMS and len(self.rules) <= MAX_RULES and self.units <= MAX_UNITS
+
+    def edges(self):
+        """Every edge that a dependence between rules of two units asks for."""
+        owner = {atom: unit for head, _, _, unit in self.rules for atom in head}
+        needed = set()
+        for head, positive, negative, unit in self.rules:
+            for atom in head + positive + negative:
+                if owner.get(atom, unit) != unit:
+                    needed.add((unit, owner[atom]))
+        return sorted(needed)
+
+    def plan_bytes(self):
+        commands = []
+        for head, positive, negative, _ in self.rules:
+            commands.append(struct.pack("<BQQQ", 1, word(head), word(positive), word(negative)))
+        for unit in range(self.units):
+            commands.append(struct.pack("<BQ", 2, word(i for i, rule in enumerate(self.rules) if rule[3] == unit)))
+        commands += [bytes([3, u, v]) for u, v in self.edges()]
+        return b"".join(commands) + b"\0"
+
+    def clingo_text(self):
+        return "".join(clingo_rule(*rule[:3]) + "\n" for rule in self.rules)
+
+
+def word(bits):
+    return sum(1 << bit for bit in set(bits))
+
+
+def clingo_rule(head, positive, negative):
+    body = ["a%d" % atom for atom in positive] + ["not a%d" % atom for atom in negative]
+    return "; ".join("a%d" % atom for atom in head) + (" :- " + ", ".join(body) if body else "") + "."
+
+
+# Each family is a function of a size; it is drawn for growing sizes until the plan is full.
+
+
+def latches(size):
+    """Latches with a set and a reset key each; three keys are free, the others stay down."""
+    plan = Plan()
+    keys = [plan.choice() for _ in range(3)]
+    for i in range(size):
+        latch, idle = plan.atom(), plan.atom()
+        on, off = keys[i % 3]
+        plan.rule([latch], [on])
+        plan.rule([latch], [latch], [off])
+        plan.rule([idle], negative=[latch])
+    return plan
+
+
+def mutual_exclusion(size):
+    """One of `size` sections may be occupied: each is up where all others are not."""
+    plan = Plan()
+    sections = [plan.atom() for _ in range(size)]
+    for section in sections:
+        plan.rule([section], negative=[other for other in sections if other != section])
+    for section in sections[: size // 2]:
+        plan.rule([plan.atom()], [section])
+    return plan
+
+
+def chain(size):
+    """A choice handed on through `size` relays, each in the next unit while units last."""
+    plan = Plan()
+    up, down = plan.choice()
+    for _ in range(size):
+        if plan.units < MAX_UNITS:
+            plan.next_unit()
+        next_up, next_down = plan.atom(), plan.atom()
+        plan.rule([next_up], [up])
+        plan.rule([next_down], [down], [up])
+        up, down = next_up, next_down
+    return plan
+
+
+def adder(size):
+    """Two free numbers of `size` bits and their sum, carry by carry; at most four bits are free."""
+    plan = Plan()
+    carry = None
+    for i in range(size):
+        a, not_a = plan.even_loop() if i < 4 else (plan.atom(), plan.atom())
+        if i >= 4:
+            plan.rule([a], [carry])
+            plan.rule([not_a], negative=[a])
+        total, next_carry = plan.atom(), plan.atom()
+        if carry is None:
+            plan.rule([total], [a])
+            plan.rule([next_carry], [a])
+        else:
+            plan.rule([total], [a], [carry])
+            plan.rule([total], [carry], [a])
+            plan.rule([next_carry], [a, carry])
+        carry = next_carry
+    return plan
+
+
+def diamonds(size):
+    """Diamonds on one another: each choice is seen by two units that meet again."""
+    plan = Plan()
+    seen = None
+    for _ in range(size):
+        a, b = plan.choice()
+        if seen is not None:
+            plan.rule((), [a], [seen])
+        sides = []
+        for _ in range(2):
+            plan.next_unit()
+            sides.append(plan.atom())
+            plan.rule([sides[-1]], [a])
+        plan.next_unit()
+        seen = plan.atom()
+        plan.rule([seen], sides)
+    return plan
+
+
+def wide_unit(size):
+    """One unit of `size` choices of which eight are free and the others follow their neighbours."""
+    plan = Plan()
+    pairs = [plan.choice() for _ in range(size)]
+    for i in range(8, size):
+        plan.rule((), [pairs[i][0], pairs[i % 8][1]])
+        plan.rule((), [pairs[i][1], pairs[i % 8][0]])
+    return plan
+
+
+def joined_lists(size):
+    """Two units with 2^size positions each, joined by a unit that lets equal halves pass."""
+    plan = Plan()
+    left = [plan.choice() for _ in range(size)]
+    plan.next_unit()
+    right = [plan.choice() for _ in range(size)]
+    plan.next_unit()
+    for one, other in zip(left, right):
+        plan.rule((), [one[0], other[1]])
+        plan.rule((), [one[1], other[0]])
+    return plan
+
+
+def free_choices(size):
+    """Separate choices, 2^size positions; above eight the last list is too long."""
+    plan = Plan()
+    for i in range(size):
+        if i and plan.units < MAX_UNITS:
+            plan.next_unit()
+        plan.choice()
+    return plan
+
+
+def saturation(size):
+    """A ring of choices that no choice satisfies, told by saturation: one position, all up."""
+    plan = Plan()
+    pairs = [plan.choice() for _ in range(size)]
+    top = plan.atom()
+    for one, other in zip(pairs, pairs[1:] + pairs[:1]):
+        plan.rule([top], [one[0], other[1]])
+    plan.rule([top], [pairs[0][0]])
+    plan.rule([top], [pairs[-1][1]])
+    for atom in itertools.chain(*pairs):
+        plan.rule([atom], [top])
+    plan.rule((), (), [top])
+    return plan
+
+
+def odd_loops(size):
+    """Even loops, each of which leads into an odd loop on one side: one position is left."""
+    plan = Plan()
+    for _ in range(size):
+        a, _ = plan.even_loop()
+        odd = plan.atom()
+        plan.rule([odd], [a], [odd])
+    return plan
+
+
+def even_ring(size):
+    """A ring of 2 * size relays, each up where the one before is not: two positions."""
+    plan = Plan()
+    ring = [plan.atom() for _ in range(2 * size)]
+    for i, relay in enumerate(ring):
+        plan.rule([relay], negative=[ring[i - 1]])
+    return plan
+
+
+def holding_loops(size):
+    """Pairs of relays that hold each other up, none of them started: one position, 0."""
+    plan = Plan()
+    for _ in range(size):
+        a, b = plan.atom(), plan.atom()
+        plan.rule([a], [b])
+        plan.rule([b], [a])
+    return plan
+
+
+def pigeonholes(size):
+    """`size` + 1 trains on `size` tracks, no two on one: no position."""
+    plan = Plan()
+    trains = [[plan.atom() for _ in range(size)] for _ in range(size + 1)]
+    for tracks in trains:
+        plan.rule(tracks)
+    for track in range(size):
+        for one, other in itertools.combinations(trains, 2):
+            plan.rule((), [one[track], other[track]])
+    return plan
+
+
+def full_tracks(size):
+    """`size` trains on `size` tracks, each track used: every permutation."""
+    plan = Plan()
+    trains = [[plan.atom() for _ in range(size)] for _ in range(size)]
+    for tracks in trains:
+        plan.rule(tracks)
+    for track in range(size):
+        plan.rule((), (), [tracks[track] for tracks in trains])
+    return plan
+
+
+FAMILIES = {
+    latches: range(2, 19, 4),
+    mutual_exclusion: range(4, 41, 9),
+    chain: range(3, 32, 7),
+    adder: range(2, 13, 3),
+    diamonds: range(1, 6),
+    wide_unit: [4, 8, 12, 16, 20, 26],
+    joined_lists: range(2, 9),
+    free_choices: range(2, 11),
+    saturation: range(3, 16, 4),
+    odd_loops: range(3, 22, 6),
+    even_ring: range(4, 33, 7),
+    holding_loops: range(4, 33, 7),
+    pigeonholes: range(2, 5),
+    full_tracks: range(2, 8),
+}
+
+
+def main(folder):
+    os.makedirs(folder, exist_ok=True)
+    for family, sizes in FAMILIES.items():
+        for size in sizes:
+            plan = family(size)
+            if not plan.fits():
+                sys.exit("%s of size %d does not fit into a plan" % (family.__name__, size))
+            name = os.path.join(folder, "%s-%02d" % (family.__name__.replace("_", "-"), size))
+            with open(name + ".plan", "wb") as file:
+                file.write(plan.plan_bytes())
+            with open(name + ".lp", "w") as file:
+                file.write(plan.clingo_text())
+
+
+if __name__ == "__main__":
+    if len(sys.argv) != 2:
+        sys.exit(__doc__)
+    main(sys.argv[1])

@@ -1,0 +1,33 @@
+#!/bin/sh
+# bench/run.sh [SETTLE] [OUTPUT] [FOLDER..]: settle beside `clingo -n 257` on the same plans.
+#
+# SETTLE is the program (default: the environment's SETTLE, then target/bin/settle), OUTPUT the
+# Markdown table (default target/bench/results.md), and the folders hold NAME.plan and NAME.lp
+# (default: bench/plans and the families that bench/families.py writes).
+set -e
+cd "$(dirname "$0")/.."
+. tests/build.sh
+need_rustc
+
+if ! command -v clingo >/dev/null; then
+    if [ "$(id -u)" != 0 ] || ! command -v apt-get >/dev/null; then
+        echo "clingo is missing: install it, on Debian as root with: apt-get update && apt-get install -y gringo" >&2
+        exit 2
+    fi
+    apt-get update && apt-get install -y gringo
+fi
+
+settle=${1:-${SETTLE:-target/bin/settle}}
+output=${2:-target/bench/results.md}
+if [ ! -x "$settle" ]; then
+    echo "$settle is missing: build the program settle first, or name it" >&2
+    exit 2
+fi
+[ $# -gt 2 ] && shift 2 || {
+    python3 bench/families.py target/bench/families
+    set -- bench/plans target/bench/families
+}
+
+build_program bench/measure.rs target/bench/measure
+mkdir -p "$(dirname "$output")"
+target/bench/measure "$settle" "$(command -v clingo)" "$output" "$@"

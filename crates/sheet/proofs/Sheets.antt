@@ -1,0 +1,69 @@
+-- A sheet is put together from its pieces, one behind the other, and its length is theirs.
+use Prim.Native.Nat.{ℕ, _+_, _*_, _<_}
+use mathlib.Core.Path.{_≡_, refl, _∙_}
+use mathlib.Core.List.{List, [], _∷_, _++_, append-assoc, append-nil}
+use native.Mathlib.Numerals.{add-one}
+use native.Mathlib.Omega.{arith}
+use lib.ListN.{length, take, getD, length-append}
+use lib.Seq.{take-suc}
+use Rattle.sheet.specs.Sheet.{lineEnd, positionsWord, refusedWord, atWord, decimal, hexadecimal, lineLength}
+use Rattle.sheet.specs.Sheet.{positionLine, positionLines, positionsSheet, refusalSheet}
+use Rattle.sheet.specs.Lent.{Put}
+use Rattle.sheet.proofs.Digits.{length-hexadecimal}
+use Rattle.sheet.proofs.Writing.{put-append, put-nothing}
+
+pub length-positionLine : (w : ℕ) → length (positionLine w) ≡ lineLength
+unfolding positionLine lineEnd
+length-positionLine w = length-append (hexadecimal w) _ ∙ rw length-hexadecimal
+
+pub length-positionLines : (ws : List ℕ) → length (positionLines ws) ≡ lineLength * length ws
+unfolding positionLines
+length-positionLines [] = refl
+length-positionLines (w ∷ ws) =
+    let rest = length-positionLines ws in
+    let line = length-positionLine w in
+    length-append (positionLine w) (positionLines ws) ∙ omega arith
+
+positionLines-append : (a b : List ℕ) → positionLines (a ++ b) ≡ positionLines a ++ positionLines b
+unfolding positionLines
+positionLines-append [] b = refl
+positionLines-append (w ∷ a) b = rw (positionLines-append a b, append-assoc)
+
+positionLines-next : (ws : List ℕ) (i : ℕ) → i < length ws → positionLines (take (i + 1) ws) ≡ positionLines (take i ws) ++ positionLine (getD ws i 0)
+unfolding positionLines
+positionLines-next ws i h =
+    rw (add-one i, take-suc ws i 0 h, positionLines-append (take i ws) (getD ws i 0 ∷ []), append-nil (positionLine (getD ws i 0)))
+
+pub length-positionsSheet : (ws : List ℕ) → length (positionsSheet ws) ≡ length (decimal (length ws)) + 11 + lineLength * length ws
+unfolding positionsSheet positionsWord lineEnd
+length-positionsSheet ws =
+    let lines = length-positionLines ws in
+    simp length-append (omega arith)
+
+pub length-refusalSheet : (number spot : ℕ) → length (refusalSheet number spot) ≡ length (decimal number) + length (decimal spot) + 13
+unfolding refusalSheet refusedWord atWord lineEnd
+length-refusalSheet number spot = simp length-append (omega arith)
+
+pub put-positionLine : (w : ℕ) {at mid next : ℕ} {s t u : List ℕ} → Put (hexadecimal w) at s t mid → Put lineEnd mid t u next → Put (positionLine w) at s u next
+unfolding positionLine
+put-positionLine w p q = put-append p q
+
+pub put-no-line : (at : ℕ) (s : List ℕ) → Put (positionLines []) at s s at
+unfolding positionLines
+put-no-line at s = put-nothing at s
+
+-- one more of the lines
+pub put-next-line : (ws : List ℕ) (i : ℕ) {at mid next : ℕ} {s t u : List ℕ} → i < length ws → Put (positionLines (take i ws)) at s t mid →
+    Put (positionLine (getD ws i 0)) mid t u next → Put (positionLines (take (i + 1) ws)) at s u next
+put-next-line ws i h p q = rw (positionLines-next ws i h) (put-append p q)
+
+pub put-positionsSheet : (ws : List ℕ) {a b c d : ℕ} {s₀ s₁ s₂ s₃ s₄ : List ℕ} → Put positionsWord 0 s₀ s₁ a →
+    Put (decimal (length ws)) a s₁ s₂ b → Put lineEnd b s₂ s₃ c → Put (positionLines ws) c s₃ s₄ d → Put (positionsSheet ws) 0 s₀ s₄ d
+unfolding positionsSheet
+put-positionsSheet ws p q r l = put-append (put-append (put-append p q) r) l
+
+pub put-refusalSheet : (number spot : ℕ) {a b c d e : ℕ} {s₀ s₁ s₂ s₃ s₄ s₅ : List ℕ} → Put refusedWord 0 s₀ s₁ a →
+    Put (decimal number) a s₁ s₂ b → Put atWord b s₂ s₃ c → Put (decimal spot) c s₃ s₄ d → Put lineEnd d s₄ s₅ e →
+    Put (refusalSheet number spot) 0 s₀ s₅ e
+unfolding refusalSheet
+put-refusalSheet number spot p q r l m = put-append (put-append (put-append (put-append p q) r) l) m

@@ -1,0 +1,77 @@
+-- `put` meets its contract: after i turns the first i bytes are written.
+use Prim.Native.Nat.{ℕ, _+_, _-_, _≤_}
+use mathlib.Core.Path.{_≡_, refl}
+use mathlib.Core.List.{List}
+use native.Mathlib.Nat.{add-zero}
+use native.Mathlib.Omega.{arith}
+use borrow.Author.Needs.{needs}
+use lib.ListN.{length, take, length-set}
+use lib.Seq.{take-all}
+use Rattle.sheet.specs.Lent.{Put}
+use Rattle.sheet.proofs.Writing.{put-nothing, put-next}
+use Rattle.sheet.proofs.put.Statement.{statement}
+use Rattle.sheet.proofs.put.Tie as tie
+
+record FirstBytes (bytes : List ℕ) (at : ℕ) (sheet₀ sheet : List ℕ) (i : ℕ) : Type 0 where
+  pub within : i ≤ length bytes
+  pub same : length sheet ≡ length sheet₀
+  pub first : Put (take i bytes) at sheet₀ sheet (at + i)
+
+abbrev Inv-loop : tie.InvT-loop
+Inv-loop bytes at sheet₀ i₀ sheet i = FirstBytes bytes at sheet₀ sheet i
+
+abbrev μ-loop : tie.MeasureT-loop
+μ-loop bytes at sheet₀ i₀ sheet i = length bytes - i
+
+loop-holds : tie.Need-loop-holds Inv-loop μ-loop
+loop-holds c = record { within = search needs; same = refl; first = rw add-zero (put-nothing _ _) }
+
+shared-slice-read-sheet : tie.Need-shared-slice-read-sheet Inv-loop μ-loop
+shared-slice-read-sheet c = search needs
+
+add-sheet : tie.Need-add-sheet Inv-loop μ-loop
+add-sheet c = omega arith
+
+slice-write-sheet : tie.Need-slice-write-sheet Inv-loop μ-loop
+slice-write-sheet c = omega arith
+
+add-i : tie.Need-add-i Inv-loop μ-loop
+add-i c = omega arith
+
+loop-less : tie.Need-loop-less Inv-loop μ-loop
+loop-less c = omega arith
+
+loop-again : tie.Need-loop-again Inv-loop μ-loop
+loop-again c =
+    let inv = c .before .before .loop .inv in
+    record {
+      within = omega arith;
+      same = simp length-set (inv .same);
+      first = put-next _ _ (c .before .loop-test .taken) (inv .first);
+    }
+
+add-result : tie.Need-add-result Inv-loop μ-loop
+add-result c = omega arith
+
+same-length : tie.Need-same-length Inv-loop μ-loop
+same-length c = search needs
+
+returns : tie.Need-returns Inv-loop μ-loop
+returns c = rw (take-all _ _ (c .loop-test .left)) at (c .before .loop .inv .first)
+
+pub put-spec : {M : Type 1} → statement M
+put-spec =
+    tie.close
+    (tie.spec
+    Inv-loop
+    μ-loop
+    loop-holds
+    shared-slice-read-sheet
+    add-sheet
+    slice-write-sheet
+    add-i
+    loop-less
+    loop-again
+    add-result
+    same-length
+    returns)

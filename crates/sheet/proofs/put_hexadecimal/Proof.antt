@@ -1,0 +1,43 @@
+-- `put_hexadecimal` meets its contract: the kit's digits are those of the definition.
+use mathlib.Core.Path.{ap}
+use native.Mathlib.Omega.{arith}
+use borrow.Author.Needs.{needs}
+use lib.ListN.{length}
+use Rattle.sheet.proofs.Digits.{hexadecimal-made}
+use Rattle.sheet.proofs.put_hexadecimal.Statement.{statement}
+use Rattle.sheet.proofs.put_hexadecimal.Tie as tie
+
+hex-requires : tie.Need-hex-requires
+hex-requires c κs = search needs
+
+array-share-prefix-text : tie.Need-array-share-prefix-text
+array-share-prefix-text c = search needs
+
+slice-aggregate-put : tie.Need-slice-aggregate-put
+slice-aggregate-put c = search needs
+
+put-requires : tie.Need-put-requires
+put-requires c κs =
+    let start = c .before .before .before .before .before in
+    let made = c .before .before .hex .ensures in
+    omega (arith, ap length (hexadecimal-made (start .args .word) _ _ (start .fits .word .fits) (made .1 .0) (made .1 .1)))
+
+same-length : tie.Need-same-length
+same-length c = search needs
+
+returns : tie.Need-returns
+returns c =
+    let start = c .before .before .before .before .before .before .before .before in
+    let made = c .before .before .before .before .before .hex .ensures in
+    rw (hexadecimal-made _ _ _ (start .fits .word .fits) (made .1 .0) (made .1 .1)) at (c .before .before .put .ensures)
+
+pub put-hexadecimal-spec : {M : Type 1} → statement M
+put-hexadecimal-spec =
+    tie.close
+    (tie.spec
+    hex-requires
+    array-share-prefix-text
+    slice-aggregate-put
+    put-requires
+    same-length
+    returns)

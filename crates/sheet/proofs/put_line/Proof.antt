@@ -1,0 +1,29 @@
+-- `put_line` meets its contract: the line end stands behind the sixteen digits.
+use native.Mathlib.Omega.{arith}
+use borrow.Author.Needs.{needs}
+use Rattle.sheet.specs.Sheet.{lineEnd}
+use Rattle.sheet.proofs.Digits.{length-hexadecimal}
+use Rattle.sheet.proofs.Sheets.{put-positionLine}
+use Rattle.sheet.proofs.put_line.Statement.{statement}
+use Rattle.sheet.proofs.put_line.Tie as tie
+
+put-hexadecimal-requires : tie.Need-put-hexadecimal-requires
+put-hexadecimal-requires c κs = omega (arith, length-hexadecimal (c .before .before .args .word))
+
+slice-aggregate-put : tie.Need-slice-aggregate-put
+slice-aggregate-put c = search needs
+
+put-requires : tie.Need-put-requires
+put-requires c κs = omega (arith, length-hexadecimal (c .before .before .before .before .before .before .before .args .word))
+
+same-length : tie.Need-same-length
+same-length c = search needs
+
+returns : tie.Need-returns
+unfolding lineEnd
+returns c = put-positionLine _ (c .before .before .before .before .before .before .before .put-hexadecimal .ensures) (c .before .before .put .ensures)
+
+pub put-line-spec : {M : Type 1} → statement M
+put-line-spec =
+    tie.close
+    (tie.spec put-hexadecimal-requires slice-aggregate-put put-requires same-length returns)

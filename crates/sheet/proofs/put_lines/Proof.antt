@@ -1,0 +1,77 @@
+-- `put_lines` meets its contract: after i turns the lines of the first i words are written.
+use Prim.Native.Nat.{ℕ, _+_, _-_, _*_, _≤_}
+use mathlib.Core.Path.{_≡_, refl}
+use mathlib.Core.List.{List}
+use native.Mathlib.Omega.{arith}
+use borrow.Author.Needs.{needs}
+use lib.ListN.{length, take, getD}
+use lib.Seq.{take-all}
+use Rattle.sheet.specs.Sheet.{lineLength, positionLines}
+use Rattle.sheet.specs.Lent.{Put}
+use Rattle.sheet.proofs.Sheets.{put-no-line, put-next-line, length-positionLine}
+use Rattle.sheet.proofs.put_lines.Statement.{statement}
+use Rattle.sheet.proofs.put_lines.Tie as tie
+
+record FirstLines (words : List ℕ) (at : ℕ) (sheet₀ sheet : List ℕ) (next i : ℕ) : Type 0 where
+  pub within : i ≤ length words
+  pub behind : next ≡ at + lineLength * i
+  pub same : length sheet ≡ length sheet₀
+  pub first : Put (positionLines (take i words)) at sheet₀ sheet next
+
+abbrev Inv-loop : tie.InvT-loop
+Inv-loop words at sheet₀ next₀ i₀ sheet next i = FirstLines words at sheet₀ sheet next i
+
+abbrev μ-loop : tie.MeasureT-loop
+μ-loop words at sheet₀ next₀ i₀ sheet next i = length words - i
+
+loop-holds : tie.Need-loop-holds Inv-loop μ-loop
+loop-holds c = record { within = search needs; behind = omega arith; same = refl; first = put-no-line _ _ }
+
+mul-put-line : tie.Need-mul-put-line Inv-loop μ-loop
+mul-put-line c = omega arith
+
+shared-slice-read-put-line : tie.Need-shared-slice-read-put-line Inv-loop μ-loop
+shared-slice-read-put-line c = omega arith
+
+put-line-requires : tie.Need-put-line-requires Inv-loop μ-loop
+put-line-requires c κs = omega arith
+
+add-i : tie.Need-add-i Inv-loop μ-loop
+add-i c = omega arith
+
+loop-less : tie.Need-loop-less Inv-loop μ-loop
+loop-less c = omega arith
+
+loop-again : tie.Need-loop-again Inv-loop μ-loop
+loop-again c =
+    let line = c .before .before .put-line in
+    let head = c .before .before .before .before .before .before in
+    let word = getD (head .before .before .before .args .words .now) (head .loop .i) 0 in
+    record {
+      within = omega arith;
+      behind = omega (arith, line .ensures .behind, length-positionLine word);
+      same = omega arith;
+      first = put-next-line _ _ (c .before .before .before .before .before .loop-test .taken) (head .loop .inv .first) (line .ensures);
+    }
+
+same-length : tie.Need-same-length Inv-loop μ-loop
+same-length c = search needs
+
+returns : tie.Need-returns Inv-loop μ-loop
+returns c = rw (take-all _ _ (c .loop-test .left)) at (c .before .loop .inv .first)
+
+pub put-lines-spec : {M : Type 1} → statement M
+put-lines-spec =
+    tie.close
+    (tie.spec
+    Inv-loop
+    μ-loop
+    loop-holds
+    mul-put-line
+    shared-slice-read-put-line
+    put-line-requires
+    add-i
+    loop-less
+    loop-again
+    same-length
+    returns)

@@ -1,0 +1,281 @@
+//! Plans with faults: broken graphs, each reading fault, order traps, damaged and random bytes.
+
+use crate::draft::Draft;
+use crate::encode;
+use crate::random::Random;
+use crate::valid_plans;
+
+type Commands = Vec<Vec<u8>>;
+
+/// A small valid plan to spoil.
+fn sound_draft(random: &mut Random) -> Draft {
+    match random.below(4) {
+        0 => valid_plans::gadgets(random),
+        1 => valid_plans::diamond(random),
+        _ => valid_plans::layered(random),
+    }
+}
+
+// ---- Broken graphs ---------------------------------------------------------------------------
+
+/// A valid plan with one to three changes, most of which break a graph condition.
+pub fn broken_graph(random: &mut Random) -> Vec<u8> {
+    let mut draft = sound_draft(random);
+    for _ in 0..random.pick(&[1, 1, 2, 3]) {
+        break_graph(random, &mut draft);
+    }
+    draft.bytes()
+}
+
+fn break_graph(random: &mut Random, draft: &mut Draft) {
+    let rule = random.below(draft.rules.len());
+    let (unit, other) = (random.below(draft.units.len()), random.below(draft.units.len()));
+    match random.below(16) {
+        0 => draft.units.iter_mut().for_each(|word| *word &= !(1 << rule)),
+        1 if !draft.rules.is_empty() => draft.units[unit] |= 1 << rule,
+        2 => draft.add_edge(unit, other),
+        3..=5 => drop_edges(random, draft),
+        6..=8 => add_stray_rule(random, draft, unit),
+        9 => add_cycle(random, draft),
+        10..=12 => repeat_rule(draft, rule, unit),
+        _ => split_constraint(random, draft),
+    }
+}
+
+fn drop_edges(random: &mut Random, draft: &mut Draft) {
+    for _ in 0..random.between(1, 3) {
+        if !draft.edges.is_empty() {
+            let place = random.below(draft.edges.len());
+            draft.edges.remove(place);
+        }
+    }
+}
+
+/// A rule over atoms of any unit, without the edges it asks for.
+fn add_stray_rule(random: &mut Random, draft: &mut Draft, unit: usize) {
+    let atoms = (0..draft.units.len()).fold(0, |atoms, unit| atoms | draft.own_atoms(unit));
+    let (most_head, most_positive, most_negative) = random.pick(&[(0, 1, 1), (0, 2, 0), (1, 1, 0), (1, 0, 1), (2, 0, 0)]);
+    let head = random.atoms_of(atoms, most_head);
+    let positive = random.atoms_of(atoms, most_positive);
+    let negative = random.atoms_of(atoms, most_negative);
+    draft.add_rule(unit, [head, positive, negative]);
+}
+
+/// A cycle among some units, often with a lower unit that only reaches it.
+fn add_cycle(random: &mut Random, draft: &mut Draft) {
+    let length = random.between(2, 4);
+    let first = random.below(draft.units.len());
+    let mut units: Vec<usize> = (0..length).map(|_| draft.new_unit()).collect();
+    units.dedup();
+    for place in 0..units.len() {
+        draft.add_edge(units[place], units[(place + 1) % units.len()]);
+    }
+    if random.chance(70) {
+        draft.add_edge(first, units[0]);
+    }
+}
+
+/// The same rule once more, perhaps in another unit.
+fn repeat_rule(draft: &mut Draft, rule: usize, unit: usize) {
+    if let Some(&words) = draft.rules.get(rule) {
+        draft.add_rule(unit, words);
+    }
+}
+
+/// A constraint on atoms of two units, in two units that see one of them each.
+fn split_constraint(random: &mut Random, draft: &mut Draft) {
+    let (left, right) = (random.below(draft.units.len()), random.below(draft.units.len()));
+    let positive = random.atoms_of(draft.own_atoms(left), 1) | random.atoms_of(draft.own_atoms(right), 1);
+    let negative = if random.chance(30) { random.atoms_of(draft.own_atoms(left), 1) } else { 0 };
+    let (watch_left, watch_right) = (draft.new_unit(), draft.new_unit());
+    let constraint = draft.rules.len();
+    draft.add_rule(watch_left, [0, positive, negative]);
+    if draft.rules.len() > constraint {
+        draft.units[watch_right] |= 1 << constraint;
+    }
+    draft.add_edge(watch_left, left);
+    draft.add_edge(watch_right, right);
+}
+
+/// Empty units with any edges: cycles, units above cycles, all 240 edges.
+pub fn any_edges(random: &mut Random) -> Vec<u8> {
+    let count = random.between(2, 16);
+    let mut draft = Draft::with_units(count);
+    for _ in 0..random.pick(&[1, 3, count, 2 * count, 2000]) {
+        draft.add_edge(random.below(count), random.below(count));
+    }
+    draft.bytes()
+}
+
+// ---- Reading faults --------------------------------------------------------------------------
+
+/// The places of the first UNIT, the first EDGE and END among the commands.
+struct Groups {
+    units: usize,
+    edges: usize,
+    end: usize,
+}
+
+impl Groups {
+    fn of(draft: &Draft) -> Groups {
+        let units = draft.rules.len();
+        let edges = units + draft.units.len();
+        Groups { units, edges, end: edges + draft.edges.len() }
+    }
+}
+
+/// A valid plan with one to three reading faults, sometimes cut short at one.
+pub fn broken_reading(random: &mut Random) -> Vec<u8> {
+    let draft = if random.chance(30) { large_draft(random) } else { sound_draft(random) };
+    let groups = Groups::of(&draft);
+    let mut commands = draft.commands();
+    for _ in 0..random.pick(&[1, 1, 1, 2, 3]) {
+        let place = break_reading(random, &draft, &groups, &mut commands);
+        if random.chance(30) {
+            return cut_inside(random, &commands, place);
+        }
+    }
+    commands.concat()
+}
+
+/// A plan with about as many rules, units and edges as a plan may have.
+fn large_draft(random: &mut Random) -> Draft {
+    full_draft(random.between(62, 64), random.between(14, 16), random.pick(&[0, 3, 239, 240]))
+}
+
+/// So many equal rules in unit 0, units and edges.
+fn full_draft(rules: usize, units: usize, edges: usize) -> Draft {
+    let mut draft = Draft::with_units(units);
+    (0..rules).for_each(|_| draft.add_rule(0, [1, 0, 2]));
+    let pairs = (0..units).flat_map(|u| (0..units).map(move |v| (u, v))).filter(|(u, v)| u != v);
+    draft.edges = pairs.take(edges).collect();
+    draft
+}
+
+/// Puts one faulty command in, and returns its place.
+fn break_reading(random: &mut Random, draft: &Draft, groups: &Groups, commands: &mut Commands) -> usize {
+    let (units, rules) = (draft.units.len() as u8, draft.rules.len());
+    let edge = (random.byte() % 20, random.byte() % 20);
+    let any_word = random.word() >> random.below(64);
+    let (first, last, command) = match random.below(13) {
+        0 => (0, groups.end, vec![random.byte()]),
+        1 => (0, groups.units, encode::rule(0, 0, 0)),
+        2 => (groups.units, groups.edges, encode::unit(any_word)),
+        3 => (groups.units, groups.edges, encode::unit(1u64.checked_shl(rules as u32).unwrap_or(0))),
+        4 => (groups.edges, groups.end, encode::edge(edge.0, edge.1)),
+        5 => (groups.edges, groups.end, encode::edge(units, 0)),
+        6 => (groups.edges, groups.end, encode::edge(0, units)),
+        7 => (groups.edges, groups.end, encode::edge(edge.0 % units.max(1), edge.0 % units.max(1))),
+        8 => (groups.units, groups.end, encode::rule(any_word, 0, 0)),
+        9 => (groups.edges, groups.end, encode::unit(0)),
+        10 => (0, groups.end, commands[random.below(commands.len())].clone()),
+        11 => (0, groups.units, encode::rule(any_word, any_word, any_word)),
+        _ => (groups.end + 1, groups.end + 1, vec![random.pick(&[0, 1, 2, 3, 9]); random.between(1, 30)]),
+    };
+    let place = random.between(first, last).min(commands.len());
+    commands.insert(place, command);
+    place
+}
+
+/// The bytes up to somewhere inside the command at this place.
+fn cut_inside(random: &mut Random, commands: &Commands, place: usize) -> Vec<u8> {
+    let mut bytes = commands[..place].concat();
+    let kept = random.between(0, commands[place].len());
+    bytes.extend(&commands[place][..kept]);
+    bytes
+}
+
+/// Commands of all kinds with small operands, in any order or by groups.
+pub fn any_commands(random: &mut Random) -> Vec<u8> {
+    let count = random.between(1, 12);
+    let mut commands: Commands = (0..count).map(|_| any_command(random)).collect();
+    if random.chance(60) {
+        commands.sort_by_key(|command| command[0]);
+        commands.push(encode::end());
+    }
+    commands.concat()
+}
+
+fn any_command(random: &mut Random) -> Vec<u8> {
+    let mut small = || random.word() & random.word() & 7;
+    let (head, positive, negative) = (small(), small(), small());
+    match random.below(40) {
+        0..=19 => encode::rule(head, positive, negative),
+        20..=29 => encode::unit(head),
+        30..=37 => encode::edge(random.byte() % 4, random.byte() % 4),
+        38 => encode::end(),
+        _ => vec![random.byte()],
+    }
+}
+
+/// A full plan with one command more, faulty in other ways as well, and perhaps cut short.
+pub fn one_too_many(random: &mut Random) -> Vec<u8> {
+    let draft = full_draft(random.pick(&[60, 64]), 16, 240);
+    let groups = Groups::of(&draft);
+    let mut commands = draft.commands();
+    let any = random.word();
+    let (first, last, command) = match random.below(8) {
+        0 => (groups.units, groups.units, encode::rule(1, 2, 4)),
+        1 => (groups.units, groups.units, encode::rule(0, 0, 0)),
+        2 => (groups.units + 1, groups.end, encode::rule(1, 0, any % 2)),
+        3 => (groups.edges, groups.edges, encode::unit(any)),
+        4 => (groups.edges, groups.edges, encode::unit(0)),
+        5 => (groups.edges + 1, groups.end, encode::unit(any)),
+        6 => (groups.end, groups.end, encode::edge(any as u8 % 18, any as u8 / 18)),
+        _ => (groups.end, groups.end, vec![any as u8]),
+    };
+    let place = random.between(first, last);
+    commands.insert(place, command);
+    if random.chance(40) {
+        return cut_inside(random, &commands, place);
+    }
+    commands.concat()
+}
+
+// ---- Bytes -----------------------------------------------------------------------------------
+
+/// A valid plan's bytes with one to three places damaged.
+pub fn damaged(random: &mut Random) -> Vec<u8> {
+    let mut bytes = sound_draft(random).bytes();
+    for _ in 0..random.between(1, 3) {
+        damage(random, &mut bytes);
+    }
+    bytes
+}
+
+fn damage(random: &mut Random, bytes: &mut Vec<u8>) {
+    let place = random.below(bytes.len());
+    match random.below(6) {
+        0 | 1 if !bytes.is_empty() => bytes[place] ^= 1 << random.below(8),
+        2 if !bytes.is_empty() => bytes[place] = random.byte(),
+        3 => bytes.truncate(place),
+        4 => bytes.insert(place, random.pick(&[0, 1, 2, 3, 4, 255])),
+        _ => bytes.push(random.pick(&[0, 1, 2, 3, 4, 255])),
+    }
+}
+
+/// Bytes that were never a plan.
+pub fn random_bytes(random: &mut Random) -> Vec<u8> {
+    let length = random.between(0, 300);
+    let commands_only = random.chance(50);
+    (0..length).map(|_| if commands_only { random.byte() % 4 } else { random.byte() }).collect()
+}
+
+pub fn no_bytes(_: &mut Random) -> Vec<u8> {
+    Vec::new()
+}
+
+/// More bytes than `settle` keeps.
+pub fn long_input(random: &mut Random) -> Vec<u8> {
+    let mut bytes = match random.below(5) {
+        0 => random_bytes(random),
+        1 => full_draft(64, 16, 240).bytes(),
+        2 => encode::rule(1, 0, 0).repeat(random.between(1, 200)),
+        3 => [encode::unit(0).repeat(16), encode::edge(0, 1)].concat(),
+        _ => sound_draft(random).bytes(),
+    };
+    let length = random.between(4090, 6000).max(bytes.len());
+    let filler = random.pick(&[0, 1, 3, 255]);
+    bytes.resize(length, filler);
+    bytes
+}

@@ -1,0 +1,32 @@
+# Functions that build the test programs; read by the scripts of this folder and of bench/.
+
+# Makes sure that rustc is there: on a Debian machine without it, root installs it.
+need_rustc() {
+    if command -v rustc >/dev/null; then
+        return
+    fi
+    if [ "$(id -u)" != 0 ] || ! command -v apt-get >/dev/null; then
+        echo "rustc is missing: install it, on Debian as root with: apt-get update && apt-get install -y rustc" >&2
+        exit 2
+    fi
+    apt-get update && apt-get install -y rustc
+}
+
+# build_program SOURCE OUTPUT [OPTIONS]: one program by rustc alone; no other package is needed.
+build_program() {
+    local source="$1" output="$2"
+    shift 2
+    mkdir -p "$(dirname "$output")"
+    rustc --edition 2021 -O "$source" -o "$output" "$@"
+}
+
+# build_stand_in SOURCE OUTPUT KIND: the library's interface over the lister that stands beside
+# SOURCE, as a staticlib or a cdylib.
+build_stand_in() {
+    build_program "$1" "$2" --crate-type "$3" --crate-name exports
+}
+
+# build_compare FOLDER OUTPUT KIND: the comparison with the library of this folder, static or dylib.
+build_compare() {
+    build_program tests/compare.rs "$2" -L "native=$1" -l "$3=exports"
+}

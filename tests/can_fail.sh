@@ -1,0 +1,123 @@
+#!/bin/bash
+# tests/can_fail.sh [count] [seed]: shows that the comparison notices mistakes. The lister stands in
+# for the library, first as it is, then in copies with one deliberate mistake each.
+set -e
+cd "$(dirname "$0")/.."
+. tests/build.sh
+need_rustc
+
+count=${1:-2000} seed=${2:-1}
+work=target/tests/faulty
+unnoticed=0 tried=0
+
+# compare_with SOURCE: runs the comparison with the stand-in SOURCE and the lister beside it.
+compare_with() {
+    build_stand_in "$1" "$work/libexports.so" cdylib && LD_LIBRARY_PATH=$work "$work/compare" "$count" "$seed" 2>&1
+}
+
+# with_mistake NAME RIGHT WRONG: a copy of the lister with WRONG in place of RIGHT must be noticed.
+with_mistake() {
+    local right wrong output
+    right=$(<tests/lister.rs)
+    wrong=${right/"$2"/"$3"}
+    if [ "$wrong" = "$right" ]; then
+        echo "the lister has no line for the mistake: $1" >&2
+        exit 2
+    fi
+    cp tests/stand_in.rs "$work/stand_in.rs"
+    printf '%s\n' "$wrong" >"$work/lister.rs"
+    tried=$((tried + 1))
+    if output=$(compare_with "$work/stand_in.rs"); then
+        echo "NOT NOTICED: $1"
+        unnoticed=$((unnoticed + 1))
+    elif [[ $output =~ [0-9]+\ passed,\ [1-9][0-9]*\ failed$ ]]; then
+        echo "noticed: $1 (${BASH_REMATCH[0]})"
+    else
+        echo "$output" >&2
+        echo "the copy could not be compared: $1" >&2
+        exit 2
+    fi
+}
+
+build_stand_in tests/stand_in.rs "$work/libexports.so" cdylib
+build_compare "$work" "$work/compare" dylib
+compare_with tests/stand_in.rs | tail -n 1
+
+# Answer sets
+with_mistake "minimality by dropping one atom only" \
+    'one_fewer.chain(subsets(set).take_while(move |&subset| subset != set))' 'one_fewer'
+with_mistake "any satisfying set of one atom is taken" \
+    '!proper_subsets(position & !facts).any(' 'position.count_ones() == 1 || !proper_subsets(position & !facts).any('
+with_mistake "the subset test uses all rules instead of the kept ones" \
+    'rules.iter().filter(is_kept).copied()' 'rules.iter().copied()'
+with_mistake "atoms in no head are not looked at" \
+    'Ok(is_subset(position, head_atoms(&plan.rules)) && is_answer_set(&plan.rules, 0, position))' \
+    'Ok(is_answer_set(&plan.rules, 0, position & head_atoms(&plan.rules)))'
+with_mistake "a single position is refused for its graph" \
+    'let plan = read(bytes)?;
+    Ok(' 'let plan = read(bytes)?;
+    check_graph(&plan)?;
+    Ok('
+
+# Reading
+with_mistake "row 5 after row 2" \
+    'if plan.has_all(kind) {' 'if plan.has_all(kind) && offset + kind.operand_bytes() < bytes.len() {'
+with_mistake "row 5 before row 4" 'if kind < group {' 'if kind < group && !plan.has_all(kind) {'
+with_mistake "row 2 before row 4" \
+    'if kind < group {' 'if kind < group && offset + kind.operand_bytes() < bytes.len() {'
+with_mistake "bytes after END are not seen" 'refuse(9, next)' 'Ok(plan)'
+with_mistake "a repeated edge is taken" '|| self.edges.contains(&(u, v))' ''
+with_mistake "a zero rule is taken" 'return Some(6);' ''
+with_mistake "unit bits above the rules are taken" '(self.rules.len()..64)' '(self.rules.len() + 1..64)'
+with_mistake "words are read highest byte first" 'bytes.iter().rev().fold' 'bytes.iter().fold'
+
+# Graph
+with_mistake "(a) is looked at after (b)" \
+    'refuse_lowest(10, rules, |r| plan.units_of(r).is_empty())?;
+    refuse_lowest(11, rules, |r| plan.rules[r].head != 0 && plan.units_of(r).len() != 1)?;' \
+    'refuse_lowest(11, rules, |r| plan.rules[r].head != 0 && plan.units_of(r).len() > 1)?;
+    refuse_lowest(10, rules, |r| plan.units_of(r).is_empty())?;'
+with_mistake "(b) for constraints too" 'plan.rules[r].head != 0 && plan.units_of' 'plan.units_of'
+with_mistake "a unit above a cycle counts as on it" \
+    'plan.reached(u).contains(&u)' 'plan.reached(u).iter().any(|&v| plan.reached(v).contains(&v))'
+with_mistake "(c) for one unit only" \
+    'self.units_of(r).iter().all(|&unit| needed' 'self.units_of(r).iter().any(|&unit| needed'
+with_mistake "(d) for each dependence apart" \
+    'self.units_of(r).iter().any(|&unit| needed.iter().all(|&s| self.sees(unit, s)))' \
+    'needed.iter().all(|&s| self.units_of(r).iter().any(|&unit| self.sees(unit, s)))'
+with_mistake "shared head atoms make no dependence" '|| r.head & s.head != 0' ''
+with_mistake "a path stands for an edge" \
+    'self.edges.contains(&(unit, self.units_of(s)[0]))' 'self.reached(unit).contains(&self.units_of(s)[0])'
+with_mistake "equal rules do not depend on each other" 's != r && depends' 'self.rules[s] != self.rules[r] && depends'
+
+# Unit work
+with_mistake "short predecessor lists are joined freely" \
+    'member & met == input & predecessor.atoms' 'member & met == input & predecessor.atoms || met.count_ones() < 5'
+with_mistake "mere copies of the lists below" \
+    'flat_map(|&input| answer_sets(rules, input))' \
+    'flat_map(|&input| if predecessors.is_empty() { answer_sets(rules, input) } else { vec![input] })'
+with_mistake "15 for a list of 256" 'list.len() > LIST_WORDS' 'list.len() >= LIST_WORDS'
+with_mistake "15 for many inputs" \
+    'if list.len() > LIST_WORDS {' 'if list.len() > LIST_WORDS || inputs(predecessors).len() > LIST_WORDS {'
+with_mistake "the highest unit is worked first" \
+    '(0..count).find(|&unit| is_ready' '(0..count).rev().find(|&unit| is_ready'
+with_mistake "15 at the last list names unit 16" 'unit_list(&[], &every_unit, count)' 'unit_list(&[], &every_unit, MAX_UNITS)'
+
+# Table and sheet
+with_mistake "a count one too high" 'counts[place] = list.len() as u64;' 'counts[place] = list.len() as u64 + 1;'
+with_mistake "the last list stands behind the last unit" '(MAX_UNITS, &listing.last)' '(listing.units.len(), &listing.last)'
+with_mistake "words behind the table are cleared" \
+    'table[..TABLE_WORDS].fill(0);
+            let last' 'table.fill(0);
+            let last'
+with_mistake "15 leaves the table as it was" \
+    'Err(refusal) if refusal.number == 15 => table[..TABLE_WORDS].fill(0),' ''
+with_mistake "14 clears the table" 'if refusal.number == 15' 'if refusal.number >= 14'
+with_mistake "a short table is noticed after reading" \
+    'if table_words < TABLE_WORDS {
+        return' 'if read(bytes).is_ok() && table_words < TABLE_WORDS {
+        return'
+with_mistake "upper-case digits" '{:016x}' '{:016X}'
+
+echo "$tried faulty copies, $unnoticed not noticed"
+[ "$unnoticed" = 0 ]

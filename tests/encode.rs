@@ -1,0 +1,29 @@
+//! The bytes of each command of a plan.
+
+pub const RULE: u8 = 0x01;
+pub const UNIT: u8 = 0x02;
+pub const EDGE: u8 = 0x03;
+pub const END: u8 = 0x00;
+
+pub fn rule(head: u64, positive: u64, negative: u64) -> Vec<u8> {
+    command(RULE, &[head, positive, negative])
+}
+
+pub fn unit(rules: u64) -> Vec<u8> {
+    command(UNIT, &[rules])
+}
+
+pub fn edge(u: u8, v: u8) -> Vec<u8> {
+    vec![EDGE, u, v]
+}
+
+pub fn end() -> Vec<u8> {
+    vec![END]
+}
+
+/// A command byte and its words, lowest byte first.
+fn command(byte: u8, words: &[u64]) -> Vec<u8> {
+    let mut bytes = vec![byte];
+    words.iter().for_each(|word| bytes.extend(word.to_le_bytes()));
+    bytes
+}

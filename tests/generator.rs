@@ -1,0 +1,92 @@
+//! Draws numbered plans from a seed, family by family.
+
+use crate::broken_plans as broken;
+use crate::draft::Draft;
+use crate::lister::TABLE_WORDS;
+use crate::random::Random;
+use crate::valid_plans as valid;
+
+/// One plan to compare, with the length of the table that is lent for it.
+pub struct Case {
+    pub family: &'static str,
+    pub plan: Vec<u8>,
+    pub table_words: usize,
+    /// Built so that its lists stay small or quickly found, though many atoms are in heads.
+    pub many_atoms: bool,
+}
+
+enum Draw {
+    Valid(fn(&mut Random) -> Draft),
+    /// Valid, and made feasible by its shape instead of by few atoms.
+    ManyAtoms(fn(&mut Random) -> Draft),
+    Broken(fn(&mut Random) -> Vec<u8>),
+}
+
+struct Family {
+    name: &'static str,
+    /// How many in a thousand plans are of this family.
+    share: usize,
+    draw: Draw,
+}
+
+const fn family(name: &'static str, share: usize, draw: Draw) -> Family {
+    Family { name, share, draw }
+}
+
+static FAMILIES: &[Family] = &[
+    family("layered units", 230, Draw::Valid(valid::layered)),
+    family("small circuits put together", 150, Draw::Valid(valid::gadgets)),
+    family("diamond", 50, Draw::Valid(valid::diamond)),
+    family("shared constraint", 50, Draw::Valid(valid::shared_constraint)),
+    family("empty units", 20, Draw::Valid(valid::empty_units)),
+    family("full size", 10, Draw::Valid(valid::full_size)),
+    family("255 to 258 positions", 12, Draw::ManyAtoms(valid::near_limit)),
+    family("256 positions", 8, Draw::ManyAtoms(valid::exactly_256)),
+    family("pairs in units", 15, Draw::ManyAtoms(valid::pairs_in_units)),
+    family("inner list too long", 10, Draw::ManyAtoms(valid::over_limit_inside)),
+    family("more inputs than positions", 15, Draw::ManyAtoms(valid::many_inputs)),
+    family("sixteen units, many atoms", 20, Draw::ManyAtoms(valid::tall)),
+    family("broken graph", 150, Draw::Broken(broken::broken_graph)),
+    family("any edges", 20, Draw::Broken(broken::any_edges)),
+    family("broken reading", 90, Draw::Broken(broken::broken_reading)),
+    family("any commands", 30, Draw::Broken(broken::any_commands)),
+    family("one too many", 40, Draw::Broken(broken::one_too_many)),
+    family("damaged bytes", 70, Draw::Broken(broken::damaged)),
+    family("random bytes", 16, Draw::Broken(broken::random_bytes)),
+    family("no bytes", 2, Draw::Broken(broken::no_bytes)),
+    family("long input", 12, Draw::Broken(broken::long_input)),
+];
+
+/// The case of this number.
+pub fn case(seed: u64, number: u64) -> Case {
+    let mut random = Random::for_case(seed, number);
+    let family = pick_family(&mut random);
+    let plan = match family.draw {
+        Draw::Valid(draw) | Draw::ManyAtoms(draw) => draw(&mut random).bytes(),
+        Draw::Broken(draw) => draw(&mut random),
+    };
+    let table_words = table_words(&mut random);
+    Case { family: family.name, plan, table_words, many_atoms: matches!(family.draw, Draw::ManyAtoms(_)) }
+}
+
+fn pick_family(random: &mut Random) -> &'static Family {
+    let shares = FAMILIES.iter().map(|family| family.share);
+    let mut place = random.below(shares.sum());
+    for family in FAMILIES {
+        if place < family.share {
+            return family;
+        }
+        place -= family.share;
+    }
+    unreachable!("the place is below the sum of all shares")
+}
+
+/// Mostly a long enough table, often with words behind it; now and then one that is too short.
+fn table_words(random: &mut Random) -> usize {
+    match random.below(40) {
+        0 => random.below(TABLE_WORDS),
+        1 if random.chance(20) => random.pick(&[0, 1, TABLE_WORDS - 1]),
+        2..=9 => TABLE_WORDS,
+        _ => TABLE_WORDS + random.between(1, 40),
+    }
+}

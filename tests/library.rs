@@ -1,0 +1,48 @@
+//! The proved library behind its C interface: declarations and safe wrappers.
+
+use crate::lister::COUNTS;
+
+/// A sheet never needs more bytes than this.
+const SHEET_BYTES: usize = 5000;
+
+// The build names the library: static as a rule, shared where it is exchanged between runs.
+extern "C" {
+    fn lucarnecress_list(
+        plan: *const u8,
+        plan_len: usize,
+        table: *mut u64,
+        table_len: usize,
+        counts: *mut u64,
+        counts_len: usize,
+    ) -> u64;
+    fn lucarnecress_judge(plan: *const u8, plan_len: usize, position: u64) -> u64;
+    fn lucarnecress_sheet(plan: *const u8, plan_len: usize, sheet: *mut u8, sheet_len: usize) -> u64;
+}
+
+/// Lists a plan into the lent table and counts; 0 or the code of a refusal.
+pub fn list(plan: &[u8], table: &mut [u64], counts: &mut [u64; COUNTS]) -> u64 {
+    unsafe {
+        lucarnecress_list(plan.as_ptr(), plan.len(), table.as_mut_ptr(), table.len(), counts.as_mut_ptr(), COUNTS)
+    }
+}
+
+/// 1 for settled, 0 for not settled, or the code of a refusal.
+pub fn judge(plan: &[u8], position: u64) -> u64 {
+    unsafe { lucarnecress_judge(plan.as_ptr(), plan.len(), position) }
+}
+
+/// The sheet's bytes; a length beyond the buffer is reported as it is.
+pub fn sheet(plan: &[u8]) -> Result<Vec<u8>, u64> {
+    let mut buffer = vec![0xa5; SHEET_BYTES];
+    let length = write_sheet(plan, &mut buffer);
+    if length > SHEET_BYTES as u64 {
+        return Err(length);
+    }
+    buffer.truncate(length as usize);
+    Ok(buffer)
+}
+
+/// Writes the sheet into a lent buffer; its length, or 0 if the buffer is too short.
+pub fn write_sheet(plan: &[u8], buffer: &mut [u8]) -> u64 {
+    unsafe { lucarnecress_sheet(plan.as_ptr(), plan.len(), buffer.as_mut_ptr(), buffer.len()) }
+}

@@ -1,0 +1,452 @@
+//! A brute-force lister of settled positions.
+//!
+//! Written from document 01 and from Definition 2 of document 004 alone, apart from the proved
+//! library. Simple and obviously right comes before fast: every set is tried, every subset of it is
+//! tried, and nothing is searched cleverly.
+
+pub const MAX_RULES: usize = 64;
+pub const MAX_UNITS: usize = 16;
+pub const LIST_WORDS: usize = 256;
+pub const LAST_LIST_START: usize = MAX_UNITS * LIST_WORDS;
+pub const TABLE_WORDS: usize = LAST_LIST_START + LIST_WORDS;
+pub const COUNTS: usize = MAX_UNITS + 1;
+
+/// What a refused plan gets: the number of the fault and its spot.
+#[derive(Clone, Copy, Debug, PartialEq, Eq)]
+pub struct Refusal {
+    pub number: u64,
+    pub spot: u64,
+}
+
+impl Refusal {
+    /// The refusal as one number, as hosts are given it.
+    pub fn code(self) -> u64 {
+        65536 * self.number + self.spot
+    }
+}
+
+fn refuse<T>(number: u64, spot: usize) -> Result<T, Refusal> {
+    Err(Refusal { number, spot: spot as u64 })
+}
+
+// ---- Rules and positions -------------------------------------------------------------------
+
+#[derive(Clone, Copy, Debug, PartialEq, Eq)]
+pub struct Rule {
+    pub head: u64,
+    pub positive: u64,
+    pub negative: u64,
+}
+
+impl Rule {
+    /// The position has every positive atom and no negative one.
+    fn body_holds(&self, position: u64) -> bool {
+        is_subset(self.positive, position) && self.negative & position == 0
+    }
+
+    /// The body fails or the position has a head atom.
+    fn is_satisfied(&self, position: u64) -> bool {
+        !self.body_holds(position) || self.head & position != 0
+    }
+}
+
+fn is_subset(part: u64, whole: u64) -> bool {
+    part & !whole == 0
+}
+
+fn has(word: u64, bit: usize) -> bool {
+    word >> bit & 1 == 1
+}
+
+/// All subsets of a set, rising as unsigned numbers; the set itself comes last.
+pub fn subsets(set: u64) -> impl Iterator<Item = u64> {
+    // Subtracting the set carries through the bits outside it: the next larger subset.
+    std::iter::successors(Some(0), move |&subset: &u64| {
+        if subset == set {
+            None
+        } else {
+            Some(subset.wrapping_sub(set) & set)
+        }
+    })
+}
+
+/// All proper subsets of a set. Those that lack one atom are tried first (and once more in their
+/// turn), because a smaller model is most often found among them.
+fn proper_subsets(set: u64) -> impl Iterator<Item = u64> {
+    let one_fewer = (0..64).filter(move |&atom| has(set, atom)).map(move |atom| set & !(1 << atom));
+    one_fewer.chain(subsets(set).take_while(move |&subset| subset != set))
+}
+
+/// All atoms in heads of these rules.
+pub fn head_atoms(rules: &[Rule]) -> u64 {
+    rules.iter().fold(0, |atoms, rule| atoms | rule.head)
+}
+
+// ---- Answer sets: document 004, Definition 2 ------------------------------------------------
+
+/// Is the position an answer set of the rules with these atoms added as facts?
+pub fn is_answer_set(rules: &[Rule], facts: u64, position: u64) -> bool {
+    let is_kept = |rule: &&Rule| rule.body_holds(position);
+    if !is_model(rules.iter().filter(is_kept), facts, position) {
+        return false;
+    }
+    let reduct: Vec<Rule> = rules.iter().filter(is_kept).copied().collect();
+    // A subset that lacks a fact is no model, so only subsets with all facts are tried.
+    !proper_subsets(position & !facts).any(|subset| is_model(reduct.iter(), facts, subset | facts))
+}
+
+/// The set has all facts and satisfies all rules.
+fn is_model<'a>(mut rules: impl Iterator<Item = &'a Rule>, facts: u64, set: u64) -> bool {
+    is_subset(facts, set) && rules.all(|rule| rule.is_satisfied(set))
+}
+
+/// All answer sets of the rules with these atoms added as facts, rising.
+pub fn answer_sets(rules: &[Rule], facts: u64) -> Vec<u64> {
+    // An atom in no head (a fact counts as one) is never up.
+    subsets(head_atoms(rules) & !facts)
+        .map(|chosen| chosen | facts)
+        .filter(|&position| is_answer_set(rules, facts, position))
+        .collect()
+}
+
+// ---- Reading --------------------------------------------------------------------------------
+
+#[derive(Clone, Debug, Default)]
+pub struct Plan {
+    pub rules: Vec<Rule>,
+    /// One word for each unit, bit i for rule i.
+    pub units: Vec<u64>,
+    /// (u, v): unit u depends on unit v.
+    pub edges: Vec<(usize, usize)>,
+}
+
+/// The kinds of command, in the order of their groups.
+#[derive(Clone, Copy, PartialEq, Eq, PartialOrd, Ord)]
+enum Kind {
+    Rule,
+    Unit,
+    Edge,
+    End,
+}
+
+impl Kind {
+    fn of(byte: u8) -> Option<Kind> {
+        match byte {
+            0x00 => Some(Kind::End),
+            0x01 => Some(Kind::Rule),
+            0x02 => Some(Kind::Unit),
+            0x03 => Some(Kind::Edge),
+            _ => None,
+        }
+    }
+
+    fn operand_bytes(self) -> usize {
+        match self {
+            Kind::Rule => 24,
+            Kind::Unit => 8,
+            Kind::Edge => 2,
+            Kind::End => 0,
+        }
+    }
+}
+
+/// Reads a plan from the left. The rows of the reading place are tried for each command in turn,
+/// in the table's order: 3, 4, 5, 2, 6, 7, 8, 9.
+pub fn read(bytes: &[u8]) -> Result<Plan, Refusal> {
+    let mut plan = Plan::default();
+    let mut group = Kind::Rule;
+    let mut offset = 0;
+    while offset < bytes.len() {
+        let kind = match Kind::of(bytes[offset]) {
+            Some(kind) => kind,
+            None => return refuse(3, offset),
+        };
+        if kind < group {
+            return refuse(4, offset);
+        }
+        if plan.has_all(kind) {
+            return refuse(5, offset);
+        }
+        let next = offset + 1 + kind.operand_bytes();
+        if next > bytes.len() {
+            return refuse(2, offset);
+        }
+        if let Some(number) = plan.take(kind, &bytes[offset + 1..next]) {
+            return refuse(number, offset);
+        }
+        if kind == Kind::End {
+            return if next < bytes.len() { refuse(9, next) } else { Ok(plan) };
+        }
+        group = kind;
+        offset = next;
+    }
+    refuse(2, bytes.len())
+}
+
+impl Plan {
+    /// Is the most of this kind already there? A 241st EDGE is a fault by itself (row 8).
+    fn has_all(&self, kind: Kind) -> bool {
+        match kind {
+            Kind::Rule => self.rules.len() == MAX_RULES,
+            Kind::Unit => self.units.len() == MAX_UNITS,
+            Kind::Edge | Kind::End => false,
+        }
+    }
+
+    /// Adds a command by its complete operands, or returns the number of its fault.
+    fn take(&mut self, kind: Kind, operands: &[u8]) -> Option<u64> {
+        match kind {
+            Kind::Rule => self.take_rule(operands),
+            Kind::Unit => self.take_unit(operands),
+            Kind::Edge => self.take_edge(operands),
+            Kind::End => None,
+        }
+    }
+
+    fn take_rule(&mut self, operands: &[u8]) -> Option<u64> {
+        let rule = Rule {
+            head: word(&operands[0..8]),
+            positive: word(&operands[8..16]),
+            negative: word(&operands[16..24]),
+        };
+        if rule.head == 0 && rule.positive == 0 && rule.negative == 0 {
+            return Some(6);
+        }
+        self.rules.push(rule);
+        None
+    }
+
+    fn take_unit(&mut self, operands: &[u8]) -> Option<u64> {
+        let unit = word(operands);
+        if (self.rules.len()..64).any(|rule| has(unit, rule)) {
+            return Some(7);
+        }
+        self.units.push(unit);
+        None
+    }
+
+    fn take_edge(&mut self, operands: &[u8]) -> Option<u64> {
+        let (u, v) = (operands[0] as usize, operands[1] as usize);
+        let is_missing = |unit: usize| unit >= self.units.len();
+        if is_missing(u) || is_missing(v) || u == v || self.edges.contains(&(u, v)) {
+            return Some(8);
+        }
+        self.edges.push((u, v));
+        None
+    }
+}
+
+/// Eight bytes as a word, lowest byte first.
+fn word(bytes: &[u8]) -> u64 {
+    bytes.iter().rev().fold(0, |word, &byte| word << 8 | byte as u64)
+}
+
+// ---- Graph ----------------------------------------------------------------------------------
+
+/// Conditions (a), (b), acyclic, (c), (d), each over the whole plan before the next is tried.
+pub fn check_graph(plan: &Plan) -> Result<(), Refusal> {
+    let rules = plan.rules.len();
+    refuse_lowest(10, rules, |r| plan.units_of(r).is_empty())?;
+    refuse_lowest(11, rules, |r| plan.rules[r].head != 0 && plan.units_of(r).len() != 1)?;
+    refuse_lowest(12, plan.units.len(), |u| plan.reached(u).contains(&u))?;
+    refuse_lowest(13, rules, |r| !plan.has_condition_c(r))?;
+    refuse_lowest(14, rules, |r| !plan.has_condition_d(r))
+}
+
+fn refuse_lowest(number: u64, count: usize, is_broken: impl Fn(usize) -> bool) -> Result<(), Refusal> {
+    match (0..count).find(|&index| is_broken(index)) {
+        Some(index) => refuse(number, index),
+        None => Ok(()),
+    }
+}
+
+impl Plan {
+    fn holds(&self, unit: usize, rule: usize) -> bool {
+        has(self.units[unit], rule)
+    }
+
+    /// The units that hold a rule.
+    fn units_of(&self, rule: usize) -> Vec<usize> {
+        (0..self.units.len()).filter(|&unit| self.holds(unit, rule)).collect()
+    }
+
+    /// The direct predecessors of a unit.
+    fn predecessors(&self, unit: usize) -> Vec<usize> {
+        (0..self.units.len()).filter(|&other| self.edges.contains(&(unit, other))).collect()
+    }
+
+    /// The units that a path of one edge or more leads to.
+    fn reached(&self, unit: usize) -> Vec<usize> {
+        let mut reached: Vec<usize> = Vec::new();
+        let mut open = self.predecessors(unit);
+        while let Some(next) = open.pop() {
+            if !reached.contains(&next) {
+                reached.push(next);
+                open.extend(self.predecessors(next));
+            }
+        }
+        reached
+    }
+
+    /// The rules other than r that r depends on by `depends`.
+    fn dependences(&self, r: usize, depends: impl Fn(&Rule, &Rule) -> bool) -> Vec<usize> {
+        (0..self.rules.len()).filter(|&s| s != r && depends(&self.rules[r], &self.rules[s])).collect()
+    }
+
+    /// The unit holds s or has an edge to the unit of s (s has a head, so it is in just one).
+    fn sees(&self, unit: usize, s: usize) -> bool {
+        self.holds(unit, s) || self.edges.contains(&(unit, self.units_of(s)[0]))
+    }
+
+    fn has_condition_c(&self, r: usize) -> bool {
+        let needed = self.dependences(r, |r, s| r.negative & s.head != 0);
+        self.units_of(r).iter().all(|&unit| needed.iter().all(|&s| self.sees(unit, s)))
+    }
+
+    fn has_condition_d(&self, r: usize) -> bool {
+        let needed = self.dependences(r, |r, s| r.positive & s.head != 0 || r.head & s.head != 0);
+        self.units_of(r).iter().any(|&unit| needed.iter().all(|&s| self.sees(unit, s)))
+    }
+
+    fn unit_rules(&self, unit: usize) -> Vec<Rule> {
+        (0..self.rules.len()).filter(|&rule| self.holds(unit, rule)).map(|rule| self.rules[rule]).collect()
+    }
+
+    /// H(u): the head atoms of a unit and of all units it reaches.
+    fn all_head_atoms(&self, unit: usize) -> u64 {
+        let own = head_atoms(&self.unit_rules(unit));
+        self.reached(unit).iter().fold(own, |atoms, &other| atoms | head_atoms(&self.unit_rules(other)))
+    }
+}
+
+// ---- Unit work ------------------------------------------------------------------------------
+
+/// The lists of an accepted plan: one for each unit, and the last list.
+#[derive(Clone, Debug, PartialEq, Eq)]
+pub struct Listing {
+    pub units: Vec<Vec<u64>>,
+    pub last: Vec<u64>,
+}
+
+/// A finished list together with the unit's H.
+#[derive(Clone)]
+struct Done {
+    atoms: u64,
+    list: Vec<u64>,
+}
+
+/// Works the units lowest number first among those whose predecessors are done, then the last list.
+pub fn work_units(plan: &Plan) -> Result<Listing, Refusal> {
+    let count = plan.units.len();
+    let mut done: Vec<Option<Done>> = vec![None; count];
+    let is_ready = |done: &[Option<Done>], unit: usize| {
+        done[unit].is_none() && plan.predecessors(unit).iter().all(|&v| done[v].is_some())
+    };
+    while let Some(unit) = (0..count).find(|&unit| is_ready(&done, unit)) {
+        let predecessors: Vec<&Done> = plan.predecessors(unit).iter().flat_map(|&v| &done[v]).collect();
+        let list = unit_list(&plan.unit_rules(unit), &predecessors, unit)?;
+        done[unit] = Some(Done { atoms: plan.all_head_atoms(unit), list });
+    }
+    // The last list is that of one more unit, with no rules and an edge to every unit.
+    let every_unit: Vec<&Done> = done.iter().flatten().collect();
+    let last = unit_list(&[], &every_unit, count)?;
+    Ok(Listing { units: done.into_iter().flatten().map(|unit| unit.list).collect(), last })
+}
+
+/// The rising list of a unit by its rules and its predecessors' lists, refused above 256 members.
+fn unit_list(rules: &[Rule], predecessors: &[&Done], unit: usize) -> Result<Vec<u64>, Refusal> {
+    let mut list: Vec<u64> = inputs(predecessors).iter().flat_map(|&input| answer_sets(rules, input)).collect();
+    list.sort_unstable();
+    list.dedup();
+    if list.len() > LIST_WORDS {
+        return refuse(15, unit);
+    }
+    Ok(list)
+}
+
+/// Every J over the predecessors' atoms whose cut to each predecessor's atoms is in its list.
+fn inputs(predecessors: &[&Done]) -> Vec<u64> {
+    // Built up one predecessor at a time: `joined` holds every such J for the predecessors met so
+    // far, and a list member goes with it where both say the same on the atoms that both speak of.
+    let mut joined = vec![0];
+    let mut met = 0;
+    for predecessor in predecessors {
+        joined = joined.iter().flat_map(|&input| agreeing(input, met, predecessor)).collect();
+        met |= predecessor.atoms;
+    }
+    joined
+}
+
+/// The input joined with each list member that agrees with it on the atoms already met.
+fn agreeing(input: u64, met: u64, predecessor: &Done) -> Vec<u64> {
+    let agrees = |member: u64| member & met == input & predecessor.atoms;
+    predecessor.list.iter().filter(|&&member| agrees(member)).map(|&member| input | member).collect()
+}
+
+/// The definition of an input, word for word; too slow for anything but a check of `inputs`.
+fn inputs_by_trying_all(predecessors: &[&Done]) -> Vec<u64> {
+    let atoms = predecessors.iter().fold(0, |atoms, predecessor| atoms | predecessor.atoms);
+    let is_input = |input: u64| predecessors.iter().all(|v| v.list.contains(&(input & v.atoms)));
+    subsets(atoms).filter(|&input| is_input(input)).collect()
+}
+
+/// Do the joined inputs of every unit, the last included, equal the definition's?
+pub fn inputs_are_by_definition(plan: &Plan, listing: &Listing) -> bool {
+    let done = |unit: usize| Done { atoms: plan.all_head_atoms(unit), list: listing.units[unit].clone() };
+    let same = |units: &[usize]| {
+        let lists: Vec<Done> = units.iter().map(|&unit| done(unit)).collect();
+        let lent: Vec<&Done> = lists.iter().collect();
+        let mut joined = inputs(&lent);
+        joined.sort_unstable();
+        joined == inputs_by_trying_all(&lent)
+    };
+    let every_unit: Vec<usize> = (0..plan.units.len()).collect();
+    same(&every_unit) && every_unit.iter().all(|&unit| same(&plan.predecessors(unit)))
+}
+
+// ---- The public questions -------------------------------------------------------------------
+
+/// The lists of a plan for a lent table of this many words: places 1, reading, graph, unit work.
+pub fn list(bytes: &[u8], table_words: usize) -> Result<Listing, Refusal> {
+    if table_words < TABLE_WORDS {
+        return refuse(1, table_words);
+    }
+    let plan = read(bytes)?;
+    check_graph(&plan)?;
+    work_units(&plan)
+}
+
+/// Writes an outcome into the lent table and returns the seventeen counts.
+pub fn fill_table(outcome: &Result<Listing, Refusal>, table: &mut [u64]) -> [u64; COUNTS] {
+    let mut counts = [0; COUNTS];
+    match outcome {
+        Ok(listing) => {
+            table[..TABLE_WORDS].fill(0);
+            let last = (MAX_UNITS, &listing.last);
+            for (place, list) in listing.units.iter().enumerate().chain(std::iter::once(last)) {
+                table[place * LIST_WORDS..][..list.len()].copy_from_slice(list);
+                counts[place] = list.len() as u64;
+            }
+        }
+        Err(refusal) if refusal.number == 15 => table[..TABLE_WORDS].fill(0),
+        Err(_) => {}
+    }
+    counts
+}
+
+/// Is the position an answer set of the whole program? Only the reading place can refuse.
+pub fn judge(bytes: &[u8], position: u64) -> Result<bool, Refusal> {
+    let plan = read(bytes)?;
+    Ok(is_subset(position, head_atoms(&plan.rules)) && is_answer_set(&plan.rules, 0, position))
+}
+
+/// The sheet of an outcome, as `settle` prints it.
+pub fn sheet(outcome: &Result<Listing, Refusal>) -> String {
+    match outcome {
+        Ok(listing) => {
+            let lines: String = listing.last.iter().map(|position| format!("{:016x}\n", position)).collect();
+            format!("positions {}\n{}", listing.last.len(), lines)
+        }
+        Err(refusal) => format!("refused {} at {}\n", refusal.number, refusal.spot),
+    }
+}

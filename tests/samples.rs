@@ -1,0 +1,53 @@
+//! The sample plans of `plans/`: readable text, plan bytes and the sheet that must be printed.
+
+use crate::{lister, same, text};
+
+pub struct Sample {
+    pub name: &'static str,
+    pub plan: Vec<u8>,
+    pub sheet: String,
+    text: &'static str,
+}
+
+macro_rules! samples {
+    ($($name:literal),* $(,)?) => {
+        /// All sample plans; their files are part of this program.
+        pub fn all() -> Vec<Sample> {
+            vec![$(Sample {
+                name: $name,
+                plan: include_bytes!(concat!("../plans/", $name, ".plan")).to_vec(),
+                sheet: include_str!(concat!("../plans/", $name, ".sheet")).to_string(),
+                text: include_str!(concat!("../plans/", $name, ".txt")),
+            }),*]
+        }
+    };
+}
+
+samples!(
+    "circuit-01-end-only",
+    "circuit-01-no-bytes",
+    "circuit-02-choice",
+    "circuit-03-holds-itself",
+    "circuit-04-odd-loop",
+    "circuit-05-even-loop",
+    "circuit-06-saturation",
+    "circuit-07-diamond",
+    "circuit-08-split-constraint",
+    "circuit-09-seen-constraint",
+    "circuit-10-unseen-negation",
+    "circuit-11-cycle",
+    "circuit-12-eight-pairs",
+    "circuit-12-nine-pairs",
+    "circuit-12-nine-units",
+    "clingo-default-misses-one",
+    "inner-list-wider",
+    "plan-p",
+    "plan-p-without-edge",
+);
+
+/// The text gives the bytes, the bytes survive the way to text and back, and the lister agrees.
+pub fn check_text(sample: &Sample) -> Result<(), String> {
+    same("bytes of the text", Ok(sample.plan.clone()), text::to_bytes(sample.text))?;
+    same("bytes to text and back", Ok(sample.plan.clone()), text::to_bytes(&text::to_text(&sample.plan)))?;
+    same("known sheet", &sample.sheet, &lister::sheet(&lister::list(&sample.plan, lister::TABLE_WORDS)))
+}

@@ -1,0 +1,56 @@
+//! The library's C interface over the brute-force lister itself, so that the comparison can be
+//! tried without the proved library. Built as a static library named `exports`.
+
+#[allow(dead_code)]
+mod lister;
+
+use lister::{Refusal, COUNTS};
+use std::slice;
+
+/// Up to so many atoms in a position every subset of it is tried.
+const FEW_UP: u32 = 14;
+
+#[no_mangle]
+pub unsafe extern "C" fn lucarnecress_list(
+    plan: *const u8,
+    plan_len: usize,
+    table: *mut u64,
+    table_len: usize,
+    counts: *mut u64,
+    counts_len: usize,
+) -> u64 {
+    if counts_len < COUNTS {
+        return 0;
+    }
+    let outcome = lister::list(slice::from_raw_parts(plan, plan_len), table_len);
+    let filled = lister::fill_table(&outcome, slice::from_raw_parts_mut(table, table_len));
+    slice::from_raw_parts_mut(counts, COUNTS).copy_from_slice(&filled);
+    outcome.map_or_else(Refusal::code, |_| 0)
+}
+
+#[no_mangle]
+pub unsafe extern "C" fn lucarnecress_judge(plan: *const u8, plan_len: usize, position: u64) -> u64 {
+    let plan = slice::from_raw_parts(plan, plan_len);
+    if position.count_ones() > FEW_UP {
+        // Too many subsets to try: an accepted plan's last list knows.
+        if let Ok(listing) = lister::list(plan, lister::TABLE_WORDS) {
+            return u64::from(listing.last.contains(&position));
+        }
+    }
+    lister::judge(plan, position).map_or_else(Refusal::code, u64::from)
+}
+
+#[no_mangle]
+pub unsafe extern "C" fn lucarnecress_sheet(
+    plan: *const u8,
+    plan_len: usize,
+    sheet: *mut u8,
+    sheet_len: usize,
+) -> u64 {
+    let text = lister::sheet(&lister::list(slice::from_raw_parts(plan, plan_len), lister::TABLE_WORDS));
+    if text.len() > sheet_len {
+        return 0;
+    }
+    slice::from_raw_parts_mut(sheet, text.len()).copy_from_slice(text.as_bytes());
+    text.len() as u64
+}

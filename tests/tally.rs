@@ -1,0 +1,77 @@
+//! What was compared, and how it went.
+
+use crate::generator::Case;
+use crate::lister::{Refusal, LIST_WORDS};
+use crate::Outcome;
+use std::collections::BTreeMap;
+
+#[derive(Default)]
+pub struct Tally {
+    pub passed: u64,
+    pub failed: u64,
+    pub whole_programs: u64,
+    settled: u64,
+    not_settled: u64,
+    positions_refused: u64,
+    accepted: u64,
+    full_lists: u64,
+    refused: BTreeMap<u64, u64>,
+    families: BTreeMap<&'static str, u64>,
+}
+
+impl Tally {
+    /// Counts a plan; the first that differs is printed.
+    pub fn note(&mut self, case: &Case, compared: Result<(), String>) {
+        *self.families.entry(case.family).or_default() += 1;
+        match compared {
+            Ok(()) => self.passed += 1,
+            Err(difference) => {
+                if self.failed == 0 {
+                    print_difference(case, &difference);
+                }
+                self.failed += 1;
+            }
+        }
+    }
+
+    pub fn note_outcome(&mut self, outcome: &Outcome) {
+        match outcome {
+            Ok(listing) => {
+                self.accepted += 1;
+                self.full_lists += u64::from(listing.last.len() == LIST_WORDS);
+            }
+            Err(refusal) => *self.refused.entry(refusal.number).or_default() += 1,
+        }
+    }
+
+    pub fn note_position(&mut self, answer: &Result<bool, Refusal>) {
+        match answer {
+            Ok(true) => self.settled += 1,
+            Ok(false) => self.not_settled += 1,
+            Err(_) => self.positions_refused += 1,
+        }
+    }
+
+    pub fn print(&self, seed: u64) {
+        println!("plans of seed {}: {}", seed, listed(&self.families));
+        println!("accepted: {}, of these with 256 positions: {}", self.accepted, self.full_lists);
+        println!("refused, by number: {}", listed(&self.refused));
+        println!("of each: result, table with the words behind it, counts, sheet");
+        println!(
+            "single positions: {} settled, {} not settled, {} refused",
+            self.settled, self.not_settled, self.positions_refused
+        );
+        println!("last list against all answer sets of the whole program: {} plans", self.whole_programs);
+        println!("{} passed, {} failed", self.passed, self.failed);
+    }
+}
+
+fn listed<Name: std::fmt::Display>(counts: &BTreeMap<Name, u64>) -> String {
+    counts.iter().map(|(name, count)| format!("{}: {}", name, count)).collect::<Vec<_>>().join(", ")
+}
+
+fn print_difference(case: &Case, difference: &str) {
+    let hex: String = case.plan.iter().map(|byte| format!("{:02x}", byte)).collect();
+    println!("first difference, {}, table of {} words: {}", case.family, case.table_words, difference);
+    println!("  plan:    {}", hex);
+}
