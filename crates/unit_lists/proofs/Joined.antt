@@ -98,6 +98,16 @@ rising-longer (x ∷ xs) (y ∷ ys) (rising-cons a r) (rising-cons b s) f =
 longer : (xs ys : List ℕ) → Rising xs → Rising ys → ((x : ℕ) → List·Memᴰ x xs → List·Memᴰ x ys) → length xs ≡ 257 → 256 < length ys
 longer xs ys r s f e = omega (arith, rising-longer xs ys r s f)
 
+-- the count of a list that fits is its length
+pub worked-count : (members list : List ℕ) (r : ℕ) → UnitWorked members list r → r ≤ 256
+    → (length members ≤ 256) × (list ≡ padded members) × (r ≡ length members)
+worked-count members list r (list-fits e l w) small = (omega arith, w, e)
+worked-count members list r (list-long l) small = absurd (omega arith)
+
+pub worked-long : (members list : List ℕ) (r : ℕ) → UnitWorked members list r → 256 < r → 256 < length members
+worked-long members list r (list-fits e l w) long = absurd (omega arith)
+worked-long members list r (list-long l) long = l
+
 -- what a search of unit u is lent
 pub record Asked (T : Units) (u : ℕ) (table counts heads′ : List ℕ) (unit : Unit) : Type 0 where
   pub is-unit : u < T .units
@@ -199,7 +209,7 @@ module _ (rules : List ℕ) (T : Units) (same : T .program ≡ lent rules) (pass
       where
         go : {k : ℕ} → Gathered (Grown (replicate {A = ℕ} 256 0) 0 (Wanted rules table counts heads′ unit (record { up = 0; dropped = below 64 ∖ heads T u }))) list k
             → UnitWorked (unitList T u) list k
-        go {k} (fits o s c) = list-fits whole (o .small) (ordered-padded list k o ∙ ap padded whole)
+        go {k} (fits o s c) = list-fits counted (o .small) (ordered-padded list k o ∙ ap padded whole)
           where
             only : (x : ℕ) → Grown (replicate {A = ℕ} 256 0) 0 (Wanted rules table counts heads′ unit (record { up = 0; dropped = below 64 ∖ heads T u })) x
                 → List·Memᴰ x (unitList T u)
@@ -210,6 +220,11 @@ module _ (rules : List ℕ) (T : Units) (same : T .program ≡ lent rules) (pass
             whole =
                 rising-ext (take k list) (unitList T u) (o .rising) (unit-list-rising T u) (λ x m. only x (s x m))
                 (λ x m. c x (inr (member-wanted x m)))
+
+            counted : k ≡ length (unitList T u)
+            counted =
+                let e : length (take k list) ≡ k = length-take k list ∙ omega (arith, o .long, o .small) in
+                sym e ∙ ap length whole
         go (over o) = list-long (longer (o .many) (unitList T u) (o .rising) (unit-list-rising T u) (λ x m. only x (o .sound x m)) (o .long))
           where
             only : (x : ℕ) → Grown (replicate {A = ℕ} 256 0) 0 (Wanted rules table counts heads′ unit (record { up = 0; dropped = below 64 ∖ heads T u })) x

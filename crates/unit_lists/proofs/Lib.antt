@@ -3,3 +3,4 @@ pub mod Joined
 pub mod Storing
 pub mod Runs
 pub mod Working
+pub mod Stepping

@@ -48,7 +48,7 @@ so-far-other S done u i n = go (has-dec done i)
         out : ¬ Has (done ∪ atom u) i
         out p = cases (union-cases done (atom u) p)
 
-so-far-small : (S : Units) (done i : ℕ) → ((v : ℕ) → Has done v → length (unitList S v) ≤ 256) → length (listSoFar S done i) ≤ 256
+pub so-far-small : (S : Units) (done i : ℕ) → ((v : ℕ) → Has done v → length (unitList S v) ≤ 256) → length (listSoFar S done i) ≤ 256
 so-far-small S done i f = go (has-dec done i)
   where
     go : Dec (Has done i) → length (listSoFar S done i) ≤ 256
@@ -85,6 +85,12 @@ working-start S table counts long c z = record {
     counts-zero =
         sym (replicate-append-replicate {A = ℕ} 16 1 0)
         ∙ ap (λ (l : List ℕ). l ++ (0 ∷ [])) (sym (tally-zero 16) ∙ tally-same (λ i. 0) (λ i. length (listSoFar S 0 i)) 16 (λ i l. sym (ap length (so-far-waiting S 0 i has-none))))
+
+pub counts-long : (S : Units) (done : ℕ) (table₀ table counts : List ℕ) → Working S done table₀ table counts → length counts ≡ 17
+unfolding countsSoFar
+counts-long S done table₀ table counts w =
+    ap length (w .counts-are) ∙ length-append (tally (λ i. length (listSoFar S done i)) 16) (0 ∷ [])
+    ∙ omega (arith, tally-long (λ i. length (listSoFar S done i)) 16)
 
 module _ (S : Units) (few : S .units ≤ 16) (done : ℕ) (table₀ table counts : List ℕ) (w : Working S done table₀ table counts) where
   run-long : (j : ℕ) → j < 16 → length (padded (listSoFar S done j)) ≡ 256

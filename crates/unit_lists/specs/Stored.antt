@@ -2,7 +2,7 @@
 use mathlib.Core.Path.{_≡_}
 use mathlib.Core.List.{List}
 use Prim.Native.Nat.{ℕ, _+_, _*_, _≤_, _<_}
-use lib.ListN.{length, take, getD}
+use lib.ListN.{length, getD}
 use Rattle.unit_search.specs.Listing.{padded}
 use Rattle.dependency_graph.specs.Units.{Units}
 use Rattle.unit_lists.specs.Lists.{unitList}
@@ -15,5 +15,5 @@ pub record Stored (T : Units) (table counts : List ℕ) (v : ℕ) : Type 0 where
 
 -- what unit work hands back of one list: all its words and its count, or that it is above 256
 pub data UnitWorked (members list : List ℕ) : ℕ → Type 0 where
-  list-fits : {r : ℕ} → take r list ≡ members → r ≤ 256 → list ≡ padded members → UnitWorked members list r
+  list-fits : {r : ℕ} → r ≡ length members → r ≤ 256 → list ≡ padded members → UnitWorked members list r
   list-long : 256 < length members → UnitWorked members list 257

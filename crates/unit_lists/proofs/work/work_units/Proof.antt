@@ -1,3 +1,23 @@
+-- The lists of the units that are done are in the table, and the work that is left is the same.
+use mathlib.Core.Path.{_≡_, refl, ap, sym, subst, subst₂, _∙_}
+use mathlib.Core.List.{List}
+use mathlib.Core.Bool.{Bool, true, false}
+use Prim.Native.Nat.{ℕ, _*_, _-_, _≤_, _<_}
+use native.Mathlib.Omega.{arith}
+use borrow.Author.Needs.{needs}
+use borrow.Author.Tests.{not-true, not-false}
+use denote.Ref.{now}
+use lib.ListN.{getD}
+use Rattle.atoms.specs.Word.{_∩_, _∪_, atom, below}
+use Rattle.answer_sets.specs.Lent.{Lent}
+use Rattle.dependency_graph.specs.Slices.{unitsOf}
+use Rattle.dependency_graph.specs.Order.{nextUnit, Ready}
+use Rattle.dependency_graph.proofs.Slices.{next-edges}
+use Rattle.unit_search.specs.declared.Unit.{Unit}
+use Rattle.unit_lists.specs.Lists.{unitList}
+use Rattle.unit_lists.specs.Work.{all-fit, one-long, Working}
+use Rattle.unit_lists.proofs.Working.{working-next, working-long, counts-long}
+use Rattle.unit_lists.proofs.Stepping.{Looping, looping-start, next-ready-at, next-done-at, next-long-at, looping-stop, looping-end, UnitDone, done-fits, done-long, unit-done, rules-lent, named-few, joinable, unit-answer}
 use Rattle.unit_lists.proofs.work.work_units.Statement.{statement}
 use Rattle.unit_lists.proofs.work.work_units.Tie as tie
 use Rattle.unit_lists.proofs.work.work_units.Reads as reads
@@ -11,123 +31,226 @@ use Rattle.unit_lists.proofs.work.work_list.Reads as work-list-reads
 
 abbrev Inv-loop : tie.InvT-loop
 Inv-loop rules rule-count units unit-count predecessors heads inputs table₀ counts₀ done₀ left₀ table counts done left =
-    ?
+    Looping (unitsOf rules rule-count units unit-count predecessors) table₀ table counts done left
 
 abbrev μ-loop : tie.MeasureT-loop
 μ-loop rules rule-count units unit-count predecessors heads inputs table₀ counts₀ done₀ left₀ table counts done left =
-    ?
+    left
 
 -- src/work.rt:63:5
+-- the unit that is worked next
+next-is : (c : tie.After-next-unit Inv-loop μ-loop)
+    → c .next-unit .result ≡ nextUnit (unitsOf (now (c .before .before .before .before .before .before .before .before .before .before .args .rules)) (c .before .before .before .before .before .before .before .before .before .before .args .rule-count) (now (c .before .before .before .before .before .before .before .before .before .before .args .units)) (c .before .before .before .before .before .before .before .before .before .before .args .unit-count) (now (c .before .before .before .before .before .before .before .before .before .before .args .predecessors))) (c .before .before .loop .done)
+next-is c =
+    let at = c .before .before .before .before .before .before .before .before .before .before .args in
+    c .next-unit .ensures ∙ next-edges (now (at .rules)) (at .rule-count) (now (at .units)) (at .unit-count) (now (at .predecessors)) (c .before .before .loop .done)
+
+next-small : (c : tie.Else1 Inv-loop μ-loop) → c .before .next-unit .result < c .before .before .before .before .before .before .before .before .before .before .before .args .unit-count
+next-small c = omega arith
+
+-- its predecessors are done
+ready : (c : tie.Else1 Inv-loop μ-loop)
+    → Ready (unitsOf (now (c .before .before .before .before .before .before .before .before .before .before .before .args .rules)) (c .before .before .before .before .before .before .before .before .before .before .before .args .rule-count) (now (c .before .before .before .before .before .before .before .before .before .before .before .args .units)) (c .before .before .before .before .before .before .before .before .before .before .before .args .unit-count) (now (c .before .before .before .before .before .before .before .before .before .before .before .args .predecessors))) (c .before .before .before .loop .done) (c .before .next-unit .result)
+unfolding unitsOf
+ready c =
+    let at = c .before .before .before .before .before .before .before .before .before .before .before .args in
+    let l = c .before .before .before .loop in
+    next-ready-at (unitsOf (now (at .rules)) (at .rule-count) (now (at .units)) (at .unit-count) (now (at .predecessors))) (c .before .before .before .before .before .before .before .before .before .before .before .pre .0 .passes) (now (at .table)) (l .table) (l .counts) (l .done) (l .left) (l .inv) (c .before .before .loop-test .taken)
+    (c .before .next-unit .result) (next-is (c .before)) (next-small c)
+
 loop-holds : tie.Need-loop-holds Inv-loop μ-loop
-loop-holds c = ?
+unfolding unitsOf
+loop-holds c =
+    let at = c .before .before .before .before .before .before .before .args in
+    looping-start (unitsOf (now (at .rules)) (at .rule-count) (now (at .units)) (at .unit-count) (now (at .predecessors))) (c .before .before .before .before .before .before .before .pre .0 .passes) (now (at .table)) (now (at .table)) (now (at .counts)) (c .before .before .before .before .before .before .before .pre .1)
 
 -- src/work.rt:64:13
 next-unit-requires : tie.Need-next-unit-requires Inv-loop μ-loop
-next-unit-requires c κs = ?
+next-unit-requires c κs = (c .before .before .before .before .before .before .before .before .before .pre .0 .lent-words .units-most, c .before .before .before .before .before .before .before .before .before .pre .0 .lent-words .predecessors-there)
 
 -- src/work.rt:66:13
 same-length : tie.Need-same-length Inv-loop μ-loop
-same-length c = ?
+unfolding unitsOf
+same-length c =
+    let at = c .before .before .before .before .before .before .before .before .before .before .before .args in
+    working-long (unitsOf (now (at .rules)) (at .rule-count) (now (at .units)) (at .unit-count) (now (at .predecessors))) (c .before .before .before .before .before .before .before .before .before .before .before .pre .0 .lent-words .units-most) (c .before .before .before .loop .done) (now (at .table)) (c .before .before .before .loop .table) (c .before .before .before .loop .counts) (c .before .before .before .loop .inv .working)
 
 -- src/work.rt:66:13
 same-length-2 : tie.Need-same-length-2 Inv-loop μ-loop
-same-length-2 c = ?
+same-length-2 c =
+    let at = c .before .before .before .before .before .before .before .before .before .before .before .args in
+    counts-long (unitsOf (now (at .rules)) (at .rule-count) (now (at .units)) (at .unit-count) (now (at .predecessors))) (c .before .before .before .loop .done) (now (at .table)) (c .before .before .before .loop .table) (c .before .before .before .loop .counts) (c .before .before .before .loop .inv .working)
+    ∙ sym (counts-long (unitsOf (now (at .rules)) (at .rule-count) (now (at .units)) (at .unit-count) (now (at .predecessors))) 0 (now (at .table)) (now (at .table)) (now (at .counts)) (c .before .before .before .before .before .before .before .before .before .before .before .pre .1))
 
 -- src/work.rt:66:13
 returns : tie.Need-returns Inv-loop μ-loop
-returns c = ?
+unfolding unitsOf
+returns c =
+    let at = c .before .before .before .before .before .before .before .before .before .before .before .args in
+    let l = c .before .before .before .loop in
+    let stop = looping-stop (unitsOf (now (at .rules)) (at .rule-count) (now (at .units)) (at .unit-count) (now (at .predecessors))) (c .before .before .before .before .before .before .before .before .before .before .before .pre .0 .passes) (now (at .table)) (l .table) (l .counts) (l .done) (l .left) (l .inv) (c .before .before .loop-test .taken)
+      (subst (λ (k : ℕ). at .unit-count ≤ k) (next-is (c .before)) (c .if1 .taken)) in
+    all-fit (stop .0) (stop .1) (l .inv .working)
 
 -- src/work.rt:69:31
 mul-cut : tie.Need-mul-cut Inv-loop μ-loop
-mul-cut c = ?
+mul-cut c = omega (arith, next-small c, c .before .before .before .before .before .before .before .before .before .before .before .pre .0 .lent-words)
 
 -- src/work.rt:69:31
 shared-slice-read-cut : tie.Need-shared-slice-read-cut Inv-loop μ-loop
-shared-slice-read-cut c = ?
+shared-slice-read-cut c = omega (arith, next-small (c .before), c .before .before .before .before .before .before .before .before .before .before .before .before .pre .0 .lent-words)
 
 -- src/work.rt:69:41
 first-requires : tie.Need-first-requires Inv-loop μ-loop
-first-requires c κs = ?
+first-requires c κs = c .before .before .before .before .before .before .before .before .before .before .before .before .pre .0 .lent-words .rules-most
 
 -- src/work.rt:69:20
 cut-requires : tie.Need-cut-requires Inv-loop μ-loop
-cut-requires c κs = ?
+cut-requires c κs = search needs
 
 -- src/work.rt:70:21
 mul-union : tie.Need-mul-union Inv-loop μ-loop
-mul-union c = ?
+mul-union c = omega (arith, next-small (c .before .before .before), c .before .before .before .before .before .before .before .before .before .before .before .before .before .before .pre .0 .lent-words)
 
 -- src/work.rt:70:21
 shared-slice-read-union : tie.Need-shared-slice-read-union Inv-loop μ-loop
-shared-slice-read-union c = ?
+shared-slice-read-union c = omega (arith, next-small (c .before .before .before .before), c .before .before .before .before .before .before .before .before .before .before .before .before .before .before .before .pre .0 .lent-words, c .before .before .before .before .before .before .before .before .before .before .before .before .before .before .before .pre .0 .inputs-long)
 
 -- src/work.rt:71:27
 mul-work-list : tie.Need-mul-work-list Inv-loop μ-loop
-mul-work-list c = ?
+mul-work-list c = omega (arith, next-small (c .before .before .before .before), c .before .before .before .before .before .before .before .before .before .before .before .before .before .before .before .pre .0 .lent-words)
 
 -- src/work.rt:71:27
 shared-slice-read-work-list : tie.Need-shared-slice-read-work-list Inv-loop μ-loop
-shared-slice-read-work-list c = ?
+shared-slice-read-work-list c = omega (arith, next-small (c .before .before .before .before .before), c .before .before .before .before .before .before .before .before .before .before .before .before .before .before .before .before .pre .0 .lent-words)
 
 -- src/work.rt:73:43
 mul-work-list-2 : tie.Need-mul-work-list-2 Inv-loop μ-loop
-mul-work-list-2 c = ?
+mul-work-list-2 c = omega (arith, next-small (c .before .before .before .before .before), c .before .before .before .before .before .before .before .before .before .before .before .before .before .before .before .before .pre .0 .lent-words)
 
 -- src/work.rt:73:43
 shared-slice-read-work-list-2 : tie.Need-shared-slice-read-work-list-2 Inv-loop μ-loop
-shared-slice-read-work-list-2 c = ?
+shared-slice-read-work-list-2 c = omega (arith, next-small (c .before .before .before .before .before .before), c .before .before .before .before .before .before .before .before .before .before .before .before .before .before .before .before .before .pre .0 .lent-words, c .before .before .before .before .before .before .before .before .before .before .before .before .before .before .before .before .before .pre .0 .heads-long)
 
 -- src/work.rt:73:53
 mul-work-list-3 : tie.Need-mul-work-list-3 Inv-loop μ-loop
-mul-work-list-3 c = ?
+mul-work-list-3 c = omega (arith, next-small (c .before .before .before .before .before .before), c .before .before .before .before .before .before .before .before .before .before .before .before .before .before .before .before .before .pre .0 .lent-words)
 
 -- src/work.rt:73:13
 work-list-requires : tie.Need-work-list-requires Inv-loop μ-loop
-work-list-requires c κs = ?
+unfolding unitsOf
+work-list-requires c κs =
+    let at = c .before .before .before .before .before .before .before .before .before .before .before .before .before .before .before .before .before .before .before .args in
+    let l = c .before .before .before .before .before .before .before .before .before .before .before .loop in
+    let u = c .before .before .before .before .before .before .before .before .before .next-unit .result in
+    let small = next-small (c .before .before .before .before .before .before .before .before) in
+    let long = working-long (unitsOf (now (at .rules)) (at .rule-count) (now (at .units)) (at .unit-count) (now (at .predecessors))) (c .before .before .before .before .before .before .before .before .before .before .before .before .before .before .before .before .before .before .before .pre .0 .lent-words .units-most) (l .done) (now (at .table)) (l .table) (l .counts) (l .inv .working) in
+    let many = counts-long (unitsOf (now (at .rules)) (at .rule-count) (now (at .units)) (at .unit-count) (now (at .predecessors))) (l .done) (now (at .table)) (l .table) (l .counts) (l .inv .working) in (
+      record {
+        rules-lent = subst (Lent (now (at .rules))) (sym (c .before .before .before .before .before .cut .ensures ∙ ap (λ (w : ℕ). getD (now (at .units)) u 0 ∩ w) (c .before .before .before .before .before .before .first .ensures))) (rules-lent (now (at .rules)) (at .rule-count) (now (at .units)) (at .unit-count) (now (at .predecessors)) (now (at .heads)) (now (at .inputs)) (c .before .before .before .before .before .before .before .before .before .before .before .before .before .before .before .before .before .before .before .pre .0) (getD (now (at .units)) u 0));
+        joinable = joinable (now (at .rules)) (at .rule-count) (now (at .units)) (at .unit-count) (now (at .predecessors)) (now (at .heads)) (now (at .inputs)) (c .before .before .before .before .before .before .before .before .before .before .before .before .before .before .before .before .before .before .before .pre .0) (l .done) (now (at .table)) (l .table) (l .counts) (getD (now (at .predecessors)) u 0) (l .inv .working)
+          (λ v h. named-few (now (at .rules)) (at .rule-count) (now (at .units)) (at .unit-count) (now (at .predecessors)) (now (at .heads)) (now (at .inputs)) (c .before .before .before .before .before .before .before .before .before .before .before .before .before .before .before .before .before .before .before .pre .0) u v small h)
+      },
+      omega (arith, long, l .inv .working .long, small, c .before .before .before .before .before .before .before .before .before .before .before .before .before .before .before .before .before .before .before .pre .0 .lent-words .units-most),
+      omega (arith, many, small, c .before .before .before .before .before .before .before .before .before .before .before .before .before .before .before .before .before .before .before .pre .0 .lent-words .units-most),
+    )
 
 -- src/work.rt:74:13
+-- what the unit's list has come to
+worked : (c : tie.After-work-list Inv-loop μ-loop)
+    → UnitDone (unitList (unitsOf (now (c .before .before .before .before .before .before .before .before .before .before .before .before .before .before .before .before .before .before .before .before .args .rules)) (c .before .before .before .before .before .before .before .before .before .before .before .before .before .before .before .before .before .before .before .before .args .rule-count) (now (c .before .before .before .before .before .before .before .before .before .before .before .before .before .before .before .before .before .before .before .before .args .units)) (c .before .before .before .before .before .before .before .before .before .before .before .before .before .before .before .before .before .before .before .before .args .unit-count) (now (c .before .before .before .before .before .before .before .before .before .before .before .before .before .before .before .before .before .before .before .before .args .predecessors))) (c .before .before .before .before .before .before .before .before .before .before .next-unit .result))
+      (256 * c .before .before .before .before .before .before .before .before .before .before .next-unit .result) (c .before .before .before .before .before .before .before .before .before .before .next-unit .result) (c .before .before .before .before .before .before .before .before .before .before .before .before .loop .table) (c .before .before .before .before .before .before .before .before .before .before .before .before .loop .counts) (c .work-list .last .1 .1 .1 .1 .1 .1 .0) (c .work-list .last .1 .1 .1 .1 .1 .1 .1 .0) (c .work-list .result)
+unfolding unitsOf
+worked c =
+    let at = c .before .before .before .before .before .before .before .before .before .before .before .before .before .before .before .before .before .before .before .before .args in
+    let l = c .before .before .before .before .before .before .before .before .before .before .before .before .loop in
+    let u = c .before .before .before .before .before .before .before .before .before .before .next-unit .result in
+    let unit : Unit = record { rules = c .before .before .before .before .before .before .cut .result; inputs = getD (now (at .inputs)) u 0; predecessors = getD (now (at .predecessors)) u 0 } in
+    unit-done (unitList (unitsOf (now (at .rules)) (at .rule-count) (now (at .units)) (at .unit-count) (now (at .predecessors))) u) (now (at .rules)) (now (at .heads)) unit (getD (now (at .heads)) u 0) (256 * u) u (l .table) (l .counts) (c .work-list .last .1 .1 .1 .1 .1 .1 .0) (c .work-list .last .1 .1 .1 .1 .1 .1 .1 .0) (c .work-list .result)
+    (unit-answer (now (at .rules)) (at .rule-count) (now (at .units)) (at .unit-count) (now (at .predecessors)) (now (at .heads)) (now (at .inputs)) (c .before .before .before .before .before .before .before .before .before .before .before .before .before .before .before .before .before .before .before .before .pre .0) (l .done) (now (at .table)) (l .table) (l .counts) (l .inv .working) u (next-small (c .before .before .before .before .before .before .before .before .before)) (ready (c .before .before .before .before .before .before .before .before .before)) unit
+    (c .before .before .before .before .before .before .cut .ensures ∙ ap (λ (w : ℕ). getD (now (at .units)) u 0 ∩ w) (c .before .before .before .before .before .before .before .first .ensures)) refl refl (c .before .before .before .shared-slice-known9 .given u .fits))
+    (c .work-list .ensures)
+
 same-length-3 : tie.Need-same-length-3 Inv-loop μ-loop
-same-length-3 c = ?
+unfolding unitsOf
+same-length-3 c =
+    let at = c .before .before .before .before .before .before .before .before .before .before .before .before .before .before .before .before .before .before .before .before .before .before .before .before .before .args in
+    c .before .before .before .before .before .work-list .kept .1 .1 .1 .1 .1 .1 .0
+    ∙ working-long (unitsOf (now (at .rules)) (at .rule-count) (now (at .units)) (at .unit-count) (now (at .predecessors))) (c .before .before .before .before .before .before .before .before .before .before .before .before .before .before .before .before .before .before .before .before .before .before .before .before .before .pre .0 .lent-words .units-most) (c .before .before .before .before .before .before .before .before .before .before .before .before .before .before .before .before .before .loop .done) (now (at .table)) (c .before .before .before .before .before .before .before .before .before .before .before .before .before .before .before .before .before .loop .table) (c .before .before .before .before .before .before .before .before .before .before .before .before .before .before .before .before .before .loop .counts) (c .before .before .before .before .before .before .before .before .before .before .before .before .before .before .before .before .before .loop .inv .working)
 
 -- src/work.rt:74:13
 same-length-4 : tie.Need-same-length-4 Inv-loop μ-loop
-same-length-4 c = ?
+same-length-4 c =
+    let at = c .before .before .before .before .before .before .before .before .before .before .before .before .before .before .before .before .before .before .before .before .before .before .before .before .before .args in
+    c .before .before .before .before .before .work-list .kept .1 .1 .1 .1 .1 .1 .1 .0
+    ∙ counts-long (unitsOf (now (at .rules)) (at .rule-count) (now (at .units)) (at .unit-count) (now (at .predecessors))) (c .before .before .before .before .before .before .before .before .before .before .before .before .before .before .before .before .before .loop .done) (now (at .table)) (c .before .before .before .before .before .before .before .before .before .before .before .before .before .before .before .before .before .loop .table) (c .before .before .before .before .before .before .before .before .before .before .before .before .before .before .before .before .before .loop .counts) (c .before .before .before .before .before .before .before .before .before .before .before .before .before .before .before .before .before .loop .inv .working)
+    ∙ sym (counts-long (unitsOf (now (at .rules)) (at .rule-count) (now (at .units)) (at .unit-count) (now (at .predecessors))) 0 (now (at .table)) (now (at .table)) (now (at .counts)) (c .before .before .before .before .before .before .before .before .before .before .before .before .before .before .before .before .before .before .before .before .before .before .before .before .before .pre .1))
 
 -- src/work.rt:74:13
 returns-2 : tie.Need-returns-2 Inv-loop μ-loop
-returns-2 c = ?
+unfolding unitsOf
+returns-2 c =
+    let at = c .before .before .before .before .before .before .before .before .before .before .before .before .before .before .before .before .before .before .before .before .before .before .before .before .before .args in
+    let l = c .before .before .before .before .before .before .before .before .before .before .before .before .before .before .before .before .before .loop in
+    let u = c .before .before .before .before .before .before .before .before .before .before .before .before .before .before .before .next-unit .result in
+    let w = done-long (worked (c .before .before .before .before .before)) (not-true (c .before .before .before .before .before .work-list .result) (c .if2 .taken)) in
+    one-long
+    (next-long-at (unitsOf (now (at .rules)) (at .rule-count) (now (at .units)) (at .unit-count) (now (at .predecessors))) (c .before .before .before .before .before .before .before .before .before .before .before .before .before .before .before .before .before .before .before .before .before .before .before .before .before .pre .0 .passes) (now (at .table)) (l .table) (l .counts) (l .done) (l .left) (l .inv) (c .before .before .before .before .before .before .before .before .before .before .before .before .before .before .before .before .loop-test .taken) u (next-is (c .before .before .before .before .before .before .before .before .before .before .before .before .before .before .before)) (next-small (c .before .before .before .before .before .before .before .before .before .before .before .before .before .before)) (w .0))
+    (subst₂ (Working (unitsOf (now (at .rules)) (at .rule-count) (now (at .units)) (at .unit-count) (now (at .predecessors))) (l .done) (now (at .table))) (sym (w .1)) (sym (w .2)) (l .inv .working))
 
 -- src/work.rt:76:35
 single-requires : tie.Need-single-requires Inv-loop μ-loop
-single-requires c κs = ?
+single-requires c κs = omega (arith, next-small (c .before .before .before .before .before .before .before .before .before .before .before .before .before .before), c .before .before .before .before .before .before .before .before .before .before .before .before .before .before .before .before .before .before .before .before .before .before .before .before .before .pre .0 .lent-words)
 
 -- src/work.rt:76:9
 union-requires : tie.Need-union-requires Inv-loop μ-loop
-union-requires c κs = ?
+union-requires c κs = search needs
 
 -- src/work.rt:77:9
 sub-left : tie.Need-sub-left Inv-loop μ-loop
-sub-left c = ?
+sub-left c = omega arith
 
 -- src/work.rt:63:5
 loop-less : tie.Need-loop-less Inv-loop μ-loop
-loop-less c = ?
+loop-less c = omega arith
 
 -- src/work.rt:63:5
 loop-again : tie.Need-loop-again Inv-loop μ-loop
-loop-again c = ?
+unfolding unitsOf
+loop-again c =
+    let at = c .before .before .before .before .before .before .before .before .before .before .before .before .before .before .before .before .before .before .before .before .before .before .before .before .before .before .before .args in
+    let l = c .before .before .before .before .before .before .before .before .before .before .before .before .before .before .before .before .before .before .before .loop in
+    let u = c .before .before .before .before .before .before .before .before .before .before .before .before .before .before .before .before .before .next-unit .result in
+    let w = done-fits (worked (c .before .before .before .before .before .before .before)) (not-false (c .before .before .before .before .before .before .before .work-list .result) (c .before .before .if2 .left)) in
+    let small = next-small (c .before .before .before .before .before .before .before .before .before .before .before .before .before .before .before .before) in
+    subst (λ (d : ℕ). Looping (unitsOf (now (at .rules)) (at .rule-count) (now (at .units)) (at .unit-count) (now (at .predecessors))) (now (at .table)) (c .before .before .before .before .before .before .before .work-list .last .1 .1 .1 .1 .1 .1 .0) (c .before .before .before .before .before .before .before .work-list .last .1 .1 .1 .1 .1 .1 .1 .0) d (l .left - 1))
+    (sym (c .union .ensures ∙ ap (λ (w : ℕ). l .done ∪ w) (c .before .single .ensures)))
+    (next-done-at (unitsOf (now (at .rules)) (at .rule-count) (now (at .units)) (at .unit-count) (now (at .predecessors))) (c .before .before .before .before .before .before .before .before .before .before .before .before .before .before .before .before .before .before .before .before .before .before .before .before .before .before .before .pre .0 .passes) (now (at .table)) (l .table) (l .counts) (l .done) (l .left) (l .inv) (c .before .before .before .before .before .before .before .before .before .before .before .before .before .before .before .before .before .before .loop-test .taken) u (next-is (c .before .before .before .before .before .before .before .before .before .before .before .before .before .before .before .before .before))
+    (c .before .before .before .before .before .before .before .work-list .last .1 .1 .1 .1 .1 .1 .0) (c .before .before .before .before .before .before .before .work-list .last .1 .1 .1 .1 .1 .1 .1 .0) small (w .0)
+    (working-next (unitsOf (now (at .rules)) (at .rule-count) (now (at .units)) (at .unit-count) (now (at .predecessors))) (c .before .before .before .before .before .before .before .before .before .before .before .before .before .before .before .before .before .before .before .before .before .before .before .before .before .before .before .pre .0 .lent-words .units-most) (l .done) (now (at .table)) (l .table) (l .counts) (l .inv .working) u (c .before .before .before .before .before .before .before .work-list .last .1 .1 .1 .1 .1 .1 .0) (c .before .before .before .before .before .before .before .work-list .last .1 .1 .1 .1 .1 .1 .1 .0) small (w .0) (w .1) (w .2)))
 
 -- src/work.rt:47:1
 same-length-5 : tie.Need-same-length-5 Inv-loop μ-loop
-same-length-5 c = ?
+unfolding unitsOf
+same-length-5 c =
+    let at = c .before .before .before .before .before .before .before .before .before .args in
+    working-long (unitsOf (now (at .rules)) (at .rule-count) (now (at .units)) (at .unit-count) (now (at .predecessors))) (c .before .before .before .before .before .before .before .before .before .pre .0 .lent-words .units-most) (c .before .loop .done) (now (at .table)) (c .before .loop .table) (c .before .loop .counts) (c .before .loop .inv .working)
 
 -- src/work.rt:47:1
 same-length-6 : tie.Need-same-length-6 Inv-loop μ-loop
-same-length-6 c = ?
+same-length-6 c =
+    let at = c .before .before .before .before .before .before .before .before .before .args in
+    counts-long (unitsOf (now (at .rules)) (at .rule-count) (now (at .units)) (at .unit-count) (now (at .predecessors))) (c .before .loop .done) (now (at .table)) (c .before .loop .table) (c .before .loop .counts) (c .before .loop .inv .working)
+    ∙ sym (counts-long (unitsOf (now (at .rules)) (at .rule-count) (now (at .units)) (at .unit-count) (now (at .predecessors))) 0 (now (at .table)) (now (at .table)) (now (at .counts)) (c .before .before .before .before .before .before .before .before .before .pre .1))
 
 -- src/work.rt:47:1
 returns-3 : tie.Need-returns-3 Inv-loop μ-loop
-returns-3 c = ?
+unfolding unitsOf
+returns-3 c =
+    let at = c .before .before .before .before .before .before .before .before .before .args in
+    let l = c .before .loop in
+    let stop = looping-end (unitsOf (now (at .rules)) (at .rule-count) (now (at .units)) (at .unit-count) (now (at .predecessors))) (c .before .before .before .before .before .before .before .before .before .pre .0 .passes) (now (at .table)) (l .table) (l .counts) (l .done) (l .left) (l .inv) (omega arith) in
+    all-fit (stop .0) (stop .1) (l .inv .working)
 
 pub work-units-spec : {M : Type 1} → statement M
 work-units-spec =
