@@ -4,3 +4,5 @@ pub mod Storing
 pub mod Runs
 pub mod Working
 pub mod Stepping
+pub mod LastList
+pub mod Handing

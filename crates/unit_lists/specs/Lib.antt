@@ -3,3 +3,4 @@ pub mod Table
 pub mod Answer
 pub mod Stored
 pub mod Work
+pub mod Handed

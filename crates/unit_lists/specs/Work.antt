@@ -2,12 +2,13 @@
 use mathlib.Core.Path.{_≡_}
 use mathlib.Core.Bool.{Bool, true, false}
 use mathlib.Core.List.{List, []}
-use Prim.Native.Nat.{ℕ, _≤_, _<_}
+use Prim.Native.Nat.{ℕ, _^_, _≤_, _<_}
 use lib.ListN.{length, getD, set, replicate}
 use lib.Seq.{paste}
 use Rattle.atoms.specs.Word.{Has, _∖_, below}
+use Rattle.atoms.specs.Bounded.{unionIn}
 use Rattle.unit_search.specs.Listing.{Gathered, Grown}
-use Rattle.unit_search.specs.Job.{Wanted}
+use Rattle.unit_search.specs.Job.{Wanted, Joinable}
 use Rattle.unit_search.specs.declared.Unit.{Unit}
 use Rattle.plan.specs.declared.fault.Fault.the-variants.{LongList}
 use Rattle.dependency_graph.specs.Units.{Units}
@@ -56,3 +57,24 @@ pub data UnitsWorked (S : Units) (table₀ table counts : List ℕ) : Work → T
       → Working S done table₀ table counts → UnitsWorked S table₀ table counts Fits
   one-long : {u done : ℕ} → workFrom S table₀ (workingOrder S) ≡ refuse (LongList u) (cleared table₀)
       → Working S done table₀ table counts → UnitsWorked S table₀ table counts (Long u)
+
+-- the lists of all units are there to be joined
+pub record LastLent (m : ℕ) (table counts heads′ : List ℕ) : Type 0 where
+  pub few : m ≤ 16
+  pub table-long : 4352 ≤ length table
+  pub counts-long : length counts ≡ 17
+  pub joinable : Joinable table counts heads′ (below m)
+
+-- the last list, searched for from the start
+pub record LastWorked (rules : List ℕ) (m : ℕ) (heads′ table counts table′ counts′ : List ℕ) (r : Bool) : Type 0 where
+  pub input : ℕ
+  pub is : input ≡ unionIn m (below m) (λ v. getD heads′ v 0)
+  pub fits : input < 2 ^ 64
+  pub worked : ListWorked rules heads′ (record { rules = 0; inputs = input; predecessors = below m }) input 4096 16 table counts table′ counts′ r
+
+-- a plan that passed reading and graph, and a long enough table
+pub record Workable (rules : List ℕ) (n : ℕ) (units : List ℕ) (m : ℕ) (predecessors table : List ℕ) : Type 0 where
+  pub lent-words : GraphLent rules n units m predecessors
+  pub passes : Passes (unitsOf rules n units m predecessors)
+  pub clean : Clean (unitsOf rules n units m predecessors)
+  pub long : 4352 ≤ length table

@@ -1,8 +1,17 @@
 // Unit work: the list of each unit in working order, and the last list.
+use crate::COUNTS;
 use crate::LAST_COUNT;
 use crate::LAST_LIST;
+use crate::Listing;
+use crate::refuse;
+use crate::table::clear;
 use crate::table::store;
+use dependency_graph::MAX_UNITS;
+use dependency_graph::head_atoms::fill_head_atoms;
+use dependency_graph::words::union_of;
 use dependency_graph::working_order::next_unit;
+use plan::Fault;
+use plan::Outcome;
 use unit_search::LIST_WORDS;
 use unit_search::Unit;
 use unit_search::search::search;
@@ -10,7 +19,10 @@ ghost use Prim.Native.Nat.{_+_, _≤_, _<_};
 ghost use lib.ListN.{length};
 ghost use Rattle.unit_search.specs.Job.{Searchable};
 ghost use Rattle.dependency_graph.specs.Slices.{unitsOf};
-ghost use Rattle.unit_lists.specs.Work.{ListWorked, Setting, Working, UnitsWorked};
+ghost use Rattle.dependency_graph.specs.Order.{workingOrder};
+ghost use Rattle.unit_lists.specs.Answer.{workFrom};
+ghost use Rattle.unit_lists.specs.Handed.{Handed};
+ghost use Rattle.unit_lists.specs.Work.{ListWorked, Setting, Working, UnitsWorked, LastLent, LastWorked, Workable};
 
 // Whether all lists fit, or the first unit whose list does not.
 pub enum Work {
@@ -77,4 +89,61 @@ pub fn work_units(
         left -= 1;
     }
     Work::Fits
+}
+
+// The last list: that of one more unit, with no rules and an edge to every unit.
+pub fn work_last(rules: &[u64], unit_count: usize, heads: &[u64], table: &mut [u64], counts: &mut [usize]) -> bool
+    requires { ⌜ LastLent «unit_count» (now table) (now counts) (now heads) ⌝ }
+    ensures { λ r. ⌜ LastWorked (now (rules .entry)) «unit_count» (now (heads .entry)) (now (table .entry)) (now (counts .entry)) (now (table .exit)) (now (counts .exit)) r ⌝ }
+{
+    let every = atoms::first(unit_count);
+    let inputs = union_of(heads, unit_count, every);
+    let unit = Unit {
+        rules: 0,
+        inputs,
+        predecessors: every,
+    };
+    work_list(rules, heads, unit, inputs, LAST_LIST, LAST_COUNT, table, counts)
+}
+
+// Unit work on a plan that passed the graph place: all lists, or the first that is above 256.
+pub fn work_plan(
+    rules: &[u64],
+    rule_count: usize,
+    units: &[u64],
+    unit_count: usize,
+    predecessors: &[u64],
+    table: &mut [u64],
+) -> Listing
+    requires { ⌜ Workable (now rules) «rule_count» (now units) «unit_count» (now predecessors) (now table) ⌝ }
+    ensures { λ r. ⌜ Handed (workFrom (unitsOf (now (rules .entry)) «rule_count» (now (units .entry)) «unit_count» (now (predecessors .entry))) (now (table .entry)) (workingOrder (unitsOf (now (rules .entry)) «rule_count» (now (units .entry)) «unit_count» (now (predecessors .entry))))) r (now (table .exit)) ⌝ }
+{
+    let mut heads = [0u64; MAX_UNITS];
+    let mut inputs = [0u64; MAX_UNITS];
+    fill_head_atoms(rules, rule_count, units, unit_count, predecessors, &mut heads, &mut inputs);
+    clear(table);
+    let mut counts = [0usize; COUNTS];
+    let worked = work_units(
+        rules,
+        rule_count,
+        units,
+        unit_count,
+        predecessors,
+        &heads,
+        &inputs,
+        table,
+        &mut counts,
+    );
+    if let Work::Long(u) = worked {
+        clear(table);
+        return refuse(Fault::LongList(u));
+    }
+    if !work_last(rules, unit_count, &heads, table, &mut counts) {
+        clear(table);
+        return refuse(Fault::LongList(unit_count));
+    }
+    Listing {
+        outcome: Outcome::Accepted,
+        counts,
+    }
 }

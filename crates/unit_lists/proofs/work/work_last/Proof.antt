@@ -1,0 +1,62 @@
+-- A unit with no rules and an edge to every unit.
+use mathlib.Core.Path.{ap, sym, subst, _∙_}
+use Prim.Native.Nat.{ℕ}
+use native.Mathlib.Omega.{arith}
+use denote.Ref.{now}
+use lib.ListN.{getD}
+use Rattle.atoms.specs.Bounded.{unionIn}
+use Rattle.atoms.proofs.Sets.{has-none}
+use Rattle.unit_search.specs.Job.{Joinable}
+use Rattle.unit_lists.specs.Work.{ListWorked}
+use borrow.Author.Needs.{needs}
+use Rattle.unit_lists.proofs.work.work_last.Statement.{statement}
+use Rattle.unit_lists.proofs.work.work_last.Tie as tie
+
+first-requires : tie.Need-first-requires
+first-requires c κs = search needs
+
+union-of-requires : tie.Need-union-of-requires
+union-of-requires c κs = search needs
+
+work-list-requires : tie.Need-work-list-requires
+work-list-requires c κs =
+    let at = c .before .before .before .before .before .before .before .before .args in
+    let pre = c .before .before .before .before .before .before .before .before .pre in
+    let first = c .before .before .before .first in (
+      record {
+        rules-lent = record { each = λ r h. absurd (has-none h) };
+        joinable = subst (λ (w : ℕ). Joinable (now (at .table)) (now (at .counts)) (now (at .heads)) w) (sym (first .ensures)) (pre .joinable)
+      },
+      omega (arith, pre .table-long),
+      omega (arith, pre .counts-long),
+    )
+
+same-length : tie.Need-same-length
+same-length c = search needs
+
+same-length-2 : tie.Need-same-length-2
+same-length-2 c = search needs
+
+returns : tie.Need-returns
+returns c =
+    let at = c .before .before .before .before .before .before .before .before .before .before .before .before .before .args in
+    let first = c .before .before .before .before .before .before .before .before .first in
+    let union = c .before .before .before .before .before .before .before .union-of in
+    record {
+      input = union .result;
+      is = union .ensures ∙ ap (λ (w : ℕ). unionIn (at .unit-count) w (λ (v : ℕ). getD (now (at .heads)) v 0)) (first .ensures);
+      fits = union .ok;
+      worked = subst (λ (w : ℕ). ListWorked (now (at .rules)) (now (at .heads)) (record { rules = 0; inputs = union .result; predecessors = w }) (union .result) 4096 16 (now (at .table)) (now (at .counts)) (c .before .before .before .before .work-list .last .1 .1 .1 .1 .1 .1 .0) (c .before .before .before .before .work-list .last .1 .1 .1 .1 .1 .1 .1 .0) (c .before .before .before .before .work-list .result))
+        (first .ensures) (c .before .before .before .before .work-list .ensures)
+    }
+
+pub work-last-spec : {M : Type 1} → statement M
+work-last-spec =
+    tie.close
+    (tie.spec
+    first-requires
+    union-of-requires
+    work-list-requires
+    same-length
+    same-length-2
+    returns)
