@@ -64,7 +64,7 @@ decides-step S u M inListOf small l d =
     decides-iff into from
     (decides-some (suc (inputHeads S u)) (λ J. elim (answerSet (S .program) (S .unit u ∩ below (S .rules)) J M) [ true ↦ isInput S inListOf u J | false ↦ false ])
     (λ J k.
-      lazily (decides-answer-set (S .program) (S .unit u ∩ below (S .rules)) J M (numbers-fit S u small)) (decides-input S u J inListOf l d)))
+    lazily (decides-answer-set (S .program) (S .unit u ∩ below (S .rules)) J M (numbers-fit S u small)) (decides-input S u J inListOf l d)))
   where
     lazily : {P Q : Type 0} {a b : Bool} → Decides P a → Decides Q b → Decides (P × Q) (elim a [ true ↦ b | false ↦ false ])
     lazily {a = true} p q = decides-iff (λ y. (p .yes refl, y)) (λ h. h .1) q

@@ -5,10 +5,12 @@ use mathlib.Core.List.{List, []}
 use Prim.Native.Nat.{ℕ, _^_, _≤_, _<_}
 use native.Mathlib.Omega.{arith}
 use lib.ListN.{length, drop, getD, replicate}
+use borrow.Author.Tests.{lt-ltb, le-ltb}
 use Rattle.atoms.specs.Word.{Has, below}
 use Rattle.atoms.proofs.Sets.{below-lt}
 use Rattle.plan.specs.declared.fault.Fault.{Fault}
-use Rattle.plan.specs.declared.fault.Fault.the-variants.{LongList}
+use Rattle.plan.specs.declared.fault.Fault.the-variants.{TableShort, LongList}
+use Rattle.plan.specs.Reading.{reading}
 use Rattle.plan.specs.declared.reader.Outcome.the-variants.{Accepted, Refused}
 use Rattle.dependency_graph.specs.Units.{Units}
 use Rattle.dependency_graph.specs.Heads.{heads, inputHeads}
@@ -16,7 +18,8 @@ use Rattle.dependency_graph.specs.Slices.{unitsOf, Filled}
 use Rattle.dependency_graph.specs.Order.{workingOrder}
 use Rattle.unit_lists.specs.Lists.{lastList}
 use Rattle.unit_lists.specs.Table.{TABLE_WORDS, cleared, tableOf, countsOf, noCounts}
-use Rattle.unit_lists.specs.Answer.{Answer, refuse, workFrom}
+use Rattle.dependency_graph.specs.Check.{verdict}
+use Rattle.unit_lists.specs.Answer.{Answer, refuse, workFrom, planUnits, afterGraph, afterReading, answer}
 use Rattle.unit_lists.specs.Handed.{refusal, Handed}
 use Rattle.unit_lists.specs.Work.{Setting, Working, UnitsWorked, all-fit, one-long, LastLent, LastWorked, Workable}
 use Rattle.unit_lists.specs.declared.Listing.{Listing}
@@ -34,7 +37,7 @@ unfolding refusal
 handed-refused a f r table table′ e h t = record {
   outcome-is = ap (λ (x : Listing). x .outcome) h ∙ sym (ap (λ (x : Answer). x .outcome) e);
   counts-are = ap (λ (x : Listing). x .counts) h ∙ sym (ap (λ (x : Answer). x .counts) e);
-  table-is = t ∙ sym (ap (λ (x : Answer). x .table) e)
+  table-is = t ∙ sym (ap (λ (x : Answer). x .table) e);
 }
 
 pub handed-listed : (a : Answer) (counts table counts′ table′ : List ℕ)
@@ -43,7 +46,7 @@ pub handed-listed : (a : Answer) (counts table counts′ table′ : List ℕ)
 handed-listed a counts table counts′ table′ e c t = record {
   outcome-is = sym (ap (λ (x : Answer). x .outcome) e);
   counts-are = c ∙ sym (ap (λ (x : Answer). x .counts) e);
-  table-is = t ∙ sym (ap (λ (x : Answer). x .table) e)
+  table-is = t ∙ sym (ap (λ (x : Answer). x .table) e);
 }
 
 -- ---- the start
@@ -59,7 +62,7 @@ setting-filled rules n units m predecessors table w before before′ heads′ in
   heads-long = omega (arith, h .same-length);
   inputs-long = omega (arith, i .same-length);
   heads-are = h .filled;
-  inputs-are = i .filled
+  inputs-are = i .filled;
 }
 
 pub cleared-start : (S : Units) (table₀ table counts : List ℕ) → 4352 ≤ length table₀ → length table ≡ length table₀ → table ≡ cleared table₀
@@ -92,8 +95,8 @@ as-fit (all-fit {done = d} e f p) q = record { done = d; answer-is = e; all = f;
 as-fit (one-long e p) q = let z : _≡_ {A = ℕ} 0 1 = cc in absurd (omega arith)
 
 module _ (rules : List ℕ) (n : ℕ) (units : List ℕ) (m : ℕ) (predecessors heads′ inputs : List ℕ)
-  (s : Setting rules n units m predecessors heads′ inputs) (table₀ table₁ : List ℕ) (start : table₁ ≡ cleared table₀)
-  (table₂ counts₂ : List ℕ) (w : Work) (worked : UnitsWorked (unitsOf rules n units m predecessors) table₁ table₂ counts₂ w) where
+    (s : Setting rules n units m predecessors heads′ inputs) (table₀ table₁ : List ℕ) (start : table₁ ≡ cleared table₀)
+    (table₂ counts₂ : List ℕ) (w : Work) (worked : UnitsWorked (unitsOf rules n units m predecessors) table₁ table₂ counts₂ w) where
   -- the answer is told from the cleared table
   same-work : workFrom (unitsOf rules n units m predecessors) table₀ (workingOrder (unitsOf rules n units m predecessors))
       ≡ workFrom (unitsOf rules n units m predecessors) table₁ (workingOrder (unitsOf rules n units m predecessors))
@@ -119,7 +122,7 @@ module _ (rules : List ℕ) (n : ℕ) (units : List ℕ) (m : ℕ) (predecessors
         table-long = omega (arith, working-long (unitsOf rules n units m predecessors) (s .lent-words .units-most) (f .done) table₁ table₂ counts₂ (f .working), f .working .long);
         counts-long = counts-long (unitsOf rules n units m predecessors) (f .done) table₁ table₂ counts₂ (f .working);
         joinable = joinable rules n units m predecessors heads′ inputs s (f .done) table₁ table₂ counts₂ (below m) (f .working)
-          (λ v h. let k : v < m = below-lt m h in omega (arith, s .lent-words .units-most))
+            (λ v h. let k : v < m = below-lt m h in omega (arith, s .lent-words .units-most));
       }
 
   module _ (fit : w ≡ Fits) (table₃ counts₃ : List ℕ) (b : Bool) (last : LastWorked rules m heads′ table₂ counts₂ table₃ counts₃ b) where
@@ -154,3 +157,26 @@ module _ (rules : List ℕ) (n : ℕ) (units : List ℕ) (m : ℕ) (predecessors
         (same-work ∙ f .answer-is ∙ last-fits (unitsOf rules n units m predecessors) table₁ (d .0))
         (counts-complete (unitsOf rules n units m predecessors) (s .lent-words .units-most) (f .done) table₁ table₂ counts₂ (f .working) (f .all) counts₃ (d .2))
         (table-complete (unitsOf rules n units m predecessors) (s .lent-words .units-most) (f .done) table₁ table₂ counts₂ (f .working) (f .all) table₃ (d .0) (d .1))
+
+-- ---- the places before unit work
+
+pub short-answer : (bytes table : List ℕ) → length table < 4352 → answer bytes table ≡ refuse (TableShort (length table)) table
+unfolding answer
+short-answer bytes table l =
+    ap (λ (b : Bool). elim b [ true ↦ refuse (TableShort (length table)) table | false ↦ afterReading (reading bytes .plan) table (reading bytes .outcome) ])
+    (lt-ltb (length table) 4352 l)
+
+long-answer : (bytes table : List ℕ) → 4352 ≤ length table → answer bytes table ≡ afterReading (reading bytes .plan) table (reading bytes .outcome)
+unfolding answer
+long-answer bytes table l =
+    ap (λ (b : Bool). elim b [ true ↦ refuse (TableShort (length table)) table | false ↦ afterReading (reading bytes .plan) table (reading bytes .outcome) ])
+    (le-ltb (length table) 4352 l)
+
+pub refused-answer : (bytes table : List ℕ) (f : Fault) → 4352 ≤ length table → reading bytes .outcome ≡ Refused f → answer bytes table ≡ refuse f table
+unfolding afterReading
+refused-answer bytes table f l e = long-answer bytes table l ∙ ap (afterReading (reading bytes .plan) table) e
+
+pub read-answer : (bytes table : List ℕ) → 4352 ≤ length table → reading bytes .outcome ≡ Accepted
+    → answer bytes table ≡ afterGraph (planUnits (reading bytes .plan)) table (verdict (planUnits (reading bytes .plan)))
+unfolding afterReading
+read-answer bytes table l e = long-answer bytes table l ∙ ap (afterReading (reading bytes .plan) table) e

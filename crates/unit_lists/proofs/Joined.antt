@@ -68,7 +68,7 @@ stored-has T table counts v x s m =
 
 -- ---- a list in its 256 words
 
-unit-list-rising : (T : Units) (u : ℕ) → Rising (unitList T u)
+pub unit-list-rising : (T : Units) (u : ℕ) → Rising (unitList T u)
 unfolding unitList
 unit-list-rising T u = members-rising (inList T (suc (reach T u)) u) (suc (heads T u))
 
@@ -119,7 +119,7 @@ pub record Asked (T : Units) (u : ℕ) (table counts heads′ : List ℕ) (unit 
   pub stored : (v : ℕ) → Edge T u v → Stored T table counts v
 
 module _ (rules : List ℕ) (T : Units) (same : T .program ≡ lent rules) (pass : Passes T) (free : GivenFree T) (none-given : T .given ≡ 0) (small : T .rules ≤ 64)
-  (u : ℕ) (table counts heads′ : List ℕ) (unit : Unit) (a : Asked T u table counts heads′ unit) where
+    (u : ℕ) (table counts heads′ : List ℕ) (unit : Unit) (a : Asked T u table counts heads′ unit) where
   -- each predecessor's list has the position's cut
   joins-edge : (M : ℕ) → joins table counts heads′ (unit .predecessors) M ≡ true → (v : ℕ) → Edge T u v → Listed T v (M ∩ heads T v)
   unfolding joins
@@ -134,10 +134,10 @@ module _ (rules : List ℕ) (T : Units) (same : T .program ≡ lent rules) (pass
   edge-joins M f =
       all-in-intro 16 (unit .predecessors) (λ w. isListed table (256 * w) (getD counts w 0) (M ∩ getD heads′ w 0))
       (λ v l h.
-        let e : Edge T u v = a .edge-of v h .0 in
-        subst (λ (w : ℕ). isListed table (256 * v) (getD counts v 0) (M ∩ w) ≡ true) (sym (a .heads-are v e))
-        (stored-has T table counts v (M ∩ heads T v) (a .stored v e)
-        (unit-list-has T pass free small v (M ∩ heads T v) (e .is-predecessor) (f v e))))
+      let e : Edge T u v = a .edge-of v h .0 in
+      subst (λ (w : ℕ). isListed table (256 * v) (getD counts v 0) (M ∩ w) ≡ true) (sym (a .heads-are v e))
+      (stored-has T table counts v (M ∩ heads T v) (a .stored v e)
+      (unit-list-has T pass free small v (M ∩ heads T v) (e .is-predecessor) (f v e))))
 
   -- the code asks the same answer set
   same-answer : (M : ℕ)
@@ -154,7 +154,7 @@ module _ (rules : List ℕ) (T : Units) (same : T .program ≡ lent rules) (pass
         given-up = subst (λ (g : ℕ). g ⊆ M) (sym none-given) (record { each = λ i h. absurd (has-none h) });
         within = w;
         inputs = joins-edge M (b .joined);
-        answer = answered
+        answer = answered;
       })
     where
       answered : AnswerSet (T .program) (T .unit u ∩ below (T .rules)) (M ∩ inputHeads T u) M
@@ -169,7 +169,7 @@ module _ (rules : List ℕ) (T : Units) (same : T .program ≡ lent rules) (pass
         word = let l : M ≤ heads T u = subset-le (m .within) in omega arith;
         joined = edge-joins M (m .inputs);
         settled = sym (same-answer M)
-          ∙ decided-true (decides-answer-set (T .program) (T .unit u ∩ below (T .rules)) (M ∩ inputHeads T u) M (numbers-fit T u small)) (m .answer)
+            ∙ decided-true (decides-answer-set (T .program) (T .unit u ∩ below (T .rules)) (M ∩ inputHeads T u) M (numbers-fit T u small)) (m .answer);
       }
 
   -- ---- the answer of a search from the start
@@ -177,7 +177,7 @@ module _ (rules : List ℕ) (T : Units) (same : T .program ≡ lent rules) (pass
   from-start : (M : ℕ) → M < 2 ^ 64 → M ⊆ heads T u → Completes (record { up = 0; dropped = below 64 ∖ heads T u }) M
   from-start M w f = record {
     has-up = record { each = λ i h. absurd (has-none h) };
-    no-dropped = record { none = λ i p q. without-right (below 64) (heads T u) p (f .each i q) }
+    no-dropped = record { none = λ i p q. without-right (below 64) (heads T u) p (f .each i q) };
   }
 
   to-heads : (M : ℕ) → M < 2 ^ 64 → Completes (record { up = 0; dropped = below 64 ∖ heads T u }) M → M ⊆ heads T u

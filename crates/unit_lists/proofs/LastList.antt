@@ -46,13 +46,13 @@ unfolding unitList withLast
 lists-same S pass free clean small u l =
     members-same (inList S (suc (reach S u)) u) (inList (withLast S) (suc (reach (withLast S) u)) u) (suc (heads S u))
     (λ x k.
-      decides-same (decides-listed S pass free small u x l)
-      (decides-listed (withLast S) (last-passes S clean pass) (last-free S free) small u x (omega arith))
-      (old-list S clean u x l .0) (old-list S clean u x l .1))
+    decides-same (decides-listed S pass free small u x l)
+    (decides-listed (withLast S) (last-passes S clean pass) (last-free S free) small u x (omega arith))
+    (old-list S clean u x l .0) (old-list S clean u x l .1))
     ∙ ap (λ (h : ℕ). members (inList (withLast S) (suc (reach (withLast S) u)) u) (suc h)) (old-heads S clean u l)
 
 module _ (rules : List ℕ) (n : ℕ) (units : List ℕ) (m : ℕ) (predecessors heads′ inputs : List ℕ)
-  (s : Setting rules n units m predecessors heads′ inputs) where
+    (s : Setting rules n units m predecessors heads′ inputs) where
   -- the atoms of all units' H
   input-of-last : unionIn m (below m) (λ v. getD heads′ v 0) ≡ inputHeads (withLast (unitsOf rules n units m predecessors)) m
   unfolding unitsOf withLast
@@ -95,11 +95,11 @@ module _ (rules : List ℕ) (n : ℕ) (units : List ℕ) (m : ℕ) (predecessors
       sym
       (empty (withLast (unitsOf rules n units m predecessors) .unit m ∩ below n)
       (λ r h.
-        has-none
-        (subst (λ (w : ℕ). Has w r) (last-unit (unitsOf rules n units m predecessors)) (cut-left (withLast (unitsOf rules n units m predecessors) .unit m) (below n) h))))
+      has-none
+      (subst (λ (w : ℕ). Has w r) (last-unit (unitsOf rules n units m predecessors)) (cut-left (withLast (unitsOf rules n units m predecessors) .unit m) (below n) h))))
 
   module _ (done : ℕ) (table₀ table counts : List ℕ) (p : Working (unitsOf rules n units m predecessors) done table₀ table counts)
-    (all : (u : ℕ) → u < m → Has done u) where
+      (all : (u : ℕ) → u < m → Has done u) where
     stored-last : (v : ℕ) → v < m → Stored (withLast (unitsOf rules n units m predecessors)) table counts v
     unfolding unitsOf
     stored-last v l =
@@ -108,7 +108,7 @@ module _ (rules : List ℕ) (n : ℕ) (units : List ℕ) (m : ℕ) (predecessors
         record {
           counted = w .counted ∙ ap length e;
           small = subst (λ (x : List ℕ). length x ≤ 256) e (w .small);
-          words = subst (λ (x : List ℕ). (i : ℕ) → i < length x → getD table (256 * v + i) 0 ≡ getD x i 0) e (w .words)
+          words = subst (λ (x : List ℕ). (i : ℕ) → i < length x → getD table (256 * v + i) 0 ≡ getD x i 0) e (w .words);
         }
 
     last-asked : (input : ℕ) → input ≡ unionIn m (below m) (λ v. getD heads′ v 0)
@@ -119,13 +119,13 @@ module _ (rules : List ℕ) (n : ℕ) (units : List ℕ) (m : ℕ) (predecessors
       numbers = no-rules;
       inputs = e ∙ input-of-last;
       edge-of = λ v h.
-        let l : v < m = below-lt m h in
-        (edge-from-last (unitsOf rules n units m predecessors) v l, omega (arith, s .lent-words .units-most));
+          let l : v < m = below-lt m h in
+          (edge-from-last (unitsOf rules n units m predecessors) v l, omega (arith, s .lent-words .units-most));
       of-edge = λ v f. subst (λ (w : ℕ). Has w v) (last-predecessors (unitsOf rules n units m predecessors)) (f .edge);
       heads-are = λ v f.
-        let l : v < m = below-lt m (subst (λ (w : ℕ). Has w v) (last-predecessors (unitsOf rules n units m predecessors)) (f .edge)) in
-        s .heads-are v l ∙ old-heads (unitsOf rules n units m predecessors) (s .clean) v l;
-      stored = λ v f. stored-last v (below-lt m (subst (λ (w : ℕ). Has w v) (last-predecessors (unitsOf rules n units m predecessors)) (f .edge)))
+          let l : v < m = below-lt m (subst (λ (w : ℕ). Has w v) (last-predecessors (unitsOf rules n units m predecessors)) (f .edge)) in
+          s .heads-are v l ∙ old-heads (unitsOf rules n units m predecessors) (s .clean) v l;
+      stored = λ v f. stored-last v (below-lt m (subst (λ (w : ℕ). Has w v) (last-predecessors (unitsOf rules n units m predecessors)) (f .edge)));
     }
 
     pub last-answer : (input : ℕ) → input ≡ unionIn m (below m) (λ v. getD heads′ v 0) → input < 2 ^ 64 → (list : List ℕ) (r : ℕ)
@@ -142,7 +142,7 @@ module _ (rules : List ℕ) (n : ℕ) (units : List ℕ) (m : ℕ) (predecessors
 -- ---- the answer
 
 module _ (S : Units) (few : S .units ≤ 16) (done : ℕ) (table₀ table counts : List ℕ) (w : Working S done table₀ table counts)
-  (all : (u : ℕ) → u < S .units → Has done u) where
+    (all : (u : ℕ) → u < S .units → Has done u) where
   run-long : (j : ℕ) → j < 16 → length (padded (listSoFar S done j)) ≡ 256
   run-long j l = padded-long (listSoFar S done j) (so-far-small S done j (w .done-small))
 
@@ -151,9 +151,9 @@ module _ (S : Units) (few : S .units ≤ 16) (done : ℕ) (table₀ table counts
   table-complete table′ small t =
       t ∙ ap (λ (l : List ℕ). paste l 4096 (padded (lastList S)) 256) (w .table-is)
       ∙ paste-behind (runs (λ i. padded (listSoFar S done i)) 16) (padded []) (drop TABLE_WORDS table₀) (padded (lastList S)) 4096
-        (runs-long (λ i. padded (listSoFar S done i)) 16 run-long) (padded-long [] (omega arith)) (padded-long (lastList S) small)
+      (runs-long (λ i. padded (listSoFar S done i)) 16 run-long) (padded-long [] (omega arith)) (padded-long (lastList S) small)
       ∙ ap (λ (l : List ℕ). l ++ (padded (lastList S) ++ drop TABLE_WORDS table₀))
-        (runs-same (λ i. padded (listSoFar S done i)) (λ i. padded (listAt S i)) 16 (λ i k. ap padded (all-lists S few done table₀ table counts w all i)))
+      (runs-same (λ i. padded (listSoFar S done i)) (λ i. padded (listAt S i)) 16 (λ i k. ap padded (all-lists S few done table₀ table counts w all i)))
 
   pub counts-complete : (counts′ : List ℕ) → counts′ ≡ set counts 16 (length (lastList S)) → counts′ ≡ countsOf S
   unfolding countsSoFar countsOf
@@ -161,7 +161,7 @@ module _ (S : Units) (few : S .units ≤ 16) (done : ℕ) (table₀ table counts
       c ∙ ap (λ (l : List ℕ). set l 16 (length (lastList S))) (w .counts-are)
       ∙ set-at (tally (λ i. length (listSoFar S done i)) 16) 0 [] (length (lastList S)) 16 (tally-long (λ i. length (listSoFar S done i)) 16)
       ∙ ap (λ (l : List ℕ). l ++ (length (lastList S) ∷ []))
-        (tally-same (λ i. length (listSoFar S done i)) (λ i. length (listAt S i)) 16 (λ i k. ap length (all-lists S few done table₀ table counts w all i)))
+      (tally-same (λ i. length (listSoFar S done i)) (λ i. length (listAt S i)) 16 (λ i k. ap length (all-lists S few done table₀ table counts w all i)))
 
 pub last-fits : (S : Units) (table : List ℕ) → length (lastList S) ≤ 256
     → workFrom S table [] ≡ record { outcome = Accepted; counts = countsOf S; table = tableOf S table }

@@ -6,3 +6,5 @@ pub mod Working
 pub mod Stepping
 pub mod LastList
 pub mod Handing
+pub mod Reading
+pub mod Demand3

@@ -89,7 +89,7 @@ runs-paste f g (suc n) rest v h k s l =
         ap₂ (λ (x y : List ℕ). x ++ take 256 (g v) ++ y) (take-at (runs f n) (f n ++ rest) (256 * v) at)
         (behind (runs f n) (f n ++ rest) (256 * v) 256 at ∙ drop-at (f n) rest 256 (h n (omega arith)))
         ∙ ap₂ (λ (x y : List ℕ). x ++ y ++ rest) (runs-same f g n (λ j m. s j (omega arith) (λ q. absurd (omega arith))))
-          (take-all 256 (g v) (omega (arith, k)) ∙ ap g e)
+        (take-all 256 (g v) (omega (arith, k)) ∙ ap g e)
 
     go : Dec (v ≡ n) → (v < n → paste (runs f n ++ (f n ++ rest)) (256 * v) (g v) 256 ≡ runs g n ++ (f n ++ rest))
         → paste (runs f n ++ f n ++ rest) (256 * v) (g v) 256 ≡ runs g n ++ g n ++ rest

@@ -50,12 +50,12 @@ pub order-end : (S : Units) (done : ℕ) → orderFrom S 0 done ≡ []
 unfolding orderFrom
 order-end S done = refl
 
-work-fits : (S : Units) (table : List ℕ) (u : ℕ) (us : List ℕ) → length (unitList S u) ≤ 256 → workFrom S table (u ∷ us) ≡ workFrom S table us
+pub work-fits : (S : Units) (table : List ℕ) (u : ℕ) (us : List ℕ) → length (unitList S u) ≤ 256 → workFrom S table (u ∷ us) ≡ workFrom S table us
 unfolding workFrom
 work-fits S table u us l =
     ap (λ (b : Bool). elim b [ true ↦ refuse (LongList u) (cleared table) | false ↦ workFrom S table us ]) (le-ltb 256 (length (unitList S u)) l)
 
-work-long : (S : Units) (table : List ℕ) (u : ℕ) (us : List ℕ) → 256 < length (unitList S u)
+pub work-long : (S : Units) (table : List ℕ) (u : ℕ) (us : List ℕ) → 256 < length (unitList S u)
     → workFrom S table (u ∷ us) ≡ refuse (LongList u) (cleared table)
 unfolding workFrom
 work-long S table u us l =
@@ -96,10 +96,10 @@ module _ (S : Units) (pass : Passes S) (table₀ : List ℕ) where
     looping-next table′ counts′ l small w = record {
       working = w;
       order = rest-order
-        (subst (InOrder S done) (order-next S (left - 1) done l) (subst (λ (n : ℕ). InOrder S done (orderFrom S n done)) (sym left-is) (p .order)));
+          (subst (InOrder S done) (order-next S (left - 1) done l) (subst (λ (n : ℕ). InOrder S done (orderFrom S n done)) (sym left-is) (p .order)));
       rest = p .rest ∙ ap (λ (n : ℕ). workFrom S table₀ (orderFrom S n done)) (sym left-is)
-        ∙ ap (workFrom S table₀) (order-next S (left - 1) done l)
-        ∙ work-fits S table₀ (nextUnit S done) (orderFrom S (left - 1) (done ∪ atom (nextUnit S done))) small
+          ∙ ap (workFrom S table₀) (order-next S (left - 1) done l)
+          ∙ work-fits S table₀ (nextUnit S done) (orderFrom S (left - 1) (done ∪ atom (nextUnit S done))) small;
     }
 
     looping-long : nextUnit S done < S .units → 256 < length (unitList S (nextUnit S done))
@@ -161,8 +161,8 @@ done-long (unit-long l t c) e = (l, t, c)
 
 pub unit-done : (members : List ℕ) (rules heads′ : List ℕ) (unit : Unit) (within base place : ℕ) (table counts table′ counts′ : List ℕ) (b : Bool)
     → ((list : List ℕ) (r : ℕ)
-      → Gathered (Grown (replicate {A = ℕ} 256 0) 0 (Wanted rules table counts heads′ unit (record { up = 0; dropped = below 64 ∖ within }))) list r
-      → UnitWorked members list r)
+    → Gathered (Grown (replicate {A = ℕ} 256 0) 0 (Wanted rules table counts heads′ unit (record { up = 0; dropped = below 64 ∖ within }))) list r
+    → UnitWorked members list r)
     → ListWorked rules heads′ unit within base place table counts table′ counts′ b
     → UnitDone members base place table counts table′ counts′ b
 unit-done members rules heads′ unit within base place table counts table′ counts′ b f (fitted {list = list} {r = r} small g t c) =
@@ -178,10 +178,10 @@ unit-done members rules heads′ unit within base place table counts table′ co
 -- ---- what the search of a unit is lent
 
 module _ (rules : List ℕ) (n : ℕ) (units : List ℕ) (m : ℕ) (predecessors heads′ inputs : List ℕ)
-  (s : Setting rules n units m predecessors heads′ inputs) where
+    (s : Setting rules n units m predecessors heads′ inputs) where
   pub rules-lent : (w : ℕ) → Lent rules (w ∩ below n)
   rules-lent w = record {
-    each = λ r h. let l : r < n = below-lt n (cut-right w (below n) h) in omega (arith, s .lent-words .rules-there)
+    each = λ r h. let l : r < n = below-lt n (cut-right w (below n) h) in omega (arith, s .lent-words .rules-there);
   }
 
   pub named-few : (u v : ℕ) → u < m → Has (getD predecessors u 0) v → v < 16
@@ -197,15 +197,15 @@ module _ (rules : List ℕ) (n : ℕ) (units : List ℕ) (m : ℕ) (predecessors
     heads-long = s .heads-long;
     few = lt-of-has w 16 f;
     small = λ v l.
-      subst (λ (k : ℕ). k ≤ 256)
-      (sym (ap (λ (c : List ℕ). getD c v 0) (p .counts-are) ∙ tally-at (λ i. length (listSoFar (unitsOf rules n units m predecessors) done i)) 16 (0 ∷ []) v l))
-      (so-far-small (unitsOf rules n units m predecessors) done v (p .done-small))
+        subst (λ (k : ℕ). k ≤ 256)
+        (sym (ap (λ (c : List ℕ). getD c v 0) (p .counts-are) ∙ tally-at (λ i. length (listSoFar (unitsOf rules n units m predecessors) done i)) 16 (0 ∷ []) v l))
+        (so-far-small (unitsOf rules n units m predecessors) done v (p .done-small));
   }
 
   module _ (done : ℕ) (table₀ table counts : List ℕ) (p : Working (unitsOf rules n units m predecessors) done table₀ table counts)
-    (u : ℕ) (l : u < m) (ready : Ready (unitsOf rules n units m predecessors) done u) (unit : Unit)
-    (numbers : unit .rules ≡ getD units u 0 ∩ below n) (input : unit .inputs ≡ getD inputs u 0)
-    (edges : unit .predecessors ≡ getD predecessors u 0) where
+      (u : ℕ) (l : u < m) (ready : Ready (unitsOf rules n units m predecessors) done u) (unit : Unit)
+      (numbers : unit .rules ≡ getD units u 0 ∩ below n) (input : unit .inputs ≡ getD inputs u 0)
+      (edges : unit .predecessors ≡ getD predecessors u 0) where
     edge-there : (v : ℕ) → Has (unit .predecessors) v → Edge (unitsOf rules n units m predecessors) u v
     unfolding unitsOf
     edge-there v h =
@@ -222,8 +222,8 @@ module _ (rules : List ℕ) (n : ℕ) (units : List ℕ) (m : ℕ) (predecessors
       of-edge = λ v e. subst (λ (w : ℕ). Has w v) (sym edges) (e .edge);
       heads-are = λ v e. s .heads-are v (e .is-predecessor);
       stored = λ v e.
-        working-stored (unitsOf rules n units m predecessors) (s .lent-words .units-most) done table₀ table counts p v
-        (ready .predecessors-done v e)
+          working-stored (unitsOf rules n units m predecessors) (s .lent-words .units-most) done table₀ table counts p v
+          (ready .predecessors-done v e);
     }
 
     -- what the search answers of the unit's list

@@ -69,7 +69,7 @@ working-start S table counts long c z = record {
   counts-are = z ∙ counts-zero;
   long = long;
   done-units = λ v h. absurd (has-none h);
-  done-small = λ v h. absurd (has-none h)
+  done-small = λ v h. absurd (has-none h);
 }
   where
     empty-run : (i : ℕ) → i < 16 → replicate {A = ℕ} 256 0 ≡ padded (listSoFar S 0 i)
@@ -79,7 +79,7 @@ working-start S table counts long c z = record {
     zeros =
         sym (replicate-append-replicate {A = ℕ} 4096 256 0)
         ∙ ap₂ (λ (a b : List ℕ). a ++ b) (sym (runs-zero 16) ∙ runs-same (λ i. replicate {A = ℕ} 256 0) (λ i. padded (listSoFar S 0 i)) 16 empty-run)
-          (sym zeros-padded)
+        (sym zeros-padded)
 
     counts-zero : replicate {A = ℕ} 17 0 ≡ tally (λ i. length (listSoFar S 0 i)) 16 ++ (0 ∷ [])
     counts-zero =
@@ -106,10 +106,10 @@ module _ (S : Units) (few : S .units ≤ 16) (done : ℕ) (table₀ table counts
         counted = ap (λ (c : List ℕ). getD c v 0) (w .counts-are) ∙ tally-at (λ i. length (listSoFar S done i)) 16 (0 ∷ []) v l ∙ ap length e;
         small = w .done-small v h;
         words = λ i k.
-          ap (λ (t : List ℕ). getD t (256 * v + i) 0) (w .table-is)
-          ∙ runs-at (λ j. padded (listSoFar S done j)) 16 (padded [] ++ drop TABLE_WORDS table₀) v i run-long l (omega (arith, w .done-small v h))
-          ∙ ap (λ (x : List ℕ). getD (padded x) i 0) e
-          ∙ padded-at (unitList S v) i k
+            ap (λ (t : List ℕ). getD t (256 * v + i) 0) (w .table-is)
+            ∙ runs-at (λ j. padded (listSoFar S done j)) 16 (padded [] ++ drop TABLE_WORDS table₀) v i run-long l (omega (arith, w .done-small v h))
+            ∙ ap (λ (x : List ℕ). getD (padded x) i 0) e
+            ∙ padded-at (unitList S v) i k;
       }
 
   -- one unit more
@@ -119,17 +119,17 @@ module _ (S : Units) (few : S .units ≤ 16) (done : ℕ) (table₀ table counts
   unfolding tableSoFar countsSoFar
   working-next u table′ counts′ l small t c = record {
     table-is = t
-      ∙ ap₂ (λ (a b : List ℕ). paste a (256 * u) b 256) (w .table-is) (ap padded (sym here))
-      ∙ runs-paste (λ j. padded (listSoFar S done j)) (λ j. padded (listSoFar S (done ∪ atom u) j)) 16 (padded [] ++ drop TABLE_WORDS table₀) u
+        ∙ ap₂ (λ (a b : List ℕ). paste a (256 * u) b 256) (w .table-is) (ap padded (sym here))
+        ∙ runs-paste (λ j. padded (listSoFar S done j)) (λ j. padded (listSoFar S (done ∪ atom u) j)) 16 (padded [] ++ drop TABLE_WORDS table₀) u
         run-long (ap (λ (x : List ℕ). length (padded x)) here ∙ padded-long (unitList S u) small)
         (λ j k n. ap padded (so-far-other S done u j n)) (omega arith);
     counts-are = c
-      ∙ ap₂ (λ (a : List ℕ) (b : ℕ). set a u b) (w .counts-are) (ap length (sym here))
-      ∙ tally-set (λ j. length (listSoFar S done j)) (λ j. length (listSoFar S (done ∪ atom u) j)) 16 (0 ∷ []) u
+        ∙ ap₂ (λ (a : List ℕ) (b : ℕ). set a u b) (w .counts-are) (ap length (sym here))
+        ∙ tally-set (λ j. length (listSoFar S done j)) (λ j. length (listSoFar S (done ∪ atom u) j)) 16 (0 ∷ []) u
         (λ j k n. ap length (so-far-other S done u j n)) (omega arith);
     long = w .long;
     done-units = λ v h. unit v (union-cases done (atom u) h);
-    done-small = λ v h. fits v (union-cases done (atom u) h)
+    done-small = λ v h. fits v (union-cases done (atom u) h);
   }
     where
       here : listSoFar S (done ∪ atom u) u ≡ unitList S u
@@ -153,7 +153,7 @@ module _ (S : Units) (few : S .units ≤ 16) (done : ℕ) (table₀ table counts
       ap (drop TABLE_WORDS) (w .table-is)
       ∙ ap (drop TABLE_WORDS) (sym (append-assoc (runs (λ i. padded (listSoFar S done i)) 16) (padded []) (drop TABLE_WORDS table₀)))
       ∙ drop-at (runs (λ i. padded (listSoFar S done i)) 16 ++ padded []) (drop TABLE_WORDS table₀) TABLE_WORDS
-        (length-append (runs (λ i. padded (listSoFar S done i)) 16) (padded []) ∙ omega (arith, runs-words, padded-long [] (omega arith)))
+      (length-append (runs (λ i. padded (listSoFar S done i)) 16) (padded []) ∙ omega (arith, runs-words, padded-long [] (omega arith)))
 
   pub working-long : length table ≡ length table₀
   unfolding tableSoFar

@@ -4,3 +4,4 @@ pub mod Answer
 pub mod Stored
 pub mod Work
 pub mod Handed
+pub mod Demands

@@ -23,10 +23,10 @@ inList S zero u M = false
 inList S (suc depth) u M =
     someBelow (suc (inputHeads S u))
     (λ J.
-      elim (answerSet (S .program) (S .unit u ∩ below (S .rules)) J M) [
-        | true ↦ isInput S (inList S depth) u J
-        | false ↦ false
-      ])
+    elim (answerSet (S .program) (S .unit u ∩ below (S .rules)) J M) [
+      | true ↦ isInput S (inList S depth) u J
+      | false ↦ false
+    ])
 
 -- the list of u, rising; an edge leads to a unit that reaches less, so what u reaches is depth enough
 unfoldable pub unitList : Units → ℕ → List ℕ

@@ -82,7 +82,16 @@ pub fn work_units(
             inputs: inputs[u],
             predecessors: predecessors[u],
         };
-        if !work_list(rules, heads, unit, heads[u], LIST_WORDS * u, u, table, counts) {
+        if !work_list(
+            rules,
+            heads,
+            unit,
+            heads[u],
+            LIST_WORDS * u,
+            u,
+            table,
+            counts,
+        ) {
             return Work::Long(u);
         }
         done = atoms::union(done, atoms::single(u));
@@ -92,7 +101,13 @@ pub fn work_units(
 }
 
 // The last list: that of one more unit, with no rules and an edge to every unit.
-pub fn work_last(rules: &[u64], unit_count: usize, heads: &[u64], table: &mut [u64], counts: &mut [usize]) -> bool
+pub fn work_last(
+    rules: &[u64],
+    unit_count: usize,
+    heads: &[u64],
+    table: &mut [u64],
+    counts: &mut [usize],
+) -> bool
     requires { ⌜ LastLent «unit_count» (now table) (now counts) (now heads) ⌝ }
     ensures { λ r. ⌜ LastWorked (now (rules .entry)) «unit_count» (now (heads .entry)) (now (table .entry)) (now (counts .entry)) (now (table .exit)) (now (counts .exit)) r ⌝ }
 {
@@ -103,7 +118,16 @@ pub fn work_last(rules: &[u64], unit_count: usize, heads: &[u64], table: &mut [u
         inputs,
         predecessors: every,
     };
-    work_list(rules, heads, unit, inputs, LAST_LIST, LAST_COUNT, table, counts)
+    work_list(
+        rules,
+        heads,
+        unit,
+        inputs,
+        LAST_LIST,
+        LAST_COUNT,
+        table,
+        counts,
+    )
 }
 
 // Unit work on a plan that passed the graph place: all lists, or the first that is above 256.
@@ -120,7 +144,15 @@ pub fn work_plan(
 {
     let mut heads = [0u64; MAX_UNITS];
     let mut inputs = [0u64; MAX_UNITS];
-    fill_head_atoms(rules, rule_count, units, unit_count, predecessors, &mut heads, &mut inputs);
+    fill_head_atoms(
+        rules,
+        rule_count,
+        units,
+        unit_count,
+        predecessors,
+        &mut heads,
+        &mut inputs,
+    );
     clear(table);
     let mut counts = [0usize; COUNTS];
     let worked = work_units(

@@ -25,7 +25,7 @@ work-list-requires c κs =
     let first = c .before .before .before .first in (
       record {
         rules-lent = record { each = λ r h. absurd (has-none h) };
-        joinable = subst (λ (w : ℕ). Joinable (now (at .table)) (now (at .counts)) (now (at .heads)) w) (sym (first .ensures)) (pre .joinable)
+        joinable = subst (λ (w : ℕ). Joinable (now (at .table)) (now (at .counts)) (now (at .heads)) w) (sym (first .ensures)) (pre .joinable);
       },
       omega (arith, pre .table-long),
       omega (arith, pre .counts-long),
@@ -47,7 +47,7 @@ returns c =
       is = union .ensures ∙ ap (λ (w : ℕ). unionIn (at .unit-count) w (λ (v : ℕ). getD (now (at .heads)) v 0)) (first .ensures);
       fits = union .ok;
       worked = subst (λ (w : ℕ). ListWorked (now (at .rules)) (now (at .heads)) (record { rules = 0; inputs = union .result; predecessors = w }) (union .result) 4096 16 (now (at .table)) (now (at .counts)) (c .before .before .before .before .work-list .last .1 .1 .1 .1 .1 .1 .0) (c .before .before .before .before .work-list .last .1 .1 .1 .1 .1 .1 .1 .0) (c .before .before .before .before .work-list .result))
-        (first .ensures) (c .before .before .before .before .work-list .ensures)
+          (first .ensures) (c .before .before .before .before .work-list .ensures);
     }
 
 pub work-last-spec : {M : Type 1} → statement M

@@ -42,8 +42,7 @@ slice-aggregate-work-units-3 c = search needs
 
 work-units-requires : tie.Need-work-units-requires
 work-units-requires c κs =
-    let at = c .before .before .before .before .before .before .before .before .before .before .before .before .before .before .before .before .before .args in
-    (
+    let at = c .before .before .before .before .before .before .before .before .before .before .before .before .before .before .before .before .before .args in (
       setting (c .before .before .before .before .before .before .before .before .before .before),
       cleared-start (unitsOf (now (at .rules)) (at .rule-count) (now (at .units)) (at .unit-count) (now (at .predecessors))) (now (at .table)) (c .before .before .before .before .before .before .clear .last .0) (replicate {A = ℕ} 17 0) (c .before .before .before .before .before .before .before .before .before .before .before .before .before .before .before .before .before .pre .long) (c .before .before .before .before .before .before .clear .kept .0) (c .before .before .before .before .before .before .clear .ensures) refl,
     )

@@ -89,7 +89,7 @@ returns c =
     let at = c .before .before .before .before .before .before .before .before .before .before .before .args in
     let l = c .before .before .before .loop in
     let stop = looping-stop (unitsOf (now (at .rules)) (at .rule-count) (now (at .units)) (at .unit-count) (now (at .predecessors))) (c .before .before .before .before .before .before .before .before .before .before .before .pre .0 .passes) (now (at .table)) (l .table) (l .counts) (l .done) (l .left) (l .inv) (c .before .before .loop-test .taken)
-      (subst (λ (k : ℕ). at .unit-count ≤ k) (next-is (c .before)) (c .if1 .taken)) in
+    (subst (λ (k : ℕ). at .unit-count ≤ k) (next-is (c .before)) (c .if1 .taken)) in
     all-fit (stop .0) (stop .1) (l .inv .working)
 
 -- src/work.rt:69:31
@@ -149,7 +149,7 @@ work-list-requires c κs =
       record {
         rules-lent = subst (Lent (now (at .rules))) (sym (c .before .before .before .before .before .cut .ensures ∙ ap (λ (w : ℕ). getD (now (at .units)) u 0 ∩ w) (c .before .before .before .before .before .before .first .ensures))) (rules-lent (now (at .rules)) (at .rule-count) (now (at .units)) (at .unit-count) (now (at .predecessors)) (now (at .heads)) (now (at .inputs)) (c .before .before .before .before .before .before .before .before .before .before .before .before .before .before .before .before .before .before .before .pre .0) (getD (now (at .units)) u 0));
         joinable = joinable (now (at .rules)) (at .rule-count) (now (at .units)) (at .unit-count) (now (at .predecessors)) (now (at .heads)) (now (at .inputs)) (c .before .before .before .before .before .before .before .before .before .before .before .before .before .before .before .before .before .before .before .pre .0) (l .done) (now (at .table)) (l .table) (l .counts) (getD (now (at .predecessors)) u 0) (l .inv .working)
-          (λ v h. named-few (now (at .rules)) (at .rule-count) (now (at .units)) (at .unit-count) (now (at .predecessors)) (now (at .heads)) (now (at .inputs)) (c .before .before .before .before .before .before .before .before .before .before .before .before .before .before .before .before .before .before .before .pre .0) u v small h)
+            (λ v h. named-few (now (at .rules)) (at .rule-count) (now (at .units)) (at .unit-count) (now (at .predecessors)) (now (at .heads)) (now (at .inputs)) (c .before .before .before .before .before .before .before .before .before .before .before .before .before .before .before .before .before .before .before .pre .0) u v small h);
       },
       omega (arith, long, l .inv .working .long, small, c .before .before .before .before .before .before .before .before .before .before .before .before .before .before .before .before .before .before .before .pre .0 .lent-words .units-most),
       omega (arith, many, small, c .before .before .before .before .before .before .before .before .before .before .before .before .before .before .before .before .before .before .before .pre .0 .lent-words .units-most),
@@ -159,7 +159,7 @@ work-list-requires c κs =
 -- what the unit's list has come to
 worked : (c : tie.After-work-list Inv-loop μ-loop)
     → UnitDone (unitList (unitsOf (now (c .before .before .before .before .before .before .before .before .before .before .before .before .before .before .before .before .before .before .before .before .args .rules)) (c .before .before .before .before .before .before .before .before .before .before .before .before .before .before .before .before .before .before .before .before .args .rule-count) (now (c .before .before .before .before .before .before .before .before .before .before .before .before .before .before .before .before .before .before .before .before .args .units)) (c .before .before .before .before .before .before .before .before .before .before .before .before .before .before .before .before .before .before .before .before .args .unit-count) (now (c .before .before .before .before .before .before .before .before .before .before .before .before .before .before .before .before .before .before .before .before .args .predecessors))) (c .before .before .before .before .before .before .before .before .before .before .next-unit .result))
-      (256 * c .before .before .before .before .before .before .before .before .before .before .next-unit .result) (c .before .before .before .before .before .before .before .before .before .before .next-unit .result) (c .before .before .before .before .before .before .before .before .before .before .before .before .loop .table) (c .before .before .before .before .before .before .before .before .before .before .before .before .loop .counts) (c .work-list .last .1 .1 .1 .1 .1 .1 .0) (c .work-list .last .1 .1 .1 .1 .1 .1 .1 .0) (c .work-list .result)
+    (256 * c .before .before .before .before .before .before .before .before .before .before .next-unit .result) (c .before .before .before .before .before .before .before .before .before .before .next-unit .result) (c .before .before .before .before .before .before .before .before .before .before .before .before .loop .table) (c .before .before .before .before .before .before .before .before .before .before .before .before .loop .counts) (c .work-list .last .1 .1 .1 .1 .1 .1 .0) (c .work-list .last .1 .1 .1 .1 .1 .1 .1 .0) (c .work-list .result)
 unfolding unitsOf
 worked c =
     let at = c .before .before .before .before .before .before .before .before .before .before .before .before .before .before .before .before .before .before .before .before .args in

@@ -1,0 +1,197 @@
+-- Demand 3, from the answer that the function hands back and the theorem of the splitting theory.
+use mathlib.Core.Path.{_≡_, refl, sym, ap, ap₂, _∙_, subst}
+use mathlib.Core.Bool.{Bool, true, false}
+use mathlib.Core.Logic.{_↔_, _⊎_, inl, inr}
+use mathlib.Core.List.{List, [], _∷_, _++_, append-assoc, List·Memᴰ, List·Memᴰ·not-nil, List·Memᴰ·cases-cons}
+use Prim.Native.Nat.{ℕ, _-_, _≤_, _<_}
+use native.Mathlib.Omega.{arith}
+use native.Mathlib.Decide.{decLt}
+use lib.Dec.{ltb}
+use lib.ListN.{length, take, drop, getD, replicate}
+use lib.Seq.{take-at, drop-at, getD-at}
+use borrow.Author.Tests.{lt-ltb, le-ltb}
+use Rattle.atoms.specs.Word.{below}
+use Rattle.atoms.specs.Rising.{Rising}
+use Rattle.answer_sets.specs.AnswerSet.{AnswerSet}
+use Rattle.answer_sets.specs.Lent.{lent}
+use Rattle.plan.specs.Record.{Fitting}
+use Rattle.plan.specs.Reading.{reading}
+use Rattle.plan.specs.Layout.{IsByte, All}
+use Rattle.plan.specs.declared.fault.Fault.{Fault}
+use Rattle.plan.specs.declared.fault.Fault.the-variants.{LongList}
+use Rattle.plan.specs.declared.record.Plan.{Plan}
+use Rattle.plan.specs.declared.reader.Outcome.{Outcome}
+use Rattle.plan.specs.declared.reader.Outcome.the-variants.{Accepted, Refused}
+use Rattle.plan.proofs.Limits.{record-fits}
+use Rattle.dependency_graph.specs.Units.{Units, GivenFree, LooksOnly}
+use Rattle.dependency_graph.specs.Graph.{Passes, Acyclic}
+use Rattle.dependency_graph.specs.Order.{workingOrder}
+use Rattle.dependency_graph.specs.Slices.{unitsOf}
+use Rattle.dependency_graph.specs.Check.{verdict}
+use Rattle.dependency_graph.proofs.Order.{order-each}
+use Rattle.dependency_graph.proofs.Slices.{given-free, looks-only}
+use Rattle.dependency_graph.proofs.Verdicts.{verdict-of-passes}
+use Rattle.splitting.specs.UnitList.{Clean, withLast}
+use Rattle.splitting.proofs.Last.{last-list, last-passes, last-free}
+use Rattle.unit_search.specs.Listing.{padded}
+use Rattle.unit_lists.specs.Lists.{unitList, lastList}
+use Rattle.unit_lists.specs.Table.{TABLE_WORDS, runs, tally, listAt, tableOf, countsOf, cleared}
+use Rattle.unit_lists.specs.Answer.{Answer, refuse, workFrom, planUnits, afterGraph, answer}
+use Rattle.unit_lists.specs.Handed.{Handed}
+use Rattle.unit_lists.specs.Demands.{FirstLong, here, later, last, lastIn, ListsAll, Complete, Demand3}
+use Rattle.unit_lists.specs.declared.Listing.{Listing}
+use Rattle.unit_lists.proofs.Decided.{unit-list-at, unit-list-has}
+use Rattle.unit_lists.proofs.Joined.{unit-list-rising}
+use Rattle.unit_lists.proofs.Runs.{padded-long, runs-long, tally-long}
+use Rattle.unit_lists.proofs.Handing.{read-answer}
+use Rattle.unit_lists.proofs.Stepping.{work-fits, work-long}
+use Rattle.unit_lists.proofs.LastList.{last-fits, last-long}
+use Rattle.unit_lists.proofs.Reading.{plan-clean}
+
+-- ---- refusal 15
+
+long-refused : (S : Units) (table us : List ℕ) (u : ℕ) → FirstLong S us u → workFrom S table us .outcome ≡ Refused (LongList u)
+long-refused S table us u (here {u = v} {us = vs} l) = ap (λ (a : Answer). a .outcome) (work-long S table v vs l)
+long-refused S table us u (later {u = v} {w = w} {us = vs} l f) =
+    ap (λ (a : Answer). a .outcome) (work-fits S table v vs l) ∙ long-refused S table vs w f
+long-refused S table us u (last l) = ap (λ (a : Answer). a .outcome) (last-long S table l)
+
+same-spot : (u v : ℕ) → Refused (LongList v) ≡ Refused (LongList u) → v ≡ u
+same-spot u v e = cc
+
+not-accepted : (f : Fault) → Accepted ≡ Refused f → ⊥
+not-accepted f e = let z : _≡_ {A = ℕ} 0 1 = cc in omega arith
+
+refused-long : (S : Units) (table us : List ℕ) (u : ℕ) → workFrom S table us .outcome ≡ Refused (LongList u) → FirstLong S us u
+refused-long S table [] u e = go (decLt 256 (length (lastList S)))
+  where
+    go : Dec (256 < length (lastList S)) → FirstLong S [] u
+    go (yes l) =
+        subst (FirstLong S []) (same-spot u (S .units) (sym (ap (λ (a : Answer). a .outcome) (last-long S table l)) ∙ e)) (last l)
+    go (no n) = absurd (not-accepted (LongList u) (sym (ap (λ (a : Answer). a .outcome) (last-fits S table (omega arith))) ∙ e))
+refused-long S table (v ∷ vs) u e = go (decLt 256 (length (unitList S v))) (refused-long S table vs u)
+  where
+    go : Dec (256 < length (unitList S v)) → (workFrom S table vs .outcome ≡ Refused (LongList u) → FirstLong S vs u) → FirstLong S (v ∷ vs) u
+    go (yes l) r =
+        subst (FirstLong S (v ∷ vs)) (same-spot u v (sym (ap (λ (a : Answer). a .outcome) (work-long S table v vs l)) ∙ e)) (here l)
+    go (no n) r =
+        let l : length (unitList S v) ≤ 256 = omega arith in
+        later l (r (sym (ap (λ (a : Answer). a .outcome) (work-fits S table v vs l)) ∙ e))
+
+-- ---- otherwise: every list fits
+
+none-long : (S : Units) (table us : List ℕ) → ((u : ℕ) → ¬ FirstLong S us u)
+    → workFrom S table us ≡ record { outcome = Accepted; counts = countsOf S; table = tableOf S table }
+none-long S table [] f = last-fits S table (let n : ¬ (256 < length (lastList S)) = λ l. f (S .units) (last l) in omega arith)
+none-long S table (v ∷ vs) f =
+    let n : ¬ (256 < length (unitList S v)) = λ l. f v (here l) in
+    work-fits S table v vs (omega arith) ∙ none-long S table vs (λ u g. f u (later (omega arith) g))
+
+none-long-small : (S : Units) (us : List ℕ) → ((u : ℕ) → ¬ FirstLong S us u) → length (lastList S) ≤ 256
+none-long-small S [] f = let n : ¬ (256 < length (lastList S)) = λ l. f (S .units) (last l) in omega arith
+none-long-small S (v ∷ vs) f =
+    let n : ¬ (256 < length (unitList S v)) = λ l. f v (here l) in
+    none-long-small S vs (λ u g. f u (later (omega arith) g))
+
+-- each list that is in the table has at most 256 members
+order-small : (S : Units) (us : List ℕ) → ((u : ℕ) → ¬ FirstLong S us u) → (u : ℕ) → List·Memᴰ u us → length (unitList S u) ≤ 256
+order-small S [] f u m = absurd (List·Memᴰ·not-nil m)
+order-small S (v ∷ vs) f u m =
+    let n : ¬ (256 < length (unitList S v)) = λ l. f v (here l) in
+    let small : length (unitList S v) ≤ 256 = omega arith in
+    go small (List·Memᴰ·cases-cons m) (order-small S vs (λ w g. f w (later small g)) u)
+  where
+    go : length (unitList S v) ≤ 256 → (u ≡ v) ⊎ List·Memᴰ u vs → (List·Memᴰ u vs → length (unitList S u) ≤ 256) → length (unitList S u) ≤ 256
+    go l (inl e) r = subst (λ (x : ℕ). length (unitList S x) ≤ 256) (sym e) l
+    go l (inr k) r = r k
+
+module _ (S : Units) (acyclic : Acyclic S) (table : List ℕ) (none : (u : ℕ) → ¬ FirstLong S (workingOrder S) u) where
+  list-small : (i : ℕ) → length (listAt S i) ≤ 256
+  unfolding listAt
+  list-small i = go (decLt i (S .units))
+    where
+      picked : Bool → List ℕ
+      picked b = elim b [ true ↦ unitList S i | false ↦ [] ]
+
+      go : Dec (i < S .units) → length (picked (ltb i (S .units))) ≤ 256
+      go (yes l) =
+          subst (λ (b : Bool). length (picked b) ≤ 256) (sym (lt-ltb i (S .units) l))
+          (order-small S (workingOrder S) none i (order-each S acyclic i l))
+      go (no n) = subst (λ (b : Bool). length (picked b) ≤ 256) (sym (le-ltb i (S .units) (omega arith))) (omega arith)
+
+  last-words : drop 4096 (tableOf S table) ≡ padded (lastList S) ++ drop TABLE_WORDS table
+  unfolding tableOf
+  last-words =
+      drop-at (runs (λ i. padded (listAt S i)) 16) (padded (lastList S) ++ drop TABLE_WORDS table) 4096
+      (runs-long (λ i. padded (listAt S i)) 16 (λ i l. padded-long (listAt S i) (list-small i)))
+
+  last-count : getD (countsOf S) 16 0 ≡ length (lastList S)
+  unfolding countsOf
+  last-count = getD-at (tally (λ i. length (listAt S i)) 16) (length (lastList S)) [] 0 16 (tally-long (λ i. length (listAt S i)) 16)
+
+  -- the words from 4,096 on, as many as the last count says
+  pub last-in-table : take (getD (countsOf S) 16 0) (drop 4096 (tableOf S table)) ≡ lastList S
+  unfolding padded
+  last-in-table =
+      ap (take (getD (countsOf S) 16 0)) (last-words ∙ append-assoc (lastList S) (replicate {A = ℕ} (256 - length (lastList S)) 0) (drop TABLE_WORDS table))
+      ∙ take-at (lastList S) (replicate {A = ℕ} (256 - length (lastList S)) 0 ++ drop TABLE_WORDS table) (getD (countsOf S) 16 0) (sym last-count)
+
+-- the last list is the list of the answer sets of the whole program
+last-answer-sets : (S : Units) → Passes S → LooksOnly S → GivenFree S → Clean S → S .rules ≤ 64 → (M : ℕ)
+    → List·Memᴰ M (lastList S) ↔ AnswerSet (S .program) (below (S .rules)) (S .given) M
+unfolding lastList withLast
+last-answer-sets S pass looks free clean small M =
+    let l : S .units < withLast S .units = omega arith in
+    let T = last-list S pass looks free clean M in (
+      λ m. T .0 (unit-list-at (withLast S) (last-passes S clean pass) (last-free S free) small (S .units) M l m),
+      λ a. unit-list-has (withLast S) (last-passes S clean pass) (last-free S free) small (S .units) M l (T .1 a),
+    )
+
+last-rising : (S : Units) → Rising (lastList S)
+unfolding lastList
+last-rising S = unit-list-rising (withLast S) (S .units)
+
+-- ---- the demand
+
+module _ (bytes table : List ℕ) (all : All IsByte bytes) (r : Listing) (table′ : List ℕ) (h : Handed (answer bytes table) r table′) where
+  module _ (read : reading bytes .outcome ≡ Accepted) (pass : Passes (planUnits (reading bytes .plan))) (long : 4352 ≤ length table) where
+    worked : answer bytes table ≡ workFrom (planUnits (reading bytes .plan)) table (workingOrder (planUnits (reading bytes .plan)))
+    unfolding afterGraph
+    worked =
+        read-answer bytes table long read
+        ∙ ap (afterGraph (planUnits (reading bytes .plan)) table) (verdict-of-passes (planUnits (reading bytes .plan)) pass)
+
+    outcome-is : r .outcome ≡ workFrom (planUnits (reading bytes .plan)) table (workingOrder (planUnits (reading bytes .plan))) .outcome
+    outcome-is = h .outcome-is ∙ ap (λ (a : Answer). a .outcome) worked
+
+    lists-all : ((u : ℕ) → ¬ FirstLong (planUnits (reading bytes .plan)) (workingOrder (planUnits (reading bytes .plan))) u)
+        → ListsAll (reading bytes .plan) r table′
+    unfolding planUnits unitsOf
+    lists-all none =
+        let p = reading bytes .plan in
+        let S = planUnits p in
+        let e = worked ∙ none-long S table (workingOrder S) none in
+        let counts : r .counts ≡ countsOf S = h .counts-are ∙ ap (λ (a : Answer). a .counts) e in
+        let words : table′ ≡ tableOf S table = h .table-is ∙ ap (λ (a : Answer). a .table) e in
+        let last : lastIn r table′ ≡ lastList S =
+        ap₂ (λ (c t : List ℕ). take (getD c 16 0) (drop 4096 t)) counts words ∙ last-in-table S (pass .acyclic) table none in
+        let sets = last-answer-sets S pass (looks-only (p .rules) (p .«rule_count») (p .units) (p .«unit_count») (p .predecessors))
+        (given-free (p .rules) (p .«rule_count») (p .units) (p .«unit_count») (p .predecessors)) (plan-clean bytes all read) (record-fits bytes .rules-fit) in
+        record {
+          accepted = h .outcome-is ∙ ap (λ (a : Answer). a .outcome) e;
+          rising = subst Rising (sym last) (last-rising S);
+          members = λ M. subst (λ (l : List ℕ). List·Memᴰ M l ↔ AnswerSet (lent (p .rules)) (below (p .«rule_count»)) 0 M) (sym last) (sets M);
+          counted = ap length last ∙ sym (ap (λ (c : List ℕ). getD c 16 0) counts ∙ last-count S (pass .acyclic) table none);
+        }
+
+    complete : Complete (reading bytes .plan) r table′
+    complete = record {
+      fifteen = λ u. (
+        λ e. refused-long (planUnits (reading bytes .plan)) table (workingOrder (planUnits (reading bytes .plan))) u (sym outcome-is ∙ e),
+        λ f. outcome-is ∙ long-refused (planUnits (reading bytes .plan)) table (workingOrder (planUnits (reading bytes .plan))) u f,
+      );
+      otherwise = lists-all;
+    }
+
+  pub demand-3 : Demand3 bytes table r table′
+  demand-3 = record { complete = complete }

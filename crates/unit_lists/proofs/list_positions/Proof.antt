@@ -1,0 +1,90 @@
+-- The table, then reading, then the graph: the first fault counts.
+use mathlib.Core.Path.{refl, ap, sym, subst, _∙_}
+use denote.Ref.{now}
+use lib.ListN.{length}
+use Rattle.plan.specs.Record.{Fitting}
+use Rattle.plan.specs.declared.fault.Fault.the-variants.{TableShort}
+use Rattle.plan.specs.declared.reader.Reading.{Reading}
+use Rattle.plan.proofs.Limits.{record-fits, all-bytes}
+use Rattle.dependency_graph.specs.Check.{verdict}
+use Rattle.splitting.specs.UnitList.{Clean}
+use Rattle.unit_lists.specs.Answer.{Answer, planUnits, afterGraph, answer}
+use Rattle.unit_lists.specs.Handed.{Handed}
+use Rattle.unit_lists.proofs.Handing.{handed-refused, short-answer, refused-answer, read-answer}
+use Rattle.unit_lists.proofs.Reading.{plan-clean}
+use Rattle.unit_lists.proofs.Demand3.{demand-3}
+use borrow.Author.Needs.{needs}
+use Rattle.unit_lists.proofs.list_positions.Statement.{statement}
+use Rattle.unit_lists.proofs.list_positions.Tie as tie
+
+refuse-requires : tie.Need-refuse-requires
+refuse-requires c κs = search needs
+
+returns : tie.Need-returns
+returns c =
+    let at = c .before .before .before .before .args in
+    let handed : Handed (answer (now (at .plan)) (now (at .table))) (c .refuse .result) (now (c .before .before .before .before .args .table)) =
+    handed-refused (answer (now (at .plan)) (now (at .table))) (TableShort (length (now (at .table)))) (c .refuse .result) (now (at .table)) (now (at .table))
+    (short-answer (now (at .plan)) (now (at .table)) (c .before .if1 .taken)) (c .refuse .ensures) refl in
+    (handed, demand-3 (now (at .plan)) (now (at .table)) (all-bytes (now (at .plan)) (λ i. c .before .before .before .shared-slice-known .given i .fits)) (c .refuse .result) (now (c .before .before .before .before .args .table)) handed)
+
+read-plan-requires : tie.Need-read-plan-requires
+read-plan-requires c κs = search needs
+
+enum-known-outcome : tie.Need-enum-known-outcome
+enum-known-outcome c = search needs
+
+refuse-requires-2 : tie.Need-refuse-requires-2
+refuse-requires-2 c κs = search needs
+
+returns-2 : tie.Need-returns-2
+returns-2 c =
+    let at = c .before .before .before .before .before .before .before .before .args in
+    let handed : Handed (answer (now (at .plan)) (now (at .table))) (c .refuse2 .result) (now (c .before .before .before .before .before .before .before .before .args .table)) =
+    handed-refused (answer (now (at .plan)) (now (at .table))) (c .before .before .outcome .given .0 .0) (c .refuse2 .result) (now (at .table)) (now (at .table))
+    (refused-answer (now (at .plan)) (now (at .table)) (c .before .before .outcome .given .0 .0) (c .before .before .before .before .before .if1 .left)
+    (sym (ap (λ (r : Reading). r .outcome) (c .before .before .before .before .read-plan .ensures)) ∙ c .before .before .outcome .given .1)) (c .refuse2 .ensures) refl in
+    (handed, demand-3 (now (at .plan)) (now (at .table)) (all-bytes (now (at .plan)) (λ i. c .before .before .before .before .before .before .before .shared-slice-known .given i .fits)) (c .refuse2 .result) (now (c .before .before .before .before .before .before .before .before .args .table)) handed)
+
+enum-told : tie.Need-enum-told
+enum-told c = search needs
+
+list-read-plan-requires : tie.Need-list-read-plan-requires
+list-read-plan-requires c κs =
+    let at = c .before .before .before .before .before .before .before .args in
+    let e = c .before .before .before .read-plan .ensures in (
+      subst (λ (r : Reading). Fitting (r .plan)) (sym e) (record-fits (now (at .plan))),
+      subst (λ (r : Reading). Clean (planUnits (r .plan))) (sym e)
+          (plan-clean (now (at .plan)) (all-bytes (now (at .plan)) (λ i. c .before .before .before .before .before .before .shared-slice-known .given i .fits))
+          (sym (ap (λ (r : Reading). r .outcome) e) ∙ c .before .enum-told .given .1)),
+      c .before .before .before .before .if1 .left,
+    )
+
+same-length : tie.Need-same-length
+same-length c = search needs
+
+returns-3 : tie.Need-returns-3
+returns-3 c =
+    let at = c .before .before .before .before .before .before .before .before .before .before .args in
+    let e = c .before .before .before .before .before .before .read-plan .ensures in
+    let handed : Handed (answer (now (at .plan)) (now (at .table))) (c .before .before .list-read-plan .result) (c .before .before .list-read-plan .last .1 .0) =
+    subst (λ (a : Answer). Handed a (c .before .before .list-read-plan .result) (c .before .before .list-read-plan .last .1 .0))
+    (sym (read-answer (now (at .plan)) (now (at .table)) (c .before .before .before .before .before .before .before .if1 .left) (sym (ap (λ (r : Reading). r .outcome) e) ∙ c .before .before .before .before .enum-told .given .1)))
+    (subst (λ (r : Reading). Handed (afterGraph (planUnits (r .plan)) (now (at .table)) (verdict (planUnits (r .plan)))) (c .before .before .list-read-plan .result) (c .before .before .list-read-plan .last .1 .0)) e
+    (c .before .before .list-read-plan .ensures)) in
+    (handed, demand-3 (now (at .plan)) (now (at .table)) (all-bytes (now (at .plan)) (λ i. c .before .before .before .before .before .before .before .before .before .shared-slice-known .given i .fits)) (c .before .before .list-read-plan .result) (c .before .before .list-read-plan .last .1 .0) handed)
+
+pub list-positions-spec : {M : Type 1} → statement M
+list-positions-spec =
+    tie.close
+    (tie.spec
+    refuse-requires
+    returns
+    read-plan-requires
+    enum-known-outcome
+    refuse-requires-2
+    returns-2
+    enum-told
+    list-read-plan-requires
+    same-length
+    returns-3)

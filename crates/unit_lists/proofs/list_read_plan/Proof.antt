@@ -1,0 +1,182 @@
+-- The verdict picks the case of the definition.
+use mathlib.Core.Path.{_≡_, refl, ap, sym, subst, _∙_}
+use Prim.Native.Nat.{ℕ}
+use denote.Ref.{now}
+use Rattle.plan.specs.declared.fault.Fault.the-variants.{RuleInNoUnit, HeadedRuleInSeveral, Cycle, NonmonotonicUnseen, MonotonicUnseen}
+use Rattle.dependency_graph.specs.Slices.{unitsOf, GraphLent}
+use Rattle.dependency_graph.specs.Check.{verdict}
+use Rattle.dependency_graph.specs.declared.Verdict.{Verdict}
+use Rattle.dependency_graph.proofs.Verdicts.{passes-of-verdict}
+use Rattle.unit_lists.specs.Answer.{planUnits, afterGraph}
+use Rattle.unit_lists.specs.Handed.{Handed}
+use Rattle.unit_lists.proofs.Handing.{handed-refused}
+use native.Mathlib.Omega.{arith}
+use lib.ListN.{length}
+use borrow.Author.Needs.{needs}
+use Rattle.unit_lists.proofs.list_read_plan.Statement.{statement}
+use Rattle.unit_lists.proofs.list_read_plan.Tie as tie
+
+slice-aggregate-check-graph : tie.Need-slice-aggregate-check-graph
+slice-aggregate-check-graph c = search needs
+
+slice-aggregate-check-graph-2 : tie.Need-slice-aggregate-check-graph-2
+slice-aggregate-check-graph-2 c = search needs
+
+slice-aggregate-check-graph-3 : tie.Need-slice-aggregate-check-graph-3
+slice-aggregate-check-graph-3 c = search needs
+
+-- the words that the counts name are there
+graph-lent : (c : tie.After-predecessors2)
+    → GraphLent (c .before .before .before .before .before .before .before .args .plan .rules) (c .before .before .before .before .before .before .before .args .plan .«rule_count») (c .before .before .before .before .before .before .before .args .plan .units) (c .before .before .before .before .before .before .before .args .plan .«unit_count») (c .before .before .before .before .before .before .before .args .plan .predecessors)
+graph-lent c =
+    let p = c .before .before .before .before .before .before .before .args .plan in
+    let f = c .before .before .before .before .before .before .before .pre .0 in
+    let rules : length (p .rules) ≡ 192 = search needs in
+    let units : length (p .units) ≡ 16 = search needs in
+    let predecessors : length (p .predecessors) ≡ 16 = search needs in
+    record {
+      rules-most = f .rules-fit;
+      rules-there = omega (arith, f .rules-fit);
+      units-most = f .units-fit;
+      units-there = omega (arith, f .units-fit);
+      predecessors-there = omega (arith, f .units-fit);
+    }
+
+check-graph-requires : tie.Need-check-graph-requires
+check-graph-requires c κs = graph-lent c
+
+enum-told : tie.Need-enum-told
+enum-told c = search needs
+
+slice-aggregate-work-plan : tie.Need-slice-aggregate-work-plan
+slice-aggregate-work-plan c = search needs
+
+slice-aggregate-work-plan-2 : tie.Need-slice-aggregate-work-plan-2
+slice-aggregate-work-plan-2 c = search needs
+
+slice-aggregate-work-plan-3 : tie.Need-slice-aggregate-work-plan-3
+slice-aggregate-work-plan-3 c = search needs
+
+work-plan-requires : tie.Need-work-plan-requires
+unfolding planUnits
+work-plan-requires c κs =
+    let p = c .before .before .before .before .before .before .before .before .before .before .before .before .before .before .args .plan in
+    record {
+      lent-words = graph-lent (c .before .before .before .before .before .before .before);
+      passes = passes-of-verdict (unitsOf (p .rules) (p .«rule_count») (p .units) (p .«unit_count») (p .predecessors))
+          (sym (c .before .before .before .before .before .before .check-graph .ensures) ∙ c .before .before .before .before .enum-told .given .1);
+      clean = c .before .before .before .before .before .before .before .before .before .before .before .before .before .before .pre .1;
+      long = c .before .before .before .before .before .before .before .before .before .before .before .before .before .before .pre .2;
+    }
+
+enum-known-verdict : tie.Need-enum-known-verdict
+enum-known-verdict c = search needs
+
+refuse-requires : tie.Need-refuse-requires
+refuse-requires c κs = search needs
+
+enum-known-verdict-2 : tie.Need-enum-known-verdict-2
+enum-known-verdict-2 c = search needs
+
+refuse-requires-2 : tie.Need-refuse-requires-2
+refuse-requires-2 c κs = search needs
+
+enum-known-verdict-3 : tie.Need-enum-known-verdict-3
+enum-known-verdict-3 c = search needs
+
+refuse-requires-3 : tie.Need-refuse-requires-3
+refuse-requires-3 c κs = search needs
+
+enum-known-verdict-4 : tie.Need-enum-known-verdict-4
+enum-known-verdict-4 c = search needs
+
+refuse-requires-4 : tie.Need-refuse-requires-4
+refuse-requires-4 c κs = search needs
+
+enum-known-verdict-5 : tie.Need-enum-known-verdict-5
+enum-known-verdict-5 c = search needs
+
+refuse-requires-5 : tie.Need-refuse-requires-5
+refuse-requires-5 c κs = search needs
+
+same-length : tie.Need-same-length
+same-length c = search needs
+
+returns : tie.Need-returns
+unfolding planUnits afterGraph
+returns c =
+    let p = c .before .before .before .before .before .before .before .before .before .before .before .before .before .before .before .before .before .args .plan in
+    let table = now (c .before .before .before .before .before .before .before .before .before .before .before .before .before .before .before .before .before .args .table) in
+    subst (λ (v : Verdict). Handed (afterGraph (planUnits p) table v) (c .before .before .work-plan .result) (c .before .before .work-plan .last .1 .1 .1 .1 .1 .0))
+    (sym (sym (c .before .before .before .before .before .before .before .before .before .check-graph .ensures) ∙ c .before .before .before .before .before .before .before .enum-told .given .1)) (c .before .before .work-plan .ensures)
+
+returns-2 : tie.Need-returns-2
+unfolding planUnits afterGraph
+returns-2 c =
+    let p = c .before .before .before .before .before .before .before .before .before .before .before .before .args .plan in
+    let table = now (c .before .before .before .before .before .before .before .before .before .before .before .before .args .table) in
+    handed-refused (afterGraph (planUnits p) table (verdict (planUnits p))) (RuleInNoUnit (c .before .before .verdict .given .0 .0)) (c .refuse .result) table table
+    (ap (afterGraph (planUnits p) table) (sym (c .before .before .before .before .check-graph .ensures) ∙ c .before .before .verdict .given .1)) (c .refuse .ensures) refl
+
+returns-3 : tie.Need-returns-3
+unfolding planUnits afterGraph
+returns-3 c =
+    let p = c .before .before .before .before .before .before .before .before .before .before .before .before .args .plan in
+    let table = now (c .before .before .before .before .before .before .before .before .before .before .before .before .args .table) in
+    handed-refused (afterGraph (planUnits p) table (verdict (planUnits p))) (HeadedRuleInSeveral (c .before .before .verdict2 .given .0 .0)) (c .refuse2 .result) table table
+    (ap (afterGraph (planUnits p) table) (sym (c .before .before .before .before .check-graph .ensures) ∙ c .before .before .verdict2 .given .1)) (c .refuse2 .ensures) refl
+
+returns-4 : tie.Need-returns-4
+unfolding planUnits afterGraph
+returns-4 c =
+    let p = c .before .before .before .before .before .before .before .before .before .before .before .before .args .plan in
+    let table = now (c .before .before .before .before .before .before .before .before .before .before .before .before .args .table) in
+    handed-refused (afterGraph (planUnits p) table (verdict (planUnits p))) (Cycle (c .before .before .verdict3 .given .0 .0)) (c .refuse3 .result) table table
+    (ap (afterGraph (planUnits p) table) (sym (c .before .before .before .before .check-graph .ensures) ∙ c .before .before .verdict3 .given .1)) (c .refuse3 .ensures) refl
+
+returns-5 : tie.Need-returns-5
+unfolding planUnits afterGraph
+returns-5 c =
+    let p = c .before .before .before .before .before .before .before .before .before .before .before .before .args .plan in
+    let table = now (c .before .before .before .before .before .before .before .before .before .before .before .before .args .table) in
+    handed-refused (afterGraph (planUnits p) table (verdict (planUnits p))) (NonmonotonicUnseen (c .before .before .verdict4 .given .0 .0)) (c .refuse4 .result) table table
+    (ap (afterGraph (planUnits p) table) (sym (c .before .before .before .before .check-graph .ensures) ∙ c .before .before .verdict4 .given .1)) (c .refuse4 .ensures) refl
+
+returns-6 : tie.Need-returns-6
+unfolding planUnits afterGraph
+returns-6 c =
+    let p = c .before .before .before .before .before .before .before .before .before .before .before .before .args .plan in
+    let table = now (c .before .before .before .before .before .before .before .before .before .before .before .before .args .table) in
+    handed-refused (afterGraph (planUnits p) table (verdict (planUnits p))) (MonotonicUnseen (c .before .before .verdict5 .given .0 .0)) (c .refuse5 .result) table table
+    (ap (afterGraph (planUnits p) table) (sym (c .before .before .before .before .check-graph .ensures) ∙ c .before .before .verdict5 .given .1)) (c .refuse5 .ensures) refl
+
+pub list-read-plan-spec : {M : Type 1} → statement M
+list-read-plan-spec =
+    tie.close
+    (tie.spec
+    slice-aggregate-check-graph
+    slice-aggregate-check-graph-2
+    slice-aggregate-check-graph-3
+    check-graph-requires
+    enum-told
+    slice-aggregate-work-plan
+    slice-aggregate-work-plan-2
+    slice-aggregate-work-plan-3
+    work-plan-requires
+    enum-known-verdict
+    refuse-requires
+    enum-known-verdict-2
+    refuse-requires-2
+    enum-known-verdict-3
+    refuse-requires-3
+    enum-known-verdict-4
+    refuse-requires-4
+    enum-known-verdict-5
+    refuse-requires-5
+    same-length
+    returns
+    returns-2
+    returns-3
+    returns-4
+    returns-5
+    returns-6)

@@ -1,0 +1,47 @@
+-- Demand 3 in plain sight: when refusal 15 comes, and what the last list holds.
+use mathlib.Core.Path.{_≡_}
+use mathlib.Core.Logic.{_↔_}
+use mathlib.Core.List.{List, [], _∷_, List·Memᴰ}
+use Prim.Native.Nat.{ℕ, _≤_, _<_}
+use lib.ListN.{length, take, drop, getD}
+use Rattle.atoms.specs.Word.{below}
+use Rattle.atoms.specs.Rising.{Rising}
+use Rattle.answer_sets.specs.AnswerSet.{AnswerSet}
+use Rattle.answer_sets.specs.Lent.{lent}
+use Rattle.plan.specs.Reading.{reading}
+use Rattle.plan.specs.declared.fault.Fault.the-variants.{LongList}
+use Rattle.plan.specs.declared.record.Plan.{Plan}
+use Rattle.plan.specs.declared.reader.Outcome.the-variants.{Accepted, Refused}
+use Rattle.dependency_graph.specs.Units.{Units}
+use Rattle.dependency_graph.specs.Graph.{Passes}
+use Rattle.dependency_graph.specs.Order.{workingOrder}
+use Rattle.unit_lists.specs.Lists.{unitList, lastList}
+use Rattle.unit_lists.specs.Answer.{planUnits}
+use Rattle.unit_lists.specs.declared.Listing.{Listing}
+
+-- u's list is the first above 256, in working order; the last list, whose number is the count of units, comes after all
+pub data FirstLong (S : Units) : List ℕ → ℕ → Type 0 where
+  here : {u : ℕ} {us : List ℕ} → 256 < length (unitList S u) → FirstLong S (u ∷ us) u
+  later : {u w : ℕ} {us : List ℕ} → length (unitList S u) ≤ 256 → FirstLong S us w → FirstLong S (u ∷ us) w
+  last : 256 < length (lastList S) → FirstLong S [] (S .units)
+
+-- "The last list in the table is the words from 4,096 on, as many as the last count says"
+abbrev pub lastIn : Listing → List ℕ → List ℕ
+lastIn r table = take (getD (r .counts) 16 0) (drop 4096 table)
+
+-- the last list holds every answer set of all the plan's rules as one set, once each, rising, and nothing else; the last count is their number
+pub record ListsAll (p : Plan) (r : Listing) (table : List ℕ) : Type 0 where
+  pub accepted : r .outcome ≡ Accepted
+  pub rising : Rising (lastIn r table)
+  pub members : (M : ℕ) → List·Memᴰ M (lastIn r table) ↔ AnswerSet (lent (p .rules)) (below (p .«rule_count»)) 0 M
+  pub counted : length (lastIn r table) ≡ getD (r .counts) 16 0
+
+-- refusal 15 exactly at the first list above 256, and otherwise all answer sets
+pub record Complete (p : Plan) (r : Listing) (table : List ℕ) : Type 0 where
+  pub fifteen : (u : ℕ) → (r .outcome ≡ Refused (LongList u)) ↔ FirstLong (planUnits p) (workingOrder (planUnits p)) u
+  pub otherwise : ((u : ℕ) → ¬ FirstLong (planUnits p) (workingOrder (planUnits p)) u) → ListsAll p r table
+
+-- for every plan that passes reading and graph, and every long enough table
+pub record Demand3 (bytes table : List ℕ) (r : Listing) (table′ : List ℕ) : Type 0 where
+  pub complete : reading bytes .outcome ≡ Accepted → Passes (planUnits (reading bytes .plan)) → 4352 ≤ length table
+      → Complete (reading bytes .plan) r table′
