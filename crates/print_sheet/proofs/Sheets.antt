@@ -1,0 +1,40 @@
+-- The sheet by the outcome, and that an accepted plan came with a long enough table.
+use mathlib.Core.Path.{_≡_, sym, ap, _∙_}
+use mathlib.Core.List.{List}
+use Prim.Native.Nat.{ℕ, _-_, _≤_, _<_}
+use native.Mathlib.Omega.{arith}
+use native.Mathlib.Decide.{decLt}
+use lib.ListN.{length, take, drop, getD, length-drop}
+use lib.Seq.{take-all}
+use Rattle.plan.specs.Faults.{number, spot}
+use Rattle.plan.specs.declared.fault.Fault.{Fault}
+use Rattle.plan.specs.declared.fault.Fault.the-variants.{TableShort}
+use Rattle.plan.specs.declared.reader.Outcome.{Outcome}
+use Rattle.plan.specs.declared.reader.Outcome.the-variants.{Accepted, Refused}
+use Rattle.sheet.specs.Sheet.{positionsSheet, refusalSheet}
+use Rattle.unit_lists.specs.Answer.{Answer, answer}
+use Rattle.unit_lists.proofs.Handing.{short-answer}
+use Rattle.print_sheet.specs.Sheets.{sheetFor, sheetOf}
+
+pub sheet-refused : (a : Answer) (f : Fault) → a .outcome ≡ Refused f → refusalSheet (number f) (spot f) ≡ sheetOf a
+unfolding sheetOf sheetFor
+sheet-refused a f e = sym (ap (λ (o : Outcome). sheetFor o (a .counts) (a .table)) e)
+
+pub sheet-listed : (a : Answer) → a .outcome ≡ Accepted → positionsSheet (take (getD (a .counts) 16 0) (drop 4096 (a .table))) ≡ sheetOf a
+unfolding sheetOf sheetFor
+sheet-listed a e = sym (ap (λ (o : Outcome). sheetFor o (a .counts) (a .table)) e)
+
+not-accepted : (f : Fault) → Refused f ≡ Accepted → ⊥
+not-accepted f e = let z : _≡_ {A = ℕ} 0 1 = cc in omega arith
+
+pub accepted-long : (bytes table : List ℕ) → answer bytes table .outcome ≡ Accepted → 4352 ≤ length table
+accepted-long bytes table e = go (decLt (length table) 4352)
+  where
+    go : Dec (length table < 4352) → 4352 ≤ length table
+    go (yes l) =
+        absurd (not-accepted (TableShort (length table)) (sym (ap (λ (a : Answer). a .outcome) (short-answer bytes table l)) ∙ e))
+    go (no n) = omega arith
+
+-- the part of the table from 4,096 on
+pub part-is : (table : List ℕ) → take (length table - 4096) (drop 4096 table) ≡ drop 4096 table
+part-is table = take-all (length table - 4096) (drop 4096 table) (omega (arith, length-drop 4096 table))

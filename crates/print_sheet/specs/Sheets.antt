@@ -1,0 +1,26 @@
+-- The sheet of an answer (document 01, The sheet it prints).
+use mathlib.Core.Path.{_≡_}
+use mathlib.Core.List.{List}
+use Prim.Native.Nat.{ℕ}
+use lib.ListN.{take, drop, getD}
+use Rattle.plan.specs.Faults.{number, spot}
+use Rattle.plan.specs.declared.reader.Outcome.{Outcome}
+use Rattle.plan.specs.declared.reader.Outcome.the-variants.{Accepted, Refused}
+use Rattle.sheet.specs.Sheet.{positionsSheet, refusalSheet}
+use Rattle.sheet.specs.Lent.{answer as written, filled}
+use Rattle.sheet.specs.declared.Written.{Written}
+use Rattle.unit_lists.specs.Answer.{Answer, answer}
+
+-- by outcome: the last list's positions, or the refusal
+unfoldable pub sheetFor : Outcome → List ℕ → List ℕ → List ℕ
+sheetFor (Refused f) counts table = refusalSheet (number f) (spot f)
+sheetFor Accepted counts table = positionsSheet (take (getD counts 16 0) (drop 4096 table))
+
+unfoldable pub sheetOf : Answer → List ℕ
+sheetOf a = sheetFor (a .outcome) (a .counts) (a .table)
+
+-- the table is the answer's, and the sheet its sheet, where the buffer has room for it
+pub record Printed (bytes table table′ sheet sheet′ : List ℕ) (r : Written) : Type 0 where
+  pub table-is : table′ ≡ answer bytes table .table
+  pub written-is : r ≡ written (sheetOf (answer bytes table)) sheet
+  pub sheet-is : sheet′ ≡ filled (sheetOf (answer bytes table)) sheet
