@@ -47,12 +47,12 @@ returns c =
     let handed = c .before .before .before .before .before .before .before .before .before .before .before .list-positions .ensures .0 in
     let f = c .before .before .before .before .before .before .before .outcome .given .0 .0 in
     let e : refusalSheet (c .before .before .before .before .before .fault-number .result) (c .before .before .before .before .fault-spot .result) ≡ sheetOf (answer (now (at .plan)) (now (at .table))) =
-      ap₂ refusalSheet (c .before .before .before .before .before .fault-number .ensures) (c .before .before .before .before .fault-spot .ensures)
-      ∙ sheet-refused (answer (now (at .plan)) (now (at .table))) f (sym (handed .outcome-is) ∙ c .before .before .before .before .before .before .before .outcome .given .1) in
+    ap₂ refusalSheet (c .before .before .before .before .before .fault-number .ensures) (c .before .before .before .before .fault-spot .ensures)
+    ∙ sheet-refused (answer (now (at .plan)) (now (at .table))) f (sym (handed .outcome-is) ∙ c .before .before .before .before .before .before .before .outcome .given .1) in
     record {
       table-is = handed .table-is;
       written-is = c .before .before .write-refusal .ensures .0 ∙ ap (λ (b : List ℕ). written b (now (at .sheet))) e;
-      sheet-is = c .before .before .write-refusal .ensures .1 ∙ ap (λ (b : List ℕ). filled b (now (at .sheet))) e
+      sheet-is = c .before .before .write-refusal .ensures .1 ∙ ap (λ (b : List ℕ). filled b (now (at .sheet))) e;
     }
 
 enum-told : tie.Need-enum-told
@@ -85,13 +85,13 @@ returns-2 c =
     let handed = c .before .before .before .before .before .before .before .before .before .before .before .list-positions .ensures .0 in
     let accepted = sym (handed .outcome-is) ∙ c .before .before .before .before .before .before .before .enum-told .given .1 in
     let e : positionsSheet (take (getD (c .before .before .before .before .before .before .before .before .before .before .before .list-positions .result .counts) 16 0) (take (length (c .before .before .before .before .before .before .before .before .before .before .before .list-positions .last .1 .0) - 4096) (drop 4096 (c .before .before .before .before .before .before .before .before .before .before .before .list-positions .last .1 .0)))) ≡ sheetOf (answer (now (at .plan)) (now (at .table))) =
-      ap (λ (l : List ℕ). positionsSheet (take (getD (c .before .before .before .before .before .before .before .before .before .before .before .list-positions .result .counts) 16 0) l)) (part-is (c .before .before .before .before .before .before .before .before .before .before .before .list-positions .last .1 .0))
-      ∙ ap₂ (λ (counts table : List ℕ). positionsSheet (take (getD counts 16 0) (drop 4096 table))) (handed .counts-are) (handed .table-is)
-      ∙ sheet-listed (answer (now (at .plan)) (now (at .table))) accepted in
+    ap (λ (l : List ℕ). positionsSheet (take (getD (c .before .before .before .before .before .before .before .before .before .before .before .list-positions .result .counts) 16 0) l)) (part-is (c .before .before .before .before .before .before .before .before .before .before .before .list-positions .last .1 .0))
+    ∙ ap₂ (λ (counts table : List ℕ). positionsSheet (take (getD counts 16 0) (drop 4096 table))) (handed .counts-are) (handed .table-is)
+    ∙ sheet-listed (answer (now (at .plan)) (now (at .table))) accepted in
     record {
       table-is = handed .table-is;
       written-is = c .before .before .write-positions .ensures .0 ∙ ap (λ (b : List ℕ). written b (now (at .sheet))) e;
-      sheet-is = c .before .before .write-positions .ensures .1 ∙ ap (λ (b : List ℕ). filled b (now (at .sheet))) e
+      sheet-is = c .before .before .write-positions .ensures .1 ∙ ap (λ (b : List ℕ). filled b (now (at .sheet))) e;
     }
 
 pub print-sheet-spec : {M : Type 1} → statement M

@@ -1,0 +1,52 @@
+// The functions that other languages call: a slice passes as a pointer and a length.
+use judge::Answer;
+use judge::answer_code;
+use plan::Outcome;
+use print_sheet::print_sheet;
+use sheet::Written;
+use unit_lists::COUNTS;
+use unit_lists::TABLE_WORDS;
+use unit_lists::list_positions;
+
+// 0 for a plan that is listed, and 65536 times the number plus the spot for a refusal.
+fn outcome_code(outcome: Outcome) -> u64 {
+    match outcome {
+        Outcome::Accepted => 0,
+        Outcome::Refused(fault) => answer_code(Answer::Refused(fault)),
+    }
+}
+
+// Copies as many counts as there is room for.
+fn copy_counts(from: [usize; COUNTS], counts: &mut [u64]) {
+    let mut i = 0;
+    while i < COUNTS && i < counts.len() {
+        counts[i] = from[i] as u64;
+        i += 1;
+    }
+}
+
+// Lists a plan in the lent table; the counts go into the lent counts. The code of the outcome.
+#[no_mangle]
+pub extern "C" fn lucarnecress_list(plan: &[u8], table: &mut [u64], counts: &mut [u64]) -> u64 {
+    let listing = list_positions(plan, table);
+    let found = listing.counts;
+    let outcome = listing.outcome;
+    copy_counts(found, counts);
+    outcome_code(outcome)
+}
+
+// Judges one position: 1 settled, 0 not settled, else the code of the refusal.
+#[no_mangle]
+pub extern "C" fn lucarnecress_judge(plan: &[u8], position: u64) -> u64 {
+    answer_code(judge::judge(plan, position))
+}
+
+// Writes a plan's sheet: its length in bytes, or 0 where the buffer is too short.
+#[no_mangle]
+pub extern "C" fn lucarnecress_sheet(plan: &[u8], sheet: &mut [u8]) -> u64 {
+    let mut table = [0u64; TABLE_WORDS];
+    match print_sheet(plan, &mut table, sheet) {
+        Written::Bytes(length) => length as u64,
+        Written::TooShort => 0,
+    }
+}
