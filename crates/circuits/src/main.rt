@@ -1,6 +1,6 @@
 // The circuits of document 01, plan P and two plans of interest, from the bytes in data/ to their sheets, as settle prints
 // them. The expected sheets are those of document 01; those of clingo-default-misses-one and inner-list-wider the
-// brute-force lister found.
+// brute-force lister found. Each plan `several-..` breaks one graph condition in several places.
 use libc::STDOUT_FILENO;
 use print_sheet::print_sheet;
 use sheet::Written;
@@ -59,4 +59,9 @@ fn main() {
     show(b"inner-list-wider");
     show(b"plan-p");
     show(b"plan-p-without-edge");
+    show(b"several-in-no-unit");
+    show(b"several-in-two-units");
+    show(b"several-negative-unseen");
+    show(b"several-on-cycles");
+    show(b"several-positive-unseen");
 }
