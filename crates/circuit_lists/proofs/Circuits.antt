@@ -1,0 +1,89 @@
+-- Circuits 2 to 11 of document 01 and plan P, from their bytes: the definitions give the outcomes and the last lists that the
+-- paper has.
+use Prim.Native.Nat.{ℕ}
+use mathlib.Core.Path.{_≡_, refl}
+use mathlib.Core.List.{List, [], _∷_, _++_, map}
+use Rattle.atoms.specs.Word.{has, subset, apart, _∩_, _∪_, _∖_, atom, below}
+use Rattle.atoms.specs.Bounded.{allBelow, someBelow, wordBelow, unionIn}
+use Rattle.atoms.specs.Rising.{members}
+use Rattle.answer_sets.specs.Lent.{lent}
+use Rattle.answer_sets.specs.Test.{body, satisfies, satisfiesAll, kept, keptIf, someSmaller, answerSet}
+use Rattle.plan.specs.Words.{number, wordAt}
+use Rattle.plan.specs.Record.{emptyPlan, withRule, withUnit, withEdge}
+use Rattle.plan.specs.Commands.{kindOf, carrying, lateRule, lateUnit, emptyRule, absentRule, badEdge, ofKind, commandAt}
+use Rattle.plan.specs.Reading.{walk, reading}
+use Rattle.plan.specs.declared.fault.Fault.the-variants.{Cycle, NonmonotonicUnseen, MonotonicUnseen}
+use Rattle.plan.specs.declared.record.Plan.{Plan}
+use Rattle.plan.specs.declared.reader.Outcome.{Outcome}
+use Rattle.plan.specs.declared.reader.Outcome.the-variants.{Accepted, Refused}
+use Rattle.dependency_graph.specs.Heads.{reachVia, reach, own, heads, inputHeads}
+use Rattle.dependency_graph.specs.Lowest.{lowest, lowestOf}
+use Rattle.dependency_graph.specs.Order.{ready, nextUnit, orderFrom, workingOrder}
+use Rattle.dependency_graph.specs.Slices.{unitsOf}
+use Rattle.dependency_graph.specs.Offenders.{unionBelow, twiceBelow, seen, unseenHeads, clashing, covered, unplaced, shared, cyclic, nonmonotonicUnseen, monotonicUnseen}
+use Rattle.dependency_graph.specs.Check.{row, dependenceRows, verdict}
+use Rattle.splitting.specs.UnitList.{withLast}
+use Rattle.unit_lists.specs.Lists.{isInput, inList, unitList, lastList}
+use Rattle.unit_lists.specs.Answer.{planUnits, workFrom, afterGraph, afterReading}
+
+-- a word below 256 in a plan
+abbrev word : ℕ → List ℕ
+word n = n ∷ 0 ∷ 0 ∷ 0 ∷ 0 ∷ 0 ∷ 0 ∷ 0 ∷ []
+
+abbrev rule : ℕ → ℕ → ℕ → List ℕ
+rule h p n = 1 ∷ word h ++ (word p ++ word n)
+
+abbrev unit : ℕ → List ℕ
+unit r = 2 ∷ word r
+
+abbrev edge : ℕ → ℕ → List ℕ
+edge u v = 3 ∷ u ∷ v ∷ []
+
+abbrev end : List ℕ
+end = 0 ∷ []
+
+-- circuits 2 to 11, plan P, and P without its EDGE
+abbrev pub plans : List (List ℕ)
+plans =
+    (rule 3 0 0 ++ (unit 1 ++ end))
+    ∷ (rule 1 1 0 ++ (unit 1 ++ end))
+    ∷ (rule 1 0 1 ++ (unit 1 ++ end))
+    ∷ (rule 1 0 2 ++ (rule 2 0 1 ++ (unit 3 ++ end)))
+    ∷ (rule 3 0 0 ++ (rule 1 2 0 ++ (rule 2 1 0 ++ (unit 7 ++ end))))
+    ∷ (rule 3 0 0 ++ (rule 4 1 0 ++ (rule 8 1 0 ++ (rule 16 12 0 ++ (unit 1 ++ (unit 2 ++ (unit 4 ++ (unit 8 ++ (edge 1 0 ++ (edge 2 0 ++ (edge 3 1 ++ (edge 3 2 ++ end))))))))))))
+    ∷ (rule 1 0 0 ++ (rule 2 0 0 ++ (rule 0 3 0 ++ (unit 1 ++ (unit 2 ++ (unit 4 ++ (unit 4 ++ (edge 2 0 ++ (edge 3 1 ++ end)))))))))
+    ∷ (rule 1 0 0 ++ (rule 2 0 0 ++ (rule 0 3 0 ++ (unit 1 ++ (unit 2 ++ (unit 4 ++ (unit 4 ++ (edge 2 0 ++ (edge 3 1 ++ (edge 2 1 ++ end))))))))))
+    ∷ (rule 3 0 0 ++ (rule 0 0 1 ++ (unit 1 ++ (unit 2 ++ end))))
+    ∷ (unit 0 ++ (unit 0 ++ (edge 0 1 ++ (edge 1 0 ++ end))))
+    ∷ (rule 3 0 0 ++ (rule 4 1 0 ++ (unit 1 ++ (unit 2 ++ (edge 1 0 ++ end)))))
+    ∷ (rule 3 0 0 ++ (rule 4 1 0 ++ (unit 1 ++ (unit 2 ++ end))))
+    ∷ []
+
+abbrev pub results : List (Outcome × List ℕ)
+results =
+    (Accepted, 1 ∷ 2 ∷ [])
+    ∷ (Accepted, 0 ∷ [])
+    ∷ (Accepted, [])
+    ∷ (Accepted, 1 ∷ 2 ∷ [])
+    ∷ (Accepted, 3 ∷ [])
+    ∷ (Accepted, 2 ∷ 29 ∷ [])
+    ∷ (Refused (MonotonicUnseen 2), [])
+    ∷ (Accepted, [])
+    ∷ (Refused (NonmonotonicUnseen 1), [])
+    ∷ (Refused (Cycle 0), [])
+    ∷ (Accepted, 2 ∷ 5 ∷ [])
+    ∷ (Refused (MonotonicUnseen 1), [])
+    ∷ []
+
+-- an outcome, with the last list where the plan is accepted
+unfoldable pub withLastList : Plan → Outcome → Outcome × List ℕ
+withLastList p (Refused f) = (Refused f, [])
+withLastList p Accepted = (Accepted, lastList (planUnits p))
+
+-- what `answer` says of the bytes, where the table is long enough: its outcome, and the list that goes to word 4,096
+unfoldable pub shown : List ℕ → Outcome × List ℕ
+shown bytes = withLastList (reading bytes .plan) (afterReading (reading bytes .plan) [] (reading bytes .outcome) .outcome)
+
+pub circuits : map shown plans ≡ results
+unfolding shown withLastList reading walk commandAt ofKind kindOf carrying lateRule lateUnit emptyRule absentRule badEdge emptyPlan withRule withUnit withEdge number wordAt planUnits afterReading afterGraph workFrom lastList unitList inList isInput members allBelow someBelow wordBelow unionIn unionBelow twiceBelow heads inputHeads own reach reachVia withLast unitsOf lent answerSet someSmaller satisfiesAll satisfies body kept keptIf has subset apart _∩_ _∪_ _∖_ atom below verdict dependenceRows row unplaced shared cyclic nonmonotonicUnseen monotonicUnseen clashing covered seen unseenHeads lowestOf lowest workingOrder orderFrom nextUnit ready
+circuits = refl

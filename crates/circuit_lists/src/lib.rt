@@ -1,0 +1,1 @@
+// Document 01's circuits, from their bytes, computed from the definitions. No code.
