@@ -5,19 +5,15 @@ use Rattle.answer_sets.proofs.rule.head.Tie as tie
 use Rattle.answer_sets.proofs.rule.head.Reads as reads
 use Rattle.answer_sets.proofs.rule.head.Lts as lts
 
--- src/rule.rt:11:11
 mul-result : tie.Need-mul-result
 mul-result c = search needs
 
--- src/rule.rt:11:5
 mul-result-2 : tie.Need-mul-result-2
 mul-result-2 c = search needs
 
--- src/rule.rt:11:5
 shared-slice-read-result : tie.Need-shared-slice-read-result
 shared-slice-read-result c = search needs
 
--- src/rule.rt:7:1
 returns : tie.Need-returns
 unfolding lent
 returns c = search needs

@@ -6,16 +6,13 @@ use Rattle.plan.proofs.end.read_end.Tie as tie
 use Rattle.plan.proofs.end.read_end.Reads as reads
 use Rattle.plan.proofs.end.read_end.Lts as lts
 
--- src/operands.rt:139:52
 add-t6 : tie.Need-add-t6
 add-t6 c = search needs
 
--- src/operands.rt:139:9
 returns : tie.Need-returns
 unfolding ofKind
 returns c = simp (lt-ltb _ _ (c .if1 .taken))
 
--- src/operands.rt:134:1
 returns-2 : tie.Need-returns-2
 unfolding ofKind carrying
 returns-2 c = simp (le-ltb _ _ (c .if1 .left))

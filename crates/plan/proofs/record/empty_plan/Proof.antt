@@ -5,7 +5,6 @@ use Rattle.plan.proofs.record.empty_plan.Tie as tie
 use Rattle.plan.proofs.record.empty_plan.Reads as reads
 use Rattle.plan.proofs.record.empty_plan.Lts as lts
 
--- src/record.rt:22:1
 returns : tie.Need-returns
 unfolding emptyPlan
 returns c = refl

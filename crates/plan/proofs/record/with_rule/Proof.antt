@@ -6,47 +6,36 @@ use Rattle.plan.proofs.record.with_rule.Tie as tie
 use Rattle.plan.proofs.record.with_rule.Reads as reads
 use Rattle.plan.proofs.record.with_rule.Lts as lts
 
--- src/record.rt:41:17
 mul-first : tie.Need-mul-first
 mul-first c = search needs
 
--- src/record.rt:43:5
 mul-next : tie.Need-mul-next
 mul-next c = search needs
 
--- src/record.rt:43:5
 element-write-next : tie.Need-element-write-next
 element-write-next c = search needs
 
--- src/record.rt:44:16
 add-next : tie.Need-add-next
 add-next c = search needs
 
--- src/record.rt:44:5
 mul-next-2 : tie.Need-mul-next-2
 mul-next-2 c = search needs
 
--- src/record.rt:44:5
 element-write-next-2 : tie.Need-element-write-next-2
 element-write-next-2 c = search needs
 
--- src/record.rt:45:16
 add-next-2 : tie.Need-add-next-2
 add-next-2 c = search needs
 
--- src/record.rt:45:5
 mul-next-3 : tie.Need-mul-next-3
 mul-next-3 c = search needs
 
--- src/record.rt:45:5
 element-write-next-3 : tie.Need-element-write-next-3
 element-write-next-3 c = search needs
 
--- src/record.rt:46:23
 add-next-3 : tie.Need-add-next-3
 add-next-3 c = search needs
 
--- src/record.rt:36:1
 returns : tie.Need-returns
 unfolding withRule
 returns c = refl

@@ -6,19 +6,15 @@ use Rattle.plan.proofs.record.with_unit.Tie as tie
 use Rattle.plan.proofs.record.with_unit.Reads as reads
 use Rattle.plan.proofs.record.with_unit.Lts as lts
 
--- src/record.rt:57:5
 mul-next : tie.Need-mul-next
 mul-next c = search needs
 
--- src/record.rt:57:5
 element-write-next : tie.Need-element-write-next
 element-write-next c = search needs
 
--- src/record.rt:58:23
 add-next : tie.Need-add-next
 add-next c = search needs
 
--- src/record.rt:51:1
 returns : tie.Need-returns
 unfolding withUnit
 returns c = refl

@@ -37,7 +37,6 @@ abbrev μ-loop : tie.MeasureT-loop
 μ-loop rules rule-count units unit-count predecessors heads inputs table₀ counts₀ done₀ left₀ table counts done left =
     left
 
--- src/work.rt:63:5
 -- the unit that is worked next
 next-is : (c : tie.After-next-unit Inv-loop μ-loop)
     → c .next-unit .result ≡ nextUnit (unitsOf (now (c .before .before .before .before .before .before .before .before .before .before .args .rules)) (c .before .before .before .before .before .before .before .before .before .before .args .rule-count) (now (c .before .before .before .before .before .before .before .before .before .before .args .units)) (c .before .before .before .before .before .before .before .before .before .before .args .unit-count) (now (c .before .before .before .before .before .before .before .before .before .before .args .predecessors))) (c .before .before .loop .done)
@@ -64,25 +63,21 @@ loop-holds c =
     let at = c .before .before .before .before .before .before .before .args in
     looping-start (unitsOf (now (at .rules)) (at .rule-count) (now (at .units)) (at .unit-count) (now (at .predecessors))) (c .before .before .before .before .before .before .before .pre .0 .passes) (now (at .table)) (now (at .table)) (now (at .counts)) (c .before .before .before .before .before .before .before .pre .1)
 
--- src/work.rt:64:13
 next-unit-requires : tie.Need-next-unit-requires Inv-loop μ-loop
 next-unit-requires c κs = (c .before .before .before .before .before .before .before .before .before .pre .0 .lent-words .units-most, c .before .before .before .before .before .before .before .before .before .pre .0 .lent-words .predecessors-there)
 
--- src/work.rt:66:13
 same-length : tie.Need-same-length Inv-loop μ-loop
 unfolding unitsOf
 same-length c =
     let at = c .before .before .before .before .before .before .before .before .before .before .before .args in
     working-long (unitsOf (now (at .rules)) (at .rule-count) (now (at .units)) (at .unit-count) (now (at .predecessors))) (c .before .before .before .before .before .before .before .before .before .before .before .pre .0 .lent-words .units-most) (c .before .before .before .loop .done) (now (at .table)) (c .before .before .before .loop .table) (c .before .before .before .loop .counts) (c .before .before .before .loop .inv .working)
 
--- src/work.rt:66:13
 same-length-2 : tie.Need-same-length-2 Inv-loop μ-loop
 same-length-2 c =
     let at = c .before .before .before .before .before .before .before .before .before .before .before .args in
     counts-long (unitsOf (now (at .rules)) (at .rule-count) (now (at .units)) (at .unit-count) (now (at .predecessors))) (c .before .before .before .loop .done) (now (at .table)) (c .before .before .before .loop .table) (c .before .before .before .loop .counts) (c .before .before .before .loop .inv .working)
     ∙ sym (counts-long (unitsOf (now (at .rules)) (at .rule-count) (now (at .units)) (at .unit-count) (now (at .predecessors))) 0 (now (at .table)) (now (at .table)) (now (at .counts)) (c .before .before .before .before .before .before .before .before .before .before .before .pre .1))
 
--- src/work.rt:66:13
 returns : tie.Need-returns Inv-loop μ-loop
 unfolding unitsOf
 returns c =
@@ -92,51 +87,39 @@ returns c =
     (subst (λ (k : ℕ). at .unit-count ≤ k) (next-is (c .before)) (c .if1 .taken)) in
     all-fit (stop .0) (stop .1) (l .inv .working)
 
--- src/work.rt:69:31
 mul-cut : tie.Need-mul-cut Inv-loop μ-loop
 mul-cut c = omega (arith, next-small c, c .before .before .before .before .before .before .before .before .before .before .before .pre .0 .lent-words)
 
--- src/work.rt:69:31
 shared-slice-read-cut : tie.Need-shared-slice-read-cut Inv-loop μ-loop
 shared-slice-read-cut c = omega (arith, next-small (c .before), c .before .before .before .before .before .before .before .before .before .before .before .before .pre .0 .lent-words)
 
--- src/work.rt:69:41
 first-requires : tie.Need-first-requires Inv-loop μ-loop
 first-requires c κs = c .before .before .before .before .before .before .before .before .before .before .before .before .pre .0 .lent-words .rules-most
 
--- src/work.rt:69:20
 cut-requires : tie.Need-cut-requires Inv-loop μ-loop
 cut-requires c κs = search needs
 
--- src/work.rt:70:21
 mul-union : tie.Need-mul-union Inv-loop μ-loop
 mul-union c = omega (arith, next-small (c .before .before .before), c .before .before .before .before .before .before .before .before .before .before .before .before .before .before .pre .0 .lent-words)
 
--- src/work.rt:70:21
 shared-slice-read-union : tie.Need-shared-slice-read-union Inv-loop μ-loop
 shared-slice-read-union c = omega (arith, next-small (c .before .before .before .before), c .before .before .before .before .before .before .before .before .before .before .before .before .before .before .before .pre .0 .lent-words, c .before .before .before .before .before .before .before .before .before .before .before .before .before .before .before .pre .0 .inputs-long)
 
--- src/work.rt:71:27
 mul-work-list : tie.Need-mul-work-list Inv-loop μ-loop
 mul-work-list c = omega (arith, next-small (c .before .before .before .before), c .before .before .before .before .before .before .before .before .before .before .before .before .before .before .before .pre .0 .lent-words)
 
--- src/work.rt:71:27
 shared-slice-read-work-list : tie.Need-shared-slice-read-work-list Inv-loop μ-loop
 shared-slice-read-work-list c = omega (arith, next-small (c .before .before .before .before .before), c .before .before .before .before .before .before .before .before .before .before .before .before .before .before .before .before .pre .0 .lent-words)
 
--- src/work.rt:73:43
 mul-work-list-2 : tie.Need-mul-work-list-2 Inv-loop μ-loop
 mul-work-list-2 c = omega (arith, next-small (c .before .before .before .before .before), c .before .before .before .before .before .before .before .before .before .before .before .before .before .before .before .before .pre .0 .lent-words)
 
--- src/work.rt:73:43
 shared-slice-read-work-list-2 : tie.Need-shared-slice-read-work-list-2 Inv-loop μ-loop
 shared-slice-read-work-list-2 c = omega (arith, next-small (c .before .before .before .before .before .before), c .before .before .before .before .before .before .before .before .before .before .before .before .before .before .before .before .before .pre .0 .lent-words, c .before .before .before .before .before .before .before .before .before .before .before .before .before .before .before .before .before .pre .0 .heads-long)
 
--- src/work.rt:73:53
 mul-work-list-3 : tie.Need-mul-work-list-3 Inv-loop μ-loop
 mul-work-list-3 c = omega (arith, next-small (c .before .before .before .before .before .before), c .before .before .before .before .before .before .before .before .before .before .before .before .before .before .before .before .before .pre .0 .lent-words)
 
--- src/work.rt:73:13
 work-list-requires : tie.Need-work-list-requires Inv-loop μ-loop
 unfolding unitsOf
 work-list-requires c κs =
@@ -155,7 +138,6 @@ work-list-requires c κs =
       omega (arith, many, small, c .before .before .before .before .before .before .before .before .before .before .before .before .before .before .before .before .before .before .before .pre .0 .lent-words .units-most),
     )
 
--- src/work.rt:74:13
 -- what the unit's list has come to
 worked : (c : tie.After-work-list Inv-loop μ-loop)
     → UnitDone (unitList (unitsOf (now (c .before .before .before .before .before .before .before .before .before .before .before .before .before .before .before .before .before .before .before .before .args .rules)) (c .before .before .before .before .before .before .before .before .before .before .before .before .before .before .before .before .before .before .before .before .args .rule-count) (now (c .before .before .before .before .before .before .before .before .before .before .before .before .before .before .before .before .before .before .before .before .args .units)) (c .before .before .before .before .before .before .before .before .before .before .before .before .before .before .before .before .before .before .before .before .args .unit-count) (now (c .before .before .before .before .before .before .before .before .before .before .before .before .before .before .before .before .before .before .before .before .args .predecessors))) (c .before .before .before .before .before .before .before .before .before .before .next-unit .result))
@@ -178,7 +160,6 @@ same-length-3 c =
     c .before .before .before .before .before .work-list .kept .1 .1 .1 .1 .1 .1 .0
     ∙ working-long (unitsOf (now (at .rules)) (at .rule-count) (now (at .units)) (at .unit-count) (now (at .predecessors))) (c .before .before .before .before .before .before .before .before .before .before .before .before .before .before .before .before .before .before .before .before .before .before .before .before .before .pre .0 .lent-words .units-most) (c .before .before .before .before .before .before .before .before .before .before .before .before .before .before .before .before .before .loop .done) (now (at .table)) (c .before .before .before .before .before .before .before .before .before .before .before .before .before .before .before .before .before .loop .table) (c .before .before .before .before .before .before .before .before .before .before .before .before .before .before .before .before .before .loop .counts) (c .before .before .before .before .before .before .before .before .before .before .before .before .before .before .before .before .before .loop .inv .working)
 
--- src/work.rt:74:13
 same-length-4 : tie.Need-same-length-4 Inv-loop μ-loop
 same-length-4 c =
     let at = c .before .before .before .before .before .before .before .before .before .before .before .before .before .before .before .before .before .before .before .before .before .before .before .before .before .args in
@@ -186,7 +167,6 @@ same-length-4 c =
     ∙ counts-long (unitsOf (now (at .rules)) (at .rule-count) (now (at .units)) (at .unit-count) (now (at .predecessors))) (c .before .before .before .before .before .before .before .before .before .before .before .before .before .before .before .before .before .loop .done) (now (at .table)) (c .before .before .before .before .before .before .before .before .before .before .before .before .before .before .before .before .before .loop .table) (c .before .before .before .before .before .before .before .before .before .before .before .before .before .before .before .before .before .loop .counts) (c .before .before .before .before .before .before .before .before .before .before .before .before .before .before .before .before .before .loop .inv .working)
     ∙ sym (counts-long (unitsOf (now (at .rules)) (at .rule-count) (now (at .units)) (at .unit-count) (now (at .predecessors))) 0 (now (at .table)) (now (at .table)) (now (at .counts)) (c .before .before .before .before .before .before .before .before .before .before .before .before .before .before .before .before .before .before .before .before .before .before .before .before .before .pre .1))
 
--- src/work.rt:74:13
 returns-2 : tie.Need-returns-2 Inv-loop μ-loop
 unfolding unitsOf
 returns-2 c =
@@ -198,23 +178,18 @@ returns-2 c =
     (next-long-at (unitsOf (now (at .rules)) (at .rule-count) (now (at .units)) (at .unit-count) (now (at .predecessors))) (c .before .before .before .before .before .before .before .before .before .before .before .before .before .before .before .before .before .before .before .before .before .before .before .before .before .pre .0 .passes) (now (at .table)) (l .table) (l .counts) (l .done) (l .left) (l .inv) (c .before .before .before .before .before .before .before .before .before .before .before .before .before .before .before .before .loop-test .taken) u (next-is (c .before .before .before .before .before .before .before .before .before .before .before .before .before .before .before)) (next-small (c .before .before .before .before .before .before .before .before .before .before .before .before .before .before)) (w .0))
     (subst₂ (Working (unitsOf (now (at .rules)) (at .rule-count) (now (at .units)) (at .unit-count) (now (at .predecessors))) (l .done) (now (at .table))) (sym (w .1)) (sym (w .2)) (l .inv .working))
 
--- src/work.rt:76:35
 single-requires : tie.Need-single-requires Inv-loop μ-loop
 single-requires c κs = omega (arith, next-small (c .before .before .before .before .before .before .before .before .before .before .before .before .before .before), c .before .before .before .before .before .before .before .before .before .before .before .before .before .before .before .before .before .before .before .before .before .before .before .before .before .pre .0 .lent-words)
 
--- src/work.rt:76:9
 union-requires : tie.Need-union-requires Inv-loop μ-loop
 union-requires c κs = search needs
 
--- src/work.rt:77:9
 sub-left : tie.Need-sub-left Inv-loop μ-loop
 sub-left c = omega arith
 
--- src/work.rt:63:5
 loop-less : tie.Need-loop-less Inv-loop μ-loop
 loop-less c = omega arith
 
--- src/work.rt:63:5
 loop-again : tie.Need-loop-again Inv-loop μ-loop
 unfolding unitsOf
 loop-again c =
@@ -229,21 +204,18 @@ loop-again c =
     (c .before .before .before .before .before .before .before .work-list .last .1 .1 .1 .1 .1 .1 .0) (c .before .before .before .before .before .before .before .work-list .last .1 .1 .1 .1 .1 .1 .1 .0) small (w .0)
     (working-next (unitsOf (now (at .rules)) (at .rule-count) (now (at .units)) (at .unit-count) (now (at .predecessors))) (c .before .before .before .before .before .before .before .before .before .before .before .before .before .before .before .before .before .before .before .before .before .before .before .before .before .before .before .pre .0 .lent-words .units-most) (l .done) (now (at .table)) (l .table) (l .counts) (l .inv .working) u (c .before .before .before .before .before .before .before .work-list .last .1 .1 .1 .1 .1 .1 .0) (c .before .before .before .before .before .before .before .work-list .last .1 .1 .1 .1 .1 .1 .1 .0) small (w .0) (w .1) (w .2)))
 
--- src/work.rt:47:1
 same-length-5 : tie.Need-same-length-5 Inv-loop μ-loop
 unfolding unitsOf
 same-length-5 c =
     let at = c .before .before .before .before .before .before .before .before .before .args in
     working-long (unitsOf (now (at .rules)) (at .rule-count) (now (at .units)) (at .unit-count) (now (at .predecessors))) (c .before .before .before .before .before .before .before .before .before .pre .0 .lent-words .units-most) (c .before .loop .done) (now (at .table)) (c .before .loop .table) (c .before .loop .counts) (c .before .loop .inv .working)
 
--- src/work.rt:47:1
 same-length-6 : tie.Need-same-length-6 Inv-loop μ-loop
 same-length-6 c =
     let at = c .before .before .before .before .before .before .before .before .before .args in
     counts-long (unitsOf (now (at .rules)) (at .rule-count) (now (at .units)) (at .unit-count) (now (at .predecessors))) (c .before .loop .done) (now (at .table)) (c .before .loop .table) (c .before .loop .counts) (c .before .loop .inv .working)
     ∙ sym (counts-long (unitsOf (now (at .rules)) (at .rule-count) (now (at .units)) (at .unit-count) (now (at .predecessors))) 0 (now (at .table)) (now (at .table)) (now (at .counts)) (c .before .before .before .before .before .before .before .before .before .pre .1))
 
--- src/work.rt:47:1
 returns-3 : tie.Need-returns-3 Inv-loop μ-loop
 unfolding unitsOf
 returns-3 c =
