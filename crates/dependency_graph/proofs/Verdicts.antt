@@ -1,14 +1,14 @@
 -- The verdict passes exactly the graphs that pass, and a refusal names the first row that fits and its lowest rule or unit.
-use mathlib.Core.Path.{_≡_, sym, _∙_, subst}
+use mathlib.Core.Path.{_≡_, sym, ap, _∙_, subst}
 use mathlib.Core.Logic.{_↔_}
 use Prim.Native.Nat.{ℕ, _≤_, _<_}
 use native.Mathlib.Omega.{arith}
-use native.Mathlib.Decide.{ℕ-discrete}
+use native.Mathlib.Decide.{ℕ-discrete, decLt}
 use borrow.Author.Tests.{eq-eqb, ne-eqb}
 use Rattle.atoms.specs.Word.{Has}
-use Rattle.atoms.proofs.Sets.{some-atom}
+use Rattle.atoms.proofs.Sets.{some-atom, has-none}
 use Rattle.dependency_graph.specs.declared.Verdict.{Verdict}
-use Rattle.dependency_graph.specs.declared.Verdict.the-variants.{Passes as GraphPasses}
+use Rattle.dependency_graph.specs.declared.Verdict.the-variants.{Passes as GraphPasses, Unplaced as RuleUnplaced, Shared as RuleShared, Cyclic as UnitCyclic, NonmonotonicUnseen as RuleClashing, MonotonicUnseen as RuleUncovered}
 use Rattle.dependency_graph.specs.Units.{Units, Path}
 use Rattle.dependency_graph.specs.Graph.{Passes}
 use Rattle.dependency_graph.specs.Lowest.{lowestOf, Least}
@@ -52,6 +52,21 @@ least-of w P f g b n =
     let s = some-atom w n in
     let l = lowest-of-lowest w (s .0) (s .1) (b (s .0) (f (s .0) (s .1))) in
     record { here = f (lowestOf w) (l .here); least = λ q k p. l .least q k (g q p) }
+
+least-same : (P : ℕ → Type 0) (q r : ℕ) → Least P q → Least P r → q ≡ r
+least-same P q r a b = go (decLt q r) (decLt r q)
+  where
+    go : Dec (q < r) → Dec (r < q) → q ≡ r
+    go (yes k) d = absurd (b .least q k (a .here))
+    go (no k) (yes l) = absurd (a .least r l (b .here))
+    go (no k) (no l) = omega arith
+
+-- a row fits where there is an offender, and names the lowest
+row-names : (w : ℕ) (P : ℕ → Type 0) (f : ℕ → Verdict) (v : Verdict) (r : ℕ) → ((q : ℕ) → Has w q → P q) → ((q : ℕ) → P q → Has w q)
+    → ((q : ℕ) → P q → q < 64) → Least P r → row w f v ≡ f r
+row-names w P f v r at has bound l =
+    let some : ¬ (w ≡ 0) = λ e. has-none (subst (λ (x : ℕ). Has x r) e (has r (l .here))) in
+    row-fits w f v some ∙ ap f (least-same P (lowestOf w) r (least-of w P at has bound some) l)
 
 -- ---- the rows in turn
 
@@ -106,3 +121,28 @@ module _ (S : Units) where
         c = c-of-empty S c;
         d = d-of-empty S d;
       }))))))
+
+  -- and only one verdict does
+  pub verdict-only : S .rules ≤ 64 → S .units ≤ 64 → (v : Verdict) → Right S v → verdict S ≡ v
+  unfolding verdict dependenceRows
+  verdict-only k l v (passes p) = verdict-of-passes p
+  verdict-only k l v (row-10 {r} least) =
+      row-names _ _ RuleUnplaced _ r (unplaced-at S) (unplaced-has S) (λ q o. omega (arith, o .is-rule)) least
+  verdict-only k l v (row-11 {r} a least) =
+      row-misses _ _ _ (empty-of-a S a)
+      ∙ row-names _ _ RuleShared _ r (shared-at S) (shared-has S) (λ q o. omega (arith, o .in-first .is-rule)) least
+  verdict-only k l v (row-12 {u} a b least) =
+      row-misses _ _ _ (empty-of-a S a)
+      ∙ row-misses _ _ _ (empty-of-b S b)
+      ∙ row-names _ (λ v. Path S v v) UnitCyclic _ u (cyclic-at S) (cyclic-has S) (λ q p. omega (arith, path-start S p)) least
+  verdict-only k l v (row-13 {r} a b y least) =
+      row-misses _ _ _ (empty-of-a S a)
+      ∙ row-misses _ _ _ (empty-of-b S b)
+      ∙ row-misses _ _ _ (empty-of-acyclic S y)
+      ∙ row-names _ _ RuleClashing _ r (nonmonotonic-at S) (nonmonotonic-has S) (λ q o. omega (arith, o .held .is-rule)) least
+  verdict-only k l v (row-14 {r} a b y c least) =
+      row-misses _ _ _ (empty-of-a S a)
+      ∙ row-misses _ _ _ (empty-of-b S b)
+      ∙ row-misses _ _ _ (empty-of-acyclic S y)
+      ∙ row-misses _ _ _ (empty-of-c S c)
+      ∙ row-names _ _ RuleUncovered _ r (monotonic-at S) (monotonic-has S) (λ q o. omega (arith, o .is-rule)) least

@@ -17,7 +17,6 @@ use Rattle.answer_sets.specs.Lent.{lent}
 use Rattle.plan.specs.Record.{Fitting}
 use Rattle.plan.specs.Reading.{reading}
 use Rattle.plan.specs.Layout.{IsByte, All}
-use Rattle.plan.specs.declared.fault.Fault.{Fault}
 use Rattle.plan.specs.declared.fault.Fault.the-variants.{LongList}
 use Rattle.plan.specs.declared.record.Plan.{Plan}
 use Rattle.plan.specs.declared.reader.Outcome.{Outcome}
@@ -47,6 +46,7 @@ use Rattle.unit_lists.proofs.Handing.{read-answer}
 use Rattle.unit_lists.proofs.Stepping.{work-fits, work-long}
 use Rattle.unit_lists.proofs.LastList.{last-fits, last-long}
 use Rattle.unit_lists.proofs.Reading.{plan-clean}
+use Rattle.unit_lists.proofs.Demand2.{not-accepted}
 
 -- ---- refusal 15
 
@@ -58,9 +58,6 @@ long-refused S table us u (last l) = ap (λ (a : Answer). a .outcome) (last-long
 
 same-spot : (u v : ℕ) → Refused (LongList v) ≡ Refused (LongList u) → v ≡ u
 same-spot u v e = cc
-
-not-accepted : (f : Fault) → Accepted ≡ Refused f → ⊥
-not-accepted f e = let z : _≡_ {A = ℕ} 0 1 = cc in omega arith
 
 refused-long : (S : Units) (table us : List ℕ) (u : ℕ) → workFrom S table us .outcome ≡ Refused (LongList u) → FirstLong S us u
 refused-long S table [] u e = go (decLt 256 (length (lastList S)))

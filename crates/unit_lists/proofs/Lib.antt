@@ -7,4 +7,5 @@ pub mod Stepping
 pub mod LastList
 pub mod Handing
 pub mod Reading
+pub mod Demand2
 pub mod Demand3

@@ -1,4 +1,4 @@
--- Demand 3 in plain sight: when refusal 15 comes, and what the last list holds.
+-- Demands 2 and 3 in plain sight: which graphs pass, when refusal 15 comes, and what the last list holds.
 use mathlib.Core.Path.{_≡_}
 use mathlib.Core.Logic.{_↔_}
 use mathlib.Core.List.{List, [], _∷_, List·Memᴰ}
@@ -9,15 +9,45 @@ use Rattle.atoms.specs.Rising.{Rising}
 use Rattle.answer_sets.specs.AnswerSet.{AnswerSet}
 use Rattle.answer_sets.specs.Lent.{lent}
 use Rattle.plan.specs.Reading.{reading}
-use Rattle.plan.specs.declared.fault.Fault.the-variants.{LongList}
+use Rattle.plan.specs.Faults.{number}
+use Rattle.plan.specs.declared.fault.Fault.{Fault}
+use Rattle.plan.specs.declared.fault.Fault.the-variants.{RuleInNoUnit, HeadedRuleInSeveral, Cycle, NonmonotonicUnseen, MonotonicUnseen, LongList}
 use Rattle.plan.specs.declared.record.Plan.{Plan}
+use Rattle.plan.specs.declared.reader.Outcome.{Outcome}
 use Rattle.plan.specs.declared.reader.Outcome.the-variants.{Accepted, Refused}
-use Rattle.dependency_graph.specs.Units.{Units}
-use Rattle.dependency_graph.specs.Graph.{Passes}
+use Rattle.dependency_graph.specs.Units.{Units, Path}
+use Rattle.dependency_graph.specs.Graph.{ConditionA, ConditionB, Acyclic, ConditionC, Passes}
+use Rattle.dependency_graph.specs.Lowest.{Least}
+use Rattle.dependency_graph.specs.Offenders.{Unplaced as BreaksA, Shared as BreaksB, NonmonotonicUnseen as BreaksC, MonotonicUnseen as BreaksD}
 use Rattle.dependency_graph.specs.Order.{workingOrder}
 use Rattle.unit_lists.specs.Lists.{unitList, lastList}
 use Rattle.unit_lists.specs.Answer.{planUnits}
 use Rattle.unit_lists.specs.declared.Listing.{Listing}
+
+-- ---- demand 2: the graph
+
+-- refused by the graph place, whose faults have the numbers 10 to 14
+pub record GraphRefused (outcome : Outcome) : Type 0 where
+  pub fault : Fault
+  pub is : outcome ≡ Refused fault
+  pub from-10 : 10 ≤ number fault
+  pub to-14 : number fault ≤ 14
+
+-- a graph passes exactly if the conditions hold; otherwise the first row that fits counts, at its lowest rule or unit
+pub record GraphJudged (S : Units) (outcome : Outcome) : Type 0 where
+  pub passes : (¬ GraphRefused outcome) ↔ Passes S
+  pub ten : (r : ℕ) → (outcome ≡ Refused (RuleInNoUnit r)) ↔ Least (BreaksA S) r
+  pub eleven : (r : ℕ) → (outcome ≡ Refused (HeadedRuleInSeveral r)) ↔ (ConditionA S × Least (BreaksB S) r)
+  pub twelve : (u : ℕ) → (outcome ≡ Refused (Cycle u)) ↔ (ConditionA S × ConditionB S × Least (λ v. Path S v v) u)
+  pub thirteen : (r : ℕ) → (outcome ≡ Refused (NonmonotonicUnseen r)) ↔ (ConditionA S × ConditionB S × Acyclic S × Least (BreaksC S) r)
+  pub fourteen : (r : ℕ)
+      → (outcome ≡ Refused (MonotonicUnseen r)) ↔ (ConditionA S × ConditionB S × Acyclic S × ConditionC S × Least (BreaksD S) r)
+
+-- for every plan that reads, and every long enough table
+pub record Demand2 (bytes table : List ℕ) (r : Listing) : Type 0 where
+  pub judged : reading bytes .outcome ≡ Accepted → 4352 ≤ length table → GraphJudged (planUnits (reading bytes .plan)) (r .outcome)
+
+-- ---- demand 3: the last list
 
 -- u's list is the first above 256, in working order; the last list, whose number is the count of units, comes after all
 pub data FirstLong (S : Units) : List ℕ → ℕ → Type 0 where

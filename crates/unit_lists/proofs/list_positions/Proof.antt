@@ -1,8 +1,11 @@
 -- The table, then reading, then the graph: the first fault counts.
 use mathlib.Core.Path.{refl, ap, sym, subst, _∙_}
+use mathlib.Core.List.{List}
+use Prim.Native.Nat.{ℕ}
 use denote.Ref.{now}
 use lib.ListN.{length}
 use Rattle.plan.specs.Record.{Fitting}
+use Rattle.plan.specs.Layout.{IsByte, All}
 use Rattle.plan.specs.declared.fault.Fault.the-variants.{TableShort}
 use Rattle.plan.specs.declared.reader.Reading.{Reading}
 use Rattle.plan.proofs.Limits.{record-fits, all-bytes}
@@ -10,12 +13,20 @@ use Rattle.dependency_graph.specs.Check.{verdict}
 use Rattle.splitting.specs.UnitList.{Clean}
 use Rattle.unit_lists.specs.Answer.{Answer, planUnits, afterGraph, answer}
 use Rattle.unit_lists.specs.Handed.{Handed}
+use Rattle.unit_lists.specs.Demands.{Demand2, Demand3}
+use Rattle.unit_lists.specs.declared.Listing.{Listing}
 use Rattle.unit_lists.proofs.Handing.{handed-refused, short-answer, refused-answer, read-answer}
 use Rattle.unit_lists.proofs.Reading.{plan-clean}
+use Rattle.unit_lists.proofs.Demand2.{demand-2}
 use Rattle.unit_lists.proofs.Demand3.{demand-3}
 use borrow.Author.Needs.{needs}
 use Rattle.unit_lists.proofs.list_positions.Statement.{statement}
 use Rattle.unit_lists.proofs.list_positions.Tie as tie
+
+-- what is handed back has all parts of the contract
+promised : (bytes table : List ℕ) → All IsByte bytes → (r : Listing) (table′ : List ℕ) → Handed (answer bytes table) r table′
+    → Handed (answer bytes table) r table′ × (Demand2 bytes table r × Demand3 bytes table r table′)
+promised bytes table all r table′ h = (h, (demand-2 bytes table r table′ h, demand-3 bytes table all r table′ h))
 
 refuse-requires : tie.Need-refuse-requires
 refuse-requires c κs = search needs
@@ -26,7 +37,7 @@ returns c =
     let handed : Handed (answer (now (at .plan)) (now (at .table))) (c .refuse .result) (now (c .before .before .before .before .args .table)) =
     handed-refused (answer (now (at .plan)) (now (at .table))) (TableShort (length (now (at .table)))) (c .refuse .result) (now (at .table)) (now (at .table))
     (short-answer (now (at .plan)) (now (at .table)) (c .before .if1 .taken)) (c .refuse .ensures) refl in
-    (handed, demand-3 (now (at .plan)) (now (at .table)) (all-bytes (now (at .plan)) (λ i. c .before .before .before .shared-slice-known .given i .fits)) (c .refuse .result) (now (c .before .before .before .before .args .table)) handed)
+    promised (now (at .plan)) (now (at .table)) (all-bytes (now (at .plan)) (λ i. c .before .before .before .shared-slice-known .given i .fits)) (c .refuse .result) (now (c .before .before .before .before .args .table)) handed
 
 read-plan-requires : tie.Need-read-plan-requires
 read-plan-requires c κs = search needs
@@ -44,7 +55,7 @@ returns-2 c =
     handed-refused (answer (now (at .plan)) (now (at .table))) (c .before .before .outcome .given .0 .0) (c .refuse2 .result) (now (at .table)) (now (at .table))
     (refused-answer (now (at .plan)) (now (at .table)) (c .before .before .outcome .given .0 .0) (c .before .before .before .before .before .if1 .left)
     (sym (ap (λ (r : Reading). r .outcome) (c .before .before .before .before .read-plan .ensures)) ∙ c .before .before .outcome .given .1)) (c .refuse2 .ensures) refl in
-    (handed, demand-3 (now (at .plan)) (now (at .table)) (all-bytes (now (at .plan)) (λ i. c .before .before .before .before .before .before .before .shared-slice-known .given i .fits)) (c .refuse2 .result) (now (c .before .before .before .before .before .before .before .before .args .table)) handed)
+    promised (now (at .plan)) (now (at .table)) (all-bytes (now (at .plan)) (λ i. c .before .before .before .before .before .before .before .shared-slice-known .given i .fits)) (c .refuse2 .result) (now (c .before .before .before .before .before .before .before .before .args .table)) handed
 
 enum-told : tie.Need-enum-told
 enum-told c = search needs
@@ -72,7 +83,7 @@ returns-3 c =
     (sym (read-answer (now (at .plan)) (now (at .table)) (c .before .before .before .before .before .before .before .if1 .left) (sym (ap (λ (r : Reading). r .outcome) e) ∙ c .before .before .before .before .enum-told .given .1)))
     (subst (λ (r : Reading). Handed (afterGraph (planUnits (r .plan)) (now (at .table)) (verdict (planUnits (r .plan)))) (c .before .before .list-read-plan .result) (c .before .before .list-read-plan .last .1 .0)) e
     (c .before .before .list-read-plan .ensures)) in
-    (handed, demand-3 (now (at .plan)) (now (at .table)) (all-bytes (now (at .plan)) (λ i. c .before .before .before .before .before .before .before .before .before .shared-slice-known .given i .fits)) (c .before .before .list-read-plan .result) (c .before .before .list-read-plan .last .1 .0) handed)
+    promised (now (at .plan)) (now (at .table)) (all-bytes (now (at .plan)) (λ i. c .before .before .before .before .before .before .before .before .before .shared-slice-known .given i .fits)) (c .before .before .list-read-plan .result) (c .before .before .list-read-plan .last .1 .0) handed
 
 pub list-positions-spec : {M : Type 1} → statement M
 list-positions-spec =
