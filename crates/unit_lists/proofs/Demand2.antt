@@ -1,6 +1,5 @@
 -- Demand 2 on graphs, from the answer that the function hands back: its outcome tells the verdict, and only one verdict is right.
 use mathlib.Core.Path.{_≡_, refl, sym, ap, _∙_, subst}
-use mathlib.Core.Logic.{_↔_, _⊎_, inl, inr}
 use mathlib.Core.List.{List, [], _∷_}
 use Prim.Native.Nat.{ℕ, _≤_, _<_}
 use native.Mathlib.Omega.{arith}
@@ -22,7 +21,7 @@ use Rattle.dependency_graph.specs.Slices.{unitsOf}
 use Rattle.dependency_graph.specs.Check.{verdict, Right, passes, row-10, row-11, row-12, row-13, row-14}
 use Rattle.dependency_graph.specs.declared.Verdict.{Verdict}
 use Rattle.dependency_graph.specs.declared.Verdict.the-variants.{Passes as GraphPasses, Unplaced as RuleUnplaced, Shared as RuleShared, Cyclic as UnitCyclic, NonmonotonicUnseen as RuleClashing, MonotonicUnseen as RuleUncovered}
-use Rattle.dependency_graph.proofs.Verdicts.{verdict-right, verdict-only, verdict-of-passes}
+use Rattle.dependency_graph.proofs.Verdicts.{verdict-right, verdict-only}
 use Rattle.unit_lists.specs.Lists.{unitList, lastList}
 use Rattle.unit_lists.specs.Answer.{Answer, workFrom, planUnits, afterGraph, answer}
 use Rattle.unit_lists.specs.Handed.{Handed}

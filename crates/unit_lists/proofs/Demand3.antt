@@ -1,5 +1,5 @@
 -- Demand 3, from the answer that the function hands back and the theorem of the splitting theory.
-use mathlib.Core.Path.{_≡_, refl, sym, ap, ap₂, _∙_, subst}
+use mathlib.Core.Path.{_≡_, sym, ap, ap₂, _∙_, subst}
 use mathlib.Core.Bool.{Bool, true, false}
 use mathlib.Core.Logic.{_↔_, _⊎_, inl, inr}
 use mathlib.Core.List.{List, [], _∷_, _++_, append-assoc, List·Memᴰ, List·Memᴰ·not-nil, List·Memᴰ·cases-cons}
@@ -14,12 +14,9 @@ use Rattle.atoms.specs.Word.{below}
 use Rattle.atoms.specs.Rising.{Rising}
 use Rattle.answer_sets.specs.AnswerSet.{AnswerSet}
 use Rattle.answer_sets.specs.Lent.{lent}
-use Rattle.plan.specs.Record.{Fitting}
 use Rattle.plan.specs.Reading.{reading}
 use Rattle.plan.specs.Layout.{IsByte, All}
 use Rattle.plan.specs.declared.fault.Fault.the-variants.{LongList}
-use Rattle.plan.specs.declared.record.Plan.{Plan}
-use Rattle.plan.specs.declared.reader.Outcome.{Outcome}
 use Rattle.plan.specs.declared.reader.Outcome.the-variants.{Accepted, Refused}
 use Rattle.plan.proofs.Limits.{record-fits}
 use Rattle.dependency_graph.specs.Units.{Units, GivenFree, LooksOnly}
@@ -34,7 +31,7 @@ use Rattle.splitting.specs.UnitList.{Clean, withLast}
 use Rattle.splitting.proofs.Last.{last-list, last-passes, last-free}
 use Rattle.unit_search.specs.Listing.{padded}
 use Rattle.unit_lists.specs.Lists.{unitList, lastList}
-use Rattle.unit_lists.specs.Table.{TABLE_WORDS, runs, tally, listAt, tableOf, countsOf, cleared}
+use Rattle.unit_lists.specs.Table.{TABLE_WORDS, runs, tally, listAt, tableOf, countsOf}
 use Rattle.unit_lists.specs.Answer.{Answer, refuse, workFrom, planUnits, afterGraph, answer}
 use Rattle.unit_lists.specs.Handed.{Handed}
 use Rattle.unit_lists.specs.Demands.{FirstLong, here, later, last, lastIn, ListsAll, Complete, Demand3}

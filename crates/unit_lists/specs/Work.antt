@@ -5,7 +5,7 @@ use mathlib.Core.List.{List, []}
 use Prim.Native.Nat.{ℕ, _^_, _≤_, _<_}
 use lib.ListN.{length, getD, set, replicate}
 use lib.Seq.{paste}
-use Rattle.atoms.specs.Word.{Has, _∖_, below}
+use Rattle.atoms.specs.Word.{Has, _∩_, _∖_, below}
 use Rattle.atoms.specs.Bounded.{unionIn}
 use Rattle.unit_search.specs.Listing.{Gathered, Grown}
 use Rattle.unit_search.specs.Job.{Wanted, Joinable}
@@ -22,6 +22,14 @@ use Rattle.unit_lists.specs.Table.{tableSoFar, countsSoFar, cleared}
 use Rattle.unit_lists.specs.Answer.{refuse, workFrom}
 use Rattle.unit_lists.specs.declared.work.Work.{Work}
 use Rattle.unit_lists.specs.declared.work.Work.the-variants.{Fits, Long}
+
+-- what the search is told of unit u
+abbrev pub searched : ℕ → List ℕ → List ℕ → List ℕ → ℕ → Unit
+searched n units predecessors inputs u = record {
+  rules = getD units u 0 ∩ below n;
+  inputs = getD inputs u 0;
+  predecessors = getD predecessors u 0;
+}
 
 -- one list is searched for from the start: stored with its count where it fits, and nothing is written where it does not
 pub data ListWorked (rules heads : List ℕ) (unit : Unit) (within base place : ℕ) (table counts table′ counts′ : List ℕ) : Bool → Type 0 where

@@ -15,14 +15,17 @@ use plan::Outcome;
 use unit_search::LIST_WORDS;
 use unit_search::Unit;
 use unit_search::search::search;
+ghost use mathlib.Core.Path.{_≡_};
 ghost use Prim.Native.Nat.{_+_, _≤_, _<_};
 ghost use lib.ListN.{length};
+ghost use Rattle.plan.specs.declared.fault.Fault.the-variants.{LongList};
 ghost use Rattle.unit_search.specs.Job.{Searchable};
 ghost use Rattle.dependency_graph.specs.Slices.{unitsOf};
 ghost use Rattle.dependency_graph.specs.Order.{workingOrder};
 ghost use Rattle.unit_lists.specs.Answer.{workFrom};
-ghost use Rattle.unit_lists.specs.Handed.{Handed};
-ghost use Rattle.unit_lists.specs.Work.{ListWorked, Setting, Working, UnitsWorked, LastLent, LastWorked, Workable};
+ghost use Rattle.unit_lists.specs.Handed.{refusal, Handed};
+ghost use Rattle.unit_lists.specs.Table.{cleared};
+ghost use Rattle.unit_lists.specs.Work.{searched, ListWorked, Setting, Working, UnitsWorked, LastLent, LastWorked, Workable};
 
 // Whether all lists fit, or the first unit whose list does not.
 pub enum Work {
@@ -55,6 +58,18 @@ pub fn work_list(
     true
 }
 
+// What the search is told of unit u.
+fn unit_at(rule_count: usize, units: &[u64], predecessors: &[u64], inputs: &[u64], u: usize) -> Unit
+    requires { ⌜ («rule_count» ≤ 64) × (u < length (now units)) × (u < length (now predecessors)) × (u < length (now inputs)) ⌝ }
+    ensures { λ r. ⌜ r ≡ searched «rule_count» (now (units .entry)) (now (predecessors .entry)) (now (inputs .entry)) u ⌝ }
+{
+    Unit {
+        rules: atoms::cut(units[u], atoms::first(rule_count)),
+        inputs: inputs[u],
+        predecessors: predecessors[u],
+    }
+}
+
 // Works the units, lowest number first among those whose predecessors are done.
 pub fn work_units(
     rules: &[u64],
@@ -77,11 +92,7 @@ pub fn work_units(
         if unit_count <= u {
             return Work::Fits;
         }
-        let unit = Unit {
-            rules: atoms::cut(units[u], atoms::first(rule_count)),
-            inputs: inputs[u],
-            predecessors: predecessors[u],
-        };
+        let unit = unit_at(rule_count, units, predecessors, inputs, u);
         if !work_list(
             rules,
             heads,
@@ -130,7 +141,56 @@ pub fn work_last(
     )
 }
 
-// Unit work on a plan that passed the graph place: all lists, or the first that is above 256.
+// Refuses by 15: the table's words 0 to 4,351 become zero.
+fn refuse_long(u: usize, table: &mut [u64]) -> Listing
+    requires { ⌜ 4352 ≤ length (now table) ⌝ }
+    ensures refused { λ r. ⌜ r ≡ refusal (LongList u) ⌝ }
+    ensures emptied { λ _. ⌜ now (table .exit) ≡ cleared (now (table .entry)) ⌝ }
+{
+    clear(table);
+    refuse(Fault::LongList(u))
+}
+
+// Unit work where the head atoms of the units are known: all lists, or the first that is above 256.
+fn work_lists(
+    rules: &[u64],
+    rule_count: usize,
+    units: &[u64],
+    unit_count: usize,
+    predecessors: &[u64],
+    heads: &[u64],
+    inputs: &[u64],
+    table: &mut [u64],
+) -> Listing
+    requires { ⌜ Setting (now rules) «rule_count» (now units) «unit_count» (now predecessors) (now heads) (now inputs) × (4352 ≤ length (now table)) ⌝ }
+    ensures { λ r. ⌜ Handed (workFrom (unitsOf (now (rules .entry)) «rule_count» (now (units .entry)) «unit_count» (now (predecessors .entry))) (now (table .entry)) (workingOrder (unitsOf (now (rules .entry)) «rule_count» (now (units .entry)) «unit_count» (now (predecessors .entry))))) r (now (table .exit)) ⌝ }
+{
+    clear(table);
+    let mut counts = [0usize; COUNTS];
+    let worked = work_units(
+        rules,
+        rule_count,
+        units,
+        unit_count,
+        predecessors,
+        heads,
+        inputs,
+        table,
+        &mut counts,
+    );
+    if let Work::Long(u) = worked {
+        return refuse_long(u, table);
+    }
+    if !work_last(rules, unit_count, heads, table, &mut counts) {
+        return refuse_long(unit_count, table);
+    }
+    Listing {
+        outcome: Outcome::Accepted,
+        counts,
+    }
+}
+
+// Unit work on a plan that passed the graph place.
 pub fn work_plan(
     rules: &[u64],
     rule_count: usize,
@@ -153,9 +213,7 @@ pub fn work_plan(
         &mut heads,
         &mut inputs,
     );
-    clear(table);
-    let mut counts = [0usize; COUNTS];
-    let worked = work_units(
+    work_lists(
         rules,
         rule_count,
         units,
@@ -164,18 +222,5 @@ pub fn work_plan(
         &heads,
         &inputs,
         table,
-        &mut counts,
-    );
-    if let Work::Long(u) = worked {
-        clear(table);
-        return refuse(Fault::LongList(u));
-    }
-    if !work_last(rules, unit_count, &heads, table, &mut counts) {
-        clear(table);
-        return refuse(Fault::LongList(unit_count));
-    }
-    Listing {
-        outcome: Outcome::Accepted,
-        counts,
-    }
+    )
 }

@@ -1,18 +1,17 @@
 -- The lists of the units that are done are in the table, and the work that is left is the same.
-use mathlib.Core.Path.{_≡_, refl, ap, sym, subst, subst₂, _∙_}
+use mathlib.Core.Path.{_≡_, ap, sym, subst, subst₂, _∙_}
 use mathlib.Core.List.{List}
-use mathlib.Core.Bool.{Bool, true, false}
 use Prim.Native.Nat.{ℕ, _*_, _-_, _≤_, _<_}
 use native.Mathlib.Omega.{arith}
 use borrow.Author.Needs.{needs}
 use borrow.Author.Tests.{not-true, not-false}
 use denote.Ref.{now}
 use lib.ListN.{getD}
-use Rattle.atoms.specs.Word.{_∩_, _∪_, atom, below}
-use Rattle.answer_sets.specs.Lent.{Lent}
+use Rattle.atoms.specs.Word.{_∪_}
 use Rattle.dependency_graph.specs.Slices.{unitsOf}
 use Rattle.dependency_graph.specs.Order.{nextUnit, Ready}
 use Rattle.dependency_graph.proofs.Slices.{next-edges}
+use Rattle.unit_search.specs.Job.{Searchable}
 use Rattle.unit_search.specs.declared.Unit.{Unit}
 use Rattle.unit_lists.specs.Lists.{unitList}
 use Rattle.unit_lists.specs.Work.{all-fit, one-long, Working}
@@ -20,14 +19,6 @@ use Rattle.unit_lists.proofs.Working.{working-next, working-long, count
 use Rattle.unit_lists.proofs.Stepping.{Looping, looping-start, next-ready-at, next-done-at, next-long-at, looping-stop, looping-end, UnitDone, done-fits, done-long, unit-done, rules-lent, named-few, joinable, unit-answer}
 use Rattle.unit_lists.proofs.work.work_units.Statement.{statement}
 use Rattle.unit_lists.proofs.work.work_units.Tie as tie
-use Rattle.unit_lists.proofs.work.work_units.Reads as reads
-use Rattle.unit_lists.proofs.work.work_units.Lts as lts
-use Rattle.atoms.proofs.cut.Reads as cut-reads
-use Rattle.atoms.proofs.first.Reads as first-reads
-use Rattle.atoms.proofs.single.Reads as single-reads
-use Rattle.atoms.proofs.union.Reads as union-reads
-use Rattle.dependency_graph.proofs.working_order.next_unit.Reads as next-unit-reads
-use Rattle.unit_lists.proofs.work.work_list.Reads as work-list-reads
 
 abbrev Inv-loop : tie.InvT-loop
 Inv-loop rules rule-count units unit-count predecessors heads inputs table₀ counts₀ done₀ left₀ table counts done left =
@@ -87,99 +78,85 @@ returns c =
     (subst (λ (k : ℕ). at .unit-count ≤ k) (next-is (c .before)) (c .if1 .taken)) in
     all-fit (stop .0) (stop .1) (l .inv .working)
 
-mul-cut : tie.Need-mul-cut Inv-loop μ-loop
-mul-cut c = omega (arith, next-small c, c .before .before .before .before .before .before .before .before .before .before .before .pre .0 .lent-words)
-
-shared-slice-read-cut : tie.Need-shared-slice-read-cut Inv-loop μ-loop
-shared-slice-read-cut c = omega (arith, next-small (c .before), c .before .before .before .before .before .before .before .before .before .before .before .before .pre .0 .lent-words)
-
-first-requires : tie.Need-first-requires Inv-loop μ-loop
-first-requires c κs = c .before .before .before .before .before .before .before .before .before .before .before .before .pre .0 .lent-words .rules-most
-
-cut-requires : tie.Need-cut-requires Inv-loop μ-loop
-cut-requires c κs = search needs
-
-mul-union : tie.Need-mul-union Inv-loop μ-loop
-mul-union c = omega (arith, next-small (c .before .before .before), c .before .before .before .before .before .before .before .before .before .before .before .before .before .before .pre .0 .lent-words)
-
-shared-slice-read-union : tie.Need-shared-slice-read-union Inv-loop μ-loop
-shared-slice-read-union c = omega (arith, next-small (c .before .before .before .before), c .before .before .before .before .before .before .before .before .before .before .before .before .before .before .before .pre .0 .lent-words, c .before .before .before .before .before .before .before .before .before .before .before .before .before .before .before .pre .0 .inputs-long)
+unit-at-requires : tie.Need-unit-at-requires Inv-loop μ-loop
+unit-at-requires c κs =
+    let s = c .before .before .before .before .before .before .before .before .before .before .before .pre .0 in (
+      s .lent-words .rules-most,
+      omega (arith, next-small c, s .lent-words),
+      omega (arith, next-small c, s .lent-words),
+      omega (arith, next-small c, s .lent-words, s .inputs-long),
+    )
 
 mul-work-list : tie.Need-mul-work-list Inv-loop μ-loop
-mul-work-list c = omega (arith, next-small (c .before .before .before .before), c .before .before .before .before .before .before .before .before .before .before .before .before .before .before .before .pre .0 .lent-words)
+mul-work-list c = omega (arith, next-small (c .before), c .before .before .before .before .before .before .before .before .before .before .before .before .pre .0 .lent-words)
 
 shared-slice-read-work-list : tie.Need-shared-slice-read-work-list Inv-loop μ-loop
-shared-slice-read-work-list c = omega (arith, next-small (c .before .before .before .before .before), c .before .before .before .before .before .before .before .before .before .before .before .before .before .before .before .before .pre .0 .lent-words)
+shared-slice-read-work-list c = omega (arith, next-small (c .before .before), c .before .before .before .before .before .before .before .before .before .before .before .before .before .pre .0 .lent-words, c .before .before .before .before .before .before .before .before .before .before .before .before .before .pre .0 .heads-long)
 
 mul-work-list-2 : tie.Need-mul-work-list-2 Inv-loop μ-loop
-mul-work-list-2 c = omega (arith, next-small (c .before .before .before .before .before), c .before .before .before .before .before .before .before .before .before .before .before .before .before .before .before .before .pre .0 .lent-words)
-
-shared-slice-read-work-list-2 : tie.Need-shared-slice-read-work-list-2 Inv-loop μ-loop
-shared-slice-read-work-list-2 c = omega (arith, next-small (c .before .before .before .before .before .before), c .before .before .before .before .before .before .before .before .before .before .before .before .before .before .before .before .before .pre .0 .lent-words, c .before .before .before .before .before .before .before .before .before .before .before .before .before .before .before .before .before .pre .0 .heads-long)
-
-mul-work-list-3 : tie.Need-mul-work-list-3 Inv-loop μ-loop
-mul-work-list-3 c = omega (arith, next-small (c .before .before .before .before .before .before), c .before .before .before .before .before .before .before .before .before .before .before .before .before .before .before .before .before .pre .0 .lent-words)
+mul-work-list-2 c = omega (arith, next-small (c .before .before), c .before .before .before .before .before .before .before .before .before .before .before .before .before .pre .0 .lent-words)
 
 work-list-requires : tie.Need-work-list-requires Inv-loop μ-loop
 unfolding unitsOf
 work-list-requires c κs =
-    let at = c .before .before .before .before .before .before .before .before .before .before .before .before .before .before .before .before .before .before .before .args in
-    let l = c .before .before .before .before .before .before .before .before .before .before .before .loop in
-    let u = c .before .before .before .before .before .before .before .before .before .next-unit .result in
-    let small = next-small (c .before .before .before .before .before .before .before .before) in
-    let long = working-long (unitsOf (now (at .rules)) (at .rule-count) (now (at .units)) (at .unit-count) (now (at .predecessors))) (c .before .before .before .before .before .before .before .before .before .before .before .before .before .before .before .before .before .before .before .pre .0 .lent-words .units-most) (l .done) (now (at .table)) (l .table) (l .counts) (l .inv .working) in
+    let at = c .before .before .before .before .before .before .before .before .before .before .before .before .before .before .before .args in
+    let l = c .before .before .before .before .before .before .before .loop in
+    let u = c .before .before .before .before .before .next-unit .result in
+    let small = next-small (c .before .before .before .before) in
+    let long = working-long (unitsOf (now (at .rules)) (at .rule-count) (now (at .units)) (at .unit-count) (now (at .predecessors))) (c .before .before .before .before .before .before .before .before .before .before .before .before .before .before .before .pre .0 .lent-words .units-most) (l .done) (now (at .table)) (l .table) (l .counts) (l .inv .working) in
     let many = counts-long (unitsOf (now (at .rules)) (at .rule-count) (now (at .units)) (at .unit-count) (now (at .predecessors))) (l .done) (now (at .table)) (l .table) (l .counts) (l .inv .working) in (
-      record {
-        rules-lent = subst (Lent (now (at .rules))) (sym (c .before .before .before .before .before .cut .ensures ∙ ap (λ (w : ℕ). getD (now (at .units)) u 0 ∩ w) (c .before .before .before .before .before .before .first .ensures))) (rules-lent (now (at .rules)) (at .rule-count) (now (at .units)) (at .unit-count) (now (at .predecessors)) (now (at .heads)) (now (at .inputs)) (c .before .before .before .before .before .before .before .before .before .before .before .before .before .before .before .before .before .before .before .pre .0) (getD (now (at .units)) u 0));
-        joinable = joinable (now (at .rules)) (at .rule-count) (now (at .units)) (at .unit-count) (now (at .predecessors)) (now (at .heads)) (now (at .inputs)) (c .before .before .before .before .before .before .before .before .before .before .before .before .before .before .before .before .before .before .before .pre .0) (l .done) (now (at .table)) (l .table) (l .counts) (getD (now (at .predecessors)) u 0) (l .inv .working)
-            (λ v h. named-few (now (at .rules)) (at .rule-count) (now (at .units)) (at .unit-count) (now (at .predecessors)) (now (at .heads)) (now (at .inputs)) (c .before .before .before .before .before .before .before .before .before .before .before .before .before .before .before .before .before .before .before .pre .0) u v small h);
-      },
-      omega (arith, long, l .inv .working .long, small, c .before .before .before .before .before .before .before .before .before .before .before .before .before .before .before .before .before .before .before .pre .0 .lent-words .units-most),
-      omega (arith, many, small, c .before .before .before .before .before .before .before .before .before .before .before .before .before .before .before .before .before .before .before .pre .0 .lent-words .units-most),
+      subst (Searchable (now (at .rules)) (l .table) (l .counts) (now (at .heads))) (sym (c .before .before .before .unit-at .ensures)) (record {
+        rules-lent = rules-lent (now (at .rules)) (at .rule-count) (now (at .units)) (at .unit-count) (now (at .predecessors)) (now (at .heads)) (now (at .inputs)) (c .before .before .before .before .before .before .before .before .before .before .before .before .before .before .before .pre .0) (getD (now (at .units)) u 0);
+        joinable = joinable (now (at .rules)) (at .rule-count) (now (at .units)) (at .unit-count) (now (at .predecessors)) (now (at .heads)) (now (at .inputs)) (c .before .before .before .before .before .before .before .before .before .before .before .before .before .before .before .pre .0) (l .done) (now (at .table)) (l .table) (l .counts) (getD (now (at .predecessors)) u 0) (l .inv .working)
+            (λ v h. named-few (now (at .rules)) (at .rule-count) (now (at .units)) (at .unit-count) (now (at .predecessors)) (now (at .heads)) (now (at .inputs)) (c .before .before .before .before .before .before .before .before .before .before .before .before .before .before .before .pre .0) u v small h);
+      }),
+      omega (arith, long, l .inv .working .long, small, c .before .before .before .before .before .before .before .before .before .before .before .before .before .before .before .pre .0 .lent-words .units-most),
+      omega (arith, many, small, c .before .before .before .before .before .before .before .before .before .before .before .before .before .before .before .pre .0 .lent-words .units-most),
     )
 
 -- what the unit's list has come to
 worked : (c : tie.After-work-list Inv-loop μ-loop)
-    → UnitDone (unitList (unitsOf (now (c .before .before .before .before .before .before .before .before .before .before .before .before .before .before .before .before .before .before .before .before .args .rules)) (c .before .before .before .before .before .before .before .before .before .before .before .before .before .before .before .before .before .before .before .before .args .rule-count) (now (c .before .before .before .before .before .before .before .before .before .before .before .before .before .before .before .before .before .before .before .before .args .units)) (c .before .before .before .before .before .before .before .before .before .before .before .before .before .before .before .before .before .before .before .before .args .unit-count) (now (c .before .before .before .before .before .before .before .before .before .before .before .before .before .before .before .before .before .before .before .before .args .predecessors))) (c .before .before .before .before .before .before .before .before .before .before .next-unit .result))
-    (256 * c .before .before .before .before .before .before .before .before .before .before .next-unit .result) (c .before .before .before .before .before .before .before .before .before .before .next-unit .result) (c .before .before .before .before .before .before .before .before .before .before .before .before .loop .table) (c .before .before .before .before .before .before .before .before .before .before .before .before .loop .counts) (c .work-list .last .1 .1 .1 .1 .1 .1 .0) (c .work-list .last .1 .1 .1 .1 .1 .1 .1 .0) (c .work-list .result)
+    → UnitDone (unitList (unitsOf (now (c .before .before .before .before .before .before .before .before .before .before .before .before .before .before .before .before .args .rules)) (c .before .before .before .before .before .before .before .before .before .before .before .before .before .before .before .before .args .rule-count) (now (c .before .before .before .before .before .before .before .before .before .before .before .before .before .before .before .before .args .units)) (c .before .before .before .before .before .before .before .before .before .before .before .before .before .before .before .before .args .unit-count) (now (c .before .before .before .before .before .before .before .before .before .before .before .before .before .before .before .before .args .predecessors))) (c .before .before .before .before .before .before .next-unit .result))
+    (256 * c .before .before .before .before .before .before .next-unit .result) (c .before .before .before .before .before .before .next-unit .result) (c .before .before .before .before .before .before .before .before .loop .table) (c .before .before .before .before .before .before .before .before .loop .counts) (c .work-list .last .1 .1 .1 .1 .1 .1 .0) (c .work-list .last .1 .1 .1 .1 .1 .1 .1 .0) (c .work-list .result)
 unfolding unitsOf
 worked c =
-    let at = c .before .before .before .before .before .before .before .before .before .before .before .before .before .before .before .before .before .before .before .before .args in
-    let l = c .before .before .before .before .before .before .before .before .before .before .before .before .loop in
-    let u = c .before .before .before .before .before .before .before .before .before .before .next-unit .result in
-    let unit : Unit = record { rules = c .before .before .before .before .before .before .cut .result; inputs = getD (now (at .inputs)) u 0; predecessors = getD (now (at .predecessors)) u 0 } in
+    let at = c .before .before .before .before .before .before .before .before .before .before .before .before .before .before .before .before .args in
+    let l = c .before .before .before .before .before .before .before .before .loop in
+    let u = c .before .before .before .before .before .before .next-unit .result in
+    let unit = c .before .before .before .before .unit-at .result in
+    let e = c .before .before .before .before .unit-at .ensures in
     unit-done (unitList (unitsOf (now (at .rules)) (at .rule-count) (now (at .units)) (at .unit-count) (now (at .predecessors))) u) (now (at .rules)) (now (at .heads)) unit (getD (now (at .heads)) u 0) (256 * u) u (l .table) (l .counts) (c .work-list .last .1 .1 .1 .1 .1 .1 .0) (c .work-list .last .1 .1 .1 .1 .1 .1 .1 .0) (c .work-list .result)
-    (unit-answer (now (at .rules)) (at .rule-count) (now (at .units)) (at .unit-count) (now (at .predecessors)) (now (at .heads)) (now (at .inputs)) (c .before .before .before .before .before .before .before .before .before .before .before .before .before .before .before .before .before .before .before .before .pre .0) (l .done) (now (at .table)) (l .table) (l .counts) (l .inv .working) u (next-small (c .before .before .before .before .before .before .before .before .before)) (ready (c .before .before .before .before .before .before .before .before .before)) unit
-    (c .before .before .before .before .before .before .cut .ensures ∙ ap (λ (w : ℕ). getD (now (at .units)) u 0 ∩ w) (c .before .before .before .before .before .before .before .first .ensures)) refl refl (c .before .before .before .shared-slice-known9 .given u .fits))
+    (unit-answer (now (at .rules)) (at .rule-count) (now (at .units)) (at .unit-count) (now (at .predecessors)) (now (at .heads)) (now (at .inputs)) (c .before .before .before .before .before .before .before .before .before .before .before .before .before .before .before .before .pre .0) (l .done) (now (at .table)) (l .table) (l .counts) (l .inv .working) u (next-small (c .before .before .before .before .before)) (ready (c .before .before .before .before .before)) unit
+    (ap (λ (x : Unit). x .rules) e) (ap (λ (x : Unit). x .inputs) e) (ap (λ (x : Unit). x .predecessors) e) (c .before .before .before .shared-slice-known6 .given u .fits))
     (c .work-list .ensures)
 
 same-length-3 : tie.Need-same-length-3 Inv-loop μ-loop
 unfolding unitsOf
 same-length-3 c =
-    let at = c .before .before .before .before .before .before .before .before .before .before .before .before .before .before .before .before .before .before .before .before .before .before .before .before .before .args in
+    let at = c .before .before .before .before .before .before .before .before .before .before .before .before .before .before .before .before .before .before .before .before .before .args in
     c .before .before .before .before .before .work-list .kept .1 .1 .1 .1 .1 .1 .0
-    ∙ working-long (unitsOf (now (at .rules)) (at .rule-count) (now (at .units)) (at .unit-count) (now (at .predecessors))) (c .before .before .before .before .before .before .before .before .before .before .before .before .before .before .before .before .before .before .before .before .before .before .before .before .before .pre .0 .lent-words .units-most) (c .before .before .before .before .before .before .before .before .before .before .before .before .before .before .before .before .before .loop .done) (now (at .table)) (c .before .before .before .before .before .before .before .before .before .before .before .before .before .before .before .before .before .loop .table) (c .before .before .before .before .before .before .before .before .before .before .before .before .before .before .before .before .before .loop .counts) (c .before .before .before .before .before .before .before .before .before .before .before .before .before .before .before .before .before .loop .inv .working)
+    ∙ working-long (unitsOf (now (at .rules)) (at .rule-count) (now (at .units)) (at .unit-count) (now (at .predecessors))) (c .before .before .before .before .before .before .before .before .before .before .before .before .before .before .before .before .before .before .before .before .before .pre .0 .lent-words .units-most) (c .before .before .before .before .before .before .before .before .before .before .before .before .before .loop .done) (now (at .table)) (c .before .before .before .before .before .before .before .before .before .before .before .before .before .loop .table) (c .before .before .before .before .before .before .before .before .before .before .before .before .before .loop .counts) (c .before .before .before .before .before .before .before .before .before .before .before .before .before .loop .inv .working)
 
 same-length-4 : tie.Need-same-length-4 Inv-loop μ-loop
 same-length-4 c =
-    let at = c .before .before .before .before .before .before .before .before .before .before .before .before .before .before .before .before .before .before .before .before .before .before .before .before .before .args in
+    let at = c .before .before .before .before .before .before .before .before .before .before .before .before .before .before .before .before .before .before .before .before .before .args in
     c .before .before .before .before .before .work-list .kept .1 .1 .1 .1 .1 .1 .1 .0
-    ∙ counts-long (unitsOf (now (at .rules)) (at .rule-count) (now (at .units)) (at .unit-count) (now (at .predecessors))) (c .before .before .before .before .before .before .before .before .before .before .before .before .before .before .before .before .before .loop .done) (now (at .table)) (c .before .before .before .before .before .before .before .before .before .before .before .before .before .before .before .before .before .loop .table) (c .before .before .before .before .before .before .before .before .before .before .before .before .before .before .before .before .before .loop .counts) (c .before .before .before .before .before .before .before .before .before .before .before .before .before .before .before .before .before .loop .inv .working)
-    ∙ sym (counts-long (unitsOf (now (at .rules)) (at .rule-count) (now (at .units)) (at .unit-count) (now (at .predecessors))) 0 (now (at .table)) (now (at .table)) (now (at .counts)) (c .before .before .before .before .before .before .before .before .before .before .before .before .before .before .before .before .before .before .before .before .before .before .before .before .before .pre .1))
+    ∙ counts-long (unitsOf (now (at .rules)) (at .rule-count) (now (at .units)) (at .unit-count) (now (at .predecessors))) (c .before .before .before .before .before .before .before .before .before .before .before .before .before .loop .done) (now (at .table)) (c .before .before .before .before .before .before .before .before .before .before .before .before .before .loop .table) (c .before .before .before .before .before .before .before .before .before .before .before .before .before .loop .counts) (c .before .before .before .before .before .before .before .before .before .before .before .before .before .loop .inv .working)
+    ∙ sym (counts-long (unitsOf (now (at .rules)) (at .rule-count) (now (at .units)) (at .unit-count) (now (at .predecessors))) 0 (now (at .table)) (now (at .table)) (now (at .counts)) (c .before .before .before .before .before .before .before .before .before .before .before .before .before .before .before .before .before .before .before .before .before .pre .1))
 
 returns-2 : tie.Need-returns-2 Inv-loop μ-loop
 unfolding unitsOf
 returns-2 c =
-    let at = c .before .before .before .before .before .before .before .before .before .before .before .before .before .before .before .before .before .before .before .before .before .before .before .before .before .args in
-    let l = c .before .before .before .before .before .before .before .before .before .before .before .before .before .before .before .before .before .loop in
-    let u = c .before .before .before .before .before .before .before .before .before .before .before .before .before .before .before .next-unit .result in
+    let at = c .before .before .before .before .before .before .before .before .before .before .before .before .before .before .before .before .before .before .before .before .before .args in
+    let l = c .before .before .before .before .before .before .before .before .before .before .before .before .before .loop in
+    let u = c .before .before .before .before .before .before .before .before .before .before .before .next-unit .result in
     let w = done-long (worked (c .before .before .before .before .before)) (not-true (c .before .before .before .before .before .work-list .result) (c .if2 .taken)) in
     one-long
-    (next-long-at (unitsOf (now (at .rules)) (at .rule-count) (now (at .units)) (at .unit-count) (now (at .predecessors))) (c .before .before .before .before .before .before .before .before .before .before .before .before .before .before .before .before .before .before .before .before .before .before .before .before .before .pre .0 .passes) (now (at .table)) (l .table) (l .counts) (l .done) (l .left) (l .inv) (c .before .before .before .before .before .before .before .before .before .before .before .before .before .before .before .before .loop-test .taken) u (next-is (c .before .before .before .before .before .before .before .before .before .before .before .before .before .before .before)) (next-small (c .before .before .before .before .before .before .before .before .before .before .before .before .before .before)) (w .0))
+    (next-long-at (unitsOf (now (at .rules)) (at .rule-count) (now (at .units)) (at .unit-count) (now (at .predecessors))) (c .before .before .before .before .before .before .before .before .before .before .before .before .before .before .before .before .before .before .before .before .before .pre .0 .passes) (now (at .table)) (l .table) (l .counts) (l .done) (l .left) (l .inv) (c .before .before .before .before .before .before .before .before .before .before .before .before .loop-test .taken) u (next-is (c .before .before .before .before .before .before .before .before .before .before .before)) (next-small (c .before .before .before .before .before .before .before .before .before .before)) (w .0))
     (subst₂ (Working (unitsOf (now (at .rules)) (at .rule-count) (now (at .units)) (at .unit-count) (now (at .predecessors))) (l .done) (now (at .table))) (sym (w .1)) (sym (w .2)) (l .inv .working))
 
 single-requires : tie.Need-single-requires Inv-loop μ-loop
-single-requires c κs = omega (arith, next-small (c .before .before .before .before .before .before .before .before .before .before .before .before .before .before), c .before .before .before .before .before .before .before .before .before .before .before .before .before .before .before .before .before .before .before .before .before .before .before .before .before .pre .0 .lent-words)
+single-requires c κs = omega (arith, next-small (c .before .before .before .before .before .before .before .before .before .before), c .before .before .before .before .before .before .before .before .before .before .before .before .before .before .before .before .before .before .before .before .before .pre .0 .lent-words)
 
 union-requires : tie.Need-union-requires Inv-loop μ-loop
 union-requires c κs = search needs
@@ -193,16 +170,16 @@ loop-less c = omega arith
 loop-again : tie.Need-loop-again Inv-loop μ-loop
 unfolding unitsOf
 loop-again c =
-    let at = c .before .before .before .before .before .before .before .before .before .before .before .before .before .before .before .before .before .before .before .before .before .before .before .before .before .before .before .args in
-    let l = c .before .before .before .before .before .before .before .before .before .before .before .before .before .before .before .before .before .before .before .loop in
-    let u = c .before .before .before .before .before .before .before .before .before .before .before .before .before .before .before .before .before .next-unit .result in
+    let at = c .before .before .before .before .before .before .before .before .before .before .before .before .before .before .before .before .before .before .before .before .before .before .before .args in
+    let l = c .before .before .before .before .before .before .before .before .before .before .before .before .before .before .before .loop in
+    let u = c .before .before .before .before .before .before .before .before .before .before .before .before .before .next-unit .result in
     let w = done-fits (worked (c .before .before .before .before .before .before .before)) (not-false (c .before .before .before .before .before .before .before .work-list .result) (c .before .before .if2 .left)) in
-    let small = next-small (c .before .before .before .before .before .before .before .before .before .before .before .before .before .before .before .before) in
+    let small = next-small (c .before .before .before .before .before .before .before .before .before .before .before .before) in
     subst (λ (d : ℕ). Looping (unitsOf (now (at .rules)) (at .rule-count) (now (at .units)) (at .unit-count) (now (at .predecessors))) (now (at .table)) (c .before .before .before .before .before .before .before .work-list .last .1 .1 .1 .1 .1 .1 .0) (c .before .before .before .before .before .before .before .work-list .last .1 .1 .1 .1 .1 .1 .1 .0) d (l .left - 1))
     (sym (c .union .ensures ∙ ap (λ (w : ℕ). l .done ∪ w) (c .before .single .ensures)))
-    (next-done-at (unitsOf (now (at .rules)) (at .rule-count) (now (at .units)) (at .unit-count) (now (at .predecessors))) (c .before .before .before .before .before .before .before .before .before .before .before .before .before .before .before .before .before .before .before .before .before .before .before .before .before .before .before .pre .0 .passes) (now (at .table)) (l .table) (l .counts) (l .done) (l .left) (l .inv) (c .before .before .before .before .before .before .before .before .before .before .before .before .before .before .before .before .before .before .loop-test .taken) u (next-is (c .before .before .before .before .before .before .before .before .before .before .before .before .before .before .before .before .before))
+    (next-done-at (unitsOf (now (at .rules)) (at .rule-count) (now (at .units)) (at .unit-count) (now (at .predecessors))) (c .before .before .before .before .before .before .before .before .before .before .before .before .before .before .before .before .before .before .before .before .before .before .before .pre .0 .passes) (now (at .table)) (l .table) (l .counts) (l .done) (l .left) (l .inv) (c .before .before .before .before .before .before .before .before .before .before .before .before .before .before .loop-test .taken) u (next-is (c .before .before .before .before .before .before .before .before .before .before .before .before .before))
     (c .before .before .before .before .before .before .before .work-list .last .1 .1 .1 .1 .1 .1 .0) (c .before .before .before .before .before .before .before .work-list .last .1 .1 .1 .1 .1 .1 .1 .0) small (w .0)
-    (working-next (unitsOf (now (at .rules)) (at .rule-count) (now (at .units)) (at .unit-count) (now (at .predecessors))) (c .before .before .before .before .before .before .before .before .before .before .before .before .before .before .before .before .before .before .before .before .before .before .before .before .before .before .before .pre .0 .lent-words .units-most) (l .done) (now (at .table)) (l .table) (l .counts) (l .inv .working) u (c .before .before .before .before .before .before .before .work-list .last .1 .1 .1 .1 .1 .1 .0) (c .before .before .before .before .before .before .before .work-list .last .1 .1 .1 .1 .1 .1 .1 .0) small (w .0) (w .1) (w .2)))
+    (working-next (unitsOf (now (at .rules)) (at .rule-count) (now (at .units)) (at .unit-count) (now (at .predecessors))) (c .before .before .before .before .before .before .before .before .before .before .before .before .before .before .before .before .before .before .before .before .before .before .before .pre .0 .lent-words .units-most) (l .done) (now (at .table)) (l .table) (l .counts) (l .inv .working) u (c .before .before .before .before .before .before .before .work-list .last .1 .1 .1 .1 .1 .1 .0) (c .before .before .before .before .before .before .before .work-list .last .1 .1 .1 .1 .1 .1 .1 .0) small (w .0) (w .1) (w .2)))
 
 same-length-5 : tie.Need-same-length-5 Inv-loop μ-loop
 unfolding unitsOf
@@ -235,17 +212,10 @@ work-units-spec =
     same-length
     same-length-2
     returns
-    mul-cut
-    shared-slice-read-cut
-    first-requires
-    cut-requires
-    mul-union
-    shared-slice-read-union
+    unit-at-requires
     mul-work-list
     shared-slice-read-work-list
     mul-work-list-2
-    shared-slice-read-work-list-2
-    mul-work-list-3
     work-list-requires
     same-length-3
     same-length-4
