@@ -2,26 +2,17 @@
 // them. The expected sheets are those of document 01; those of clingo-default-misses-one and inner-list-wider the
 // brute-force lister found. Each plan `several-..` breaks one graph condition in several places.
 use libc::STDOUT_FILENO;
+use print_sheet::SHEET_BYTES;
 use print_sheet::print_sheet;
-use sheet::Written;
-
-// The longest sheet has 256 positions: 14 bytes and 256 lines of 17.
-const SHEET_BYTES: usize = 4366;
-
-// Writes the first n bytes.
-fn write_first(sheet: &[u8], n: usize) {
-    if n <= sheet.len() {
-        io::write_all(STDOUT_FILENO, &sheet[0..n]);
-    }
-}
+use sheet::written_part;
+use unit_lists::TABLE_WORDS;
 
 // Writes the sheet of a plan.
 fn write_sheet(plan: &[u8]) {
-    let mut table = [0u64; 4352];
+    let mut table = [0u64; TABLE_WORDS];
     let mut sheet = [0u8; SHEET_BYTES];
-    if let Written::Bytes(length) = print_sheet(plan, &mut table, &mut sheet) {
-        write_first(&sheet, length);
-    }
+    let written = print_sheet(plan, &mut table, &mut sheet);
+    io::write_all(STDOUT_FILENO, written_part(&sheet, written));
 }
 
 // Writes a plan's name and its sheet.

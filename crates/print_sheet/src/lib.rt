@@ -10,6 +10,9 @@ use unit_lists::LAST_LIST;
 use unit_lists::list_positions;
 ghost use Rattle.print_sheet.specs.Sheets.{Printed};
 
+// The longest sheet has 256 positions: 14 bytes and 256 lines of 17.
+pub const SHEET_BYTES: usize = 4366;
+
 // Lists the plan in the lent table and writes its sheet into the lent buffer.
 pub fn print_sheet(plan: &[u8], table: &mut [u64], sheet: &mut [u8]) -> Written
     ensures { λ r. ⌜ Printed (now (plan .entry)) (now (table .entry)) (now (table .exit)) (now (sheet .entry)) (now (sheet .exit)) r ⌝ }
