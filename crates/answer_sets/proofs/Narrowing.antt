@@ -3,13 +3,13 @@ use mathlib.Core.Path.{_≡_, refl, sym, ap, ap₂, _∙_, subst}
 use mathlib.Core.Logic.{_⊎_, inl, inr}
 use mathlib.Core.List.{List}
 use Prim.Native.Nat.{ℕ, _<_, _^_}
-use native.Mathlib.Decide.{ℕ-discrete}
-use Rattle.atoms.specs.Word.{Has, _⊆_, Apart, _∩_, _∪_, _∖_, atom}
-use Rattle.atoms.proofs.Sets.{subset-refl, subset-trans, has-none, has-lt, empty, has-cut, cut-left, cut-right, has-left, has-right, union-cases, has-without, without-left, without-right, has-atom, atom-only}
+use Rattle.atoms.specs.Word.{Has, _⊆_, Apart, _∩_, _∪_, _∖_, atom, AtMostOne}
+use Rattle.atoms.proofs.Sets.{subset-refl, subset-trans, has-none, has-lt, empty, has-cut, cut-left, cut-right, has-left, has-right, union-cases, has-without, without-left, without-right, has-atom, atom-only, has-dec, decides-apart, shared-atom, apart-of-cut}
+use Rattle.atoms.proofs.Tests.{decided-true}
 use Rattle.answer_sets.specs.Program.{Program, Body, Satisfies, SatisfiesAll}
 use Rattle.answer_sets.specs.Lent.{lent, negative}
 use Rattle.answer_sets.specs.State.{Completes, Narrows, clashed, bodyKnown}
-use Rattle.answer_sets.specs.Growth.{HeadUp, InRule, in-head, in-positive, in-negative, Candidates}
+use Rattle.answer_sets.specs.Growth.{HeadUp, NotAll, InRule, in-head, in-positive, in-negative, Candidates}
 use Rattle.answer_sets.specs.declared.State.{State}
 use Rattle.answer_sets.specs.declared.Truth.the-variants.{Holds}
 use Rattle.answer_sets.proofs.HalfDecided.{known-holds}
@@ -24,9 +24,13 @@ narrows-trans f g = record {
   keeps = λ N k p. g .keeps N k (f .keeps N k p);
 }
 
--- a pass that keeps more keeps less
+-- a pass that keeps more keeps less; that it keeps more need only hold of completions
+pub narrows-when : {K L : ℕ → Type 0} {s t : State} → ((N : ℕ) → L N → Completes s N → K N) → Narrows K s t → Narrows L s t
+narrows-when f n =
+    record { up-grows = n .up-grows; dropped-grows = n .dropped-grows; keeps = λ N l p. n .keeps N (f N l p) p }
+
 pub narrows-for : {K L : ℕ → Type 0} {s t : State} → ((N : ℕ) → L N → K N) → Narrows K s t → Narrows L s t
-narrows-for f n = record { up-grows = n .up-grows; dropped-grows = n .dropped-grows; keeps = λ N l p. n .keeps N (f N l) p }
+narrows-for f n = narrows-when (λ N l p. f N l) n
 
 -- a completion of the larger state completes the smaller one
 pub completes-back : {K : ℕ → Type 0} {s t : State} {N : ℕ} → Narrows K s t → Completes t N → Completes s N
@@ -98,7 +102,23 @@ up-narrows {K} s w h = record {
     go N k p i (inl q) = p .has-up .each i q
     go N k p i (inr q) = h N k p .each i q
 
--- ---- a head of which one atom has to be up
+-- and atoms that none of them has may be dropped
+pub down-narrows : {K : ℕ → Type 0} (s : State) (w : ℕ) → ((N : ℕ) → K N → Completes s N → Apart w N)
+    → Narrows K s (record { up = s .up; dropped = s .dropped ∪ w })
+down-narrows {K} s w h = record {
+  up-grows = subset-refl;
+  dropped-grows = record { each = λ i p. has-left (s .dropped) w p };
+  keeps = λ N k p. record {
+    has-up = p .has-up;
+    no-dropped = record { none = λ i q m. go N k p i m (union-cases (s .dropped) w q) };
+  };
+}
+  where
+    go : (N : ℕ) → K N → Completes s N → (i : ℕ) → Has N i → Has (s .dropped) i ⊎ Has w i → ⊥
+    go N k p i m (inl q) = p .no-dropped .none i q m
+    go N k p i m (inr q) = h N k p .none i q m
+
+-- ---- a word of which one atom has to be up
 
 -- one that is up is not dropped
 left-atom : (head N : ℕ) (s : State) → (k : HeadUp head N) → Completes s N → Has (head ∖ s .dropped) (k .atom)
@@ -108,30 +128,41 @@ pub head-clash : (head : ℕ) (s : State) (w : ℕ) → w ≡ head ∖ s .droppe
 head-clash head s w e z =
     clash-narrows s (λ N k p. has-none (subst (λ (x : ℕ). Has x (k .atom)) (sym e ∙ z) (left-atom head N s k p)))
 
-only-atom : (w r i : ℕ) → w ∖ atom r ≡ 0 → Has w i → r ≡ i
-only-atom w r i z h = go (ℕ-discrete r i)
-  where
-    go : Dec (r ≡ i) → r ≡ i
-    go (yes e) = e
-    go (no n) = absurd (has-none (subst (λ (x : ℕ). Has x i) z (has-without w (atom r) h (λ p. n (atom-only r p)))))
-
-pub head-forced : (head : ℕ) (s : State) (w r : ℕ) → w ≡ head ∖ s .dropped → w ∖ atom r ≡ 0
+pub head-forced : (head : ℕ) (s : State) (w : ℕ) → w ≡ head ∖ s .dropped → AtMostOne w
     → Narrows (HeadUp head) s (record { up = s .up ∪ w; dropped = s .dropped })
-head-forced head s w r e z = up-narrows s w (λ N k p. record { each = λ i h. go N k p i h })
+head-forced head s w e o = up-narrows s w (λ N k p. record { each = λ i h. go N k p i h })
   where
     go : (N : ℕ) → HeadUp head N → Completes s N → (i : ℕ) → Has w i → Has N i
     go N k p i h =
-        let a : Has w (k .atom) = subst (λ (x : ℕ). Has x (k .atom)) (sym e) (left-atom head N s k p) in
-        subst (λ (x : ℕ). Has N x) (sym (only-atom w r (k .atom) z a) ∙ only-atom w r i z h) (k .is-up)
+        subst (λ (x : ℕ). Has N x)
+        (o .same (k .atom) i (subst (λ (x : ℕ). Has x (k .atom)) (sym e) (left-atom head N s k p)) h) (k .is-up)
+
+-- ---- a word of which one atom has to be down
+
+pub all-clash : (word : ℕ) (s : State) (w : ℕ) → w ≡ word ∖ s .up → w ≡ 0 → Narrows (NotAll word) s (clashed s)
+all-clash word s w e z = clash-narrows s (λ N k p. k .lacks (record { each = λ i h. go N p i h (has-dec (s .up) i) }))
+  where
+    go : (N : ℕ) → Completes s N → (i : ℕ) → Has word i → Dec (Has (s .up) i) → Has N i
+    go N p i h (yes u) = p .has-up .each i u
+    go N p i h (no n) = absurd (has-none (subst (λ (x : ℕ). Has x i) (sym e ∙ z) (has-without word (s .up) h n)))
+
+pub last-dropped : (word : ℕ) (s : State) (w : ℕ) → w ≡ word ∖ s .up → AtMostOne w
+    → Narrows (NotAll word) s (record { up = s .up; dropped = s .dropped ∪ w })
+last-dropped word s w e o =
+    down-narrows s w (λ N k p. record { none = λ i h q. k .lacks (record { each = λ j g. go N p i h q j g (has-dec (s .up) j) }) })
+  where
+    go : (N : ℕ) → Completes s N → (i : ℕ) → Has w i → Has N i → (j : ℕ) → Has word j → Dec (Has (s .up) j) → Has N j
+    go N p i h q j g (yes u) = p .has-up .each j u
+    go N p i h q j g (no n) =
+        subst (λ (x : ℕ). Has N x)
+        (o .same i j h (subst (λ (x : ℕ). Has x j) (sym e) (has-without word (s .up) g n))) q
+
+-- ---- one rule
 
 -- where the body is known to hold, a position that satisfies the rule has a head atom
 pub holds-head : (rules : List ℕ) (r : ℕ) (s : State) (t : State) → bodyKnown rules r (s .up) (s .dropped) ≡ Holds
     → Narrows (HeadUp (lent rules .head r)) s t → Narrows (Satisfies (lent rules) r) s t
-holds-head rules r s t e n = record {
-  up-grows = n .up-grows;
-  dropped-grows = n .dropped-grows;
-  keeps = λ N k p. n .keeps N (up N k p) p;
-}
+holds-head rules r s t e n = narrows-when up n
   where
     up : (N : ℕ) → Satisfies (lent rules) r N → Completes s N → HeadUp (lent rules .head r) N
     up N k p =
@@ -140,6 +171,45 @@ holds-head rules r s t e n = record {
         (record { none = λ i d. p .no-dropped .none i (without-left (s .dropped) (s .up) d) }) e in
         let h = k .head-up b in
         record { atom = h .0; in-head = h .1; is-up = h .2 }
+
+-- where the whole head is dropped, the body of a rule that is satisfied fails
+module _ (rules : List ℕ) (r : ℕ) (s t : State) (gone : lent rules .head r ⊆ s .dropped) where
+  body-fails : (N : ℕ) → Satisfies (lent rules) r N → Completes s N → ¬ Body (lent rules) r N
+  body-fails N k p b = let h = k .head-up b in p .no-dropped .none (h .0) (gone .each (h .0) (h .1)) (h .2)
+
+  -- by a positive atom, where all negative ones are dropped
+  pub denied-positive : negative rules r ⊆ s .dropped → Narrows (NotAll (lent rules .positive r)) s t
+      → Narrows (Satisfies (lent rules) r) s t
+  unfolding lent
+  denied-positive f n = narrows-when lacks n
+    where
+      lacks : (N : ℕ) → Satisfies (lent rules) r N → Completes s N → NotAll (lent rules .positive r) N
+      lacks N k p = record {
+        lacks = λ u.
+            body-fails N k p
+            (record {
+              positive-up = u;
+              rest-holds = decided-true (decides-apart (negative rules r) N)
+                  (record { none = λ i q. p .no-dropped .none i (f .each i q) });
+            });
+      }
+
+  -- by a negative one, where all positive ones are up
+  pub denied-negative : lent rules .positive r ⊆ s .up → Narrows (HeadUp (negative rules r)) s t
+      → Narrows (Satisfies (lent rules) r) s t
+  unfolding lent
+  denied-negative f n = narrows-when has n
+    where
+      has : (N : ℕ) → Satisfies (lent rules) r N → Completes s N → HeadUp (negative rules r) N
+      has N k p =
+          let h = shared-atom (negative rules r) N
+          (λ e.
+          body-fails N k p
+          (record {
+            positive-up = subset-trans f (p .has-up);
+            rest-holds = decided-true (decides-apart (negative rules r) N) (apart-of-cut (negative rules r) N e);
+          })) in
+          record { atom = h .0; in-head = h .1; is-up = h .2 }
 
 -- ---- candidates
 

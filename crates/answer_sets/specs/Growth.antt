@@ -1,4 +1,4 @@
--- What the subset test is between: the statements of its inner functions.
+-- What the rule pass and the subset test are between: the statements of their inner functions.
 use mathlib.Core.Path.{_≡_}
 use mathlib.Core.List.{List}
 use Prim.Native.Nat.{ℕ, _<_}
@@ -9,6 +9,10 @@ use Rattle.answer_sets.specs.State.{Completes}
 use Rattle.answer_sets.specs.declared.State.{State}
 use Rattle.answer_sets.specs.declared.reduct.Found.{Found}
 use Rattle.answer_sets.specs.declared.reduct.Found.the-variants.{Rule, Nothing}
+
+-- the position has not every atom of the word
+pub record NotAll (word N : ℕ) : Type 0 where
+  pub lacks : ¬ (word ⊆ N)
 
 -- the position has an atom of the head
 pub record HeadUp (head N : ℕ) : Type 0 where

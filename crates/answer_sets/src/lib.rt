@@ -1,4 +1,5 @@
 // Judging one position over lent rules: the single-position crate. Rules are lent as words, three to a rule.
+pub mod growth;
 pub mod known;
 pub mod reduct;
 pub mod rule;

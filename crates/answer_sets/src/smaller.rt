@@ -1,8 +1,7 @@
 // The subset test: whether some proper subset of a position has all the facts and satisfies each rule of a word.
 // It grows from the facts: what every such subset must have goes up, and only then is an atom tried both ways.
 use super::State;
-use super::Truth;
-use super::known::body_known;
+use super::growth::grow;
 use super::known::undecided;
 use super::reduct::Found;
 use super::reduct::find_unsatisfied;
@@ -13,70 +12,9 @@ ghost use mathlib.Core.Path.{_≡_};
 ghost use Prim.Native.Nat.{_<_};
 ghost use Rattle.atoms.specs.Bounded.{Decides};
 ghost use Rattle.atoms.specs.Word.{Has, _⊆_, _∩_};
-ghost use Rattle.answer_sets.specs.Program.{Satisfies, SatisfiesAll};
 ghost use Rattle.answer_sets.specs.Lent.{lent, IsLent, Lent};
-ghost use Rattle.answer_sets.specs.State.{Narrows, clashed};
 ghost use Rattle.answer_sets.specs.Test.{someSmaller};
-ghost use Rattle.answer_sets.specs.Growth.{HeadUp, Between, Confines, Candidates};
-
-// A state that nothing completes: an atom is both up and dropped.
-pub fn clash(s: State) -> State
-    ensures { λ t. ⌜ t ≡ clashed s ⌝ }
-{
-    State {
-        up: atoms::union(s.up, atoms::single(0)),
-        dropped: atoms::union(s.dropped, atoms::single(0)),
-    }
-}
-
-// The state in which a head atom that is not dropped has gone up where just one is left; nothing completes it where none is.
-fn forced(head: u64, s: State) -> State
-    ensures { λ t. ⌜ Narrows (HeadUp head) s t ⌝ }
-{
-    let left = atoms::without(head, s.dropped);
-    if left == 0 {
-        return clash(s);
-    }
-    if atoms::drop(left, atoms::lowest(left)) == 0 {
-        return State {
-            up: atoms::union(s.up, left),
-            dropped: s.dropped,
-        };
-    }
-    s
-}
-
-// The state after one rule: where its body holds and no head atom is up, one has to go up.
-fn grow_by(rules: &[u64], rule: usize, s: State) -> State
-    requires { ⌜ IsLent (now rules) rule ⌝ }
-    ensures { λ t. ⌜ Narrows (Satisfies (lent (now (rules .entry))) rule) s t ⌝ }
-{
-    let head = head(rules, rule);
-    if !atoms::are_apart(head, s.up) {
-        return s;
-    }
-    let truth = body_known(rules, rule, s.up, s.dropped);
-    match truth {
-        Truth::Holds => forced(head, s),
-        Truth::Fails => s,
-        Truth::Open => s,
-    }
-}
-
-// The state after one round over the rules of the word.
-pub fn grow(rules: &[u64], which: u64, s: State) -> State
-    requires { ⌜ Lent (now rules) which ⌝ }
-    ensures { λ t. ⌜ Narrows (SatisfiesAll (lent (now (rules .entry))) which) s t ⌝ }
-{
-    let mut rest = which;
-    let mut t = s;
-    while rest != 0 {
-        let rule = atoms::lowest(rest);
-        t = grow_by(rules, rule, t);
-        rest = atoms::drop(rest, rule);
-    }
-    t
-}
+ghost use Rattle.answer_sets.specs.Growth.{Between, Confines, Candidates};
 
 // The free atoms by which the rule may come to be satisfied: of its head, else of its body.
 fn candidates(rules: &[u64], rule: usize, free: u64) -> u64

@@ -1,12 +1,13 @@
--- Further laws of words as sets: the union of words by number, taken one number at a time.
-use mathlib.Core.Path.{_≡_, sym, subst}
+-- Further laws of words as sets: the union of words by number, taken one number at a time, and words of at most one atom.
+use mathlib.Core.Path.{_≡_, sym, subst, _∙_}
 use mathlib.Core.Logic.{_⊎_, inl, inr}
 use Prim.Native.Nat.{ℕ, _<_}
 use native.Mathlib.Decide.{ℕ-discrete}
-use Rattle.atoms.specs.Word.{Has, _∩_, _∪_, _∖_, atom, below, apart}
+use lib.Dec.{eqb}
+use Rattle.atoms.specs.Word.{Has, _∩_, _∪_, _∖_, atom, below, apart, AtMostOne}
 use Rattle.atoms.specs.Bounded.{Decides, unionIn}
-use Rattle.atoms.proofs.Tests.{decides-iff}
-use Rattle.atoms.proofs.Sets.{decides-apart, has-cut, cut-left, has-left, has-right, union-cases, has-without, without-left, has-atom, atom-only, has-none, has-below, ext, empty}
+use Rattle.atoms.proofs.Tests.{decides-iff, decides-equal}
+use Rattle.atoms.proofs.Sets.{decides-apart, has-cut, cut-left, has-left, has-right, union-cases, has-without, without-left, without-right, has-atom, atom-only, has-none, has-below, ext, empty}
 use Rattle.atoms.proofs.Bounded.{union-has, union-at}
 
 pub union-none-left : (a : ℕ) → 0 ∪ a ≡ a
@@ -85,3 +86,26 @@ union-in-same n w f g e =
     ext (unionIn n w f) (unionIn n w g)
     (λ a p. let s = union-at n w f a p in union-has n w g (s .0) a (s .1) (s .2) (subst (λ (x : ℕ). Has x a) (e (s .0) (s .1)) (s .3)))
     (λ a p. let s = union-at n w g a p in union-has n w f (s .0) a (s .1) (s .2) (subst (λ (x : ℕ). Has x a) (sym (e (s .0) (s .1))) (s .3)))
+
+-- ---- words of at most one atom
+
+pub at-most-none : (w : ℕ) → w ≡ 0 → AtMostOne w
+at-most-none w e = record { same = λ i j p q. absurd (has-none (subst (λ (x : ℕ). Has x i) e p)) }
+
+-- one that is left without any once an atom is taken away
+pub decides-at-most-one : (w r d : ℕ) → Has w r → d ≡ w ∖ atom r → Decides (AtMostOne w) (eqb d 0)
+decides-at-most-one w r d h e = decides-iff into from (decides-equal d 0)
+  where
+    is-r : d ≡ 0 → (i : ℕ) → Has w i → Dec (r ≡ i) → r ≡ i
+    is-r z i p (yes q) = q
+    is-r z i p (no n) = absurd (has-none (subst (λ (x : ℕ). Has x i) (sym e ∙ z) (has-without w (atom r) p (λ k. n (atom-only r k)))))
+
+    into : d ≡ 0 → AtMostOne w
+    into z = record { same = λ i j p q. sym (is-r z i p (ℕ-discrete r i)) ∙ is-r z j q (ℕ-discrete r j) }
+
+    from : AtMostOne w → d ≡ 0
+    from o =
+        e
+        ∙ empty (w ∖ atom r)
+        (λ i p.
+        without-right w (atom r) p (subst (λ (x : ℕ). Has (atom r) x) (o .same r i h (without-left w (atom r) p)) (has-atom r)))

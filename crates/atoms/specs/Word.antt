@@ -64,3 +64,7 @@ below n = 2 ^ n - 1
 pub record Lowest (w r : ℕ) : Type 0 where
   pub here : Has w r
   pub least : (i : ℕ) → i < r → ¬ Has w i
+
+-- w has no two atoms
+pub record AtMostOne (w : ℕ) : Type 0 where
+  pub same : (i j : ℕ) → Has w i → Has w j → i ≡ j

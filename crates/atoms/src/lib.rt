@@ -2,7 +2,8 @@
 ghost use mathlib.Core.Path.{_≡_};
 ghost use Prim.Native.Nat.{_≤_, _<_};
 ghost use lib.Count.{ones};
-ghost use Rattle.atoms.specs.Word.{_∩_, _∪_, _∖_, subset, apart, atom, below, Lowest};
+ghost use Rattle.atoms.specs.Word.{_∩_, _∪_, _∖_, subset, apart, atom, below, Lowest, AtMostOne};
+ghost use Rattle.atoms.specs.Bounded.{Decides};
 
 // How many atoms there are.
 pub const ATOMS: usize = 64;
@@ -82,4 +83,14 @@ pub fn drop(w: u64, i: usize) -> u64
     ensures { λ r. ⌜ r ≡ w ∖ atom i ⌝ }
 {
     without(w, single(i))
+}
+
+// Whether a word has at most one atom.
+pub fn at_most_one(w: u64) -> bool
+    ensures { λ r. ⌜ Decides (AtMostOne w) r ⌝ }
+{
+    if w == 0 {
+        return true;
+    }
+    drop(w, lowest(w)) == 0
 }

@@ -18,6 +18,8 @@ use Rattle.answer_sets.proofs.Judged.{decides-answer-set}
 use Rattle.answer_sets.proofs.Support.{satisfied}
 use Rattle.answer_sets.proofs.HalfDecided.{decided-cases}
 use Rattle.answer_sets.proofs.Narrowing.{narrows-trans, narrows-for, completes-back, overlap-none, with-up, with-dropped, without-up, without-dropped}
+use Rattle.narrowing.specs.Settled.{Settled, Live}
+use Rattle.narrowing.proofs.Living.{narrows-live}
 use Rattle.unit_search.specs.Listing.{Ordered, Inserted, Gathered, Grown}
 use Rattle.unit_search.specs.Job.{joins, Belongs, Wanted, Offered}
 use Rattle.unit_search.specs.Agreeing.{JoinsAll}
@@ -39,21 +41,29 @@ module _ (rules table counts heads : List ℕ) (unit : Unit) where
 
   -- ---- the passes
 
-  -- what belongs joins all lists, and satisfies each rule of the unit
+  -- what belongs joins all lists, is an answer set and satisfies each rule of the unit
   belongs-joins : (M : ℕ) → Belongs rules table counts heads unit M → JoinsAll table counts heads (unit .predecessors) M
   belongs-joins M b = record { joined = b .joined }
+
+  belongs-settled : unit .rules < 2 ^ 64 → (M : ℕ) → Belongs rules table counts heads unit M → Settled rules (unit .rules) (unit .inputs) M
+  belongs-settled fits M b =
+      record { answer = decides-answer-set (lent rules) (unit .rules) (M ∩ unit .inputs) M fits .yes (b .settled) }
 
   belongs-satisfies : unit .rules < 2 ^ 64 → (M : ℕ) → Belongs rules table counts heads unit M
       → SatisfiesAll (lent rules) (unit .rules) M
   belongs-satisfies fits M b = record {
-    each = λ r h.
-        satisfied (lent rules) (unit .rules) (M ∩ unit .inputs) M r
-        (decides-answer-set (lent rules) (unit .rules) (M ∩ unit .inputs) M fits .yes (b .settled)) h;
+    each = λ r h. satisfied (lent rules) (unit .rules) (M ∩ unit .inputs) M r (belongs-settled fits M b .answer) h;
   }
 
-  pub passes-narrow : unit .rules < 2 ^ 64 → {s t u : State} → Narrows (JoinsAll table counts heads (unit .predecessors)) s t
-      → Narrows (SatisfiesAll (lent rules) (unit .rules)) t u → Narrows (Belongs rules table counts heads unit) s u
-  passes-narrow fits n m = narrows-trans (narrows-for belongs-joins n) (narrows-for (belongs-satisfies fits) m)
+  -- and is an answer set of the live rules
+  pub passes-narrow : unit .rules < 2 ^ 64 → {s t u v w : State} (live : ℕ)
+      → Narrows (JoinsAll table counts heads (unit .predecessors)) s t → Narrows (SatisfiesAll (lent rules) (unit .rules)) t u
+      → Live rules (unit .rules) u live → Narrows (Settled rules live (unit .inputs)) u v
+      → Narrows (Settled rules live (unit .inputs)) v w → Narrows (Belongs rules table counts heads unit) s w
+  passes-narrow fits {u = u} live j g l n m =
+      narrows-trans (narrows-for belongs-joins j)
+      (narrows-trans (narrows-for (belongs-satisfies fits) g)
+      (narrows-for (belongs-settled fits) (narrows-live rules u (unit .rules) live (unit .inputs) l (narrows-trans n m))))
 
   -- ---- one position
 

@@ -5,9 +5,13 @@ use crate::join::join_all;
 use crate::join::joins;
 use crate::listing::insert;
 use answer_sets::State;
+use answer_sets::growth::grow;
 use answer_sets::is_answer_set;
 use answer_sets::known::undecided;
-use answer_sets::smaller::grow;
+use narrowing::choice::choose;
+use narrowing::founded::founded_pass;
+use narrowing::live::live_rules;
+use narrowing::support::support_pass;
 ghost use Rattle.atoms.specs.Bounded.{Decides};
 ghost use Rattle.answer_sets.specs.State.{Narrows};
 ghost use Rattle.unit_search.specs.Listing.{Ordered, Gathered, Grown};
@@ -48,11 +52,11 @@ fn narrow(
     requires { ⌜ Searchable (now rules) (now table) (now counts) (now heads) unit ⌝ }
     ensures { λ t. ⌜ Narrows (Belongs (now (rules .entry)) (now (table .entry)) (now (counts .entry)) (now (heads .entry)) unit) s t ⌝ }
 {
-    grow(
-        rules,
-        unit.rules,
-        join_all(table, counts, heads, unit.predecessors, s),
-    )
+    let joined = join_all(table, counts, heads, unit.predecessors, s);
+    let grown = grow(rules, unit.rules, joined);
+    let live = live_rules(rules, unit.rules, grown);
+    let supported = support_pass(rules, live, unit.inputs, grown);
+    founded_pass(rules, live, unit.inputs, supported)
 }
 
 // Adds the position to the list if it belongs there: the new count, or 257 where there is no room.
@@ -98,7 +102,7 @@ pub fn search(
     if free == 0 {
         return offer(rules, table, counts, heads, unit, list, count, t.up);
     }
-    let atom = atoms::single(atoms::lowest(free));
+    let atom = atoms::single(choose(rules, unit.rules, t, free));
     let lower = atoms::union(t.dropped, atom);
     let found = search(rules, table, counts, heads, unit, list, count, t.up, lower);
     if LIST_WORDS < found {

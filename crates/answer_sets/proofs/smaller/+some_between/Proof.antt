@@ -23,7 +23,7 @@ use Rattle.answer_sets.proofs.smaller.+some_between.Lts-some_between as
 use Rattle.answer_sets.proofs.known.undecided.Reads as undecided-reads
 use Rattle.answer_sets.proofs.reduct.find_unsatisfied.Reads as find-unsatisfied-reads
 use Rattle.answer_sets.proofs.smaller.candidates.Reads as candidates-reads
-use Rattle.answer_sets.proofs.smaller.grow.Reads as grow-reads
+use Rattle.answer_sets.proofs.growth.grow.Reads as grow-reads
 use Rattle.atoms.proofs.are_apart.Reads as are-apart-reads
 use Rattle.atoms.proofs.lowest.Reads as lowest-reads
 use Rattle.atoms.proofs.single.Reads as single-reads

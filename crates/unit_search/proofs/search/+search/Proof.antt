@@ -23,7 +23,7 @@ use Rattle.unit_search.proofs.search.search.Kinds as search-kinds
 use Rattle.unit_search.proofs.search.+search.Lts-search as search-lts
 use Rattle.answer_sets.proofs.known.undecided.Reads as undecided-reads
 use Rattle.atoms.proofs.are_apart.Reads as are-apart-reads
-use Rattle.atoms.proofs.lowest.Reads as lowest-reads
+use Rattle.narrowing.proofs.choice.choose.Reads as choose-reads
 use Rattle.atoms.proofs.single.Reads as single-reads
 use Rattle.atoms.proofs.union.Reads as union-reads
 use Rattle.unit_search.proofs.search.narrow.Reads as narrow-reads
@@ -50,8 +50,8 @@ calls t = (
   undecided-reads.Learnt,
   offer-reads.Asked,
   offer-reads.Learnt,
-  lowest-reads.Asked,
-  lowest-reads.Learnt,
+  choose-reads.Asked,
+  choose-reads.Learnt,
   single-reads.Asked,
   single-reads.Learnt,
   union-reads.Asked,
@@ -61,12 +61,12 @@ calls t = (
 )
 
 -- the atom that is tried is undecided
-chosen : (t : ℕ) (c : search-lts.After-lowest (calls t) (search-at t) search′.Post)
-    → Has (undecided (c .before .before .before .before .before .narrow .result .up) (c .before .before .before .before .before .narrow .result .dropped)) (c .lowest .result)
-chosen t c = subst (λ (w : ℕ). Has w (c .lowest .result)) (c .before .before .undecided .ensures) (c .lowest .ensures .0 .here)
+chosen : (t : ℕ) (c : search-lts.After-choose (calls t) (search-at t) search′.Post)
+    → Has (undecided (c .before .before .before .before .before .narrow .result .up) (c .before .before .before .before .before .narrow .result .dropped)) (c .choose .result)
+chosen t c = subst (λ (w : ℕ). Has w (c .choose .result)) (c .before .before .undecided .ensures) (c .choose .ensures .0)
 
 -- the passes leave no more undecided
-no-more : (t : ℕ) (c : search-lts.After-lowest (calls t) (search-at t) search′.Post)
+no-more : (t : ℕ) (c : search-lts.After-choose (calls t) (search-at t) search′.Post)
     → ones (undecided (c .before .before .before .before .before .narrow .result .up) (c .before .before .before .before .before .narrow .result .dropped)) ≤ t
 no-more t c =
     subst (λ (n : ℕ). ones (undecided (c .before .before .before .before .before .narrow .result .up) (c .before .before .before .before .before .narrow .result .dropped)) ≤ n) (c .before .before .before .before .before .before .before .before .before .before .before .pre .0)
@@ -102,11 +102,11 @@ search-returns-2 t c =
     (search-leaf (now (at .rules)) (now (at .table)) (now (at .counts)) (now (at .heads)) (at .unit) (now (at .list)) (at .count) (c .before .before .before .before .before .before .before .before .narrow .result) (sym (c .before .before .before .before .before .before .before .are-apart .ensures) ∙ not-false (c .before .before .before .before .before .before .before .are-apart .result) (c .before .before .before .before .before .before .if1 .left))
     (sym (c .before .before .before .before .before .undecided .ensures) ∙ c .before .before .before .before .if2 .taken) (c .before .before .offer .ensures))
 
-search-lowest-requires : (t : ℕ) → search-lts.Need-lowest-requires (calls t) (search-at t) search′.Post
-search-lowest-requires t c κs = c .if2 .left
+search-choose-requires : (t : ℕ) → search-lts.Need-choose-requires (calls t) (search-at t) search′.Post
+search-choose-requires t c κs = (c .before .before .before .before .before .before .before .before .before .before .pre .1 .0 .rules-lent, c .if2 .left)
 
 search-single-requires : (t : ℕ) → search-lts.Need-single-requires (calls t) (search-at t) search′.Post
-search-single-requires t c κs = c .lowest .ensures .1
+search-single-requires t c κs = c .choose .ensures .1
 
 search-union-requires : (t : ℕ) → search-lts.Need-union-requires (calls t) (search-at t) search′.Post
 search-union-requires t c κs = search needs
@@ -115,7 +115,7 @@ search-search-requires : (t : ℕ) → search-lts.Need-search-requires (calls t)
 search-search-requires t c κs =
     let at = c .before .before .before .before .before .before .before .before .before .before .before .before .before .before .args in
     let n = c .before .before .before .before .before .before .before .before .narrow .result in
-    let low = c .before .before .before .lowest .result in
+    let low = c .before .before .before .choose .result in
     let lower = c .before .union .ensures ∙ ap (λ (w : ℕ). n .dropped ∪ w) (c .before .before .single .ensures) in (
       subst (λ (w : ℕ). ones (undecided (n .up) w) < t) (sym lower)
           (lt-of-lt-of-le (lower-falls (n .up) (n .dropped) low (chosen t (c .before .before .before))) (no-more t (c .before .before .before))),
@@ -130,7 +130,7 @@ search-returns-3 t c =
     let at = c .before .before .before .before .before .before .before .before .before .before .before .before .before .before .before .before .before .before .args in
     let n = c .before .before .before .before .before .before .before .before .before .before .before .before .narrow .result in
     search-narrowed (now (at .rules)) (now (at .table)) (now (at .counts)) (now (at .heads)) (at .unit) (now (at .list)) (at .count) (record { up = at .up; dropped = at .dropped }) (c .before .before .before .before .before .before .before .before .before .before .before .before .narrow .result) (c .before .before .before .before .before .before .before .before .before .before .before .before .narrow .ensures)
-    (search-over (now (at .rules)) (now (at .table)) (now (at .counts)) (now (at .heads)) (at .unit) (now (at .list)) (at .count) n (c .before .before .before .before .before .before .before .lowest .result) (c .before .before .before .search .last .1 .1 .1 .1 .1 .0) (c .before .before .before .search .result)
+    (search-over (now (at .rules)) (now (at .table)) (now (at .counts)) (now (at .heads)) (at .unit) (now (at .list)) (at .count) n (c .before .before .before .before .before .before .before .choose .result) (c .before .before .before .search .last .1 .1 .1 .1 .1 .0) (c .before .before .before .search .result)
     (subst (λ (w : ℕ). Gathered (Grown (now (at .list)) (at .count) (Wanted (now (at .rules)) (now (at .table)) (now (at .counts)) (now (at .heads)) (at .unit) (record { up = n .up; dropped = w }))) (c .before .before .before .search .last .1 .1 .1 .1 .1 .0) (c .before .before .before .search .result))
     (c .before .before .before .before .before .union .ensures ∙ ap (λ (w : ℕ). n .dropped ∪ w) (c .before .before .before .before .before .before .single .ensures)) (c .before .before .before .search .ensures))
     (c .if3 .taken))
@@ -142,7 +142,7 @@ search-search-requires-2 : (t : ℕ) → search-lts.Need-search-requires-2 (call
 search-search-requires-2 t c κs =
     let at = c .before .before .before .before .before .before .before .before .before .before .before .before .before .before .before .before .before .before .before .before .args in
     let n = c .before .before .before .before .before .before .before .before .before .before .before .before .before .before .narrow .result in
-    let low = c .before .before .before .before .before .before .before .before .before .lowest .result in
+    let low = c .before .before .before .before .before .before .before .before .before .choose .result in
     let upper = c .before .union2 .ensures ∙ ap (λ (w : ℕ). n .up ∪ w) (c .before .before .before .before .before .before .before .before .single .ensures) in (
       subst (λ (w : ℕ). ones (undecided w (n .dropped)) < t) (sym upper)
           (lt-of-lt-of-le (raise-falls (n .up) (n .dropped) low (chosen t (c .before .before .before .before .before .before .before .before .before))) (no-more t (c .before .before .before .before .before .before .before .before .before))),
@@ -157,7 +157,7 @@ search-returns-4 t c =
     let at = c .before .before .before .before .before .before .before .before .before .before .before .before .before .before .before .before .before .before .before .before .before .before .before .args in
     let n = c .before .before .before .before .before .before .before .before .before .before .before .before .before .before .before .before .before .narrow .result in
     search-narrowed (now (at .rules)) (now (at .table)) (now (at .counts)) (now (at .heads)) (at .unit) (now (at .list)) (at .count) (record { up = at .up; dropped = at .dropped }) (c .before .before .before .before .before .before .before .before .before .before .before .before .before .before .before .before .before .narrow .result) (c .before .before .before .before .before .before .before .before .before .before .before .before .before .before .before .before .before .narrow .ensures)
-    (search-both (now (at .rules)) (now (at .table)) (now (at .counts)) (now (at .heads)) (at .unit) (now (at .list)) (at .count) n (c .before .before .before .before .before .before .before .before .before .before .before .before .lowest .result) (c .before .before .before .before .before .before .before .before .search .last .1 .1 .1 .1 .1 .0) (c .before .before .before .before .before .before .before .before .search .result)
+    (search-both (now (at .rules)) (now (at .table)) (now (at .counts)) (now (at .heads)) (at .unit) (now (at .list)) (at .count) n (c .before .before .before .before .before .before .before .before .before .before .before .before .choose .result) (c .before .before .before .before .before .before .before .before .search .last .1 .1 .1 .1 .1 .0) (c .before .before .before .before .before .before .before .before .search .result)
     (subst (λ (w : ℕ). Gathered (Grown (now (at .list)) (at .count) (Wanted (now (at .rules)) (now (at .table)) (now (at .counts)) (now (at .heads)) (at .unit) (record { up = n .up; dropped = w }))) (c .before .before .before .before .before .before .before .before .search .last .1 .1 .1 .1 .1 .0) (c .before .before .before .before .before .before .before .before .search .result))
     (c .before .before .before .before .before .before .before .before .before .before .union .ensures ∙ ap (λ (w : ℕ). n .dropped ∪ w) (c .before .before .before .before .before .before .before .before .before .before .before .single .ensures)) (c .before .before .before .before .before .before .before .before .search .ensures))
     (c .before .before .before .before .before .if3 .left)
@@ -175,7 +175,7 @@ pub +search-spec : {M : Type 1} → statement M
     (search-offer-requires t)
     (search-same-length t)
     (search-returns-2 t)
-    (search-lowest-requires t)
+    (search-choose-requires t)
     (search-single-requires t)
     (search-union-requires t)
     (search-search-requires t)

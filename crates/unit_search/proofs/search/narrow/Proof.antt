@@ -1,6 +1,9 @@
--- First the join pass, then the rule pass.
+-- Join pass, rule pass, and the passes over the live rules.
+use Prim.Native.Nat.{_^_, _<_}
 use native.Mathlib.Omega.{arith}
 use denote.Ref.{now}
+use Rattle.answer_sets.specs.Lent.{Lent}
+use Rattle.narrowing.proofs.Living.{live-lent}
 use Rattle.unit_search.proofs.Searching.{passes-narrow}
 use borrow.Author.Needs.{needs}
 use Rattle.unit_search.proofs.search.narrow.Statement.{statement}
@@ -12,10 +15,37 @@ join-all-requires c κs = search needs
 grow-requires : tie.Need-grow-requires
 grow-requires c κs = search needs
 
+live-rules-requires : tie.Need-live-rules-requires
+live-rules-requires c κs = search needs
+
+-- rule numbers are bits of a word
+fits : (c : tie.After-join-all) → c .before .before .before .before .before .args .unit .rules < 2 ^ 64
+fits c = omega arith
+
+-- the live rules are lent too
+lent-too : (c : tie.After-live-rules) → Lent (now (c .before .before .before .before .before .before .before .args .rules)) (c .live-rules .result)
+lent-too c = live-lent (now (c .before .before .before .before .before .before .before .args .rules)) (c .before .grow .result) (c .before .before .before .before .before .before .before .pre .rules-lent) (c .live-rules .ensures)
+
+support-pass-requires : tie.Need-support-pass-requires
+support-pass-requires c κs = lent-too c
+
+founded-pass-requires : tie.Need-founded-pass-requires
+founded-pass-requires c κs = lent-too (c .before)
+
 returns : tie.Need-returns
 returns c =
-    let at = c .before .before .before .before .before .before .args in
-    passes-narrow (now (at .rules)) (now (at .table)) (now (at .counts)) (now (at .heads)) (at .unit) (omega arith) (c .before .join-all .ensures) (c .grow .ensures)
+    let at = c .before .before .before .before .before .before .before .before .before .args in
+    passes-narrow (now (at .rules)) (now (at .table)) (now (at .counts)) (now (at .heads)) (at .unit) (fits (c .before .before .before .before))
+    (c .before .before .live-rules .result) (c .before .before .before .before .join-all .ensures) (c .before .before .before .grow .ensures) (c .before .before .live-rules .ensures)
+    (c .before .support-pass .ensures) (c .founded-pass .ensures)
 
 pub narrow-spec : {M : Type 1} → statement M
-narrow-spec = tie.close (tie.spec join-all-requires grow-requires returns)
+narrow-spec =
+    tie.close
+    (tie.spec
+    join-all-requires
+    grow-requires
+    live-rules-requires
+    support-pass-requires
+    founded-pass-requires
+    returns)

@@ -1,4 +1,4 @@
--- Where the body is known to hold, a head atom is up in every position that satisfies the rule.
+-- Where the body is known to hold, a head atom is up in every position that satisfies the rule; where it is open, `denied` tells.
 use mathlib.Core.Path.{sym, subst, _∙_}
 use Prim.Native.Nat.{ℕ}
 use denote.Ref.{now}
@@ -6,8 +6,8 @@ use Rattle.answer_sets.specs.State.{Narrows}
 use Rattle.answer_sets.specs.Growth.{HeadUp}
 use Rattle.answer_sets.proofs.Narrowing.{holds-head}
 use borrow.Author.Needs.{needs}
-use Rattle.answer_sets.proofs.smaller.grow_by.Statement.{statement}
-use Rattle.answer_sets.proofs.smaller.grow_by.Tie as tie
+use Rattle.answer_sets.proofs.growth.grow_by.Statement.{statement}
+use Rattle.answer_sets.proofs.growth.grow_by.Tie as tie
 
 head-requires : tie.Need-head-requires
 head-requires c κs = search needs
@@ -32,6 +32,9 @@ enum-told-2 c = search needs
 
 enum-told-3 : tie.Need-enum-told-3
 enum-told-3 c = search needs
+
+denied-requires : tie.Need-denied-requires
+denied-requires c κs = search needs
 
 returns-2 : tie.Need-returns-2
 returns-2 c =
@@ -59,6 +62,7 @@ grow-by-spec =
     forced-requires
     enum-told-2
     enum-told-3
+    denied-requires
     returns-2
     returns-3
     returns-4)

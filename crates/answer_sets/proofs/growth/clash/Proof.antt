@@ -4,8 +4,8 @@ use Prim.Native.Nat.{ℕ}
 use Rattle.atoms.specs.Word.{_∪_}
 use Rattle.answer_sets.specs.State.{clashed}
 use borrow.Author.Needs.{needs}
-use Rattle.answer_sets.proofs.smaller.clash.Statement.{statement}
-use Rattle.answer_sets.proofs.smaller.clash.Tie as tie
+use Rattle.answer_sets.proofs.growth.clash.Statement.{statement}
+use Rattle.answer_sets.proofs.growth.clash.Tie as tie
 
 single-requires : tie.Need-single-requires
 single-requires c κs = search needs

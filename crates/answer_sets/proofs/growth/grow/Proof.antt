@@ -8,8 +8,8 @@ use Rattle.answer_sets.specs.Program.{SatisfiesAll}
 use Rattle.answer_sets.specs.Lent.{lent}
 use Rattle.answer_sets.specs.State.{Narrows}
 use Rattle.answer_sets.proofs.Narrowing.{narrows-refl, narrows-trans, narrows-for}
-use Rattle.answer_sets.proofs.smaller.grow.Statement.{statement}
-use Rattle.answer_sets.proofs.smaller.grow.Tie as tie
+use Rattle.answer_sets.proofs.growth.grow.Statement.{statement}
+use Rattle.answer_sets.proofs.growth.grow.Tie as tie
 
 abbrev Inv-loop : tie.InvT-loop
 Inv-loop rules which rest₀ t₀ rest t = (rest ⊆ which) × Narrows (SatisfiesAll (lent rules) which) t₀ t

@@ -1,0 +1,61 @@
+-- The invariant: some of the free atoms are left. The measure is how many places are to be looked at.
+use native.Mathlib.Omega.{arith}
+use Prim.Native.Nat.{_≤_}
+use lib.ListN.{length}
+use Rattle.atoms.proofs.Sets.{subset-refl, subset-trans}
+use Rattle.narrowing.specs.Choice.{SomeOf}
+use borrow.Author.Needs.{needs}
+use Rattle.narrowing.proofs.choice.most.Statement.{statement}
+use Rattle.narrowing.proofs.choice.most.Tie as tie
+
+abbrev Inv-loop : tie.InvT-loop
+Inv-loop places free best₀ i₀ best i = SomeOf free best × (i ≤ length places)
+
+abbrev μ-loop : tie.MeasureT-loop
+μ-loop places free best₀ i₀ best i = i
+
+loop-holds : tie.Need-loop-holds Inv-loop μ-loop
+loop-holds c = (record { within = subset-refl; some = c .before .pre }, omega arith)
+
+sub-i : tie.Need-sub-i Inv-loop μ-loop
+sub-i c = omega (arith, c .loop-test .taken)
+
+mul-prefer : tie.Need-mul-prefer Inv-loop μ-loop
+mul-prefer c = search needs
+
+shared-slice-read-prefer : tie.Need-shared-slice-read-prefer Inv-loop μ-loop
+shared-slice-read-prefer c = omega (arith, c .before .before .loop .inv .1, c .before .loop-test .taken)
+
+prefer-requires : tie.Need-prefer-requires Inv-loop μ-loop
+prefer-requires c κs = c .before .before .loop .inv .0 .some
+
+loop-less : tie.Need-loop-less Inv-loop μ-loop
+loop-less c = omega (arith, c .before .before .loop-test .taken)
+
+loop-again : tie.Need-loop-again Inv-loop μ-loop
+loop-again c =
+    let inv = c .before .before .before .loop .inv in (
+      record {
+        within = subset-trans (c .prefer .ensures .within) (inv .0 .within);
+        some = c .prefer .ensures .some;
+      },
+      omega (arith, inv .1),
+    )
+
+returns : tie.Need-returns Inv-loop μ-loop
+returns c = c .before .loop .inv .0
+
+pub most-spec : {M : Type 1} → statement M
+most-spec =
+    tie.close
+    (tie.spec
+    Inv-loop
+    μ-loop
+    loop-holds
+    sub-i
+    mul-prefer
+    shared-slice-read-prefer
+    prefer-requires
+    loop-less
+    loop-again
+    returns)

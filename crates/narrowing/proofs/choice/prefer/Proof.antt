@@ -1,0 +1,25 @@
+-- Some atoms are in both, or all of the word are left.
+use mathlib.Core.Path.{sym, subst}
+use Prim.Native.Nat.{ℕ}
+use Rattle.atoms.specs.Word.{Has}
+use Rattle.atoms.proofs.Sets.{subset-refl, cut-left}
+use borrow.Author.Needs.{needs}
+use Rattle.narrowing.proofs.choice.prefer.Statement.{statement}
+use Rattle.narrowing.proofs.choice.prefer.Tie as tie
+
+cut-requires : tie.Need-cut-requires
+cut-requires c κs = search needs
+
+returns : tie.Need-returns
+returns c = record { within = subset-refl; some = c .before .before .pre }
+
+returns-2 : tie.Need-returns-2
+returns-2 c =
+    let at = c .before .before .args in
+    record {
+      within = record { each = λ i h. cut-left (at .word) (at .better) (subst (λ (w : ℕ). Has w i) (c .before .cut .ensures) h) };
+      some = c .if1 .left;
+    }
+
+pub prefer-spec : {M : Type 1} → statement M
+prefer-spec = tie.close (tie.spec cut-requires returns returns-2)

@@ -1,0 +1,47 @@
+-- An answer set has founded atoms alone.
+use mathlib.Core.Path.{ap, sym, subst, _∙_}
+use Prim.Native.Nat.{ℕ}
+use denote.Ref.{now}
+use Rattle.atoms.specs.Word.{_∖_}
+use Rattle.answer_sets.specs.State.{Narrows}
+use Rattle.narrowing.specs.Settled.{Settled}
+use Rattle.narrowing.proofs.Founding.{founded-narrows}
+use borrow.Author.Needs.{needs}
+use Rattle.narrowing.proofs.founded.founded_pass.Statement.{statement}
+use Rattle.narrowing.proofs.founded.founded_pass.Tie as tie
+
+without-requires : tie.Need-without-requires
+without-requires c κs = search needs
+
+founded-atoms-requires : tie.Need-founded-atoms-requires
+founded-atoms-requires c κs = search needs
+
+first-requires : tie.Need-first-requires
+first-requires c κs = search needs
+
+without-requires-2 : tie.Need-without-requires-2
+without-requires-2 c κs = search needs
+
+union-requires : tie.Need-union-requires
+union-requires c κs = search needs
+
+returns : tie.Need-returns
+returns c =
+    let at = c .before .before .before .before .before .before .args in
+    let found = c .before .before .before .founded-atoms in
+    subst (λ (w : ℕ). Narrows (Settled (now (at .rules)) (at .which) (at .inputs)) (at .s) (record { up = at .s .up; dropped = w }))
+    (sym (c .union .ensures))
+    (founded-narrows (now (at .rules)) (at .which) (at .inputs) (at .s) (c .before .before .before .before .without .result) (found .result)
+    (c .before .before .before .before .without .ensures) (found .ensures) (c .before .without2 .result)
+    (c .before .without2 .ensures ∙ ap (λ (w : ℕ). w ∖ found .result) (c .before .before .first .ensures)))
+
+pub founded-pass-spec : {M : Type 1} → statement M
+founded-pass-spec =
+    tie.close
+    (tie.spec
+    without-requires
+    founded-atoms-requires
+    first-requires
+    without-requires-2
+    union-requires
+    returns)

@@ -1,0 +1,83 @@
+-- The rule supports one of these atoms, so its body holds and its other head atoms are not up.
+use mathlib.Core.Path.{_≡_, ap, ap₂, sym, subst, subst₂, _∙_}
+use Prim.Native.Nat.{ℕ}
+use denote.Ref.{now}
+use Rattle.atoms.specs.Word.{Has, _∪_, _∖_, atom}
+use Rattle.answer_sets.specs.Lent.{lent, negative}
+use Rattle.answer_sets.specs.State.{Narrows}
+use Rattle.narrowing.specs.Support.{HoldsSole}
+use Rattle.narrowing.proofs.Tallying.{sole-narrows}
+use borrow.Author.Needs.{needs}
+use Rattle.narrowing.proofs.support.held_by.Statement.{statement}
+use Rattle.narrowing.proofs.support.held_by.Tie as tie
+
+-- what is dropped: the negative atoms and the other head atoms
+down : (c : tie.After-union3)
+    → c .before .before .before .union .result
+    ≡ negative (now (c .before .before .before .before .before .before .before .before .before .before .before .before .args .rules)) (c .before .before .before .before .before .before .before .before .before .before .before .before .args .rule)
+    ∪ (lent (now (c .before .before .before .before .before .before .before .before .before .before .before .before .args .rules)) .head (c .before .before .before .before .before .before .before .before .before .before .before .before .args .rule) ∖ atom (c .before .before .before .before .before .before .lowest .result))
+down c =
+    c .before .before .before .union .ensures
+    ∙ ap₂ _∪_ (c .before .before .before .before .negative-body .ensures)
+    (c .before .before .before .before .before .drop .ensures ∙ ap (λ (w : ℕ). w ∖ atom (c .before .before .before .before .before .before .lowest .result)) (c .before .before .before .before .before .before .before .head .ensures))
+
+supportable-requires : tie.Need-supportable-requires
+supportable-requires c κs = search needs
+
+cut-requires : tie.Need-cut-requires
+cut-requires c κs = search needs
+
+returns : tie.Need-returns
+returns c = search needs
+
+head-requires : tie.Need-head-requires
+head-requires c κs = search needs
+
+lowest-requires : tie.Need-lowest-requires
+lowest-requires c κs = search needs
+
+drop-requires : tie.Need-drop-requires
+drop-requires c κs = search needs
+
+negative-body-requires : tie.Need-negative-body-requires
+negative-body-requires c κs = search needs
+
+union-requires : tie.Need-union-requires
+union-requires c κs = search needs
+
+positive-body-requires : tie.Need-positive-body-requires
+positive-body-requires c κs = search needs
+
+union-requires-2 : tie.Need-union-requires-2
+union-requires-2 c κs = search needs
+
+union-requires-3 : tie.Need-union-requires-3
+union-requires-3 c κs = search needs
+
+returns-2 : tie.Need-returns-2
+returns-2 c =
+    let at = c .before .before .before .before .before .before .before .before .before .before .before .before .args in
+    let word = c .before .before .before .before .before .before .before .before .before .before .supportable in
+    let low = c .before .before .before .before .before .before .lowest in
+    subst₂ (λ (u d : ℕ). Narrows (HoldsSole (now (at .rules)) (at .rule) (at .s) (at .sole)) (at .t) (record { up = u; dropped = d }))
+    (sym (c .before .union2 .ensures ∙ ap (λ (w : ℕ). at .t .up ∪ w) (c .before .before .positive-body .ensures)))
+    (sym (c .union3 .ensures ∙ ap (λ (w : ℕ). at .t .dropped ∪ w) (down c)))
+    (sole-narrows (now (at .rules)) (at .s) (at .rule) (at .sole) (word .result) (low .result) (at .t) (word .ensures)
+    (subst (λ (w : ℕ). Has w (low .result)) (c .before .before .before .before .before .before .before .before .before .cut .ensures) (low .ensures .0 .here)))
+
+pub held-by-spec : {M : Type 1} → statement M
+held-by-spec =
+    tie.close
+    (tie.spec
+    supportable-requires
+    cut-requires
+    returns
+    head-requires
+    lowest-requires
+    drop-requires
+    negative-body-requires
+    union-requires
+    positive-body-requires
+    union-requires-2
+    union-requires-3
+    returns-2)

@@ -1,0 +1,73 @@
+-- What no rule may support is in no answer set, and a sole supporter's body holds.
+use mathlib.Core.Path.{ap, ap₂, sym, subst, _∙_}
+use Prim.Native.Nat.{ℕ}
+use denote.Ref.{now}
+use Rattle.atoms.specs.Word.{_∖_}
+use Rattle.answer_sets.specs.State.{Narrows}
+use Rattle.narrowing.specs.Settled.{Settled}
+use Rattle.narrowing.proofs.Tallying.{unsupported-narrows, soles-narrow}
+use borrow.Author.Needs.{needs}
+use Rattle.narrowing.proofs.support.support_pass.Statement.{statement}
+use Rattle.narrowing.proofs.support.support_pass.Tie as tie
+
+-- what no rule may support is dropped
+unsupported : (c : tie.After-without2)
+    → Narrows (Settled (now (c .before .before .before .before .before .before .before .before .args .rules)) (c .before .before .before .before .before .before .before .before .args .which) (c .before .before .before .before .before .before .before .before .args .inputs)) (c .before .before .before .before .before .before .before .before .args .s)
+    (record { up = c .before .before .before .before .before .before .before .before .args .s .up; dropped = c .before .before .union2 .result })
+unsupported c =
+    let at = c .before .before .before .before .before .before .before .before .args in
+    subst (λ (w : ℕ). Narrows (Settled (now (at .rules)) (at .which) (at .inputs)) (at .s) (record { up = at .s .up; dropped = w }))
+    (sym (c .before .before .union2 .ensures))
+    (unsupported-narrows (now (at .rules)) (at .s) (at .which) (at .inputs) (c .before .before .before .before .before .before .before .before .fits .which .fits) (c .before .before .before .before .before .before .tally-support .result)
+    (c .before .before .before .before .before .before .tally-support .ensures) (c .before .before .before .without .result)
+    (c .before .before .before .without .ensures ∙ ap₂ _∖_ (c .before .before .before .before .before .first .ensures) (c .before .before .before .before .union .ensures)))
+
+tally-support-requires : tie.Need-tally-support-requires
+tally-support-requires c κs = search needs
+
+first-requires : tie.Need-first-requires
+first-requires c κs = search needs
+
+union-requires : tie.Need-union-requires
+union-requires c κs = search needs
+
+without-requires : tie.Need-without-requires
+without-requires c κs = search needs
+
+union-requires-2 : tie.Need-union-requires-2
+union-requires-2 c κs = search needs
+
+union-requires-3 : tie.Need-union-requires-3
+union-requires-3 c κs = search needs
+
+without-requires-2 : tie.Need-without-requires-2
+without-requires-2 c κs = search needs
+
+returns : tie.Need-returns
+returns c = unsupported (c .before)
+
+held-by-all-requires : tie.Need-held-by-all-requires
+held-by-all-requires c κs = search needs
+
+returns-2 : tie.Need-returns-2
+returns-2 c =
+    let at = c .before .before .before .before .before .before .before .before .before .before .args in
+    soles-narrow (now (at .rules)) (at .s) (at .which) (at .inputs) (c .before .before .before .before .before .before .before .before .before .before .fits .which .fits) (c .before .before .before .before .before .before .before .before .tally-support .result)
+    (c .before .before .before .before .before .before .before .before .tally-support .ensures) (c .before .before .without2 .result)
+    (c .before .before .without2 .ensures ∙ ap (λ (w : ℕ). at .s .up ∖ w) (c .before .before .before .union3 .ensures))
+    (unsupported (c .before .before)) (c .held-by-all .ensures)
+
+pub support-pass-spec : {M : Type 1} → statement M
+support-pass-spec =
+    tie.close
+    (tie.spec
+    tally-support-requires
+    first-requires
+    union-requires
+    without-requires
+    union-requires-2
+    union-requires-3
+    without-requires-2
+    returns
+    held-by-all-requires
+    returns-2)

@@ -1,0 +1,92 @@
+-- No head atom is up, one is, or more.
+use mathlib.Core.Path.{_≡_, ap, ap₂, sym, subst, _∙_}
+use Prim.Native.Nat.{ℕ}
+use denote.Ref.{now}
+use Rattle.atoms.specs.Word.{_∩_, _∪_, _∖_}
+use Rattle.atoms.proofs.Sets.{some-atom}
+use Rattle.answer_sets.specs.Lent.{lent, negative}
+use Rattle.narrowing.specs.Support.{MaySupport, Collects}
+use Rattle.narrowing.proofs.Supporting.{none-up, one-up, more-up}
+use borrow.Author.Needs.{needs}
+use Rattle.narrowing.proofs.support.supportable.Statement.{statement}
+use Rattle.narrowing.proofs.support.supportable.Tie as tie
+
+-- the words that the code computes, told from the rule's own
+left-is : (c : tie.After-without2)
+    → c .without2 .result
+    ≡ lent (now (c .before .before .before .before .before .before .before .args .rules)) .head (c .before .before .before .before .before .before .before .args .rule)
+    ∖ (lent (now (c .before .before .before .before .before .before .before .args .rules)) .positive (c .before .before .before .before .before .before .before .args .rule) ∪ negative (now (c .before .before .before .before .before .before .before .args .rules)) (c .before .before .before .before .before .before .before .args .rule))
+    ∖ c .before .before .before .before .before .before .before .args .s .dropped
+left-is c =
+    c .without2 .ensures
+    ∙ ap (λ (w : ℕ). w ∖ c .before .before .before .before .before .before .before .args .s .dropped)
+    (c .before .without .ensures
+    ∙ ap₂ _∖_ (c .before .before .before .before .before .head .ensures)
+    (c .before .before .union .ensures ∙ ap₂ _∪_ (c .before .before .before .before .positive-body .ensures) (c .before .before .before .negative-body .ensures)))
+
+up-is : (c : tie.After-cut)
+    → c .cut .result ≡ lent (now (c .before .before .before .before .before .before .before .before .args .rules)) .head (c .before .before .before .before .before .before .before .before .args .rule) ∩ c .before .before .before .before .before .before .before .before .args .s .up
+up-is c = c .cut .ensures ∙ ap (λ (w : ℕ). w ∩ c .before .before .before .before .before .before .before .before .args .s .up) (c .before .before .before .before .before .before .head .ensures)
+
+head-requires : tie.Need-head-requires
+head-requires c κs = search needs
+
+positive-body-requires : tie.Need-positive-body-requires
+positive-body-requires c κs = search needs
+
+negative-body-requires : tie.Need-negative-body-requires
+negative-body-requires c κs = search needs
+
+union-requires : tie.Need-union-requires
+union-requires c κs = search needs
+
+without-requires : tie.Need-without-requires
+without-requires c κs = search needs
+
+without-requires-2 : tie.Need-without-requires-2
+without-requires-2 c κs = search needs
+
+cut-requires : tie.Need-cut-requires
+cut-requires c κs = search needs
+
+returns : tie.Need-returns
+returns c =
+    let at = c .before .before .before .before .before .before .before .before .before .args in
+    none-up (now (at .rules)) (at .rule) (at .s) _ _ (left-is (c .before .before)) (up-is (c .before)) (c .if1 .taken)
+
+at-most-one-requires : tie.Need-at-most-one-requires
+at-most-one-requires c κs = search needs
+
+cut-requires-2 : tie.Need-cut-requires-2
+cut-requires-2 c κs = search needs
+
+returns-2 : tie.Need-returns-2
+returns-2 c =
+    let at = c .before .before .before .before .before .before .before .before .before .before .before .before .args in
+    let one = some-atom (c .before .before .before .before .cut .result) (c .before .before .before .if1 .left) in
+    subst (Collects (MaySupport (now (at .rules)) (at .rule) (at .s))) (sym (c .cut2 .ensures))
+    (one-up (now (at .rules)) (at .rule) (at .s) _ _ (left-is (c .before .before .before .before .before)) (up-is (c .before .before .before .before)) (one .0) (one .1)
+    (c .before .before .at-most-one .ensures .yes (c .before .if2 .taken)))
+
+returns-3 : tie.Need-returns-3
+returns-3 c =
+    let at = c .before .before .before .before .before .before .before .before .before .before .before .args in
+    more-up (now (at .rules)) (at .rule) (at .s) _ _ (left-is (c .before .before .before .before)) (up-is (c .before .before .before))
+    (c .before .at-most-one .ensures .no (c .if2 .left))
+
+pub supportable-spec : {M : Type 1} → statement M
+supportable-spec =
+    tie.close
+    (tie.spec
+    head-requires
+    positive-body-requires
+    negative-body-requires
+    union-requires
+    without-requires
+    without-requires-2
+    cut-requires
+    returns
+    at-most-one-requires
+    cut-requires-2
+    returns-2
+    returns-3)

@@ -1,0 +1,4 @@
+pub mod Settled
+pub mod Support
+pub mod Founded
+pub mod Choice
