@@ -1,6 +1,6 @@
 -- The join pass: a position that joins a list and completes the state is one of the list's agreeing entries, cut to the head atoms.
 use mathlib.Core.Path.{_≡_, refl, sym, ap, _∙_, subst}
-use mathlib.Core.Bool.{Bool, true, false, not, _&&_, _||_}
+use mathlib.Core.Bool.{Bool, true, false, not, _&&_, _||_, false≢true}
 use mathlib.Core.Logic.{_⊎_, inl, inr}
 use mathlib.Core.List.{List}
 use Prim.Native.Nat.{ℕ, _+_, _*_, _^_, _≤_, _<_}
@@ -12,12 +12,15 @@ use borrow.Author.Tests.{eqb-true}
 use Rattle.atoms.specs.Word.{Has, _⊆_, subset, Apart, apart, _∩_, _∪_, _∖_, atom}
 use Rattle.atoms.proofs.Sets.{decides-subset, decides-apart, has-cut, cut-left, cut-right, has-left, has-right, union-cases, has-without, without-left, without-right, has-lt, has-dec, subset-refl, subset-trans}
 use Rattle.atoms.proofs.Bounded.{some-at, all-in-at, all-in-none, all-in-take}
+use Rattle.atoms.specs.Bounded.{Decides}
+use Rattle.atoms.proofs.Tests.{decides}
 use Rattle.answer_sets.specs.State.{Completes, Narrows, clashed}
 use Rattle.answer_sets.specs.declared.State.{State}
 use Rattle.answer_sets.proofs.Narrowing.{clash-narrows}
+use Rattle.narrowing.proofs.Taking.{none-done, all-done, done-cases}
 use Rattle.unit_search.specs.Listing.{isListed}
 use Rattle.unit_search.specs.Job.{joins, Joinable}
-use Rattle.unit_search.specs.Agreeing.{Agrees, Spans, TakenIn, SpansAll, JoinsOne, JoinsAll}
+use Rattle.unit_search.specs.Agreeing.{Agrees, Spans, TakenIn, SpansAll, JoinsOne, JoinsAll, Covered}
 use Rattle.unit_search.specs.declared.join.Agreement.{Agreement}
 
 -- ---- one entry
@@ -133,3 +136,27 @@ joins-one table counts heads predecessors M v l h j = record {
 pub joined-lt : {table counts heads : List ℕ} {predecessors rest v : ℕ} → Joinable table counts heads predecessors
     → rest ⊆ predecessors → Has rest v → v < 16
 joined-lt {predecessors = predecessors} {v = v} j f h = has-lt predecessors 16 (j .few) (f .each v h)
+
+-- ---- the nearest predecessors
+
+module _ (heads : List ℕ) (units word : ℕ) where
+  -- none of the units that are done covers the word
+  pub record Uncovered (done : ℕ) : Type 0 where
+    pub each : (v : ℕ) → Has done v → ¬ (word ⊆ getD heads v 0)
+
+  pub uncovered-start : Uncovered (units ∖ units)
+  uncovered-start = record { each = λ v h. absurd (none-done units h) }
+
+  pub uncovered-next : (rest v : ℕ) → Uncovered (units ∖ rest) → subset word (getD heads v 0) ≡ false → Uncovered (units ∖ (rest ∖ atom v))
+  uncovered-next rest v u e = record { each = λ i h. go i (done-cases units rest v h) }
+    where
+      go : (i : ℕ) → Has (units ∖ rest) i ⊎ (v ≡ i) → ¬ (word ⊆ getD heads i 0)
+      go i (inl h) = u .each i h
+      go i (inr q) = subst (λ (x : ℕ). ¬ (word ⊆ getD heads x 0)) q (decides-subset word (getD heads v 0) .no e)
+
+  pub covered-here : (v : ℕ) → Has units v → subset word (getD heads v 0) ≡ true → Decides (Covered heads units word) true
+  covered-here v h e = decides true (λ t. record { by = v; unit = h; within = decides-subset word (getD heads v 0) .yes e }) (λ c. refl)
+
+  pub covered-nowhere : (rest : ℕ) → rest ≡ 0 → Uncovered (units ∖ rest) → Decides (Covered heads units word) false
+  covered-nowhere rest e u =
+      decides false (λ f. absurd (false≢true f)) (λ c. absurd (u .each (c .by) (all-done units rest e (c .unit)) (c .within)))

@@ -4,11 +4,13 @@ use crate::listing::contains;
 use answer_sets::State;
 use answer_sets::growth::clash;
 ghost use mathlib.Core.Path.{_≡_};
-ghost use Prim.Native.Nat.{_+_, _≤_};
+ghost use Prim.Native.Nat.{_+_, _^_, _≤_, _<_};
 ghost use lib.ListN.{length};
+ghost use Rattle.atoms.specs.Word.{_⊆_};
+ghost use Rattle.atoms.specs.Bounded.{Decides};
 ghost use Rattle.answer_sets.specs.State.{Narrows};
 ghost use Rattle.unit_search.specs.Job.{Joinable, joins as joinsOf};
-ghost use Rattle.unit_search.specs.Agreeing.{TakenIn, SpansAll, JoinsOne, JoinsAll};
+ghost use Rattle.unit_search.specs.Agreeing.{TakenIn, SpansAll, JoinsOne, JoinsAll, Covered};
 
 // Whether the position cut to each direct predecessor's head atoms is in that one's list.
 pub fn joins(
@@ -92,6 +94,50 @@ fn join_one(words: &[u64], base: usize, count: usize, heads: u64, s: State) -> S
     }
 }
 
+// Whether all atoms of the word are among the head atoms of one of the units.
+fn is_covered(heads: &[u64], units: u64, word: u64) -> bool
+    requires { ⌜ (16 ≤ length (now heads)) × (units < 2 ^ 16) ⌝ }
+    ensures { λ r. ⌜ Decides (Covered (now (heads .entry)) units word) r ⌝ }
+{
+    let mut rest = units;
+    while rest != 0 {
+        let v = atoms::lowest(rest);
+        if atoms::is_subset(word, heads[v]) {
+            return true;
+        }
+        rest = atoms::drop(rest, v);
+    }
+    false
+}
+
+// The units without this one where the head atoms of another cover its own.
+fn without_covered(heads: &[u64], units: u64, v: usize) -> u64
+    requires { ⌜ (16 ≤ length (now heads)) × (units < 2 ^ 16) × (v < 16) ⌝ }
+    ensures { λ r. ⌜ r ⊆ units ⌝ }
+{
+    let others = atoms::drop(units, v);
+    if is_covered(heads, others, heads[v]) {
+        return others;
+    }
+    units
+}
+
+// The predecessors whose head atoms no other one's cover. A unit that another one reaches is covered by it, and what its list
+// tells of a position the other's list tells too: so these are enough for pruning, and the full test joins them all.
+fn nearest(heads: &[u64], predecessors: u64) -> u64
+    requires { ⌜ (16 ≤ length (now heads)) × (predecessors < 2 ^ 16) ⌝ }
+    ensures { λ r. ⌜ r ⊆ predecessors ⌝ }
+{
+    let mut near = predecessors;
+    let mut rest = predecessors;
+    while rest != 0 {
+        let v = atoms::lowest(rest);
+        near = without_covered(heads, near, v);
+        rest = atoms::drop(rest, v);
+    }
+    near
+}
+
 // The state after all direct predecessors.
 pub fn join_all(
     table: &[u64],
@@ -103,7 +149,7 @@ pub fn join_all(
     requires { ⌜ Joinable (now table) (now counts) (now heads) predecessors ⌝ }
     ensures { λ t. ⌜ Narrows (JoinsAll (now (table .entry)) (now (counts .entry)) (now (heads .entry)) predecessors) s t ⌝ }
 {
-    let mut rest = predecessors;
+    let mut rest = nearest(heads, predecessors);
     let mut t = s;
     while rest != 0 {
         let v = atoms::lowest(rest);

@@ -4,7 +4,6 @@ use denote.Ref.{now}
 use lib.Count.{ones}
 use native.Mathlib.Omega.{arith}
 use Rattle.atoms.specs.Word.{_⊆_}
-use Rattle.atoms.proofs.Sets.{subset-refl}
 use Rattle.atoms.proofs.Counting.{taken-less, taken-within}
 use Rattle.answer_sets.specs.State.{Narrows}
 use Rattle.answer_sets.proofs.Narrowing.{narrows-refl, narrows-trans, narrows-for}
@@ -20,12 +19,15 @@ Inv-loop table counts heads predecessors rest₀ t₀ rest t =
 abbrev μ-loop : tie.MeasureT-loop
 μ-loop table counts heads predecessors rest₀ t₀ rest t = ones rest
 
+nearest-requires : tie.Need-nearest-requires Inv-loop μ-loop
+nearest-requires c κs = let pre = c .before .before .before .pre in (pre .heads-long, pre .few)
+
 loop-holds : tie.Need-loop-holds Inv-loop μ-loop
-loop-holds c = (subset-refl, narrows-refl)
+loop-holds c = (c .nearest .ensures, narrows-refl)
 
 -- the predecessor that is joined is below 16
 inside : (c : tie.After-lowest Inv-loop μ-loop) → c .lowest .result < 16
-inside c = joined-lt (c .before .before .before .before .before .before .pre) (c .before .before .loop .inv .0) (c .lowest .ensures .0 .here)
+inside c = joined-lt (c .before .before .before .before .before .before .before .pre) (c .before .before .loop .inv .0) (c .lowest .ensures .0 .here)
 
 lowest-requires : tie.Need-lowest-requires Inv-loop μ-loop
 lowest-requires c κs = c .loop-test .taken
@@ -37,16 +39,16 @@ mul-join-one-2 : tie.Need-mul-join-one-2 Inv-loop μ-loop
 mul-join-one-2 c = omega (arith, inside c)
 
 shared-slice-read-join-one : tie.Need-shared-slice-read-join-one Inv-loop μ-loop
-shared-slice-read-join-one c = omega (arith, inside (c .before), c .before .before .before .before .before .before .before .pre)
+shared-slice-read-join-one c = omega (arith, inside (c .before), c .before .before .before .before .before .before .before .before .pre)
 
 mul-join-one-3 : tie.Need-mul-join-one-3 Inv-loop μ-loop
 mul-join-one-3 c = omega (arith, inside (c .before))
 
 shared-slice-read-join-one-2 : tie.Need-shared-slice-read-join-one-2 Inv-loop μ-loop
-shared-slice-read-join-one-2 c = omega (arith, inside (c .before .before), c .before .before .before .before .before .before .before .before .pre)
+shared-slice-read-join-one-2 c = omega (arith, inside (c .before .before), c .before .before .before .before .before .before .before .before .before .pre)
 
 join-one-requires : tie.Need-join-one-requires Inv-loop μ-loop
-join-one-requires c κs = omega (arith, inside (c .before .before), c .before .before .before .before .before .before .before .before .pre, c .before .before .before .before .before .before .before .before .pre .small (c .before .before .lowest .result) (inside (c .before .before)))
+join-one-requires c κs = omega (arith, inside (c .before .before), c .before .before .before .before .before .before .before .before .before .pre, c .before .before .before .before .before .before .before .before .before .pre .small (c .before .before .lowest .result) (inside (c .before .before)))
 
 drop-requires : tie.Need-drop-requires Inv-loop μ-loop
 drop-requires c κs = c .before .before .before .lowest .ensures .1
@@ -56,7 +58,7 @@ loop-less c = taken-less (c .before .before .before .before .lowest .ensures .0)
 
 loop-again : tie.Need-loop-again Inv-loop μ-loop
 loop-again c =
-    let at = c .before .before .before .before .before .before .before .before .before .before .args in
+    let at = c .before .before .before .before .before .before .before .before .before .before .before .args in
     let low = c .before .before .before .before .lowest in
     let inv = c .before .before .before .before .before .before .loop .inv in (
       taken-within (inv .0) (low .ensures .0) (c .drop .ensures),
@@ -77,6 +79,7 @@ join-all-spec =
     (tie.spec
     Inv-loop
     μ-loop
+    nearest-requires
     loop-holds
     lowest-requires
     mul-join-one
