@@ -1,7 +1,8 @@
-//! measure SETTLE CLINGO OUTPUT FOLDER..: whole-process times of both programs on the same plans.
+//! measure SETTLE CLINGO NODES OUTPUT FOLDER..: whole-process times of both programs on the same plans.
 //!
 //! Each NAME.plan of the folders is given to SETTLE on standard input, and NAME.lp, the same
-//! program, to `CLINGO -n 257`. Runs of the two alternate. The table is written as Markdown.
+//! program, to `CLINGO -n 257`. Runs of the two alternate. NODES counts the nodes of the search, untimed.
+//! The table is written as Markdown.
 
 use std::collections::BTreeSet;
 use std::fs::{self, File};
@@ -25,17 +26,18 @@ extern "C" {
 
 fn main() {
     let arguments: Vec<String> = std::env::args().skip(1).collect();
-    if arguments.len() < 4 {
-        eprintln!("usage: measure SETTLE CLINGO OUTPUT FOLDER..");
+    if arguments.len() < 5 {
+        eprintln!("usage: measure SETTLE CLINGO NODES OUTPUT FOLDER..");
         std::process::exit(2);
     }
-    let programs = Programs { settle: arguments[0].clone(), clingo: arguments[1].clone() };
+    let programs =
+        Programs { settle: arguments[0].clone(), clingo: arguments[1].clone(), nodes: arguments[2].clone() };
     let mut rows = Vec::new();
-    for plan in arguments[3..].iter().flat_map(|folder| plans(folder)) {
+    for plan in arguments[4..].iter().flat_map(|folder| plans(folder)) {
         rows.push(measure(&programs, &plan));
         eprintln!("{}", rows.last().unwrap().line());
     }
-    fs::write(&arguments[2], report(&rows)).expect("the table cannot be written");
+    fs::write(&arguments[3], report(&rows)).expect("the table cannot be written");
     println!("{}", summary(&rows));
 }
 
@@ -57,11 +59,18 @@ fn is_measured(path: &Path) -> bool {
 struct Programs {
     settle: String,
     clingo: String,
+    nodes: String,
 }
 
 impl Programs {
     fn settle(&self, plan: &Path) -> Command {
         let mut command = Command::new(&self.settle);
+        command.stdin(File::open(plan).expect("the plan cannot be read"));
+        command
+    }
+
+    fn nodes(&self, plan: &Path) -> Command {
+        let mut command = Command::new(&self.nodes);
         command.stdin(File::open(plan).expect("the plan cannot be read"));
         command
     }
@@ -105,6 +114,7 @@ fn output(mut command: Command) -> String {
 struct Row {
     name: String,
     positions: String,
+    nodes: String,
     settle: Option<Duration>,
     clingo: Option<Duration>,
     agreement: Agreement,
@@ -133,6 +143,7 @@ fn measure(programs: &Programs, plan: &Path) -> Row {
     Row {
         name: plan.file_stem().unwrap_or_default().to_string_lossy().into_owned(),
         positions: positions(&sheet),
+        nodes: nodes(&output(programs.nodes(plan)), &positions(&sheet)),
         settle: median(settle),
         clingo: median(clingo),
         agreement: agreement(&sheet, &answers),
@@ -156,6 +167,14 @@ fn median(runs: Vec<Option<Duration>>) -> Option<Duration> {
 fn positions(sheet: &str) -> String {
     let first = sheet.lines().next().unwrap_or("none printed");
     first.trim_start_matches("positions ").to_string()
+}
+
+/// The counted nodes, where the count found what the sheet says.
+fn nodes(counted: &str, positions: &str) -> String {
+    match counted.trim_end().split_once(' ') {
+        Some((nodes, found)) if found == positions => nodes.to_string(),
+        _ => "not counted".to_string(),
+    }
 }
 
 // ---- Agreement -------------------------------------------------------------------------------
@@ -194,7 +213,10 @@ impl Row {
         };
         let ratio = self.ratio().map_or(String::new(), |ratio| format!("{:.2}", ratio));
         let (settle, clingo) = (milliseconds(self.settle), milliseconds(self.clingo));
-        format!("| {} | {} | {} | {} | {} | {} |", self.name, self.positions, settle, clingo, ratio, agreement)
+        format!(
+            "| {} | {} | {} | {} | {} | {} | {} |",
+            self.name, self.positions, self.nodes, settle, clingo, ratio, agreement
+        )
     }
 }
 
@@ -205,7 +227,7 @@ fn milliseconds(time: Option<Duration>) -> String {
 fn report(rows: &[Row]) -> String {
     let lines: String = rows.iter().map(|row| row.line() + "\n").collect();
     format!(
-        "{}\n\n| plan | positions | settle ms | clingo ms | ratio | lists |\n|---|---|---:|---:|---:|---|\n{}",
+        "{}\n\n| plan | positions | nodes | settle ms | clingo ms | ratio | lists |\n|---|---|---:|---:|---:|---:|---|\n{}",
         summary(rows),
         lines
     )

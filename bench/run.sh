@@ -29,5 +29,6 @@ fi
 }
 
 build_program bench/measure.rs target/bench/measure
+build_program bench/nodes.rs target/bench/nodes
 mkdir -p "$(dirname "$output")"
-target/bench/measure "$settle" "$(command -v clingo)" "$output" "$@"
+target/bench/measure "$settle" "$(command -v clingo)" target/bench/nodes "$output" "$@"

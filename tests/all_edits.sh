@@ -8,6 +8,7 @@ rm -rf "$copy"
 mkdir -p "$copy"
 cp -R crates.txt crates "$copy"
 for folder in tests/must-fail/*/; do
+    mkdir -p "$copy/crates/$(basename "$folder")/must-fail"
     cp "$folder"*.edit "$copy/crates/$(basename "$folder")/must-fail/"
 done
 cd "$copy"

@@ -1,15 +1,17 @@
 # Functions that build the test programs; read by the scripts of this folder and of bench/.
 
-# Makes sure that rustc is there: on a Debian machine without it, root installs it.
+# Makes sure that rustc is there and works. It may stand in cargo's folder off the path; on a Debian machine without it,
+# root installs it.
 need_rustc() {
-    if command -v rustc >/dev/null; then
-        return
+    rustc --version >/dev/null 2>&1 && return
+    PATH="$PATH:${CARGO_HOME:-$HOME/.cargo}/bin:/root/.cargo/bin"
+    rustc --version >/dev/null 2>&1 && return
+    if [ "$(id -u)" = 0 ] && command -v apt-get >/dev/null; then
+        { apt-get update && apt-get install -y rustc; } >&2
     fi
-    if [ "$(id -u)" != 0 ] || ! command -v apt-get >/dev/null; then
-        echo "rustc is missing: install it, on Debian as root with: apt-get update && apt-get install -y rustc" >&2
-        exit 2
-    fi
-    apt-get update && apt-get install -y rustc
+    rustc --version >/dev/null 2>&1 && return
+    echo "rustc is missing: install it, on Debian as root with: apt-get update && apt-get install -y rustc" >&2
+    exit 2
 }
 
 # build_program SOURCE OUTPUT [OPTIONS]: one program by rustc alone; no other package is needed.
