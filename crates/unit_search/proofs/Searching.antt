@@ -27,29 +27,39 @@ use Rattle.unit_search.specs.declared.Unit.{Unit}
 use Rattle.unit_search.proofs.Gathering.{gathered-insert, gathered-same, gathered-iff, gathered-over, gathered-then}
 
 module _ (rules table counts heads : List ℕ) (unit : Unit) where
+  -- the three statements, of this unit
+  abbrev Belong : ℕ → Type 0
+  Belong = Belongs rules table counts heads unit
+
+  abbrev Want : State → ℕ → Type 0
+  Want = Wanted rules table counts heads unit
+
+  abbrev Offer : ℕ → ℕ → Type 0
+  Offer = Offered rules table counts heads unit
+
   -- ---- belonging
 
   pub not-joined : (M : ℕ) → joins table counts heads (unit .predecessors) M ≡ false
-      → Decides (Belongs rules table counts heads unit M) false
+      → Decides (Belong M) false
   not-joined M e =
       decides false (λ f. absurd (false≢true f)) (λ b. absurd (true≢false (sym (b .joined) ∙ e)))
 
   pub joined-settled : (M : ℕ) (r : Bool) → M < 2 ^ 64 → joins table counts heads (unit .predecessors) M ≡ true
-      → r ≡ answerSet (lent rules) (unit .rules) (M ∩ unit .inputs) M → Decides (Belongs rules table counts heads unit M) r
+      → r ≡ answerSet (lent rules) (unit .rules) (M ∩ unit .inputs) M → Decides (Belong M) r
   joined-settled M r w j e =
       decides r (λ t. record { word = w; joined = j; settled = sym e ∙ t }) (λ b. e ∙ b .settled)
 
   -- ---- the passes
 
   -- what belongs joins all lists, is an answer set and satisfies each rule of the unit
-  belongs-joins : (M : ℕ) → Belongs rules table counts heads unit M → JoinsAll table counts heads (unit .predecessors) M
+  belongs-joins : (M : ℕ) → Belong M → JoinsAll table counts heads (unit .predecessors) M
   belongs-joins M b = record { joined = b .joined }
 
-  belongs-settled : unit .rules < 2 ^ 64 → (M : ℕ) → Belongs rules table counts heads unit M → Settled rules (unit .rules) (unit .inputs) M
+  belongs-settled : unit .rules < 2 ^ 64 → (M : ℕ) → Belong M → Settled rules (unit .rules) (unit .inputs) M
   belongs-settled fits M b =
       record { answer = decides-answer-set (lent rules) (unit .rules) (M ∩ unit .inputs) M fits .yes (b .settled) }
 
-  belongs-satisfies : unit .rules < 2 ^ 64 → (M : ℕ) → Belongs rules table counts heads unit M
+  belongs-satisfies : unit .rules < 2 ^ 64 → (M : ℕ) → Belong M
       → SatisfiesAll (lent rules) (unit .rules) M
   belongs-satisfies fits M b = record {
     each = λ r h. satisfied (lent rules) (unit .rules) (M ∩ unit .inputs) M r (belongs-settled fits M b .answer) h;
@@ -59,7 +69,7 @@ module _ (rules table counts heads : List ℕ) (unit : Unit) where
   pub passes-narrow : unit .rules < 2 ^ 64 → {s t u v w : State} (live : ℕ)
       → Narrows (JoinsAll table counts heads (unit .predecessors)) s t → Narrows (SatisfiesAll (lent rules) (unit .rules)) t u
       → Live rules (unit .rules) u live → Narrows (Settled rules live (unit .inputs)) u v
-      → Narrows (Settled rules live (unit .inputs)) v w → Narrows (Belongs rules table counts heads unit) s w
+      → Narrows (Settled rules live (unit .inputs)) v w → Narrows (Belong) s w
   passes-narrow fits {u = u} live j g l n m =
       narrows-trans (narrows-for belongs-joins j)
       (narrows-trans (narrows-for (belongs-satisfies fits) g)
@@ -68,59 +78,59 @@ module _ (rules table counts heads : List ℕ) (unit : Unit) where
   -- ---- one position
 
   pub offer-none : (list : List ℕ) (count position : ℕ) → Ordered list count
-      → Decides (Belongs rules table counts heads unit position) false
-      → Gathered (Grown list count (Offered rules table counts heads unit position)) list count
+      → Decides (Belong position) false
+      → Gathered (Grown list count (Offer position)) list count
   offer-none list count position o d =
-      gathered-same list count (Offered rules table counts heads unit position) o
-      (λ x w. d .no refl (subst (Belongs rules table counts heads unit) (w .is) (w .belongs)))
+      gathered-same list count (Offer position) o
+      (λ x w. d .no refl (subst (Belong) (w .is) (w .belongs)))
 
   pub offer-one : (list : List ℕ) (count position : ℕ) (after : List ℕ) (r : ℕ) → Ordered list count
-      → Belongs rules table counts heads unit position → Inserted list count position after r
-      → Gathered (Grown list count (Offered rules table counts heads unit position)) after r
+      → Belong position → Inserted list count position after r
+      → Gathered (Grown list count (Offer position)) after r
   offer-one list count position after r o b i = gathered-iff into from (gathered-insert list count position after r o i)
     where
-      into : (x : ℕ) → Grown list count (λ y. y ≡ position) x → Grown list count (Offered rules table counts heads unit position) x
+      into : (x : ℕ) → Grown list count (λ y. y ≡ position) x → Grown list count (Offer position) x
       into x (inl m) = inl m
-      into x (inr e) = inr (record { is = e; belongs = subst (Belongs rules table counts heads unit) (sym e) b })
+      into x (inr e) = inr (record { is = e; belongs = subst (Belong) (sym e) b })
 
-      from : (x : ℕ) → Grown list count (Offered rules table counts heads unit position) x → Grown list count (λ y. y ≡ position) x
+      from : (x : ℕ) → Grown list count (Offer position) x → Grown list count (λ y. y ≡ position) x
       from x (inl m) = inl m
       from x (inr w) = inr (w .is)
 
   -- ---- the search
 
-  module _ (list : List ℕ) (count : ℕ) (s t : State) (n : Narrows (Belongs rules table counts heads unit) s t) where
+  module _ (list : List ℕ) (count : ℕ) (s t : State) (n : Narrows (Belong) s t) where
     -- after the passes the same positions are wanted
-    pub search-narrowed : {after : List ℕ} {r : ℕ} → Gathered (Grown list count (Wanted rules table counts heads unit t)) after r
-        → Gathered (Grown list count (Wanted rules table counts heads unit s)) after r
+    pub search-narrowed : {after : List ℕ} {r : ℕ} → Gathered (Grown list count (Want t)) after r
+        → Gathered (Grown list count (Want s)) after r
     search-narrowed g = gathered-iff into from g
       where
-        into : (x : ℕ) → Grown list count (Wanted rules table counts heads unit t) x → Grown list count (Wanted rules table counts heads unit s) x
+        into : (x : ℕ) → Grown list count (Want t) x → Grown list count (Want s) x
         into x (inl m) = inl m
         into x (inr w) = inr (record { belongs = w .belongs; completes = completes-back n (w .completes) })
 
-        from : (x : ℕ) → Grown list count (Wanted rules table counts heads unit s) x → Grown list count (Wanted rules table counts heads unit t) x
+        from : (x : ℕ) → Grown list count (Want s) x → Grown list count (Want t) x
         from x (inl m) = inl m
         from x (inr w) = inr (record { belongs = w .belongs; completes = n .keeps x (w .belongs) (w .completes) })
 
   -- an overlap: nothing is wanted
   pub search-clash : (list : List ℕ) (count : ℕ) (t : State) → Ordered list count → apart (t .up) (t .dropped) ≡ false
-      → Gathered (Grown list count (Wanted rules table counts heads unit t)) list count
+      → Gathered (Grown list count (Want t)) list count
   search-clash list count t o e =
-      gathered-same list count (Wanted rules table counts heads unit t) o
+      gathered-same list count (Want t) o
       (λ x w. overlap-none {s = t} (decides-apart (t .up) (t .dropped) .no e) (w .completes))
 
   -- nothing undecided: only the atoms that are up can be wanted
   pub search-leaf : (list : List ℕ) (count : ℕ) (t : State) {after : List ℕ} {r : ℕ} → apart (t .up) (t .dropped) ≡ true
       → undecided (t .up) (t .dropped) ≡ 0
-      → Gathered (Grown list count (Offered rules table counts heads unit (t .up))) after r
-      → Gathered (Grown list count (Wanted rules table counts heads unit t)) after r
+      → Gathered (Grown list count (Offer (t .up))) after r
+      → Gathered (Grown list count (Want t)) after r
   search-leaf list count t e z g = gathered-iff into from g
     where
       free : Apart (t .up) (t .dropped)
       free = decides-apart (t .up) (t .dropped) .yes e
 
-      whole : (x : ℕ) → Wanted rules table counts heads unit t x → x ≡ t .up
+      whole : (x : ℕ) → Want t x → x ≡ t .up
       whole x w =
           subset-antisym
           (record {
@@ -135,7 +145,7 @@ module _ (rules table counts heads : List ℕ) (unit : Unit) where
           go i h (inl p) = p
           go i h (inr p) = absurd (w .completes .no-dropped .none i p h)
 
-      into : (x : ℕ) → Grown list count (Offered rules table counts heads unit (t .up)) x → Grown list count (Wanted rules table counts heads unit t) x
+      into : (x : ℕ) → Grown list count (Offer (t .up)) x → Grown list count (Want t) x
       into x (inl m) = inl m
       into x (inr w) =
           inr
@@ -148,33 +158,33 @@ module _ (rules table counts heads : List ℕ) (unit : Unit) where
                 });
           })
 
-      from : (x : ℕ) → Grown list count (Wanted rules table counts heads unit t) x → Grown list count (Offered rules table counts heads unit (t .up)) x
+      from : (x : ℕ) → Grown list count (Want t) x → Grown list count (Offer (t .up)) x
       from x (inl m) = inl m
       from x (inr w) = inr (record { is = whole x w; belongs = w .belongs })
 
   -- an atom is dropped first, and then it goes up
   module _ (list₀ : List ℕ) (count₀ : ℕ) (t : State) (i : ℕ) (list₁ : List ℕ) (count₁ : ℕ)
-      (low : Gathered (Grown list₀ count₀ (Wanted rules table counts heads unit (record { up = t .up; dropped = t .dropped ∪ atom i }))) list₁ count₁) where
+      (low : Gathered (Grown list₀ count₀ (Want (record { up = t .up; dropped = t .dropped ∪ atom i }))) list₁ count₁) where
     -- too many already
-    pub search-over : 256 < count₁ → Gathered (Grown list₀ count₀ (Wanted rules table counts heads unit t)) list₁ count₁
+    pub search-over : 256 < count₁ → Gathered (Grown list₀ count₀ (Want t)) list₁ count₁
     search-over l = gathered-over into l low
       where
-        into : (x : ℕ) → Grown list₀ count₀ (Wanted rules table counts heads unit (record { up = t .up; dropped = t .dropped ∪ atom i })) x
-            → Grown list₀ count₀ (Wanted rules table counts heads unit t) x
+        into : (x : ℕ) → Grown list₀ count₀ (Want (record { up = t .up; dropped = t .dropped ∪ atom i })) x
+            → Grown list₀ count₀ (Want t) x
         into x (inl m) = inl m
         into x (inr w) = inr (record { belongs = w .belongs; completes = without-dropped t i (w .completes) })
 
     pub search-both : count₁ ≤ 256 → {list₂ : List ℕ} {count₂ : ℕ}
-        → Gathered (Grown list₁ count₁ (Wanted rules table counts heads unit (record { up = t .up ∪ atom i; dropped = t .dropped }))) list₂ count₂
-        → Gathered (Grown list₀ count₀ (Wanted rules table counts heads unit t)) list₂ count₂
+        → Gathered (Grown list₁ count₁ (Want (record { up = t .up ∪ atom i; dropped = t .dropped }))) list₂ count₂
+        → Gathered (Grown list₀ count₀ (Want t)) list₂ count₂
     search-both l high =
         gathered-then list₀ count₀ list₁ count₁
         (λ x w. record { belongs = w .belongs; completes = without-dropped t i (w .completes) })
         (λ x w. record { belongs = w .belongs; completes = without-up t i (w .completes) })
         (λ x w. split x w (has-dec x i)) l low high
       where
-        split : (x : ℕ) → Wanted rules table counts heads unit t x → Dec (Has x i)
-            → Wanted rules table counts heads unit (record { up = t .up; dropped = t .dropped ∪ atom i }) x
-            ⊎ Wanted rules table counts heads unit (record { up = t .up ∪ atom i; dropped = t .dropped }) x
+        split : (x : ℕ) → Want t x → Dec (Has x i)
+            → Want (record { up = t .up; dropped = t .dropped ∪ atom i }) x
+            ⊎ Want (record { up = t .up ∪ atom i; dropped = t .dropped }) x
         split x w (yes h) = inr (record { belongs = w .belongs; completes = with-up t i (w .completes) h })
         split x w (no h) = inl (record { belongs = w .belongs; completes = with-dropped t i (w .completes) h })

@@ -19,7 +19,8 @@ abbrev μ-loop : tie.MeasureT-loop
 
 -- where the loop ends all members are passed
 passed : (c : tie.After-loop Inv-loop μ-loop)
-    → Passing (now (c .before .before .args .list)) (c .before .before .args .count) (c .before .before .args .value) (c .before .loop .list) (c .before .loop .carried) (c .before .before .args .count)
+    → Passing (now (c .before .before .args .list)) (c .before .before .args .count) (c .before .before .args .value) (c .before .loop .list)
+    (c .before .loop .carried) (c .before .before .args .count)
 passed c =
     let e : c .before .loop .i ≡ c .before .before .args .count = omega arith in
     subst (λ (i : ℕ). Passing (now (c .before .before .args .list)) (c .before .before .args .count) (c .before .before .args .value) (c .before .loop .list) (c .before .loop .carried) i) e (c .before .loop .inv)
@@ -38,7 +39,9 @@ same-length c = c .before .before .before .loop .inv .same-long
 
 returns : tie.Need-returns Inv-loop μ-loop
 returns c =
-    pass-same (now (c .before .before .before .before .args .list)) (c .before .before .before .before .args .count) (c .before .before .before .before .args .value) (omega arith) (c .before .before .before .loop .list) (c .before .before .before .loop .carried) (c .before .before .before .loop .i) (c .before .before .before .loop .inv)
+    pass-same (now (c .before .before .before .before .args .list)) (c .before .before .before .before .args .count)
+    (c .before .before .before .before .args .value) (omega arith) (c .before .before .before .loop .list)
+    (c .before .before .before .loop .carried) (c .before .before .before .loop .i) (c .before .before .before .loop .inv)
     (c .before .before .loop-test .taken) (c .before .before .before .before .pre .0) (c .if1 .taken)
 
 mul-list : tie.Need-mul-list Inv-loop μ-loop
@@ -72,7 +75,9 @@ same-length-2 c = c .before .before .loop .inv .same-long
 
 returns-2 : tie.Need-returns-2 Inv-loop μ-loop
 returns-2 c =
-    pass-full (now (c .before .before .before .args .list)) (c .before .before .before .args .count) (c .before .before .before .args .value) (c .before .before .before .pre .1) (c .before .before .before .pre .0) (c .before .before .loop .list) (c .before .before .loop .carried) (passed (c .before)) (c .if3 .taken)
+    pass-full (now (c .before .before .before .args .list)) (c .before .before .before .args .count) (c .before .before .before .args .value)
+    (c .before .before .before .pre .1) (c .before .before .before .pre .0) (c .before .before .loop .list) (c .before .before .loop .carried)
+    (passed (c .before)) (c .if3 .taken)
 
 mul-list-2 : tie.Need-mul-list-2 Inv-loop μ-loop
 mul-list-2 c = omega arith
@@ -88,7 +93,9 @@ same-length-3 c = length-set (c .before .before .loop .list) (c .before .before 
 
 returns-3 : tie.Need-returns-3 Inv-loop μ-loop
 returns-3 c =
-    pass-end (now (c .before .before .before .args .list)) (c .before .before .before .args .count) (c .before .before .before .args .value) (c .before .before .before .pre .1) (c .before .before .before .pre .0) (c .before .before .loop .list) (c .before .before .loop .carried) (passed (c .before)) (c .if3 .left)
+    pass-end (now (c .before .before .before .args .list)) (c .before .before .before .args .count) (c .before .before .before .args .value)
+    (c .before .before .before .pre .1) (c .before .before .before .pre .0) (c .before .before .loop .list) (c .before .before .loop .carried)
+    (passed (c .before)) (c .if3 .left)
 
 pub insert-spec : {M : Type 1} → statement M
 insert-spec =

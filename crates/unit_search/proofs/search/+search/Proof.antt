@@ -82,7 +82,8 @@ search-are-apart-requires t c κs = search needs
 search-returns : (t : ℕ) → search-lts.Need-returns (calls t) (search-at t) search′.Post
 search-returns t c =
     let at = c .before .before .before .before .before .before .before .before .args in
-    search-narrowed (now (at .rules)) (now (at .table)) (now (at .counts)) (now (at .heads)) (at .unit) (now (at .list)) (at .count) (record { up = at .up; dropped = at .dropped }) (c .before .before .narrow .result) (c .before .before .narrow .ensures)
+    search-narrowed (now (at .rules)) (now (at .table)) (now (at .counts)) (now (at .heads)) (at .unit) (now (at .list)) (at .count)
+    (record { up = at .up; dropped = at .dropped }) (c .before .before .narrow .result) (c .before .before .narrow .ensures)
     (search-clash (now (at .rules)) (now (at .table)) (now (at .counts)) (now (at .heads)) (at .unit) (now (at .list)) (at .count) (c .before .before .narrow .result) (c .before .before .before .before .before .before .before .before .pre .1 .1)
     (sym (c .before .are-apart .ensures) ∙ not-true (c .before .are-apart .result) (c .if1 .taken)))
 
@@ -98,9 +99,12 @@ search-same-length t c = c .before .before .offer .kept .1 .1 .1 .1 .1 .0
 search-returns-2 : (t : ℕ) → search-lts.Need-returns-2 (calls t) (search-at t) search′.Post
 search-returns-2 t c =
     let at = c .before .before .before .before .before .before .before .before .before .before .before .before .before .before .args in
-    search-narrowed (now (at .rules)) (now (at .table)) (now (at .counts)) (now (at .heads)) (at .unit) (now (at .list)) (at .count) (record { up = at .up; dropped = at .dropped }) (c .before .before .before .before .before .before .before .before .narrow .result) (c .before .before .before .before .before .before .before .before .narrow .ensures)
+    search-narrowed (now (at .rules)) (now (at .table)) (now (at .counts)) (now (at .heads)) (at .unit) (now (at .list)) (at .count)
+    (record { up = at .up; dropped = at .dropped }) (c .before .before .before .before .before .before .before .before .narrow .result)
+    (c .before .before .before .before .before .before .before .before .narrow .ensures)
     (search-leaf (now (at .rules)) (now (at .table)) (now (at .counts)) (now (at .heads)) (at .unit) (now (at .list)) (at .count) (c .before .before .before .before .before .before .before .before .narrow .result) (sym (c .before .before .before .before .before .before .before .are-apart .ensures) ∙ not-false (c .before .before .before .before .before .before .before .are-apart .result) (c .before .before .before .before .before .before .if1 .left))
-    (sym (c .before .before .before .before .before .undecided .ensures) ∙ c .before .before .before .before .if2 .taken) (c .before .before .offer .ensures))
+    (sym (c .before .before .before .before .before .undecided .ensures) ∙ c .before .before .before .before .if2 .taken)
+    (c .before .before .offer .ensures))
 
 search-choose-requires : (t : ℕ) → search-lts.Need-choose-requires (calls t) (search-at t) search′.Post
 search-choose-requires t c κs = (c .before .before .before .before .before .before .before .before .before .before .pre .1 .0 .rules-lent, c .if2 .left)
@@ -129,7 +133,10 @@ search-returns-3 : (t : ℕ) → search-lts.Need-returns-3 (calls t) (search-at 
 search-returns-3 t c =
     let at = c .before .before .before .before .before .before .before .before .before .before .before .before .before .before .before .before .before .before .args in
     let n = c .before .before .before .before .before .before .before .before .before .before .before .before .narrow .result in
-    search-narrowed (now (at .rules)) (now (at .table)) (now (at .counts)) (now (at .heads)) (at .unit) (now (at .list)) (at .count) (record { up = at .up; dropped = at .dropped }) (c .before .before .before .before .before .before .before .before .before .before .before .before .narrow .result) (c .before .before .before .before .before .before .before .before .before .before .before .before .narrow .ensures)
+    search-narrowed (now (at .rules)) (now (at .table)) (now (at .counts)) (now (at .heads)) (at .unit) (now (at .list)) (at .count)
+    (record { up = at .up; dropped = at .dropped })
+    (c .before .before .before .before .before .before .before .before .before .before .before .before .narrow .result)
+    (c .before .before .before .before .before .before .before .before .before .before .before .before .narrow .ensures)
     (search-over (now (at .rules)) (now (at .table)) (now (at .counts)) (now (at .heads)) (at .unit) (now (at .list)) (at .count) n (c .before .before .before .before .before .before .before .choose .result) (c .before .before .before .search .last .1 .1 .1 .1 .1 .0) (c .before .before .before .search .result)
     (subst (λ (w : ℕ). Gathered (Grown (now (at .list)) (at .count) (Wanted (now (at .rules)) (now (at .table)) (now (at .counts)) (now (at .heads)) (at .unit) (record { up = n .up; dropped = w }))) (c .before .before .before .search .last .1 .1 .1 .1 .1 .0) (c .before .before .before .search .result))
     (c .before .before .before .before .before .union .ensures ∙ ap (λ (w : ℕ). n .dropped ∪ w) (c .before .before .before .before .before .before .single .ensures)) (c .before .before .before .search .ensures))
@@ -143,7 +150,8 @@ search-search-requires-2 t c κs =
     let at = c .before .before .before .before .before .before .before .before .before .before .before .before .before .before .before .before .before .before .before .before .args in
     let n = c .before .before .before .before .before .before .before .before .before .before .before .before .before .before .narrow .result in
     let low = c .before .before .before .before .before .before .before .before .before .choose .result in
-    let upper = c .before .union2 .ensures ∙ ap (λ (w : ℕ). n .up ∪ w) (c .before .before .before .before .before .before .before .before .single .ensures) in (
+    let upper = c .before .union2 .ensures ∙ ap (λ (w : ℕ). n .up ∪ w)
+    (c .before .before .before .before .before .before .before .before .single .ensures) in (
       subst (λ (w : ℕ). ones (undecided w (n .dropped)) < t) (sym upper)
           (lt-of-lt-of-le (raise-falls (n .up) (n .dropped) low (chosen t (c .before .before .before .before .before .before .before .before .before))) (no-more t (c .before .before .before .before .before .before .before .before .before))),
       (c .before .before .before .before .before .before .before .before .before .before .before .before .before .before .before .before .before .before .before .before .pre .1 .0, gathered-ordered (c .before .before .if3 .left) (c .before .before .before .before .before .search .ensures)),
@@ -156,7 +164,9 @@ search-returns-4 : (t : ℕ) → search-lts.Need-returns-4 (calls t) (search-at 
 search-returns-4 t c =
     let at = c .before .before .before .before .before .before .before .before .before .before .before .before .before .before .before .before .before .before .before .before .before .before .before .args in
     let n = c .before .before .before .before .before .before .before .before .before .before .before .before .before .before .before .before .before .narrow .result in
-    search-narrowed (now (at .rules)) (now (at .table)) (now (at .counts)) (now (at .heads)) (at .unit) (now (at .list)) (at .count) (record { up = at .up; dropped = at .dropped }) (c .before .before .before .before .before .before .before .before .before .before .before .before .before .before .before .before .before .narrow .result) (c .before .before .before .before .before .before .before .before .before .before .before .before .before .before .before .before .before .narrow .ensures)
+    search-narrowed (now (at .rules)) (now (at .table)) (now (at .counts)) (now (at .heads)) (at .unit) (now (at .list)) (at .count)
+    (record { up = at .up; dropped = at .dropped })
+    (c .before .before .before .before .before .before .before .before .before .before .before .before .before .before .before .before .before .narrow .result) (c .before .before .before .before .before .before .before .before .before .before .before .before .before .before .before .before .before .narrow .ensures)
     (search-both (now (at .rules)) (now (at .table)) (now (at .counts)) (now (at .heads)) (at .unit) (now (at .list)) (at .count) n (c .before .before .before .before .before .before .before .before .before .before .before .before .choose .result) (c .before .before .before .before .before .before .before .before .search .last .1 .1 .1 .1 .1 .0) (c .before .before .before .before .before .before .before .before .search .result)
     (subst (λ (w : ℕ). Gathered (Grown (now (at .list)) (at .count) (Wanted (now (at .rules)) (now (at .table)) (now (at .counts)) (now (at .heads)) (at .unit) (record { up = n .up; dropped = w }))) (c .before .before .before .before .before .before .before .before .search .last .1 .1 .1 .1 .1 .0) (c .before .before .before .before .before .before .before .before .search .result))
     (c .before .before .before .before .before .before .before .before .before .before .union .ensures ∙ ap (λ (w : ℕ). n .dropped ∪ w) (c .before .before .before .before .before .before .before .before .before .before .before .single .ensures)) (c .before .before .before .before .before .before .before .before .search .ensures))

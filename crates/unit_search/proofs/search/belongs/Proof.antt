@@ -16,7 +16,8 @@ joins-requires c κs = search needs
 returns : tie.Need-returns
 returns c =
     let at = c .before .before .before .before .before .before .args in
-    not-joined (now (at .rules)) (now (at .table)) (now (at .counts)) (now (at .heads)) (at .unit) (at .position) (sym (c .before .joins .ensures) ∙ not-true (c .before .joins .result) (c .if1 .taken))
+    not-joined (now (at .rules)) (now (at .table)) (now (at .counts)) (now (at .heads)) (at .unit) (at .position)
+    (sym (c .before .joins .ensures) ∙ not-true (c .before .joins .result) (c .if1 .taken))
 
 cut-requires : tie.Need-cut-requires
 cut-requires c κs = search needs
@@ -27,7 +28,8 @@ is-answer-set-requires c κs = search needs
 returns-2 : tie.Need-returns-2
 returns-2 c =
     let at = c .before .before .before .before .before .before .before .before .args in
-    joined-settled (now (at .rules)) (now (at .table)) (now (at .counts)) (now (at .heads)) (at .unit) (at .position) (c .is-answer-set .result) (c .before .before .before .before .before .before .before .before .fits .position .fits)
+    joined-settled (now (at .rules)) (now (at .table)) (now (at .counts)) (now (at .heads)) (at .unit) (at .position) (c .is-answer-set .result)
+    (c .before .before .before .before .before .before .before .before .fits .position .fits)
     (sym (c .before .before .before .joins .ensures) ∙ not-false (c .before .before .before .joins .result) (c .before .before .if1 .left))
     (c .is-answer-set .ensures ∙ ap (λ (w : ℕ). answerSet (lent (now (at .rules))) (at .unit .rules) w (at .position)) (c .before .cut .ensures))
 
