@@ -59,7 +59,8 @@ decides-input S u J inListOf l d =
 -- one step of the definition
 decides-step : (S : Units) (u M : ℕ) (inListOf : ℕ → ℕ → Bool) → S .rules ≤ 64 → u < S .units
     → ((v N : ℕ) → Edge S u v → Decides (Listed S v N) (inListOf v N))
-    → Decides (Listed S u M) (someBelow (suc (inputHeads S u)) (λ J. elim (answerSet (S .program) (S .unit u ∩ below (S .rules)) J M) [ true ↦ isInput S inListOf u J | false ↦ false ]))
+    → Decides (Listed S u M)
+    (someBelow (suc (inputHeads S u)) (λ J. elim (answerSet (S .program) (S .unit u ∩ below (S .rules)) J M) [ true ↦ isInput S inListOf u J | false ↦ false ]))
 decides-step S u M inListOf small l d =
     decides-iff into from
     (decides-some (suc (inputHeads S u)) (λ J. elim (answerSet (S .program) (S .unit u ∩ below (S .rules)) J M) [ true ↦ isInput S inListOf u J | false ↦ false ])

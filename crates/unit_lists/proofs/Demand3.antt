@@ -127,7 +127,8 @@ module _ (S : Units) (acyclic : Acyclic S) (table : List ℕ) (none : (u : ℕ) 
   pub last-in-table : take (getD (countsOf S) 16 0) (drop 4096 (tableOf S table)) ≡ lastList S
   unfolding padded
   last-in-table =
-      ap (take (getD (countsOf S) 16 0)) (last-words ∙ append-assoc (lastList S) (replicate {A = ℕ} (256 - length (lastList S)) 0) (drop TABLE_WORDS table))
+      ap (take (getD (countsOf S) 16 0))
+      (last-words ∙ append-assoc (lastList S) (replicate {A = ℕ} (256 - length (lastList S)) 0) (drop TABLE_WORDS table))
       ∙ take-at (lastList S) (replicate {A = ℕ} (256 - length (lastList S)) 0 ++ drop TABLE_WORDS table) (getD (countsOf S) 16 0) (sym last-count)
 
 -- the last list is the list of the answer sets of the whole program
@@ -170,7 +171,8 @@ module _ (bytes table : List ℕ) (all : All IsByte bytes) (r : Listing) (table�
         let last : lastIn r table′ ≡ lastList S =
         ap₂ (λ (c t : List ℕ). take (getD c 16 0) (drop 4096 t)) counts words ∙ last-in-table S (pass .acyclic) table none in
         let sets = last-answer-sets S pass (looks-only (p .rules) (p .«rule_count») (p .units) (p .«unit_count») (p .predecessors))
-        (given-free (p .rules) (p .«rule_count») (p .units) (p .«unit_count») (p .predecessors)) (plan-clean bytes all read) (record-fits bytes .rules-fit) in
+        (given-free (p .rules) (p .«rule_count») (p .units) (p .«unit_count») (p .predecessors)) (plan-clean bytes all read)
+        (record-fits bytes .rules-fit) in
         record {
           accepted = h .outcome-is ∙ ap (λ (a : Answer). a .outcome) e;
           rising = subst Rising (sym last) (last-rising S);

@@ -109,7 +109,8 @@ module _ (rules : List ℕ) (n : ℕ) (units : List ℕ) (m : ℕ) (predecessors
   unfolding unitsOf
   handed-long u r table₃ e h t =
       let l = as-long u worked e in
-      handed-refused (workFrom (unitsOf rules n units m predecessors) table₀ (workingOrder (unitsOf rules n units m predecessors))) (LongList u) r (cleared table₁) table₃
+      handed-refused (workFrom (unitsOf rules n units m predecessors) table₀ (workingOrder (unitsOf rules n units m predecessors))) (LongList u) r
+      (cleared table₁) table₃
       (same-work ∙ l .answer-is) h
       (t ∙ working-cleared (unitsOf rules n units m predecessors) (s .lent-words .units-most) (l .done) table₁ table₂ counts₂ (l .working))
 
@@ -119,7 +120,8 @@ module _ (rules : List ℕ) (n : ℕ) (units : List ℕ) (m : ℕ) (predecessors
       let f = as-fit worked e in
       record {
         few = s .lent-words .units-most;
-        table-long = omega (arith, working-long (unitsOf rules n units m predecessors) (s .lent-words .units-most) (f .done) table₁ table₂ counts₂ (f .working), f .working .long);
+        table-long = omega
+            (arith, working-long (unitsOf rules n units m predecessors) (s .lent-words .units-most) (f .done) table₁ table₂ counts₂ (f .working), f .working .long);
         counts-long = counts-long (unitsOf rules n units m predecessors) (f .done) table₁ table₂ counts₂ (f .working);
         joinable = joinable rules n units m predecessors heads′ inputs s (f .done) table₁ table₂ counts₂ (below m) (f .working)
             (λ v h. let k : v < m = below-lt m h in omega (arith, s .lent-words .units-most));
@@ -141,13 +143,15 @@ module _ (rules : List ℕ) (n : ℕ) (units : List ℕ) (m : ℕ) (predecessors
     handed-last-long r table₄ e h t =
         let f = as-fit worked fit in
         let d = done-long last-done e in
-        handed-refused (workFrom (unitsOf rules n units m predecessors) table₀ (workingOrder (unitsOf rules n units m predecessors))) (LongList m) r (cleared table₁) table₄
+        handed-refused (workFrom (unitsOf rules n units m predecessors) table₀ (workingOrder (unitsOf rules n units m predecessors))) (LongList m) r
+        (cleared table₁) table₄
         (same-work ∙ f .answer-is ∙ last-long (unitsOf rules n units m predecessors) table₁ (d .0)) h
         (t ∙ ap cleared (d .1)
         ∙ working-cleared (unitsOf rules n units m predecessors) (s .lent-words .units-most) (f .done) table₁ table₂ counts₂ (f .working))
 
     pub handed-all : b ≡ true
-        → Handed (workFrom (unitsOf rules n units m predecessors) table₀ (workingOrder (unitsOf rules n units m predecessors))) (record { outcome = Accepted; counts = counts₃ }) table₃
+        → Handed (workFrom (unitsOf rules n units m predecessors) table₀ (workingOrder (unitsOf rules n units m predecessors)))
+        (record { outcome = Accepted; counts = counts₃ }) table₃
     unfolding unitsOf
     handed-all e =
         let f = as-fit worked fit in

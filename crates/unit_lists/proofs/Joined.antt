@@ -169,7 +169,8 @@ module _ (rules : List ℕ) (T : Units) (same : T .program ≡ lent rules) (pass
         word = let l : M ≤ heads T u = subset-le (m .within) in omega arith;
         joined = edge-joins M (m .inputs);
         settled = sym (same-answer M)
-            ∙ decided-true (decides-answer-set (T .program) (T .unit u ∩ below (T .rules)) (M ∩ inputHeads T u) M (numbers-fit T u small)) (m .answer);
+            ∙ decided-true (decides-answer-set (T .program) (T .unit u ∩ below (T .rules)) (M ∩ inputHeads T u) M (numbers-fit T u small))
+            (m .answer);
       }
 
   -- ---- the answer of a search from the start
@@ -203,7 +204,8 @@ module _ (rules : List ℕ) (T : Units) (same : T .program ≡ lent rules) (pass
         record { belongs = b; completes = from-start M (b .word) (listed-within T pass free small u M (a .is-unit) l) }
 
     pub search-answer : (list : List ℕ) (r : ℕ)
-        → Gathered (Grown (replicate {A = ℕ} 256 0) 0 (Wanted rules table counts heads′ unit (record { up = 0; dropped = below 64 ∖ heads T u }))) list r
+        → Gathered
+        (Grown (replicate {A = ℕ} 256 0) 0 (Wanted rules table counts heads′ unit (record { up = 0; dropped = below 64 ∖ heads T u }))) list r
         → UnitWorked (unitList T u) list r
     search-answer list r g = go g
       where

@@ -64,7 +64,8 @@ module _ (rules : List ℕ) (n : ℕ) (units : List ℕ) (m : ℕ) (predecessors
       there : (a : ℕ) → (v : ℕ) × (v < m) × Has (below m) v × Has (getD heads′ v 0) a
           → Has (inputHeads (withLast (unitsOf rules n units m predecessors)) m) a
       there a f =
-          input-edge (withLast (unitsOf rules n units m predecessors)) m (f .0) a (edge-from-last (unitsOf rules n units m predecessors) (f .0) (f .1))
+          input-edge (withLast (unitsOf rules n units m predecessors)) m (f .0) a
+          (edge-from-last (unitsOf rules n units m predecessors) (f .0) (f .1))
           (subst (λ (w : ℕ). Has w a) (s .heads-are (f .0) (f .1) ∙ old-heads (unitsOf rules n units m predecessors) (s .clean) (f .0) (f .1)) (f .3))
 
       back : (a : ℕ) → Has 0 a ⊎ ((v : ℕ) × Edge (withLast (unitsOf rules n units m predecessors)) m v × Has (heads (withLast (unitsOf rules n units m predecessors)) v) a)
@@ -104,7 +105,8 @@ module _ (rules : List ℕ) (n : ℕ) (units : List ℕ) (m : ℕ) (predecessors
     unfolding unitsOf
     stored-last v l =
         let w = working-stored (unitsOf rules n units m predecessors) (s .lent-words .units-most) done table₀ table counts p v (all v l) in
-        let e = lists-same (unitsOf rules n units m predecessors) (s .passes) (given-free rules n units m predecessors) (s .clean) (s .lent-words .rules-most) v l in
+        let e = lists-same (unitsOf rules n units m predecessors) (s .passes) (given-free rules n units m predecessors) (s .clean)
+        (s .lent-words .rules-most) v l in
         record {
           counted = w .counted ∙ ap length e;
           small = subst (λ (x : List ℕ). length x ≤ 256) e (w .small);
@@ -129,14 +131,17 @@ module _ (rules : List ℕ) (n : ℕ) (units : List ℕ) (m : ℕ) (predecessors
     }
 
     pub last-answer : (input : ℕ) → input ≡ unionIn m (below m) (λ v. getD heads′ v 0) → input < 2 ^ 64 → (list : List ℕ) (r : ℕ)
-        → Gathered (Grown (replicate {A = ℕ} 256 0) 0 (Wanted rules table counts heads′ (record { rules = 0; inputs = input; predecessors = below m }) (record { up = 0; dropped = below 64 ∖ input }))) list r
+        → Gathered
+        (Grown (replicate {A = ℕ} 256 0) 0 (Wanted rules table counts heads′ (record { rules = 0; inputs = input; predecessors = below m }) (record { up = 0; dropped = below 64 ∖ input }))) list r
         → UnitWorked (lastList (unitsOf rules n units m predecessors)) list r
     unfolding unitsOf withLast lastList
     last-answer input e fit list r g =
         let h : input ≡ heads (withLast (unitsOf rules n units m predecessors)) m = e ∙ input-of-last ∙ sym heads-of-last in
-        search-answer rules (withLast (unitsOf rules n units m predecessors)) refl (last-passes (unitsOf rules n units m predecessors) (s .clean) (s .passes))
+        search-answer rules (withLast (unitsOf rules n units m predecessors)) refl
+        (last-passes (unitsOf rules n units m predecessors) (s .clean) (s .passes))
         (last-free (unitsOf rules n units m predecessors) (given-free rules n units m predecessors)) refl (s .lent-words .rules-most)
-        m table counts heads′ (record { rules = 0; inputs = input; predecessors = below m }) (last-asked input e) (subst (λ (x : ℕ). x < 2 ^ 64) h fit) list r
+        m table counts heads′ (record { rules = 0; inputs = input; predecessors = below m }) (last-asked input e)
+        (subst (λ (x : ℕ). x < 2 ^ 64) h fit) list r
         (subst (λ (x : ℕ). Gathered (Grown (replicate {A = ℕ} 256 0) 0 (Wanted rules table counts heads′ (record { rules = 0; inputs = input; predecessors = below m }) (record { up = 0; dropped = below 64 ∖ x }))) list r) h g)
 
 -- ---- the answer

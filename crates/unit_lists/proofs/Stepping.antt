@@ -39,12 +39,14 @@ pub order-next : (S : Units) (left done : ℕ) → nextUnit S done < S .units
     → orderFrom S (suc left) done ≡ nextUnit S done ∷ orderFrom S left (done ∪ atom (nextUnit S done))
 unfolding orderFrom
 order-next S left done l =
-    ap (λ (b : Bool). elim b [ true ↦ nextUnit S done ∷ orderFrom S left (done ∪ atom (nextUnit S done)) | false ↦ [] ]) (lt-ltb (nextUnit S done) (S .units) l)
+    ap (λ (b : Bool). elim b [ true ↦ nextUnit S done ∷ orderFrom S left (done ∪ atom (nextUnit S done)) | false ↦ [] ])
+    (lt-ltb (nextUnit S done) (S .units) l)
 
 pub order-stop : (S : Units) (left done : ℕ) → S .units ≤ nextUnit S done → orderFrom S (suc left) done ≡ []
 unfolding orderFrom
 order-stop S left done l =
-    ap (λ (b : Bool). elim b [ true ↦ nextUnit S done ∷ orderFrom S left (done ∪ atom (nextUnit S done)) | false ↦ [] ]) (le-ltb (nextUnit S done) (S .units) l)
+    ap (λ (b : Bool). elim b [ true ↦ nextUnit S done ∷ orderFrom S left (done ∪ atom (nextUnit S done)) | false ↦ [] ])
+    (le-ltb (nextUnit S done) (S .units) l)
 
 pub order-end : (S : Units) (done : ℕ) → orderFrom S 0 done ≡ []
 unfolding orderFrom
@@ -193,7 +195,8 @@ module _ (rules : List ℕ) (n : ℕ) (units : List ℕ) (m : ℕ) (predecessors
   unfolding countsSoFar unitsOf
   joinable done table₀ table counts w p f = record {
     table-long = omega (arith, p .long, working-long (unitsOf rules n units m predecessors) (s .lent-words .units-most) done table₀ table counts p);
-    counts-long = omega (arith, ap length (p .counts-are), length-append (tally (λ i. length (listSoFar (unitsOf rules n units m predecessors) done i)) 16) (0 ∷ []), tally-long (λ i. length (listSoFar (unitsOf rules n units m predecessors) done i)) 16);
+    counts-long = omega
+        (arith, ap length (p .counts-are), length-append (tally (λ i. length (listSoFar (unitsOf rules n units m predecessors) done i)) 16) (0 ∷ []), tally-long (λ i. length (listSoFar (unitsOf rules n units m predecessors) done i)) 16);
     heads-long = s .heads-long;
     few = lt-of-has w 16 f;
     small = λ v l.
@@ -228,10 +231,12 @@ module _ (rules : List ℕ) (n : ℕ) (units : List ℕ) (m : ℕ) (predecessors
 
     -- what the search answers of the unit's list
     pub unit-answer : getD heads′ u 0 < 2 ^ 64 → (list : List ℕ) (r : ℕ)
-        → Gathered (Grown (replicate {A = ℕ} 256 0) 0 (Wanted rules table counts heads′ unit (record { up = 0; dropped = below 64 ∖ getD heads′ u 0 }))) list r
+        → Gathered
+        (Grown (replicate {A = ℕ} 256 0) 0 (Wanted rules table counts heads′ unit (record { up = 0; dropped = below 64 ∖ getD heads′ u 0 }))) list r
         → UnitWorked (unitList (unitsOf rules n units m predecessors) u) list r
     unfolding unitsOf
     unit-answer fit list r g =
-        search-answer rules (unitsOf rules n units m predecessors) refl (s .passes) (given-free rules n units m predecessors) refl (s .lent-words .rules-most)
+        search-answer rules (unitsOf rules n units m predecessors) refl (s .passes) (given-free rules n units m predecessors) refl
+        (s .lent-words .rules-most)
         u table counts heads′ unit unit-asked (subst (λ (h : ℕ). h < 2 ^ 64) (s .heads-are u l) fit) list r
         (subst (λ (h : ℕ). Gathered (Grown (replicate {A = ℕ} 256 0) 0 (Wanted rules table counts heads′ unit (record { up = 0; dropped = below 64 ∖ h }))) list r) (s .heads-are u l) g)

@@ -65,7 +65,8 @@ pub working-start : (S : Units) (table counts : List ℕ) → 4352 ≤ length ta
     → Working S 0 table table counts
 unfolding tableSoFar countsSoFar cleared
 working-start S table counts long c z = record {
-  table-is = c ∙ ap (λ (l : List ℕ). l ++ drop TABLE_WORDS table) zeros ∙ append-assoc (runs (λ i. padded (listSoFar S 0 i)) 16) (padded []) (drop TABLE_WORDS table);
+  table-is = c ∙ ap (λ (l : List ℕ). l ++ drop TABLE_WORDS table) zeros ∙ append-assoc (runs (λ i. padded (listSoFar S 0 i)) 16) (padded [])
+      (drop TABLE_WORDS table);
   counts-are = z ∙ counts-zero;
   long = long;
   done-units = λ v h. absurd (has-none h);
@@ -84,7 +85,8 @@ working-start S table counts long c z = record {
     counts-zero : replicate {A = ℕ} 17 0 ≡ tally (λ i. length (listSoFar S 0 i)) 16 ++ (0 ∷ [])
     counts-zero =
         sym (replicate-append-replicate {A = ℕ} 16 1 0)
-        ∙ ap (λ (l : List ℕ). l ++ (0 ∷ [])) (sym (tally-zero 16) ∙ tally-same (λ i. 0) (λ i. length (listSoFar S 0 i)) 16 (λ i l. sym (ap length (so-far-waiting S 0 i has-none))))
+        ∙ ap (λ (l : List ℕ). l ++ (0 ∷ []))
+        (sym (tally-zero 16) ∙ tally-same (λ i. 0) (λ i. length (listSoFar S 0 i)) 16 (λ i l. sym (ap length (so-far-waiting S 0 i has-none))))
 
 pub counts-long : (S : Units) (done : ℕ) (table₀ table counts : List ℕ) → Working S done table₀ table counts → length counts ≡ 17
 unfolding countsSoFar

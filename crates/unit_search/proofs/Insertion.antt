@@ -77,7 +77,8 @@ module _ (list₀ : List ℕ) (count value : ℕ) (fits : count ≤ length list�
     same-long = length-set list i carried ∙ p .same-long;
     rest-same = rest-next (set list i carried) (drop-set-lt (suc i) list i carried (omega arith));
     rest-work = ap (λ (n : ℕ). take n (set list i carried) ++ insertInto (getD list i 0) (drop (i + 1) (take count list₀))) (add-one i)
-        ∙ ap (λ (xs : List ℕ). xs ++ insertInto (getD list i 0) (drop (i + 1) (take count list₀))) (take-suc-set list i carried (omega (arith, p .same-long)))
+        ∙ ap (λ (xs : List ℕ). xs ++ insertInto (getD list i 0) (drop (i + 1) (take count list₀)))
+        (take-suc-set list i carried (omega (arith, p .same-long)))
         ∙ append-assoc (take i list) (carried ∷ []) (insertInto (getD list i 0) (drop (i + 1) (take count list₀)))
         ∙ ap (λ (xs : List ℕ). take i list ++ xs) (sym (insert-below carried (getD list i 0) (drop (i + 1) (take count list₀)) b))
         ∙ ap (λ (xs : List ℕ). take i list ++ insertInto carried xs) (sym (here l))
@@ -105,7 +106,8 @@ module _ (list₀ : List ℕ) (count value : ℕ) (fits : count ≤ length list�
     where
       work : take i list ++ drop i (take count list₀) ≡ insertInto value (take count list₀)
       work =
-          ap (λ (xs : List ℕ). take i list ++ xs) (here l ∙ sym (insert-same carried (getD list i 0) (drop (i + 1) (take count list₀)) e) ∙ ap (insertInto carried) (sym (here l)))
+          ap (λ (xs : List ℕ). take i list ++ xs)
+          (here l ∙ sym (insert-same carried (getD list i 0) (drop (i + 1) (take count list₀)) e) ∙ ap (insertInto carried) (sym (here l)))
           ∙ p .rest-work
 
       counted : count ≡ length (insertInto value (take count list₀))

@@ -33,11 +33,14 @@ refuse-requires c κs = search needs
 
 returns : tie.Need-returns
 returns c =
-    let at = c .before .before .before .before .args in
-    let handed : Handed (answer (now (at .plan)) (now (at .table))) (c .refuse .result) (now (c .before .before .before .before .args .table)) =
-    handed-refused (answer (now (at .plan)) (now (at .table))) (TableShort (length (now (at .table)))) (c .refuse .result) (now (at .table)) (now (at .table))
+    let c4 = c .before .before .before .before in
+    let at = c4 .args in
+    let handed : Handed (answer (now (at .plan)) (now (at .table))) (c .refuse .result) (now (c4 .args .table)) =
+    handed-refused (answer (now (at .plan)) (now (at .table))) (TableShort (length (now (at .table)))) (c .refuse .result) (now (at .table))
+    (now (at .table))
     (short-answer (now (at .plan)) (now (at .table)) (c .before .if1 .taken)) (c .refuse .ensures) refl in
-    promised (now (at .plan)) (now (at .table)) (all-bytes (now (at .plan)) (λ i. c .before .before .before .shared-slice-known .given i .fits)) (c .refuse .result) (now (c .before .before .before .before .args .table)) handed
+    promised (now (at .plan)) (now (at .table)) (all-bytes (now (at .plan)) (λ i. c .before .before .before .shared-slice-known .given i .fits))
+    (c .refuse .result) (now (c4 .args .table)) handed
 
 read-plan-requires : tie.Need-read-plan-requires
 read-plan-requires c κs = search needs
@@ -50,25 +53,34 @@ refuse-requires-2 c κs = search needs
 
 returns-2 : tie.Need-returns-2
 returns-2 c =
-    let at = c .before .before .before .before .before .before .before .before .args in
-    let handed : Handed (answer (now (at .plan)) (now (at .table))) (c .refuse2 .result) (now (c .before .before .before .before .before .before .before .before .args .table)) =
-    handed-refused (answer (now (at .plan)) (now (at .table))) (c .before .before .outcome .given .0 .0) (c .refuse2 .result) (now (at .table)) (now (at .table))
-    (refused-answer (now (at .plan)) (now (at .table)) (c .before .before .outcome .given .0 .0) (c .before .before .before .before .before .if1 .left)
-    (sym (ap (λ (r : Reading). r .outcome) (c .before .before .before .before .read-plan .ensures)) ∙ c .before .before .outcome .given .1)) (c .refuse2 .ensures) refl in
-    promised (now (at .plan)) (now (at .table)) (all-bytes (now (at .plan)) (λ i. c .before .before .before .before .before .before .before .shared-slice-known .given i .fits)) (c .refuse2 .result) (now (c .before .before .before .before .before .before .before .before .args .table)) handed
+    let c4 = c .before .before .before .before in
+    let c5 = c4 .before in
+    let c7 = c5 .before .before in
+    let c8 = c7 .before in
+    let at = c8 .args in
+    let handed : Handed (answer (now (at .plan)) (now (at .table))) (c .refuse2 .result) (now (c8 .args .table)) =
+    handed-refused (answer (now (at .plan)) (now (at .table))) (c .before .before .outcome .given .0 .0) (c .refuse2 .result) (now (at .table))
+    (now (at .table))
+    (refused-answer (now (at .plan)) (now (at .table)) (c .before .before .outcome .given .0 .0) (c5 .if1 .left)
+    (sym (ap (λ (r : Reading). r .outcome) (c4 .read-plan .ensures)) ∙ c .before .before .outcome .given .1)) (c .refuse2 .ensures) refl in
+    promised (now (at .plan)) (now (at .table)) (all-bytes (now (at .plan)) (λ i. c7 .shared-slice-known .given i .fits)) (c .refuse2 .result)
+    (now (c8 .args .table)) handed
 
 enum-told : tie.Need-enum-told
 enum-told c = search needs
 
 list-read-plan-requires : tie.Need-list-read-plan-requires
 list-read-plan-requires c κs =
-    let at = c .before .before .before .before .before .before .before .args in
+    let c4 = c .before .before .before .before in
+    let c6 = c4 .before .before in
+    let c7 = c6 .before in
+    let at = c7 .args in
     let e = c .before .before .before .read-plan .ensures in (
       subst (λ (r : Reading). Fitting (r .plan)) (sym e) (record-fits (now (at .plan))),
       subst (λ (r : Reading). Clean (planUnits (r .plan))) (sym e)
-          (plan-clean (now (at .plan)) (all-bytes (now (at .plan)) (λ i. c .before .before .before .before .before .before .shared-slice-known .given i .fits))
+          (plan-clean (now (at .plan)) (all-bytes (now (at .plan)) (λ i. c6 .shared-slice-known .given i .fits))
           (sym (ap (λ (r : Reading). r .outcome) e) ∙ c .before .enum-told .given .1)),
-      c .before .before .before .before .if1 .left,
+      c4 .if1 .left,
     )
 
 same-length : tie.Need-same-length
@@ -76,14 +88,21 @@ same-length c = search needs
 
 returns-3 : tie.Need-returns-3
 returns-3 c =
-    let at = c .before .before .before .before .before .before .before .before .before .before .args in
-    let e = c .before .before .before .before .before .before .read-plan .ensures in
-    let handed : Handed (answer (now (at .plan)) (now (at .table))) (c .before .before .list-read-plan .result) (c .before .before .list-read-plan .last .1 .0) =
+    let c4 = c .before .before .before .before in
+    let c6 = c4 .before .before in
+    let c7 = c6 .before in
+    let c9 = c7 .before .before in
+    let c10 = c9 .before in
+    let at = c10 .args in
+    let e = c6 .read-plan .ensures in
+    let handed : Handed (answer (now (at .plan)) (now (at .table))) (c .before .before .list-read-plan .result)
+    (c .before .before .list-read-plan .last .1 .0) =
     subst (λ (a : Answer). Handed a (c .before .before .list-read-plan .result) (c .before .before .list-read-plan .last .1 .0))
-    (sym (read-answer (now (at .plan)) (now (at .table)) (c .before .before .before .before .before .before .before .if1 .left) (sym (ap (λ (r : Reading). r .outcome) e) ∙ c .before .before .before .before .enum-told .given .1)))
+    (sym (read-answer (now (at .plan)) (now (at .table)) (c7 .if1 .left) (sym (ap (λ (r : Reading). r .outcome) e) ∙ c4 .enum-told .given .1)))
     (subst (λ (r : Reading). Handed (afterGraph (planUnits (r .plan)) (now (at .table)) (verdict (planUnits (r .plan)))) (c .before .before .list-read-plan .result) (c .before .before .list-read-plan .last .1 .0)) e
     (c .before .before .list-read-plan .ensures)) in
-    promised (now (at .plan)) (now (at .table)) (all-bytes (now (at .plan)) (λ i. c .before .before .before .before .before .before .before .before .before .shared-slice-known .given i .fits)) (c .before .before .list-read-plan .result) (c .before .before .list-read-plan .last .1 .0) handed
+    promised (now (at .plan)) (now (at .table)) (all-bytes (now (at .plan)) (λ i. c9 .shared-slice-known .given i .fits))
+    (c .before .before .list-read-plan .result) (c .before .before .list-read-plan .last .1 .0) handed
 
 pub list-positions-spec : {M : Type 1} → statement M
 list-positions-spec =

@@ -27,7 +27,11 @@ slice-aggregate-check-graph-3 c = search needs
 
 -- the words that the counts name are there
 graph-lent : (c : tie.After-predecessors2)
-    → GraphLent (c .before .before .before .before .before .before .before .args .plan .rules) (c .before .before .before .before .before .before .before .args .plan .«rule_count») (c .before .before .before .before .before .before .before .args .plan .units) (c .before .before .before .before .before .before .before .args .plan .«unit_count») (c .before .before .before .before .before .before .before .args .plan .predecessors)
+    → GraphLent (c .before .before .before .before .before .before .before .args .plan .rules)
+    (c .before .before .before .before .before .before .before .args .plan .«rule_count»)
+    (c .before .before .before .before .before .before .before .args .plan .units)
+    (c .before .before .before .before .before .before .before .args .plan .«unit_count»)
+    (c .before .before .before .before .before .before .before .args .plan .predecessors)
 graph-lent c =
     let p = c .before .before .before .before .before .before .before .args .plan in
     let f = c .before .before .before .before .before .before .before .pre .0 in
@@ -105,50 +109,68 @@ same-length c = search needs
 returns : tie.Need-returns
 unfolding planUnits afterGraph
 returns c =
-    let p = c .before .before .before .before .before .before .before .before .before .before .before .before .before .before .before .before .before .args .plan in
-    let table = now (c .before .before .before .before .before .before .before .before .before .before .before .before .before .before .before .before .before .args .table) in
+    let c7 = c .before .before .before .before .before .before .before in
+    let c9 = c7 .before .before in
+    let c17 = c9 .before .before .before .before .before .before .before .before in
+    let p = c17 .args .plan in
+    let table = now (c17 .args .table) in
     subst (λ (v : Verdict). Handed (afterGraph (planUnits p) table v) (c .before .before .work-plan .result) (c .before .before .work-plan .last .1 .1 .1 .1 .1 .0))
-    (sym (sym (c .before .before .before .before .before .before .before .before .before .check-graph .ensures) ∙ c .before .before .before .before .before .before .before .enum-told .given .1)) (c .before .before .work-plan .ensures)
+    (sym (sym (c9 .check-graph .ensures) ∙ c7 .enum-told .given .1)) (c .before .before .work-plan .ensures)
 
 returns-2 : tie.Need-returns-2
 unfolding planUnits afterGraph
 returns-2 c =
-    let p = c .before .before .before .before .before .before .before .before .before .before .before .before .args .plan in
-    let table = now (c .before .before .before .before .before .before .before .before .before .before .before .before .args .table) in
-    handed-refused (afterGraph (planUnits p) table (verdict (planUnits p))) (RuleInNoUnit (c .before .before .verdict .given .0 .0)) (c .refuse .result) table table
-    (ap (afterGraph (planUnits p) table) (sym (c .before .before .before .before .check-graph .ensures) ∙ c .before .before .verdict .given .1)) (c .refuse .ensures) refl
+    let c4 = c .before .before .before .before in
+    let c12 = c4 .before .before .before .before .before .before .before .before in
+    let p = c12 .args .plan in
+    let table = now (c12 .args .table) in
+    handed-refused (afterGraph (planUnits p) table (verdict (planUnits p))) (RuleInNoUnit (c .before .before .verdict .given .0 .0))
+    (c .refuse .result) table table
+    (ap (afterGraph (planUnits p) table) (sym (c4 .check-graph .ensures) ∙ c .before .before .verdict .given .1)) (c .refuse .ensures) refl
 
 returns-3 : tie.Need-returns-3
 unfolding planUnits afterGraph
 returns-3 c =
-    let p = c .before .before .before .before .before .before .before .before .before .before .before .before .args .plan in
-    let table = now (c .before .before .before .before .before .before .before .before .before .before .before .before .args .table) in
-    handed-refused (afterGraph (planUnits p) table (verdict (planUnits p))) (HeadedRuleInSeveral (c .before .before .verdict2 .given .0 .0)) (c .refuse2 .result) table table
-    (ap (afterGraph (planUnits p) table) (sym (c .before .before .before .before .check-graph .ensures) ∙ c .before .before .verdict2 .given .1)) (c .refuse2 .ensures) refl
+    let c4 = c .before .before .before .before in
+    let c12 = c4 .before .before .before .before .before .before .before .before in
+    let p = c12 .args .plan in
+    let table = now (c12 .args .table) in
+    handed-refused (afterGraph (planUnits p) table (verdict (planUnits p))) (HeadedRuleInSeveral (c .before .before .verdict2 .given .0 .0))
+    (c .refuse2 .result) table table
+    (ap (afterGraph (planUnits p) table) (sym (c4 .check-graph .ensures) ∙ c .before .before .verdict2 .given .1)) (c .refuse2 .ensures) refl
 
 returns-4 : tie.Need-returns-4
 unfolding planUnits afterGraph
 returns-4 c =
-    let p = c .before .before .before .before .before .before .before .before .before .before .before .before .args .plan in
-    let table = now (c .before .before .before .before .before .before .before .before .before .before .before .before .args .table) in
-    handed-refused (afterGraph (planUnits p) table (verdict (planUnits p))) (Cycle (c .before .before .verdict3 .given .0 .0)) (c .refuse3 .result) table table
-    (ap (afterGraph (planUnits p) table) (sym (c .before .before .before .before .check-graph .ensures) ∙ c .before .before .verdict3 .given .1)) (c .refuse3 .ensures) refl
+    let c4 = c .before .before .before .before in
+    let c12 = c4 .before .before .before .before .before .before .before .before in
+    let p = c12 .args .plan in
+    let table = now (c12 .args .table) in
+    handed-refused (afterGraph (planUnits p) table (verdict (planUnits p))) (Cycle (c .before .before .verdict3 .given .0 .0))
+    (c .refuse3 .result) table table
+    (ap (afterGraph (planUnits p) table) (sym (c4 .check-graph .ensures) ∙ c .before .before .verdict3 .given .1)) (c .refuse3 .ensures) refl
 
 returns-5 : tie.Need-returns-5
 unfolding planUnits afterGraph
 returns-5 c =
-    let p = c .before .before .before .before .before .before .before .before .before .before .before .before .args .plan in
-    let table = now (c .before .before .before .before .before .before .before .before .before .before .before .before .args .table) in
-    handed-refused (afterGraph (planUnits p) table (verdict (planUnits p))) (NonmonotonicUnseen (c .before .before .verdict4 .given .0 .0)) (c .refuse4 .result) table table
-    (ap (afterGraph (planUnits p) table) (sym (c .before .before .before .before .check-graph .ensures) ∙ c .before .before .verdict4 .given .1)) (c .refuse4 .ensures) refl
+    let c4 = c .before .before .before .before in
+    let c12 = c4 .before .before .before .before .before .before .before .before in
+    let p = c12 .args .plan in
+    let table = now (c12 .args .table) in
+    handed-refused (afterGraph (planUnits p) table (verdict (planUnits p))) (NonmonotonicUnseen (c .before .before .verdict4 .given .0 .0))
+    (c .refuse4 .result) table table
+    (ap (afterGraph (planUnits p) table) (sym (c4 .check-graph .ensures) ∙ c .before .before .verdict4 .given .1)) (c .refuse4 .ensures) refl
 
 returns-6 : tie.Need-returns-6
 unfolding planUnits afterGraph
 returns-6 c =
-    let p = c .before .before .before .before .before .before .before .before .before .before .before .before .args .plan in
-    let table = now (c .before .before .before .before .before .before .before .before .before .before .before .before .args .table) in
-    handed-refused (afterGraph (planUnits p) table (verdict (planUnits p))) (MonotonicUnseen (c .before .before .verdict5 .given .0 .0)) (c .refuse5 .result) table table
-    (ap (afterGraph (planUnits p) table) (sym (c .before .before .before .before .check-graph .ensures) ∙ c .before .before .verdict5 .given .1)) (c .refuse5 .ensures) refl
+    let c4 = c .before .before .before .before in
+    let c12 = c4 .before .before .before .before .before .before .before .before in
+    let p = c12 .args .plan in
+    let table = now (c12 .args .table) in
+    handed-refused (afterGraph (planUnits p) table (verdict (planUnits p))) (MonotonicUnseen (c .before .before .verdict5 .given .0 .0))
+    (c .refuse5 .result) table table
+    (ap (afterGraph (planUnits p) table) (sym (c4 .check-graph .ensures) ∙ c .before .before .verdict5 .given .1)) (c .refuse5 .ensures) refl
 
 pub list-read-plan-spec : {M : Type 1} → statement M
 list-read-plan-spec =

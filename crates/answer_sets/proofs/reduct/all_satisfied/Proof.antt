@@ -27,10 +27,12 @@ returns c =
 
 returns-2 : tie.Need-returns-2
 returns-2 c =
-    let at = c .before .before .before .before .args in
-    let found = subst (Unsatisfied (lent (now (at .rules))) (at .which) (at .position)) (c .enum-told2 .given .1) (c .before .before .find-unsatisfied .ensures) in
+    let c4 = c .before .before .before .before in
+    let at = c4 .args in
+    let found = subst (Unsatisfied (lent (now (at .rules))) (at .which) (at .position)) (c .enum-told2 .given .1)
+    (c .before .before .find-unsatisfied .ensures) in
     sym
-    (decided-false (decides-all-satisfied (lent (now (at .rules))) (at .which) (at .position) (c .before .before .before .before .fits .which .fits))
+    (decided-false (decides-all-satisfied (lent (now (at .rules))) (at .which) (at .position) (c4 .fits .which .fits))
     (λ all. found .1 (all .each _ (found .0))))
 
 pub all-satisfied-spec : {M : Type 1} → statement M

@@ -34,15 +34,19 @@ cut-requires-2 c κs = search needs
 
 returns-2 : tie.Need-returns-2
 returns-2 c =
-    let at = c .before .before .before .before .before .before .before .before .args in
-    let head = c .before .before .before .before .before .before .head in
+    let c4 = c .before .before .before .before in
+    let c5 = c4 .before in
+    let c6 = c5 .before in
+    let c8 = c6 .before .before in
+    let at = c8 .args in
+    let head = c6 .head in
     let positive = c .before .before .before .positive-body in
     let negative = c .before .before .negative-body in
     candidates-body (now (at .rules)) (at .rule) (at .free) (c .cut2 .result)
     (subst (λ (w : ℕ). w < 2 ^ 64) (head .ensures) (head .ok))
     (subst (λ (w : ℕ). w < 2 ^ 64) (positive .ensures) (positive .ok))
     (subst (λ (w : ℕ). w < 2 ^ 64) (negative .ensures) (negative .ok))
-    (ap (λ (w : ℕ). at .free ∩ w) (sym (head .ensures)) ∙ sym (c .before .before .before .before .before .cut .ensures) ∙ c .before .before .before .before .if1 .left)
+    (ap (λ (w : ℕ). at .free ∩ w) (sym (head .ensures)) ∙ sym (c5 .cut .ensures) ∙ c4 .if1 .left)
     (c .cut2 .ensures ∙ ap (λ (w : ℕ). at .free ∩ w) (c .before .union .ensures ∙ ap₂ _∪_ (positive .ensures) (negative .ensures)))
 
 pub candidates-spec : {M : Type 1} → statement M

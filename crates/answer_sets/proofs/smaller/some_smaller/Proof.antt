@@ -28,8 +28,9 @@ some-between-requires c κs =
 
 returns : tie.Need-returns
 returns c =
-    let at = c .before .before .before .before .args in
-    smaller-is-between (lent (now (at .rules))) (at .which) (at .facts) (at .position) (c .before .before .before .before .fits .which .fits)
+    let c4 = c .before .before .before .before in
+    let at = c4 .args in
+    smaller-is-between (lent (now (at .rules))) (at .which) (at .facts) (at .position) (c4 .fits .which .fits)
     (subst (λ (w : ℕ). Decides (Between (lent (now (at .rules))) (at .which) (at .position) (record { up = at .facts; dropped = w })) (c .some-between .result))
     (outside (c .before)) (c .some-between .ensures))
 

@@ -37,8 +37,10 @@ loop-less c = taken-less (c .before .before .before .before .before .before .low
 
 loop-again : tie.Need-loop-again Inv-loop μ-loop
 loop-again c =
-    let inv = c .before .before .before .before .before .before .before .before .loop .inv in
-    (taken-within (inv .0) (c .before .before .before .before .before .before .lowest .ensures .0) (c .drop .ensures), c .before .before .before .count-atoms .ensures ∙ inv .1)
+    let c6 = c .before .before .before .before .before .before in
+    let c8 = c6 .before .before in
+    let inv = c8 .loop .inv in
+    (taken-within (inv .0) (c6 .lowest .ensures .0) (c .drop .ensures), c .before .before .before .count-atoms .ensures ∙ inv .1)
 
 same-length : tie.Need-same-length Inv-loop μ-loop
 same-length c = c .before .loop .inv .1

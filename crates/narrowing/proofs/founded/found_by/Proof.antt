@@ -19,7 +19,8 @@ is-subset-requires c κs = search needs
 
 returns : tie.Need-returns
 returns c =
-    let at = c .before .before .before .before .args in
+    let c4 = c .before .before .before .before in
+    let at = c4 .args in
     let test = c .before .is-subset in
     closes-skip (now (at .rules)) (at .dropped) (at .rule) (at .found)
     (decides-subset (lent (now (at .rules)) .positive (at .rule)) (at .found) .no

@@ -14,12 +14,17 @@ use Rattle.narrowing.proofs.support.held_by.Tie as tie
 -- what is dropped: the negative atoms and the other head atoms
 down : (c : tie.After-union3)
     → c .before .before .before .union .result
-    ≡ negative (now (c .before .before .before .before .before .before .before .before .before .before .before .before .args .rules)) (c .before .before .before .before .before .before .before .before .before .before .before .before .args .rule)
+    ≡ negative (now (c .before .before .before .before .before .before .before .before .before .before .before .before .args .rules))
+    (c .before .before .before .before .before .before .before .before .before .before .before .before .args .rule)
     ∪ (lent (now (c .before .before .before .before .before .before .before .before .before .before .before .before .args .rules)) .head (c .before .before .before .before .before .before .before .before .before .before .before .before .args .rule) ∖ atom (c .before .before .before .before .before .before .lowest .result))
 down c =
+    let c4 = c .before .before .before .before in
+    let c5 = c4 .before in
+    let c6 = c5 .before in
+    let c7 = c6 .before in
     c .before .before .before .union .ensures
-    ∙ ap₂ _∪_ (c .before .before .before .before .negative-body .ensures)
-    (c .before .before .before .before .before .drop .ensures ∙ ap (λ (w : ℕ). w ∖ atom (c .before .before .before .before .before .before .lowest .result)) (c .before .before .before .before .before .before .before .head .ensures))
+    ∙ ap₂ _∪_ (c4 .negative-body .ensures)
+    (c5 .drop .ensures ∙ ap (λ (w : ℕ). w ∖ atom (c6 .lowest .result)) (c7 .head .ensures))
 
 supportable-requires : tie.Need-supportable-requires
 supportable-requires c κs = search needs
@@ -56,14 +61,18 @@ union-requires-3 c κs = search needs
 
 returns-2 : tie.Need-returns-2
 returns-2 c =
-    let at = c .before .before .before .before .before .before .before .before .before .before .before .before .args in
-    let word = c .before .before .before .before .before .before .before .before .before .before .supportable in
-    let low = c .before .before .before .before .before .before .lowest in
+    let c6 = c .before .before .before .before .before .before in
+    let c9 = c6 .before .before .before in
+    let c10 = c9 .before in
+    let c12 = c10 .before .before in
+    let at = c12 .args in
+    let word = c10 .supportable in
+    let low = c6 .lowest in
     subst₂ (λ (u d : ℕ). Narrows (HoldsSole (now (at .rules)) (at .rule) (at .s) (at .sole)) (at .t) (record { up = u; dropped = d }))
     (sym (c .before .union2 .ensures ∙ ap (λ (w : ℕ). at .t .up ∪ w) (c .before .before .positive-body .ensures)))
     (sym (c .union3 .ensures ∙ ap (λ (w : ℕ). at .t .dropped ∪ w) (down c)))
     (sole-narrows (now (at .rules)) (at .s) (at .rule) (at .sole) (word .result) (low .result) (at .t) (word .ensures)
-    (subst (λ (w : ℕ). Has w (low .result)) (c .before .before .before .before .before .before .before .before .before .cut .ensures) (low .ensures .0 .here)))
+    (subst (λ (w : ℕ). Has w (low .result)) (c9 .cut .ensures) (low .ensures .0 .here)))
 
 pub held-by-spec : {M : Type 1} → statement M
 held-by-spec =

@@ -12,15 +12,20 @@ use Rattle.narrowing.proofs.support.support_pass.Tie as tie
 
 -- what no rule may support is dropped
 unsupported : (c : tie.After-without2)
-    → Narrows (Settled (now (c .before .before .before .before .before .before .before .before .args .rules)) (c .before .before .before .before .before .before .before .before .args .which) (c .before .before .before .before .before .before .before .before .args .inputs)) (c .before .before .before .before .before .before .before .before .args .s)
+    → Narrows
+    (Settled (now (c .before .before .before .before .before .before .before .before .args .rules)) (c .before .before .before .before .before .before .before .before .args .which) (c .before .before .before .before .before .before .before .before .args .inputs)) (c .before .before .before .before .before .before .before .before .args .s)
     (record { up = c .before .before .before .before .before .before .before .before .args .s .up; dropped = c .before .before .union2 .result })
 unsupported c =
-    let at = c .before .before .before .before .before .before .before .before .args in
+    let c4 = c .before .before .before .before in
+    let c5 = c4 .before in
+    let c6 = c5 .before in
+    let c8 = c6 .before .before in
+    let at = c8 .args in
     subst (λ (w : ℕ). Narrows (Settled (now (at .rules)) (at .which) (at .inputs)) (at .s) (record { up = at .s .up; dropped = w }))
     (sym (c .before .before .union2 .ensures))
-    (unsupported-narrows (now (at .rules)) (at .s) (at .which) (at .inputs) (c .before .before .before .before .before .before .before .before .fits .which .fits) (c .before .before .before .before .before .before .tally-support .result)
-    (c .before .before .before .before .before .before .tally-support .ensures) (c .before .before .before .without .result)
-    (c .before .before .before .without .ensures ∙ ap₂ _∖_ (c .before .before .before .before .before .first .ensures) (c .before .before .before .before .union .ensures)))
+    (unsupported-narrows (now (at .rules)) (at .s) (at .which) (at .inputs) (c8 .fits .which .fits) (c6 .tally-support .result)
+    (c6 .tally-support .ensures) (c .before .before .before .without .result)
+    (c .before .before .before .without .ensures ∙ ap₂ _∖_ (c5 .first .ensures) (c4 .union .ensures)))
 
 tally-support-requires : tie.Need-tally-support-requires
 tally-support-requires c κs = search needs
@@ -51,9 +56,11 @@ held-by-all-requires c κs = search needs
 
 returns-2 : tie.Need-returns-2
 returns-2 c =
-    let at = c .before .before .before .before .before .before .before .before .before .before .args in
-    soles-narrow (now (at .rules)) (at .s) (at .which) (at .inputs) (c .before .before .before .before .before .before .before .before .before .before .fits .which .fits) (c .before .before .before .before .before .before .before .before .tally-support .result)
-    (c .before .before .before .before .before .before .before .before .tally-support .ensures) (c .before .before .without2 .result)
+    let c8 = c .before .before .before .before .before .before .before .before in
+    let c10 = c8 .before .before in
+    let at = c10 .args in
+    soles-narrow (now (at .rules)) (at .s) (at .which) (at .inputs) (c10 .fits .which .fits) (c8 .tally-support .result)
+    (c8 .tally-support .ensures) (c .before .before .without2 .result)
     (c .before .before .without2 .ensures ∙ ap (λ (w : ℕ). at .s .up ∖ w) (c .before .before .before .union3 .ensures))
     (unsupported (c .before .before)) (c .held-by-all .ensures)
 

@@ -14,19 +14,27 @@ use Rattle.narrowing.proofs.support.supportable.Tie as tie
 -- the words that the code computes, told from the rule's own
 left-is : (c : tie.After-without2)
     → c .without2 .result
-    ≡ lent (now (c .before .before .before .before .before .before .before .args .rules)) .head (c .before .before .before .before .before .before .before .args .rule)
+    ≡ lent (now (c .before .before .before .before .before .before .before .args .rules)) .head
+    (c .before .before .before .before .before .before .before .args .rule)
     ∖ (lent (now (c .before .before .before .before .before .before .before .args .rules)) .positive (c .before .before .before .before .before .before .before .args .rule) ∪ negative (now (c .before .before .before .before .before .before .before .args .rules)) (c .before .before .before .before .before .before .before .args .rule))
     ∖ c .before .before .before .before .before .before .before .args .s .dropped
 left-is c =
+    let c4 = c .before .before .before .before in
+    let c5 = c4 .before in
+    let c7 = c5 .before .before in
     c .without2 .ensures
-    ∙ ap (λ (w : ℕ). w ∖ c .before .before .before .before .before .before .before .args .s .dropped)
+    ∙ ap (λ (w : ℕ). w ∖ c7 .args .s .dropped)
     (c .before .without .ensures
-    ∙ ap₂ _∖_ (c .before .before .before .before .before .head .ensures)
-    (c .before .before .union .ensures ∙ ap₂ _∪_ (c .before .before .before .before .positive-body .ensures) (c .before .before .before .negative-body .ensures)))
+    ∙ ap₂ _∖_ (c5 .head .ensures)
+    (c .before .before .union .ensures ∙ ap₂ _∪_ (c4 .positive-body .ensures) (c .before .before .before .negative-body .ensures)))
 
 up-is : (c : tie.After-cut)
-    → c .cut .result ≡ lent (now (c .before .before .before .before .before .before .before .before .args .rules)) .head (c .before .before .before .before .before .before .before .before .args .rule) ∩ c .before .before .before .before .before .before .before .before .args .s .up
-up-is c = c .cut .ensures ∙ ap (λ (w : ℕ). w ∩ c .before .before .before .before .before .before .before .before .args .s .up) (c .before .before .before .before .before .before .head .ensures)
+    → c .cut .result ≡ lent (now (c .before .before .before .before .before .before .before .before .args .rules)) .head
+    (c .before .before .before .before .before .before .before .before .args .rule) ∩ c .before .before .before .before .before .before .before .before .args .s .up
+up-is c =
+    let c6 = c .before .before .before .before .before .before in
+    let c8 = c6 .before .before in
+    c .cut .ensures ∙ ap (λ (w : ℕ). w ∩ c8 .args .s .up) (c6 .head .ensures)
 
 head-requires : tie.Need-head-requires
 head-requires c κs = search needs
@@ -62,10 +70,13 @@ cut-requires-2 c κs = search needs
 
 returns-2 : tie.Need-returns-2
 returns-2 c =
-    let at = c .before .before .before .before .before .before .before .before .before .before .before .before .args in
-    let one = some-atom (c .before .before .before .before .cut .result) (c .before .before .before .if1 .left) in
+    let c4 = c .before .before .before .before in
+    let c5 = c4 .before in
+    let c12 = c5 .before .before .before .before .before .before .before in
+    let at = c12 .args in
+    let one = some-atom (c4 .cut .result) (c .before .before .before .if1 .left) in
     subst (Collects (MaySupport (now (at .rules)) (at .rule) (at .s))) (sym (c .cut2 .ensures))
-    (one-up (now (at .rules)) (at .rule) (at .s) _ _ (left-is (c .before .before .before .before .before)) (up-is (c .before .before .before .before)) (one .0) (one .1)
+    (one-up (now (at .rules)) (at .rule) (at .s) _ _ (left-is c5) (up-is c4) (one .0) (one .1)
     (c .before .before .at-most-one .ensures .yes (c .before .if2 .taken)))
 
 returns-3 : tie.Need-returns-3

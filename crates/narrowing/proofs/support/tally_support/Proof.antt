@@ -48,10 +48,14 @@ loop-less c = taken-less (c .before .before .before .before .before .lowest .ens
 
 loop-again : tie.Need-loop-again Inv-loop μ-loop
 loop-again c =
-    let at = c .before .before .before .before .before .before .before .before .before .args in
-    let old = c .before .before .before .before .before .before .before .loop in
-    let low = c .before .before .before .before .before .lowest in
-    let word = c .before .before .before .before .supportable in (
+    let c4 = c .before .before .before .before in
+    let c5 = c4 .before in
+    let c7 = c5 .before .before in
+    let c9 = c7 .before .before in
+    let at = c9 .args in
+    let old = c7 .loop in
+    let low = c5 .lowest in
+    let word = c4 .supportable in (
       taken-within (old .inv .0) (low .ensures .0) (c .drop .ensures),
       subst (λ (rest : ℕ). Tallied (now (at .rules)) (at .which ∖ rest) (at .s) (record { once = c .before .before .before .union .result; twice = c .before .union2 .result }))
           (sym (c .drop .ensures))

@@ -46,7 +46,8 @@ loop-again c =
     let loop = c .before .before .loop in (
       omega arith,
       length-set (loop .table) (at .base + loop .i) (getD (now (at .list)) (loop .i) 0) ∙ loop .inv .1,
-      stored-next (now (at .table)) (at .base) (now (at .list)) (loop .table) (loop .i) (c .before .before .before .pre) (c .before .loop-test .taken) (loop .inv .2),
+      stored-next (now (at .table)) (at .base) (now (at .list)) (loop .table) (loop .i) (c .before .before .before .pre)
+          (c .before .loop-test .taken) (loop .inv .2),
     )
 
 same-length : tie.Need-same-length Inv-loop μ-loop

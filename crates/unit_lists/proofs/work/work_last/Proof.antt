@@ -39,15 +39,20 @@ same-length-2 c = search needs
 
 returns : tie.Need-returns
 returns c =
-    let at = c .before .before .before .before .before .before .before .before .before .before .before .before .before .args in
-    let first = c .before .before .before .before .before .before .before .before .first in
-    let union = c .before .before .before .before .before .before .before .union-of in
+    let c4 = c .before .before .before .before in
+    let c7 = c4 .before .before .before in
+    let c8 = c7 .before in
+    let c13 = c8 .before .before .before .before .before in
+    let at = c13 .args in
+    let first = c8 .first in
+    let union = c7 .union-of in
     record {
       input = union .result;
       is = union .ensures ∙ ap (λ (w : ℕ). unionIn (at .unit-count) w (λ (v : ℕ). getD (now (at .heads)) v 0)) (first .ensures);
       fits = union .ok;
-      worked = subst (λ (w : ℕ). ListWorked (now (at .rules)) (now (at .heads)) (record { rules = 0; inputs = union .result; predecessors = w }) (union .result) 4096 16 (now (at .table)) (now (at .counts)) (c .before .before .before .before .work-list .last .1 .1 .1 .1 .1 .1 .0) (c .before .before .before .before .work-list .last .1 .1 .1 .1 .1 .1 .1 .0) (c .before .before .before .before .work-list .result))
-          (first .ensures) (c .before .before .before .before .work-list .ensures);
+      worked = subst
+          (λ (w : ℕ). ListWorked (now (at .rules)) (now (at .heads)) (record { rules = 0; inputs = union .result; predecessors = w }) (union .result) 4096 16 (now (at .table)) (now (at .counts)) (c4 .work-list .last .1 .1 .1 .1 .1 .1 .0) (c4 .work-list .last .1 .1 .1 .1 .1 .1 .1 .0) (c4 .work-list .result))
+          (first .ensures) (c4 .work-list .ensures);
     }
 
 pub work-last-spec : {M : Type 1} → statement M

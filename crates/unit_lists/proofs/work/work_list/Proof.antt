@@ -34,10 +34,13 @@ same-length-2 c = search needs
 
 returns : tie.Need-returns
 returns c =
-    let at = c .before .before .before .before .before .before .before .before .before .before .before .before .args in
+    let c6 = c .before .before .before .before .before .before in
+    let c7 = c6 .before in
+    let c12 = c7 .before .before .before .before .before in
+    let at = c12 .args in
     too-long (c .if1 .taken)
     (subst (λ (w : ℕ). Gathered (Grown (replicate {A = ℕ} 256 0) 0 (Wanted (now (at .rules)) (now (at .table)) (now (at .counts)) (now (at .heads)) (at .unit) (record { up = 0; dropped = w }))) (c .before .before .search .last .1 .1 .1 .1 .1 .0) (c .before .before .search .result))
-    (c .before .before .before .before .before .before .without .ensures ∙ ap (λ (w : ℕ). w ∖ at .within) (c .before .before .before .before .before .before .before .first .ensures)) (c .before .before .search .ensures))
+    (c6 .without .ensures ∙ ap (λ (w : ℕ). w ∖ at .within) (c7 .first .ensures)) (c .before .before .search .ensures))
     refl refl
 
 slice-aggregate-store : tie.Need-slice-aggregate-store
@@ -60,12 +63,17 @@ same-length-4 c = search needs
 
 returns-2 : tie.Need-returns-2
 returns-2 c =
-    let at = c .before .before .before .before .before .before .before .before .before .before .before .before .before .before .before .before .before .args in
-    let list = c .before .before .before .before .before .before .before .search .last .1 .1 .1 .1 .1 .0 in
-    let long : length list ≡ 256 = gathered-ordered (c .before .before .before .before .before .if1 .left) (c .before .before .before .before .before .before .before .search .ensures) .long in
-    fitted (c .before .before .before .before .before .if1 .left)
-    (subst (λ (w : ℕ). Gathered (Grown (replicate {A = ℕ} 256 0) 0 (Wanted (now (at .rules)) (now (at .table)) (now (at .counts)) (now (at .heads)) (at .unit) (record { up = 0; dropped = w }))) (c .before .before .before .before .before .before .before .search .last .1 .1 .1 .1 .1 .0) (c .before .before .before .before .before .before .before .search .result))
-    (c .before .before .before .before .before .before .before .before .before .before .before .without .ensures ∙ ap (λ (w : ℕ). w ∖ at .within) (c .before .before .before .before .before .before .before .before .before .before .before .before .first .ensures)) (c .before .before .before .before .before .before .before .search .ensures))
+    let c5 = c .before .before .before .before .before in
+    let c7 = c5 .before .before in
+    let c11 = c7 .before .before .before .before in
+    let c12 = c11 .before in
+    let c17 = c12 .before .before .before .before .before in
+    let at = c17 .args in
+    let list = c7 .search .last .1 .1 .1 .1 .1 .0 in
+    let long : length list ≡ 256 = gathered-ordered (c5 .if1 .left) (c7 .search .ensures) .long in
+    fitted (c5 .if1 .left)
+    (subst (λ (w : ℕ). Gathered (Grown (replicate {A = ℕ} 256 0) 0 (Wanted (now (at .rules)) (now (at .table)) (now (at .counts)) (now (at .heads)) (at .unit) (record { up = 0; dropped = w }))) (c7 .search .last .1 .1 .1 .1 .1 .0) (c7 .search .result))
+    (c11 .without .ensures ∙ ap (λ (w : ℕ). w ∖ at .within) (c12 .first .ensures)) (c7 .search .ensures))
     (c .before .before .store .ensures ∙ ap (paste (now (at .table)) (at .base) list) long) refl
 
 pub work-list-spec : {M : Type 1} → statement M

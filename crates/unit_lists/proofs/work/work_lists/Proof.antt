@@ -18,9 +18,12 @@ slice-aggregate-work-units c = search needs
 
 work-units-requires : tie.Need-work-units-requires
 work-units-requires c κs =
-    let at = c .before .before .before .before .before .before .before .before .before .before .before .before .args in (
-      c .before .before .before .before .before .before .before .before .before .before .before .before .pre .0,
-      cleared-start (unitsOf (now (at .rules)) (at .rule-count) (now (at .units)) (at .unit-count) (now (at .predecessors))) (now (at .table)) (c .before .before .before .before .clear .last .0) (replicate {A = ℕ} 17 0) (c .before .before .before .before .before .before .before .before .before .before .before .before .pre .1) (c .before .before .before .before .clear .kept .0) (c .before .before .before .before .clear .ensures) refl,
+    let c4 = c .before .before .before .before in
+    let c12 = c4 .before .before .before .before .before .before .before .before in
+    let at = c12 .args in (
+      c12 .pre .0,
+      cleared-start (unitsOf (now (at .rules)) (at .rule-count) (now (at .units)) (at .unit-count) (now (at .predecessors))) (now (at .table))
+          (c4 .clear .last .0) (replicate {A = ℕ} 17 0) (c12 .pre .1) (c4 .clear .kept .0) (c4 .clear .ensures) refl,
     )
 
 enum-known-worked : tie.Need-enum-known-worked
@@ -34,10 +37,17 @@ same-length c = search needs
 
 returns : tie.Need-returns
 returns c =
-    let at = c .before .before .before .before .before .before .before .before .before .before .before .before .before .before .before .before .before .before .before .before .before .before .before .args in
-    handed-long (now (at .rules)) (at .rule-count) (now (at .units)) (at .unit-count) (now (at .predecessors)) (now (at .heads)) (now (at .inputs)) (c .before .before .before .before .before .before .before .before .before .before .before .before .before .before .before .before .before .before .before .before .before .before .before .pre .0) (now (at .table)) (c .before .before .before .before .before .before .before .before .before .before .before .before .before .before .before .clear .last .0) (c .before .before .before .before .before .before .before .before .before .before .before .before .before .before .before .clear .ensures)
-    (c .before .before .before .before .before .before .before .before .before .before .work-units .last .1 .1 .1 .1 .1 .1 .1 .0) (c .before .before .before .before .before .before .before .before .before .before .work-units .last .1 .1 .1 .1 .1 .1 .1 .1 .0) (c .before .before .before .before .before .before .before .before .before .before .work-units .result) (c .before .before .before .before .before .before .before .before .before .before .work-units .ensures)
-    (c .before .before .before .before .before .worked .given .0 .0) (c .before .before .refuse-long .result) (c .before .before .refuse-long .last .1 .0) (c .before .before .before .before .before .worked .given .1) (c .before .before .refuse-long .ensures .0) (c .before .before .refuse-long .ensures .1)
+    let c5 = c .before .before .before .before .before in
+    let c10 = c5 .before .before .before .before .before in
+    let c15 = c10 .before .before .before .before .before in
+    let c23 = c15 .before .before .before .before .before .before .before .before in
+    let at = c23 .args in
+    handed-long (now (at .rules)) (at .rule-count) (now (at .units)) (at .unit-count) (now (at .predecessors)) (now (at .heads)) (now (at .inputs))
+    (c23 .pre .0) (now (at .table)) (c15 .clear .last .0) (c15 .clear .ensures)
+    (c10 .work-units .last .1 .1 .1 .1 .1 .1 .1 .0) (c10 .work-units .last .1 .1 .1 .1 .1 .1 .1 .1 .0) (c10 .work-units .result)
+    (c10 .work-units .ensures)
+    (c5 .worked .given .0 .0) (c .before .before .refuse-long .result) (c .before .before .refuse-long .last .1 .0) (c5 .worked .given .1)
+    (c .before .before .refuse-long .ensures .0) (c .before .before .refuse-long .ensures .1)
 
 enum-told : tie.Need-enum-told
 enum-told c = search needs
@@ -47,9 +57,14 @@ slice-aggregate-work-last c = search needs
 
 work-last-requires : tie.Need-work-last-requires
 work-last-requires c κs =
-    let at = c .before .before .before .before .before .before .before .before .before .before .before .before .before .before .before .before .before .before .before .before .args in
-    last-lent (now (at .rules)) (at .rule-count) (now (at .units)) (at .unit-count) (now (at .predecessors)) (now (at .heads)) (now (at .inputs)) (c .before .before .before .before .before .before .before .before .before .before .before .before .before .before .before .before .before .before .before .before .pre .0) (now (at .table)) (c .before .before .before .before .before .before .before .before .before .before .before .before .clear .last .0) (c .before .before .before .before .before .before .before .before .before .before .before .before .clear .ensures)
-    (c .before .before .before .before .before .before .before .work-units .last .1 .1 .1 .1 .1 .1 .1 .0) (c .before .before .before .before .before .before .before .work-units .last .1 .1 .1 .1 .1 .1 .1 .1 .0) (c .before .before .before .before .before .before .before .work-units .result) (c .before .before .before .before .before .before .before .work-units .ensures) (c .before .before .enum-told .given .1)
+    let c7 = c .before .before .before .before .before .before .before in
+    let c12 = c7 .before .before .before .before .before in
+    let c20 = c12 .before .before .before .before .before .before .before .before in
+    let at = c20 .args in
+    last-lent (now (at .rules)) (at .rule-count) (now (at .units)) (at .unit-count) (now (at .predecessors)) (now (at .heads)) (now (at .inputs))
+    (c20 .pre .0) (now (at .table)) (c12 .clear .last .0) (c12 .clear .ensures)
+    (c7 .work-units .last .1 .1 .1 .1 .1 .1 .1 .0) (c7 .work-units .last .1 .1 .1 .1 .1 .1 .1 .1 .0) (c7 .work-units .result)
+    (c7 .work-units .ensures) (c .before .before .enum-told .given .1)
 
 refuse-long-requires-2 : tie.Need-refuse-long-requires-2
 refuse-long-requires-2 c κs = search needs
@@ -59,22 +74,38 @@ same-length-2 c = search needs
 
 returns-2 : tie.Need-returns-2
 returns-2 c =
-    let at = c .before .before .before .before .before .before .before .before .before .before .before .before .before .before .before .before .before .before .before .before .before .before .before .before .before .before .before .before .before .args in
-    handed-last-long (now (at .rules)) (at .rule-count) (now (at .units)) (at .unit-count) (now (at .predecessors)) (now (at .heads)) (now (at .inputs)) (c .before .before .before .before .before .before .before .before .before .before .before .before .before .before .before .before .before .before .before .before .before .before .before .before .before .before .before .before .before .pre .0) (now (at .table)) (c .before .before .before .before .before .before .before .before .before .before .before .before .before .before .before .before .before .before .before .before .before .clear .last .0) (c .before .before .before .before .before .before .before .before .before .before .before .before .before .before .before .before .before .before .before .before .before .clear .ensures)
-    (c .before .before .before .before .before .before .before .before .before .before .before .before .before .before .before .before .work-units .last .1 .1 .1 .1 .1 .1 .1 .0) (c .before .before .before .before .before .before .before .before .before .before .before .before .before .before .before .before .work-units .last .1 .1 .1 .1 .1 .1 .1 .1 .0) (c .before .before .before .before .before .before .before .before .before .before .before .before .before .before .before .before .work-units .result) (c .before .before .before .before .before .before .before .before .before .before .before .before .before .before .before .before .work-units .ensures) (c .before .before .before .before .before .before .before .before .before .before .before .enum-told .given .1)
-    (c .before .before .before .before .before .before .before .before .work-last .last .1 .1 .1 .0) (c .before .before .before .before .before .before .before .before .work-last .last .1 .1 .1 .1 .0) (c .before .before .before .before .before .before .before .before .work-last .result) (c .before .before .before .before .before .before .before .before .work-last .ensures)
-    (c .before .before .refuse-long2 .result) (c .before .before .refuse-long2 .last .1 .0) (not-true (c .before .before .before .before .before .before .before .before .work-last .result) (c .before .before .before .before .if1 .taken)) (c .before .before .refuse-long2 .ensures .0) (c .before .before .refuse-long2 .ensures .1)
+    let c4 = c .before .before .before .before in
+    let c8 = c4 .before .before .before .before in
+    let c11 = c8 .before .before .before in
+    let c16 = c11 .before .before .before .before .before in
+    let c21 = c16 .before .before .before .before .before in
+    let c29 = c21 .before .before .before .before .before .before .before .before in
+    let at = c29 .args in
+    handed-last-long (now (at .rules)) (at .rule-count) (now (at .units)) (at .unit-count) (now (at .predecessors)) (now (at .heads))
+    (now (at .inputs)) (c29 .pre .0) (now (at .table)) (c21 .clear .last .0) (c21 .clear .ensures)
+    (c16 .work-units .last .1 .1 .1 .1 .1 .1 .1 .0) (c16 .work-units .last .1 .1 .1 .1 .1 .1 .1 .1 .0) (c16 .work-units .result)
+    (c16 .work-units .ensures) (c11 .enum-told .given .1)
+    (c8 .work-last .last .1 .1 .1 .0) (c8 .work-last .last .1 .1 .1 .1 .0) (c8 .work-last .result) (c8 .work-last .ensures)
+    (c .before .before .refuse-long2 .result) (c .before .before .refuse-long2 .last .1 .0) (not-true (c8 .work-last .result) (c4 .if1 .taken))
+    (c .before .before .refuse-long2 .ensures .0) (c .before .before .refuse-long2 .ensures .1)
 
 same-length-3 : tie.Need-same-length-3
 same-length-3 c = search needs
 
 returns-3 : tie.Need-returns-3
 returns-3 c =
-    let at = c .before .before .before .before .before .before .before .before .before .before .before .before .before .before .before .before .before .before .before .before .before .before .before .before .before .args in
-    handed-all (now (at .rules)) (at .rule-count) (now (at .units)) (at .unit-count) (now (at .predecessors)) (now (at .heads)) (now (at .inputs)) (c .before .before .before .before .before .before .before .before .before .before .before .before .before .before .before .before .before .before .before .before .before .before .before .before .before .pre .0) (now (at .table)) (c .before .before .before .before .before .before .before .before .before .before .before .before .before .before .before .before .before .clear .last .0) (c .before .before .before .before .before .before .before .before .before .before .before .before .before .before .before .before .before .clear .ensures)
-    (c .before .before .before .before .before .before .before .before .before .before .before .before .work-units .last .1 .1 .1 .1 .1 .1 .1 .0) (c .before .before .before .before .before .before .before .before .before .before .before .before .work-units .last .1 .1 .1 .1 .1 .1 .1 .1 .0) (c .before .before .before .before .before .before .before .before .before .before .before .before .work-units .result) (c .before .before .before .before .before .before .before .before .before .before .before .before .work-units .ensures) (c .before .before .before .before .before .before .before .enum-told .given .1)
-    (c .before .before .before .before .work-last .last .1 .1 .1 .0) (c .before .before .before .before .work-last .last .1 .1 .1 .1 .0) (c .before .before .before .before .work-last .result) (c .before .before .before .before .work-last .ensures)
-    (not-false (c .before .before .before .before .work-last .result) (c .if1 .left))
+    let c4 = c .before .before .before .before in
+    let c7 = c4 .before .before .before in
+    let c12 = c7 .before .before .before .before .before in
+    let c17 = c12 .before .before .before .before .before in
+    let c25 = c17 .before .before .before .before .before .before .before .before in
+    let at = c25 .args in
+    handed-all (now (at .rules)) (at .rule-count) (now (at .units)) (at .unit-count) (now (at .predecessors)) (now (at .heads)) (now (at .inputs))
+    (c25 .pre .0) (now (at .table)) (c17 .clear .last .0) (c17 .clear .ensures)
+    (c12 .work-units .last .1 .1 .1 .1 .1 .1 .1 .0) (c12 .work-units .last .1 .1 .1 .1 .1 .1 .1 .1 .0) (c12 .work-units .result)
+    (c12 .work-units .ensures) (c7 .enum-told .given .1)
+    (c4 .work-last .last .1 .1 .1 .0) (c4 .work-last .last .1 .1 .1 .1 .0) (c4 .work-last .result) (c4 .work-last .ensures)
+    (not-false (c4 .work-last .result) (c .if1 .left))
 
 pub work-lists-spec : {M : Type 1} → statement M
 work-lists-spec =

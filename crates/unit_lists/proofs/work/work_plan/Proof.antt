@@ -25,10 +25,14 @@ slice-aggregate-work-lists-2 c = search needs
 
 work-lists-requires : tie.Need-work-lists-requires
 work-lists-requires c κs =
-    let at = c .before .before .before .before .before .before .before .before .before .before .before .before .args in
-    let filled = c .before .before .before .before .before .fill-head-atoms in (
-      setting-filled (now (at .rules)) (at .rule-count) (now (at .units)) (at .unit-count) (now (at .predecessors)) (now (at .table)) (c .before .before .before .before .before .before .before .before .before .before .before .before .pre) (replicate {A = ℕ} 16 0) (replicate {A = ℕ} 16 0) (filled .last .1 .1 .1 .1 .1 .0) (filled .last .1 .1 .1 .1 .1 .1 .0) refl refl (filled .ensures .0) (filled .ensures .1),
-      c .before .before .before .before .before .before .before .before .before .before .before .before .pre .long,
+    let c5 = c .before .before .before .before .before in
+    let c12 = c5 .before .before .before .before .before .before .before in
+    let at = c12 .args in
+    let filled = c5 .fill-head-atoms in (
+      setting-filled (now (at .rules)) (at .rule-count) (now (at .units)) (at .unit-count) (now (at .predecessors)) (now (at .table)) (c12 .pre)
+          (replicate {A = ℕ} 16 0) (replicate {A = ℕ} 16 0) (filled .last .1 .1 .1 .1 .1 .0) (filled .last .1 .1 .1 .1 .1 .1 .0) refl refl
+          (filled .ensures .0) (filled .ensures .1),
+      c12 .pre .long,
     )
 
 same-length : tie.Need-same-length

@@ -30,10 +30,13 @@ abbrev μ-loop : tie.MeasureT-loop
 
 -- the unit that is worked next
 next-is : (c : tie.After-next-unit Inv-loop μ-loop)
-    → c .next-unit .result ≡ nextUnit (unitsOf (now (c .before .before .before .before .before .before .before .before .before .before .args .rules)) (c .before .before .before .before .before .before .before .before .before .before .args .rule-count) (now (c .before .before .before .before .before .before .before .before .before .before .args .units)) (c .before .before .before .before .before .before .before .before .before .before .args .unit-count) (now (c .before .before .before .before .before .before .before .before .before .before .args .predecessors))) (c .before .before .loop .done)
+    → c .next-unit .result ≡ nextUnit
+    (unitsOf (now (c .before .before .before .before .before .before .before .before .before .before .args .rules)) (c .before .before .before .before .before .before .before .before .before .before .args .rule-count) (now (c .before .before .before .before .before .before .before .before .before .before .args .units)) (c .before .before .before .before .before .before .before .before .before .before .args .unit-count) (now (c .before .before .before .before .before .before .before .before .before .before .args .predecessors))) (c .before .before .loop .done)
 next-is c =
-    let at = c .before .before .before .before .before .before .before .before .before .before .args in
-    c .next-unit .ensures ∙ next-edges (now (at .rules)) (at .rule-count) (now (at .units)) (at .unit-count) (now (at .predecessors)) (c .before .before .loop .done)
+    let c10 = c .before .before .before .before .before .before .before .before .before .before in
+    let at = c10 .args in
+    c .next-unit .ensures ∙ next-edges (now (at .rules)) (at .rule-count) (now (at .units)) (at .unit-count) (now (at .predecessors))
+    (c .before .before .loop .done)
 
 next-small : (c : tie.Else1 Inv-loop μ-loop) → c .before .next-unit .result < c .before .before .before .before .before .before .before .before .before .before .before .args .unit-count
 next-small c = omega arith
@@ -43,38 +46,52 @@ ready : (c : tie.Else1 Inv-loop μ-loop)
     → Ready (unitsOf (now (c .before .before .before .before .before .before .before .before .before .before .before .args .rules)) (c .before .before .before .before .before .before .before .before .before .before .before .args .rule-count) (now (c .before .before .before .before .before .before .before .before .before .before .before .args .units)) (c .before .before .before .before .before .before .before .before .before .before .before .args .unit-count) (now (c .before .before .before .before .before .before .before .before .before .before .before .args .predecessors))) (c .before .before .before .loop .done) (c .before .next-unit .result)
 unfolding unitsOf
 ready c =
-    let at = c .before .before .before .before .before .before .before .before .before .before .before .args in
+    let c11 = c .before .before .before .before .before .before .before .before .before .before .before in
+    let at = c11 .args in
     let l = c .before .before .before .loop in
-    next-ready-at (unitsOf (now (at .rules)) (at .rule-count) (now (at .units)) (at .unit-count) (now (at .predecessors))) (c .before .before .before .before .before .before .before .before .before .before .before .pre .0 .passes) (now (at .table)) (l .table) (l .counts) (l .done) (l .left) (l .inv) (c .before .before .loop-test .taken)
+    next-ready-at (unitsOf (now (at .rules)) (at .rule-count) (now (at .units)) (at .unit-count) (now (at .predecessors))) (c11 .pre .0 .passes)
+    (now (at .table)) (l .table) (l .counts) (l .done) (l .left) (l .inv) (c .before .before .loop-test .taken)
     (c .before .next-unit .result) (next-is (c .before)) (next-small c)
 
 loop-holds : tie.Need-loop-holds Inv-loop μ-loop
 unfolding unitsOf
 loop-holds c =
-    let at = c .before .before .before .before .before .before .before .args in
-    looping-start (unitsOf (now (at .rules)) (at .rule-count) (now (at .units)) (at .unit-count) (now (at .predecessors))) (c .before .before .before .before .before .before .before .pre .0 .passes) (now (at .table)) (now (at .table)) (now (at .counts)) (c .before .before .before .before .before .before .before .pre .1)
+    let c7 = c .before .before .before .before .before .before .before in
+    let at = c7 .args in
+    looping-start (unitsOf (now (at .rules)) (at .rule-count) (now (at .units)) (at .unit-count) (now (at .predecessors))) (c7 .pre .0 .passes)
+    (now (at .table)) (now (at .table)) (now (at .counts)) (c7 .pre .1)
 
 next-unit-requires : tie.Need-next-unit-requires Inv-loop μ-loop
-next-unit-requires c κs = (c .before .before .before .before .before .before .before .before .before .pre .0 .lent-words .units-most, c .before .before .before .before .before .before .before .before .before .pre .0 .lent-words .predecessors-there)
+next-unit-requires c κs =
+    let c9 = c .before .before .before .before .before .before .before .before .before in
+    (c9 .pre .0 .lent-words .units-most, c9 .pre .0 .lent-words .predecessors-there)
 
 same-length : tie.Need-same-length Inv-loop μ-loop
 unfolding unitsOf
 same-length c =
-    let at = c .before .before .before .before .before .before .before .before .before .before .before .args in
-    working-long (unitsOf (now (at .rules)) (at .rule-count) (now (at .units)) (at .unit-count) (now (at .predecessors))) (c .before .before .before .before .before .before .before .before .before .before .before .pre .0 .lent-words .units-most) (c .before .before .before .loop .done) (now (at .table)) (c .before .before .before .loop .table) (c .before .before .before .loop .counts) (c .before .before .before .loop .inv .working)
+    let c11 = c .before .before .before .before .before .before .before .before .before .before .before in
+    let at = c11 .args in
+    working-long (unitsOf (now (at .rules)) (at .rule-count) (now (at .units)) (at .unit-count) (now (at .predecessors)))
+    (c11 .pre .0 .lent-words .units-most) (c .before .before .before .loop .done) (now (at .table)) (c .before .before .before .loop .table)
+    (c .before .before .before .loop .counts) (c .before .before .before .loop .inv .working)
 
 same-length-2 : tie.Need-same-length-2 Inv-loop μ-loop
 same-length-2 c =
-    let at = c .before .before .before .before .before .before .before .before .before .before .before .args in
-    counts-long (unitsOf (now (at .rules)) (at .rule-count) (now (at .units)) (at .unit-count) (now (at .predecessors))) (c .before .before .before .loop .done) (now (at .table)) (c .before .before .before .loop .table) (c .before .before .before .loop .counts) (c .before .before .before .loop .inv .working)
-    ∙ sym (counts-long (unitsOf (now (at .rules)) (at .rule-count) (now (at .units)) (at .unit-count) (now (at .predecessors))) 0 (now (at .table)) (now (at .table)) (now (at .counts)) (c .before .before .before .before .before .before .before .before .before .before .before .pre .1))
+    let c11 = c .before .before .before .before .before .before .before .before .before .before .before in
+    let at = c11 .args in
+    counts-long (unitsOf (now (at .rules)) (at .rule-count) (now (at .units)) (at .unit-count) (now (at .predecessors)))
+    (c .before .before .before .loop .done) (now (at .table)) (c .before .before .before .loop .table) (c .before .before .before .loop .counts)
+    (c .before .before .before .loop .inv .working)
+    ∙ sym (counts-long (unitsOf (now (at .rules)) (at .rule-count) (now (at .units)) (at .unit-count) (now (at .predecessors))) 0 (now (at .table)) (now (at .table)) (now (at .counts)) (c11 .pre .1))
 
 returns : tie.Need-returns Inv-loop μ-loop
 unfolding unitsOf
 returns c =
-    let at = c .before .before .before .before .before .before .before .before .before .before .before .args in
+    let c11 = c .before .before .before .before .before .before .before .before .before .before .before in
+    let at = c11 .args in
     let l = c .before .before .before .loop in
-    let stop = looping-stop (unitsOf (now (at .rules)) (at .rule-count) (now (at .units)) (at .unit-count) (now (at .predecessors))) (c .before .before .before .before .before .before .before .before .before .before .before .pre .0 .passes) (now (at .table)) (l .table) (l .counts) (l .done) (l .left) (l .inv) (c .before .before .loop-test .taken)
+    let stop = looping-stop (unitsOf (now (at .rules)) (at .rule-count) (now (at .units)) (at .unit-count) (now (at .predecessors)))
+    (c11 .pre .0 .passes) (now (at .table)) (l .table) (l .counts) (l .done) (l .left) (l .inv) (c .before .before .loop-test .taken)
     (subst (λ (k : ℕ). at .unit-count ≤ k) (next-is (c .before)) (c .if1 .taken)) in
     all-fit (stop .0) (stop .1) (l .inv .working)
 
@@ -88,75 +105,119 @@ unit-at-requires c κs =
     )
 
 mul-work-list : tie.Need-mul-work-list Inv-loop μ-loop
-mul-work-list c = omega (arith, next-small (c .before), c .before .before .before .before .before .before .before .before .before .before .before .before .pre .0 .lent-words)
+mul-work-list c =
+    let c12 = c .before .before .before .before .before .before .before .before .before .before .before .before in
+    omega (arith, next-small (c .before), c12 .pre .0 .lent-words)
 
 shared-slice-read-work-list : tie.Need-shared-slice-read-work-list Inv-loop μ-loop
-shared-slice-read-work-list c = omega (arith, next-small (c .before .before), c .before .before .before .before .before .before .before .before .before .before .before .before .before .pre .0 .lent-words, c .before .before .before .before .before .before .before .before .before .before .before .before .before .pre .0 .heads-long)
+shared-slice-read-work-list c =
+    let c13 = c .before .before .before .before .before .before .before .before .before .before .before .before .before in
+    omega (arith, next-small (c .before .before), c13 .pre .0 .lent-words, c13 .pre .0 .heads-long)
 
 mul-work-list-2 : tie.Need-mul-work-list-2 Inv-loop μ-loop
-mul-work-list-2 c = omega (arith, next-small (c .before .before), c .before .before .before .before .before .before .before .before .before .before .before .before .before .pre .0 .lent-words)
+mul-work-list-2 c =
+    let c13 = c .before .before .before .before .before .before .before .before .before .before .before .before .before in
+    omega (arith, next-small (c .before .before), c13 .pre .0 .lent-words)
 
 work-list-requires : tie.Need-work-list-requires Inv-loop μ-loop
 unfolding unitsOf
 work-list-requires c κs =
-    let at = c .before .before .before .before .before .before .before .before .before .before .before .before .before .before .before .args in
-    let l = c .before .before .before .before .before .before .before .loop in
-    let u = c .before .before .before .before .before .next-unit .result in
-    let small = next-small (c .before .before .before .before) in
-    let long = working-long (unitsOf (now (at .rules)) (at .rule-count) (now (at .units)) (at .unit-count) (now (at .predecessors))) (c .before .before .before .before .before .before .before .before .before .before .before .before .before .before .before .pre .0 .lent-words .units-most) (l .done) (now (at .table)) (l .table) (l .counts) (l .inv .working) in
-    let many = counts-long (unitsOf (now (at .rules)) (at .rule-count) (now (at .units)) (at .unit-count) (now (at .predecessors))) (l .done) (now (at .table)) (l .table) (l .counts) (l .inv .working) in (
+    let c4 = c .before .before .before .before in
+    let c5 = c4 .before in
+    let c7 = c5 .before .before in
+    let c15 = c7 .before .before .before .before .before .before .before .before in
+    let at = c15 .args in
+    let l = c7 .loop in
+    let u = c5 .next-unit .result in
+    let small = next-small c4 in
+    let long = working-long (unitsOf (now (at .rules)) (at .rule-count) (now (at .units)) (at .unit-count) (now (at .predecessors)))
+    (c15 .pre .0 .lent-words .units-most) (l .done) (now (at .table)) (l .table) (l .counts) (l .inv .working) in
+    let many = counts-long (unitsOf (now (at .rules)) (at .rule-count) (now (at .units)) (at .unit-count) (now (at .predecessors))) (l .done)
+    (now (at .table)) (l .table) (l .counts) (l .inv .working) in (
       subst (Searchable (now (at .rules)) (l .table) (l .counts) (now (at .heads))) (sym (c .before .before .before .unit-at .ensures)) (record {
-        rules-lent = rules-lent (now (at .rules)) (at .rule-count) (now (at .units)) (at .unit-count) (now (at .predecessors)) (now (at .heads)) (now (at .inputs)) (c .before .before .before .before .before .before .before .before .before .before .before .before .before .before .before .pre .0) (getD (now (at .units)) u 0);
-        joinable = joinable (now (at .rules)) (at .rule-count) (now (at .units)) (at .unit-count) (now (at .predecessors)) (now (at .heads)) (now (at .inputs)) (c .before .before .before .before .before .before .before .before .before .before .before .before .before .before .before .pre .0) (l .done) (now (at .table)) (l .table) (l .counts) (getD (now (at .predecessors)) u 0) (l .inv .working)
-            (λ v h. named-few (now (at .rules)) (at .rule-count) (now (at .units)) (at .unit-count) (now (at .predecessors)) (now (at .heads)) (now (at .inputs)) (c .before .before .before .before .before .before .before .before .before .before .before .before .before .before .before .pre .0) u v small h);
+        rules-lent = rules-lent (now (at .rules)) (at .rule-count) (now (at .units)) (at .unit-count) (now (at .predecessors)) (now (at .heads))
+            (now (at .inputs)) (c15 .pre .0) (getD (now (at .units)) u 0);
+        joinable = joinable (now (at .rules)) (at .rule-count) (now (at .units)) (at .unit-count) (now (at .predecessors)) (now (at .heads))
+            (now (at .inputs)) (c15 .pre .0) (l .done) (now (at .table)) (l .table) (l .counts) (getD (now (at .predecessors)) u 0) (l .inv .working)
+            (λ v h. named-few (now (at .rules)) (at .rule-count) (now (at .units)) (at .unit-count) (now (at .predecessors)) (now (at .heads)) (now (at .inputs)) (c15 .pre .0) u v small h);
       }),
-      omega (arith, long, l .inv .working .long, small, c .before .before .before .before .before .before .before .before .before .before .before .before .before .before .before .pre .0 .lent-words .units-most),
-      omega (arith, many, small, c .before .before .before .before .before .before .before .before .before .before .before .before .before .before .before .pre .0 .lent-words .units-most),
+      omega (arith, long, l .inv .working .long, small, c15 .pre .0 .lent-words .units-most),
+      omega (arith, many, small, c15 .pre .0 .lent-words .units-most),
     )
 
 -- what the unit's list has come to
 worked : (c : tie.After-work-list Inv-loop μ-loop)
-    → UnitDone (unitList (unitsOf (now (c .before .before .before .before .before .before .before .before .before .before .before .before .before .before .before .before .args .rules)) (c .before .before .before .before .before .before .before .before .before .before .before .before .before .before .before .before .args .rule-count) (now (c .before .before .before .before .before .before .before .before .before .before .before .before .before .before .before .before .args .units)) (c .before .before .before .before .before .before .before .before .before .before .before .before .before .before .before .before .args .unit-count) (now (c .before .before .before .before .before .before .before .before .before .before .before .before .before .before .before .before .args .predecessors))) (c .before .before .before .before .before .before .next-unit .result))
-    (256 * c .before .before .before .before .before .before .next-unit .result) (c .before .before .before .before .before .before .next-unit .result) (c .before .before .before .before .before .before .before .before .loop .table) (c .before .before .before .before .before .before .before .before .loop .counts) (c .work-list .last .1 .1 .1 .1 .1 .1 .0) (c .work-list .last .1 .1 .1 .1 .1 .1 .1 .0) (c .work-list .result)
+    → UnitDone
+    (unitList (unitsOf (now (c .before .before .before .before .before .before .before .before .before .before .before .before .before .before .before .before .args .rules)) (c .before .before .before .before .before .before .before .before .before .before .before .before .before .before .before .before .args .rule-count) (now (c .before .before .before .before .before .before .before .before .before .before .before .before .before .before .before .before .args .units)) (c .before .before .before .before .before .before .before .before .before .before .before .before .before .before .before .before .args .unit-count) (now (c .before .before .before .before .before .before .before .before .before .before .before .before .before .before .before .before .args .predecessors))) (c .before .before .before .before .before .before .next-unit .result))
+    (256 * c .before .before .before .before .before .before .next-unit .result)
+    (c .before .before .before .before .before .before .next-unit .result)
+    (c .before .before .before .before .before .before .before .before .loop .table)
+    (c .before .before .before .before .before .before .before .before .loop .counts) (c .work-list .last .1 .1 .1 .1 .1 .1 .0)
+    (c .work-list .last .1 .1 .1 .1 .1 .1 .1 .0) (c .work-list .result)
 unfolding unitsOf
 worked c =
-    let at = c .before .before .before .before .before .before .before .before .before .before .before .before .before .before .before .before .args in
-    let l = c .before .before .before .before .before .before .before .before .loop in
-    let u = c .before .before .before .before .before .before .next-unit .result in
-    let unit = c .before .before .before .before .unit-at .result in
-    let e = c .before .before .before .before .unit-at .ensures in
-    unit-done (unitList (unitsOf (now (at .rules)) (at .rule-count) (now (at .units)) (at .unit-count) (now (at .predecessors))) u) (now (at .rules)) (now (at .heads)) unit (getD (now (at .heads)) u 0) (256 * u) u (l .table) (l .counts) (c .work-list .last .1 .1 .1 .1 .1 .1 .0) (c .work-list .last .1 .1 .1 .1 .1 .1 .1 .0) (c .work-list .result)
-    (unit-answer (now (at .rules)) (at .rule-count) (now (at .units)) (at .unit-count) (now (at .predecessors)) (now (at .heads)) (now (at .inputs)) (c .before .before .before .before .before .before .before .before .before .before .before .before .before .before .before .before .pre .0) (l .done) (now (at .table)) (l .table) (l .counts) (l .inv .working) u (next-small (c .before .before .before .before .before)) (ready (c .before .before .before .before .before)) unit
-    (ap (λ (x : Unit). x .rules) e) (ap (λ (x : Unit). x .inputs) e) (ap (λ (x : Unit). x .predecessors) e) (c .before .before .before .shared-slice-known6 .given u .fits))
+    let c4 = c .before .before .before .before in
+    let c5 = c4 .before in
+    let c6 = c5 .before in
+    let c8 = c6 .before .before in
+    let c16 = c8 .before .before .before .before .before .before .before .before in
+    let at = c16 .args in
+    let l = c8 .loop in
+    let u = c6 .next-unit .result in
+    let unit = c4 .unit-at .result in
+    let e = c4 .unit-at .ensures in
+    unit-done (unitList (unitsOf (now (at .rules)) (at .rule-count) (now (at .units)) (at .unit-count) (now (at .predecessors))) u)
+    (now (at .rules)) (now (at .heads)) unit (getD (now (at .heads)) u 0) (256 * u) u (l .table) (l .counts)
+    (c .work-list .last .1 .1 .1 .1 .1 .1 .0) (c .work-list .last .1 .1 .1 .1 .1 .1 .1 .0) (c .work-list .result)
+    (unit-answer (now (at .rules)) (at .rule-count) (now (at .units)) (at .unit-count) (now (at .predecessors)) (now (at .heads)) (now (at .inputs)) (c16 .pre .0) (l .done) (now (at .table)) (l .table) (l .counts) (l .inv .working) u (next-small c5) (ready c5) unit
+    (ap (λ (x : Unit). x .rules) e) (ap (λ (x : Unit). x .inputs) e) (ap (λ (x : Unit). x .predecessors) e)
+    (c .before .before .before .shared-slice-known6 .given u .fits))
     (c .work-list .ensures)
 
 same-length-3 : tie.Need-same-length-3 Inv-loop μ-loop
 unfolding unitsOf
 same-length-3 c =
-    let at = c .before .before .before .before .before .before .before .before .before .before .before .before .before .before .before .before .before .before .before .before .before .args in
-    c .before .before .before .before .before .work-list .kept .1 .1 .1 .1 .1 .1 .0
-    ∙ working-long (unitsOf (now (at .rules)) (at .rule-count) (now (at .units)) (at .unit-count) (now (at .predecessors))) (c .before .before .before .before .before .before .before .before .before .before .before .before .before .before .before .before .before .before .before .before .before .pre .0 .lent-words .units-most) (c .before .before .before .before .before .before .before .before .before .before .before .before .before .loop .done) (now (at .table)) (c .before .before .before .before .before .before .before .before .before .before .before .before .before .loop .table) (c .before .before .before .before .before .before .before .before .before .before .before .before .before .loop .counts) (c .before .before .before .before .before .before .before .before .before .before .before .before .before .loop .inv .working)
+    let c5 = c .before .before .before .before .before in
+    let c13 = c5 .before .before .before .before .before .before .before .before in
+    let c21 = c13 .before .before .before .before .before .before .before .before in
+    let at = c21 .args in
+    c5 .work-list .kept .1 .1 .1 .1 .1 .1 .0
+    ∙ working-long (unitsOf (now (at .rules)) (at .rule-count) (now (at .units)) (at .unit-count) (now (at .predecessors)))
+    (c21 .pre .0 .lent-words .units-most) (c13 .loop .done) (now (at .table)) (c13 .loop .table) (c13 .loop .counts) (c13 .loop .inv .working)
 
 same-length-4 : tie.Need-same-length-4 Inv-loop μ-loop
 same-length-4 c =
-    let at = c .before .before .before .before .before .before .before .before .before .before .before .before .before .before .before .before .before .before .before .before .before .args in
-    c .before .before .before .before .before .work-list .kept .1 .1 .1 .1 .1 .1 .1 .0
-    ∙ counts-long (unitsOf (now (at .rules)) (at .rule-count) (now (at .units)) (at .unit-count) (now (at .predecessors))) (c .before .before .before .before .before .before .before .before .before .before .before .before .before .loop .done) (now (at .table)) (c .before .before .before .before .before .before .before .before .before .before .before .before .before .loop .table) (c .before .before .before .before .before .before .before .before .before .before .before .before .before .loop .counts) (c .before .before .before .before .before .before .before .before .before .before .before .before .before .loop .inv .working)
-    ∙ sym (counts-long (unitsOf (now (at .rules)) (at .rule-count) (now (at .units)) (at .unit-count) (now (at .predecessors))) 0 (now (at .table)) (now (at .table)) (now (at .counts)) (c .before .before .before .before .before .before .before .before .before .before .before .before .before .before .before .before .before .before .before .before .before .pre .1))
+    let c5 = c .before .before .before .before .before in
+    let c13 = c5 .before .before .before .before .before .before .before .before in
+    let c21 = c13 .before .before .before .before .before .before .before .before in
+    let at = c21 .args in
+    c5 .work-list .kept .1 .1 .1 .1 .1 .1 .1 .0
+    ∙ counts-long (unitsOf (now (at .rules)) (at .rule-count) (now (at .units)) (at .unit-count) (now (at .predecessors))) (c13 .loop .done)
+    (now (at .table)) (c13 .loop .table) (c13 .loop .counts) (c13 .loop .inv .working)
+    ∙ sym (counts-long (unitsOf (now (at .rules)) (at .rule-count) (now (at .units)) (at .unit-count) (now (at .predecessors))) 0 (now (at .table)) (now (at .table)) (now (at .counts)) (c21 .pre .1))
 
 returns-2 : tie.Need-returns-2 Inv-loop μ-loop
 unfolding unitsOf
 returns-2 c =
-    let at = c .before .before .before .before .before .before .before .before .before .before .before .before .before .before .before .before .before .before .before .before .before .args in
-    let l = c .before .before .before .before .before .before .before .before .before .before .before .before .before .loop in
-    let u = c .before .before .before .before .before .before .before .before .before .before .before .next-unit .result in
-    let w = done-long (worked (c .before .before .before .before .before)) (not-true (c .before .before .before .before .before .work-list .result) (c .if2 .taken)) in
+    let c5 = c .before .before .before .before .before in
+    let c10 = c5 .before .before .before .before .before in
+    let c11 = c10 .before in
+    let c12 = c11 .before in
+    let c13 = c12 .before in
+    let c21 = c13 .before .before .before .before .before .before .before .before in
+    let at = c21 .args in
+    let l = c13 .loop in
+    let u = c11 .next-unit .result in
+    let w = done-long (worked c5) (not-true (c5 .work-list .result) (c .if2 .taken)) in
     one-long
-    (next-long-at (unitsOf (now (at .rules)) (at .rule-count) (now (at .units)) (at .unit-count) (now (at .predecessors))) (c .before .before .before .before .before .before .before .before .before .before .before .before .before .before .before .before .before .before .before .before .before .pre .0 .passes) (now (at .table)) (l .table) (l .counts) (l .done) (l .left) (l .inv) (c .before .before .before .before .before .before .before .before .before .before .before .before .loop-test .taken) u (next-is (c .before .before .before .before .before .before .before .before .before .before .before)) (next-small (c .before .before .before .before .before .before .before .before .before .before)) (w .0))
+    (next-long-at (unitsOf (now (at .rules)) (at .rule-count) (now (at .units)) (at .unit-count) (now (at .predecessors))) (c21 .pre .0 .passes) (now (at .table)) (l .table) (l .counts) (l .done) (l .left) (l .inv) (c12 .loop-test .taken) u (next-is c11) (next-small c10) (w .0))
     (subst₂ (Working (unitsOf (now (at .rules)) (at .rule-count) (now (at .units)) (at .unit-count) (now (at .predecessors))) (l .done) (now (at .table))) (sym (w .1)) (sym (w .2)) (l .inv .working))
 
 single-requires : tie.Need-single-requires Inv-loop μ-loop
-single-requires c κs = omega (arith, next-small (c .before .before .before .before .before .before .before .before .before .before), c .before .before .before .before .before .before .before .before .before .before .before .before .before .before .before .before .before .before .before .before .before .pre .0 .lent-words)
+single-requires c κs =
+    let c10 = c .before .before .before .before .before .before .before .before .before .before in
+    let c21 = c10 .before .before .before .before .before .before .before .before .before .before .before in
+    omega (arith, next-small c10, c21 .pre .0 .lent-words)
 
 union-requires : tie.Need-union-requires Inv-loop μ-loop
 union-requires c κs = search needs
@@ -170,35 +231,48 @@ loop-less c = omega arith
 loop-again : tie.Need-loop-again Inv-loop μ-loop
 unfolding unitsOf
 loop-again c =
-    let at = c .before .before .before .before .before .before .before .before .before .before .before .before .before .before .before .before .before .before .before .before .before .before .before .args in
-    let l = c .before .before .before .before .before .before .before .before .before .before .before .before .before .before .before .loop in
-    let u = c .before .before .before .before .before .before .before .before .before .before .before .before .before .next-unit .result in
-    let w = done-fits (worked (c .before .before .before .before .before .before .before)) (not-false (c .before .before .before .before .before .before .before .work-list .result) (c .before .before .if2 .left)) in
-    let small = next-small (c .before .before .before .before .before .before .before .before .before .before .before .before) in
-    subst (λ (d : ℕ). Looping (unitsOf (now (at .rules)) (at .rule-count) (now (at .units)) (at .unit-count) (now (at .predecessors))) (now (at .table)) (c .before .before .before .before .before .before .before .work-list .last .1 .1 .1 .1 .1 .1 .0) (c .before .before .before .before .before .before .before .work-list .last .1 .1 .1 .1 .1 .1 .1 .0) d (l .left - 1))
+    let c7 = c .before .before .before .before .before .before .before in
+    let c12 = c7 .before .before .before .before .before in
+    let c13 = c12 .before in
+    let c14 = c13 .before in
+    let c15 = c14 .before in
+    let c23 = c15 .before .before .before .before .before .before .before .before in
+    let at = c23 .args in
+    let l = c15 .loop in
+    let u = c13 .next-unit .result in
+    let w = done-fits (worked c7) (not-false (c7 .work-list .result) (c .before .before .if2 .left)) in
+    let small = next-small c12 in
+    subst (λ (d : ℕ). Looping (unitsOf (now (at .rules)) (at .rule-count) (now (at .units)) (at .unit-count) (now (at .predecessors))) (now (at .table)) (c7 .work-list .last .1 .1 .1 .1 .1 .1 .0) (c7 .work-list .last .1 .1 .1 .1 .1 .1 .1 .0) d (l .left - 1))
     (sym (c .union .ensures ∙ ap (λ (w : ℕ). l .done ∪ w) (c .before .single .ensures)))
-    (next-done-at (unitsOf (now (at .rules)) (at .rule-count) (now (at .units)) (at .unit-count) (now (at .predecessors))) (c .before .before .before .before .before .before .before .before .before .before .before .before .before .before .before .before .before .before .before .before .before .before .before .pre .0 .passes) (now (at .table)) (l .table) (l .counts) (l .done) (l .left) (l .inv) (c .before .before .before .before .before .before .before .before .before .before .before .before .before .before .loop-test .taken) u (next-is (c .before .before .before .before .before .before .before .before .before .before .before .before .before))
-    (c .before .before .before .before .before .before .before .work-list .last .1 .1 .1 .1 .1 .1 .0) (c .before .before .before .before .before .before .before .work-list .last .1 .1 .1 .1 .1 .1 .1 .0) small (w .0)
-    (working-next (unitsOf (now (at .rules)) (at .rule-count) (now (at .units)) (at .unit-count) (now (at .predecessors))) (c .before .before .before .before .before .before .before .before .before .before .before .before .before .before .before .before .before .before .before .before .before .before .before .pre .0 .lent-words .units-most) (l .done) (now (at .table)) (l .table) (l .counts) (l .inv .working) u (c .before .before .before .before .before .before .before .work-list .last .1 .1 .1 .1 .1 .1 .0) (c .before .before .before .before .before .before .before .work-list .last .1 .1 .1 .1 .1 .1 .1 .0) small (w .0) (w .1) (w .2)))
+    (next-done-at (unitsOf (now (at .rules)) (at .rule-count) (now (at .units)) (at .unit-count) (now (at .predecessors))) (c23 .pre .0 .passes) (now (at .table)) (l .table) (l .counts) (l .done) (l .left) (l .inv) (c14 .loop-test .taken) u (next-is c13)
+    (c7 .work-list .last .1 .1 .1 .1 .1 .1 .0) (c7 .work-list .last .1 .1 .1 .1 .1 .1 .1 .0) small (w .0)
+    (working-next (unitsOf (now (at .rules)) (at .rule-count) (now (at .units)) (at .unit-count) (now (at .predecessors))) (c23 .pre .0 .lent-words .units-most) (l .done) (now (at .table)) (l .table) (l .counts) (l .inv .working) u (c7 .work-list .last .1 .1 .1 .1 .1 .1 .0) (c7 .work-list .last .1 .1 .1 .1 .1 .1 .1 .0) small (w .0) (w .1) (w .2)))
 
 same-length-5 : tie.Need-same-length-5 Inv-loop μ-loop
 unfolding unitsOf
 same-length-5 c =
-    let at = c .before .before .before .before .before .before .before .before .before .args in
-    working-long (unitsOf (now (at .rules)) (at .rule-count) (now (at .units)) (at .unit-count) (now (at .predecessors))) (c .before .before .before .before .before .before .before .before .before .pre .0 .lent-words .units-most) (c .before .loop .done) (now (at .table)) (c .before .loop .table) (c .before .loop .counts) (c .before .loop .inv .working)
+    let c9 = c .before .before .before .before .before .before .before .before .before in
+    let at = c9 .args in
+    working-long (unitsOf (now (at .rules)) (at .rule-count) (now (at .units)) (at .unit-count) (now (at .predecessors)))
+    (c9 .pre .0 .lent-words .units-most) (c .before .loop .done) (now (at .table)) (c .before .loop .table) (c .before .loop .counts)
+    (c .before .loop .inv .working)
 
 same-length-6 : tie.Need-same-length-6 Inv-loop μ-loop
 same-length-6 c =
-    let at = c .before .before .before .before .before .before .before .before .before .args in
-    counts-long (unitsOf (now (at .rules)) (at .rule-count) (now (at .units)) (at .unit-count) (now (at .predecessors))) (c .before .loop .done) (now (at .table)) (c .before .loop .table) (c .before .loop .counts) (c .before .loop .inv .working)
-    ∙ sym (counts-long (unitsOf (now (at .rules)) (at .rule-count) (now (at .units)) (at .unit-count) (now (at .predecessors))) 0 (now (at .table)) (now (at .table)) (now (at .counts)) (c .before .before .before .before .before .before .before .before .before .pre .1))
+    let c9 = c .before .before .before .before .before .before .before .before .before in
+    let at = c9 .args in
+    counts-long (unitsOf (now (at .rules)) (at .rule-count) (now (at .units)) (at .unit-count) (now (at .predecessors))) (c .before .loop .done)
+    (now (at .table)) (c .before .loop .table) (c .before .loop .counts) (c .before .loop .inv .working)
+    ∙ sym (counts-long (unitsOf (now (at .rules)) (at .rule-count) (now (at .units)) (at .unit-count) (now (at .predecessors))) 0 (now (at .table)) (now (at .table)) (now (at .counts)) (c9 .pre .1))
 
 returns-3 : tie.Need-returns-3 Inv-loop μ-loop
 unfolding unitsOf
 returns-3 c =
-    let at = c .before .before .before .before .before .before .before .before .before .args in
+    let c9 = c .before .before .before .before .before .before .before .before .before in
+    let at = c9 .args in
     let l = c .before .loop in
-    let stop = looping-end (unitsOf (now (at .rules)) (at .rule-count) (now (at .units)) (at .unit-count) (now (at .predecessors))) (c .before .before .before .before .before .before .before .before .before .pre .0 .passes) (now (at .table)) (l .table) (l .counts) (l .done) (l .left) (l .inv) (omega arith) in
+    let stop = looping-end (unitsOf (now (at .rules)) (at .rule-count) (now (at .units)) (at .unit-count) (now (at .predecessors)))
+    (c9 .pre .0 .passes) (now (at .table)) (l .table) (l .counts) (l .done) (l .left) (l .inv) (omega arith) in
     all-fit (stop .0) (stop .1) (l .inv .working)
 
 pub work-units-spec : {M : Type 1} → statement M

@@ -41,7 +41,8 @@ loop-less c = omega arith
 
 loop-again : tie.Need-loop-again Inv-loop μ-loop
 loop-again c =
-    let at = c .before .before .before .before .before .before .args in
+    let c6 = c .before .before .before .before .before .before in
+    let at = c6 .args in
     let loop = c .before .before .before .loop in
     (omega arith, spans-next (now (at .words)) (at .base) (loop .i) (at .up) (at .dropped) (loop .found) (c .take-in .result) (loop .inv .1) (c .take-in .ensures))
 

@@ -45,10 +45,14 @@ mul-join-one-3 : tie.Need-mul-join-one-3 Inv-loop μ-loop
 mul-join-one-3 c = omega (arith, inside (c .before))
 
 shared-slice-read-join-one-2 : tie.Need-shared-slice-read-join-one-2 Inv-loop μ-loop
-shared-slice-read-join-one-2 c = omega (arith, inside (c .before .before), c .before .before .before .before .before .before .before .before .before .pre)
+shared-slice-read-join-one-2 c =
+    let c9 = c .before .before .before .before .before .before .before .before .before in
+    omega (arith, inside (c .before .before), c9 .pre)
 
 join-one-requires : tie.Need-join-one-requires Inv-loop μ-loop
-join-one-requires c κs = omega (arith, inside (c .before .before), c .before .before .before .before .before .before .before .before .before .pre, c .before .before .before .before .before .before .before .before .before .pre .small (c .before .before .lowest .result) (inside (c .before .before)))
+join-one-requires c κs =
+    let c9 = c .before .before .before .before .before .before .before .before .before in
+    omega (arith, inside (c .before .before), c9 .pre, c9 .pre .small (c .before .before .lowest .result) (inside (c .before .before)))
 
 drop-requires : tie.Need-drop-requires Inv-loop μ-loop
 drop-requires c κs = c .before .before .before .lowest .ensures .1
@@ -58,14 +62,17 @@ loop-less c = taken-less (c .before .before .before .before .lowest .ensures .0)
 
 loop-again : tie.Need-loop-again Inv-loop μ-loop
 loop-again c =
-    let at = c .before .before .before .before .before .before .before .before .before .before .before .args in
-    let low = c .before .before .before .before .lowest in
-    let inv = c .before .before .before .before .before .before .loop .inv in (
+    let c4 = c .before .before .before .before in
+    let c6 = c4 .before .before in
+    let c11 = c6 .before .before .before .before .before in
+    let at = c11 .args in
+    let low = c4 .lowest in
+    let inv = c6 .loop .inv in (
       taken-within (inv .0) (low .ensures .0) (c .drop .ensures),
       narrows-trans (inv .1)
           (narrows-for
           (λ M j.
-          joins-one (now (at .table)) (now (at .counts)) (now (at .heads)) (at .predecessors) M (low .result) (inside (c .before .before .before .before))
+          joins-one (now (at .table)) (now (at .counts)) (now (at .heads)) (at .predecessors) M (low .result) (inside c4)
           (inv .0 .each (low .result) (low .ensures .0 .here)) j)
           (c .before .join-one .ensures)),
     )

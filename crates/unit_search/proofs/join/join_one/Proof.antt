@@ -12,10 +12,13 @@ use Rattle.unit_search.proofs.join.join_one.Statement.{statement}
 use Rattle.unit_search.proofs.join.join_one.Tie as tie
 
 spanned : (c : tie.After-agreeing-entries)
-    → SpansAll (now (c .before .before .before .args .words)) (c .before .before .before .args .base) (c .before .before .before .args .count) (c .before .before .before .args .s .up ∩ c .before .before .before .args .heads) (c .before .before .before .args .s .dropped) (c .agreeing-entries .result)
+    → SpansAll (now (c .before .before .before .args .words)) (c .before .before .before .args .base) (c .before .before .before .args .count)
+    (c .before .before .before .args .s .up ∩ c .before .before .before .args .heads) (c .before .before .before .args .s .dropped)
+    (c .agreeing-entries .result)
 spanned c =
     let at = c .before .before .before .args in
-    subst (λ (w : ℕ). SpansAll (now (at .words)) (at .base) (at .count) w (at .s .dropped) (c .agreeing-entries .result)) (c .before .cut .ensures) (c .agreeing-entries .ensures)
+    subst (λ (w : ℕ). SpansAll (now (at .words)) (at .base) (at .count) w (at .s .dropped) (c .agreeing-entries .result)) (c .before .cut .ensures)
+    (c .agreeing-entries .ensures)
 
 cut-requires : tie.Need-cut-requires
 cut-requires c κs = search needs

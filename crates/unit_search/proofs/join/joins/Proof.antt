@@ -53,12 +53,16 @@ cut-requires : tie.Need-cut-requires Inv-loop μ-loop
 cut-requires c κs = search needs
 
 contains-requires : tie.Need-contains-requires Inv-loop μ-loop
-contains-requires c κs = omega (arith, inside (c .before .before .before), c .before .before .before .before .before .before .before .before .before .pre, c .before .before .before .before .before .before .before .before .before .pre .small (c .before .before .before .lowest .result) (inside (c .before .before .before)))
+contains-requires c κs =
+    let c9 = c .before .before .before .before .before .before .before .before .before in
+    omega (arith, inside (c .before .before .before), c9 .pre, c9 .pre .small (c .before .before .before .lowest .result) (inside (c .before .before .before)))
 
 -- the answer is the definition's test
 listed : (c : tie.After-contains Inv-loop μ-loop)
     → c .contains .result
-    ≡ isListed (now (c .before .before .before .before .before .before .before .before .before .before .args .table)) (256 * c .before .before .before .before .lowest .result) (getD (now (c .before .before .before .before .before .before .before .before .before .before .args .counts)) (c .before .before .before .before .lowest .result) 0) (c .before .before .before .before .before .before .before .before .before .before .args .position ∩ getD (now (c .before .before .before .before .before .before .before .before .before .before .args .heads)) (c .before .before .before .before .lowest .result) 0)
+    ≡ isListed (now (c .before .before .before .before .before .before .before .before .before .before .args .table))
+    (256 * c .before .before .before .before .lowest .result)
+    (getD (now (c .before .before .before .before .before .before .before .before .before .before .args .counts)) (c .before .before .before .before .lowest .result) 0) (c .before .before .before .before .before .before .before .before .before .before .args .position ∩ getD (now (c .before .before .before .before .before .before .before .before .before .before .args .heads)) (c .before .before .before .before .lowest .result) 0)
 listed c =
     let at = c .before .before .before .before .before .before .before .before .before .before .args in
     let v = c .before .before .before .before .lowest .result in
@@ -66,12 +70,15 @@ listed c =
 
 returns : tie.Need-returns Inv-loop μ-loop
 returns c =
-    let at = c .before .before .before .before .before .before .before .before .before .before .before .args in
-    let low = c .before .before .before .before .before .lowest in
-    let rest = c .before .before .before .before .before .before .before .loop .rest in
+    let c5 = c .before .before .before .before .before in
+    let c7 = c5 .before .before in
+    let c11 = c7 .before .before .before .before in
+    let at = c11 .args in
+    let low = c5 .lowest in
+    let rest = c7 .loop .rest in
     sym
-    (c .before .before .before .before .before .before .before .loop .inv .1
-    ∙ joins-take (now (at .table)) (now (at .counts)) (now (at .heads)) rest (at .position) (low .result) (inside (c .before .before .before .before .before)) (low .ensures .0 .here)
+    (c7 .loop .inv .1
+    ∙ joins-take (now (at .table)) (now (at .counts)) (now (at .heads)) rest (at .position) (low .result) (inside c5) (low .ensures .0 .here)
     ∙ ap (λ (b : Bool). b && joins (now (at .table)) (now (at .counts)) (now (at .heads)) (rest ∖ atom (low .result)) (at .position))
     (sym (listed (c .before)) ∙ not-true (c .before .contains .result) (c .if1 .taken)))
 
@@ -83,13 +90,16 @@ loop-less c = taken-less (c .before .before .before .before .before .before .low
 
 loop-again : tie.Need-loop-again Inv-loop μ-loop
 loop-again c =
-    let at = c .before .before .before .before .before .before .before .before .before .before .before .before .args in
-    let low = c .before .before .before .before .before .before .lowest in
-    let rest = c .before .before .before .before .before .before .before .before .loop .rest in
-    let inv = c .before .before .before .before .before .before .before .before .loop .inv in (
+    let c6 = c .before .before .before .before .before .before in
+    let c8 = c6 .before .before in
+    let c12 = c8 .before .before .before .before in
+    let at = c12 .args in
+    let low = c6 .lowest in
+    let rest = c8 .loop .rest in
+    let inv = c8 .loop .inv in (
       taken-within (inv .0) (low .ensures .0) (c .drop .ensures),
       inv .1
-          ∙ joins-take (now (at .table)) (now (at .counts)) (now (at .heads)) rest (at .position) (low .result) (inside (c .before .before .before .before .before .before)) (low .ensures .0 .here)
+          ∙ joins-take (now (at .table)) (now (at .counts)) (now (at .heads)) rest (at .position) (low .result) (inside c6) (low .ensures .0 .here)
           ∙ ap (λ (b : Bool). b && joins (now (at .table)) (now (at .counts)) (now (at .heads)) (rest ∖ atom (low .result)) (at .position))
           (sym (listed (c .before .before)) ∙ not-false (c .before .before .contains .result) (c .before .if1 .left))
           ∙ ap (λ (w : ℕ). joins (now (at .table)) (now (at .counts)) (now (at .heads)) w (at .position)) (sym (c .drop .ensures)),

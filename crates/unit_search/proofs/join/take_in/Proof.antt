@@ -14,15 +14,18 @@ is-subset-requires c κs = search needs
 returns : tie.Need-returns
 returns c =
     let at = c .before .before .args in
-    passes-up (at .found) (at .up) (at .dropped) (at .entry) (sym (c .before .is-subset .ensures) ∙ not-true (c .before .is-subset .result) (c .if1 .taken))
+    passes-up (at .found) (at .up) (at .dropped) (at .entry)
+    (sym (c .before .is-subset .ensures) ∙ not-true (c .before .is-subset .result) (c .if1 .taken))
 
 are-apart-requires : tie.Need-are-apart-requires
 are-apart-requires c κs = search needs
 
 returns-2 : tie.Need-returns-2
 returns-2 c =
-    let at = c .before .before .before .before .args in
-    passes-dropped (at .found) (at .up) (at .dropped) (at .entry) (sym (c .before .are-apart .ensures) ∙ not-true (c .before .are-apart .result) (c .if2 .taken))
+    let c4 = c .before .before .before .before in
+    let at = c4 .args in
+    passes-dropped (at .found) (at .up) (at .dropped) (at .entry)
+    (sym (c .before .are-apart .ensures) ∙ not-true (c .before .are-apart .result) (c .if2 .taken))
 
 cut-requires : tie.Need-cut-requires
 cut-requires c κs = search needs

@@ -58,13 +58,17 @@ loop-less c = omega arith
 
 loop-again : tie.Need-loop-again Inv-loop μ-loop
 loop-again c =
+    let c4 = c .before .before .before .before in
+    let c5 = c4 .before in
     ⊎-elim
     (λ w.
-    subst₂ (λ (list : List ℕ) (carried : ℕ). Passing (now (c .before .before .before .before .before .args .list)) (c .before .before .before .before .before .args .count) (c .before .before .before .before .before .args .value) list carried (c .before .before .before .before .loop .i + 1)) (sym (w .1)) (sym (w .2))
-    (pass-below (now (c .before .before .before .before .before .args .list)) (c .before .before .before .before .before .args .count) (c .before .before .before .before .before .args .value) (omega arith) (c .before .before .before .before .loop .list) (c .before .before .before .before .loop .carried) (c .before .before .before .before .loop .i) (c .before .before .before .before .loop .inv) (c .before .before .before .loop-test .taken) (w .0 .taken)))
+    subst₂ (λ (list : List ℕ) (carried : ℕ). Passing (now (c5 .args .list)) (c5 .args .count) (c5 .args .value) list carried (c4 .loop .i + 1))
+    (sym (w .1)) (sym (w .2))
+    (pass-below (now (c5 .args .list)) (c5 .args .count) (c5 .args .value) (omega arith) (c4 .loop .list) (c4 .loop .carried) (c4 .loop .i) (c4 .loop .inv) (c .before .before .before .loop-test .taken) (w .0 .taken)))
     (λ w.
-    subst₂ (λ (list : List ℕ) (carried : ℕ). Passing (now (c .before .before .before .before .before .args .list)) (c .before .before .before .before .before .args .count) (c .before .before .before .before .before .args .value) list carried (c .before .before .before .before .loop .i + 1)) (sym (w .1)) (sym (w .2))
-    (pass-above (now (c .before .before .before .before .before .args .list)) (c .before .before .before .before .before .args .count) (c .before .before .before .before .before .args .value) (omega arith) (c .before .before .before .before .loop .list) (c .before .before .before .before .loop .carried) (c .before .before .before .before .loop .i) (c .before .before .before .before .loop .inv) (c .before .before .before .loop-test .taken) (c .before .if1 .left) (w .0 .left)))
+    subst₂ (λ (list : List ℕ) (carried : ℕ). Passing (now (c5 .args .list)) (c5 .args .count) (c5 .args .value) list carried (c4 .loop .i + 1))
+    (sym (w .1)) (sym (w .2))
+    (pass-above (now (c5 .args .list)) (c5 .args .count) (c5 .args .value) (omega arith) (c4 .loop .list) (c4 .loop .carried) (c4 .loop .i) (c4 .loop .inv) (c .before .before .before .loop-test .taken) (c .before .if1 .left) (w .0 .left)))
     (c .if2 .came)
 
 add-result : tie.Need-add-result Inv-loop μ-loop

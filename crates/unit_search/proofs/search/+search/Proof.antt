@@ -69,9 +69,11 @@ chosen t c = subst (λ (w : ℕ). Has w (c .choose .result)) (c .before .before 
 no-more : (t : ℕ) (c : search-lts.After-choose (calls t) (search-at t) search′.Post)
     → ones (undecided (c .before .before .before .before .before .narrow .result .up) (c .before .before .before .before .before .narrow .result .dropped)) ≤ t
 no-more t c =
-    subst (λ (n : ℕ). ones (undecided (c .before .before .before .before .before .narrow .result .up) (c .before .before .before .before .before .narrow .result .dropped)) ≤ n) (c .before .before .before .before .before .before .before .before .before .before .before .pre .0)
-    (count-le (undecided (c .before .before .before .before .before .narrow .result .up) (c .before .before .before .before .before .narrow .result .dropped)) (undecided (c .before .before .before .before .before .before .before .before .before .before .before .args .up) (c .before .before .before .before .before .before .before .before .before .before .before .args .dropped))
-    (undecided-shrinks (c .before .before .before .before .before .before .before .before .before .before .before .args .up) (c .before .before .before .before .before .before .before .before .before .before .before .args .dropped) (c .before .before .before .before .before .narrow .result .up) (c .before .before .before .before .before .narrow .result .dropped) (c .before .before .before .before .before .narrow .ensures .up-grows) (c .before .before .before .before .before .narrow .ensures .dropped-grows)))
+    let c5 = c .before .before .before .before .before in
+    let c11 = c5 .before .before .before .before .before .before in
+    subst (λ (n : ℕ). ones (undecided (c5 .narrow .result .up) (c5 .narrow .result .dropped)) ≤ n) (c11 .pre .0)
+    (count-le (undecided (c5 .narrow .result .up) (c5 .narrow .result .dropped)) (undecided (c11 .args .up) (c11 .args .dropped))
+    (undecided-shrinks (c11 .args .up) (c11 .args .dropped) (c5 .narrow .result .up) (c5 .narrow .result .dropped) (c5 .narrow .ensures .up-grows) (c5 .narrow .ensures .dropped-grows)))
 
 search-narrow-requires : (t : ℕ) → search-lts.Need-narrow-requires (calls t) (search-at t) search′.Post
 search-narrow-requires t c κs = c .before .before .before .before .before .pre .1 .0
@@ -81,33 +83,44 @@ search-are-apart-requires t c κs = search needs
 
 search-returns : (t : ℕ) → search-lts.Need-returns (calls t) (search-at t) search′.Post
 search-returns t c =
-    let at = c .before .before .before .before .before .before .before .before .args in
+    let c8 = c .before .before .before .before .before .before .before .before in
+    let at = c8 .args in
     search-narrowed (now (at .rules)) (now (at .table)) (now (at .counts)) (now (at .heads)) (at .unit) (now (at .list)) (at .count)
     (record { up = at .up; dropped = at .dropped }) (c .before .before .narrow .result) (c .before .before .narrow .ensures)
-    (search-clash (now (at .rules)) (now (at .table)) (now (at .counts)) (now (at .heads)) (at .unit) (now (at .list)) (at .count) (c .before .before .narrow .result) (c .before .before .before .before .before .before .before .before .pre .1 .1)
+    (search-clash (now (at .rules)) (now (at .table)) (now (at .counts)) (now (at .heads)) (at .unit) (now (at .list)) (at .count) (c .before .before .narrow .result) (c8 .pre .1 .1)
     (sym (c .before .are-apart .ensures) ∙ not-true (c .before .are-apart .result) (c .if1 .taken)))
 
 search-undecided-requires : (t : ℕ) → search-lts.Need-undecided-requires (calls t) (search-at t) search′.Post
 search-undecided-requires t c κs = search needs
 
 search-offer-requires : (t : ℕ) → search-lts.Need-offer-requires (calls t) (search-at t) search′.Post
-search-offer-requires t c κs = (c .before .before .before .before .before .before .before .before .before .before .before .pre .1 .0, c .before .before .before .before .before .before .before .before .before .before .before .pre .1 .1)
+search-offer-requires t c κs =
+    let c11 = c .before .before .before .before .before .before .before .before .before .before .before in
+    (c11 .pre .1 .0, c11 .pre .1 .1)
 
 search-same-length : (t : ℕ) → search-lts.Need-same-length (calls t) (search-at t) search′.Post
 search-same-length t c = c .before .before .offer .kept .1 .1 .1 .1 .1 .0
 
 search-returns-2 : (t : ℕ) → search-lts.Need-returns-2 (calls t) (search-at t) search′.Post
 search-returns-2 t c =
-    let at = c .before .before .before .before .before .before .before .before .before .before .before .before .before .before .args in
+    let c4 = c .before .before .before .before in
+    let c5 = c4 .before in
+    let c6 = c5 .before in
+    let c7 = c6 .before in
+    let c8 = c7 .before in
+    let c14 = c8 .before .before .before .before .before .before in
+    let at = c14 .args in
     search-narrowed (now (at .rules)) (now (at .table)) (now (at .counts)) (now (at .heads)) (at .unit) (now (at .list)) (at .count)
-    (record { up = at .up; dropped = at .dropped }) (c .before .before .before .before .before .before .before .before .narrow .result)
-    (c .before .before .before .before .before .before .before .before .narrow .ensures)
-    (search-leaf (now (at .rules)) (now (at .table)) (now (at .counts)) (now (at .heads)) (at .unit) (now (at .list)) (at .count) (c .before .before .before .before .before .before .before .before .narrow .result) (sym (c .before .before .before .before .before .before .before .are-apart .ensures) ∙ not-false (c .before .before .before .before .before .before .before .are-apart .result) (c .before .before .before .before .before .before .if1 .left))
-    (sym (c .before .before .before .before .before .undecided .ensures) ∙ c .before .before .before .before .if2 .taken)
+    (record { up = at .up; dropped = at .dropped }) (c8 .narrow .result)
+    (c8 .narrow .ensures)
+    (search-leaf (now (at .rules)) (now (at .table)) (now (at .counts)) (now (at .heads)) (at .unit) (now (at .list)) (at .count) (c8 .narrow .result) (sym (c7 .are-apart .ensures) ∙ not-false (c7 .are-apart .result) (c6 .if1 .left))
+    (sym (c5 .undecided .ensures) ∙ c4 .if2 .taken)
     (c .before .before .offer .ensures))
 
 search-choose-requires : (t : ℕ) → search-lts.Need-choose-requires (calls t) (search-at t) search′.Post
-search-choose-requires t c κs = (c .before .before .before .before .before .before .before .before .before .before .pre .1 .0 .rules-lent, c .if2 .left)
+search-choose-requires t c κs =
+    let c10 = c .before .before .before .before .before .before .before .before .before .before in
+    (c10 .pre .1 .0 .rules-lent, c .if2 .left)
 
 search-single-requires : (t : ℕ) → search-lts.Need-single-requires (calls t) (search-at t) search′.Post
 search-single-requires t c κs = c .choose .ensures .1
@@ -117,13 +130,15 @@ search-union-requires t c κs = search needs
 
 search-search-requires : (t : ℕ) → search-lts.Need-search-requires (calls t) (search-at t) search′.Post
 search-search-requires t c κs =
-    let at = c .before .before .before .before .before .before .before .before .before .before .before .before .before .before .args in
-    let n = c .before .before .before .before .before .before .before .before .narrow .result in
+    let c8 = c .before .before .before .before .before .before .before .before in
+    let c14 = c8 .before .before .before .before .before .before in
+    let at = c14 .args in
+    let n = c8 .narrow .result in
     let low = c .before .before .before .choose .result in
     let lower = c .before .union .ensures ∙ ap (λ (w : ℕ). n .dropped ∪ w) (c .before .before .single .ensures) in (
       subst (λ (w : ℕ). ones (undecided (n .up) w) < t) (sym lower)
           (lt-of-lt-of-le (lower-falls (n .up) (n .dropped) low (chosen t (c .before .before .before))) (no-more t (c .before .before .before))),
-      (c .before .before .before .before .before .before .before .before .before .before .before .before .before .before .pre .1 .0, c .before .before .before .before .before .before .before .before .before .before .before .before .before .before .pre .1 .1),
+      (c14 .pre .1 .0, c14 .pre .1 .1),
     )
 
 search-same-length-2 : (t : ℕ) → search-lts.Need-same-length-2 (calls t) (search-at t) search′.Post
@@ -131,15 +146,20 @@ search-same-length-2 t c = c .before .before .before .search .kept .1 .1 .1 .1 .
 
 search-returns-3 : (t : ℕ) → search-lts.Need-returns-3 (calls t) (search-at t) search′.Post
 search-returns-3 t c =
-    let at = c .before .before .before .before .before .before .before .before .before .before .before .before .before .before .before .before .before .before .args in
-    let n = c .before .before .before .before .before .before .before .before .before .before .before .before .narrow .result in
+    let c5 = c .before .before .before .before .before in
+    let c6 = c5 .before in
+    let c7 = c6 .before in
+    let c12 = c7 .before .before .before .before .before in
+    let c18 = c12 .before .before .before .before .before .before in
+    let at = c18 .args in
+    let n = c12 .narrow .result in
     search-narrowed (now (at .rules)) (now (at .table)) (now (at .counts)) (now (at .heads)) (at .unit) (now (at .list)) (at .count)
     (record { up = at .up; dropped = at .dropped })
-    (c .before .before .before .before .before .before .before .before .before .before .before .before .narrow .result)
-    (c .before .before .before .before .before .before .before .before .before .before .before .before .narrow .ensures)
-    (search-over (now (at .rules)) (now (at .table)) (now (at .counts)) (now (at .heads)) (at .unit) (now (at .list)) (at .count) n (c .before .before .before .before .before .before .before .choose .result) (c .before .before .before .search .last .1 .1 .1 .1 .1 .0) (c .before .before .before .search .result)
+    (c12 .narrow .result)
+    (c12 .narrow .ensures)
+    (search-over (now (at .rules)) (now (at .table)) (now (at .counts)) (now (at .heads)) (at .unit) (now (at .list)) (at .count) n (c7 .choose .result) (c .before .before .before .search .last .1 .1 .1 .1 .1 .0) (c .before .before .before .search .result)
     (subst (λ (w : ℕ). Gathered (Grown (now (at .list)) (at .count) (Wanted (now (at .rules)) (now (at .table)) (now (at .counts)) (now (at .heads)) (at .unit) (record { up = n .up; dropped = w }))) (c .before .before .before .search .last .1 .1 .1 .1 .1 .0) (c .before .before .before .search .result))
-    (c .before .before .before .before .before .union .ensures ∙ ap (λ (w : ℕ). n .dropped ∪ w) (c .before .before .before .before .before .before .single .ensures)) (c .before .before .before .search .ensures))
+    (c5 .union .ensures ∙ ap (λ (w : ℕ). n .dropped ∪ w) (c6 .single .ensures)) (c .before .before .before .search .ensures))
     (c .if3 .taken))
 
 search-union-requires-2 : (t : ℕ) → search-lts.Need-union-requires-2 (calls t) (search-at t) search′.Post
@@ -147,32 +167,47 @@ search-union-requires-2 t c κs = search needs
 
 search-search-requires-2 : (t : ℕ) → search-lts.Need-search-requires-2 (calls t) (search-at t) search′.Post
 search-search-requires-2 t c κs =
-    let at = c .before .before .before .before .before .before .before .before .before .before .before .before .before .before .before .before .before .before .before .before .args in
-    let n = c .before .before .before .before .before .before .before .before .before .before .before .before .before .before .narrow .result in
-    let low = c .before .before .before .before .before .before .before .before .before .choose .result in
+    let c5 = c .before .before .before .before .before in
+    let c8 = c5 .before .before .before in
+    let c9 = c8 .before in
+    let c14 = c9 .before .before .before .before .before in
+    let c20 = c14 .before .before .before .before .before .before in
+    let at = c20 .args in
+    let n = c14 .narrow .result in
+    let low = c9 .choose .result in
     let upper = c .before .union2 .ensures ∙ ap (λ (w : ℕ). n .up ∪ w)
-    (c .before .before .before .before .before .before .before .before .single .ensures) in (
+    (c8 .single .ensures) in (
       subst (λ (w : ℕ). ones (undecided w (n .dropped)) < t) (sym upper)
-          (lt-of-lt-of-le (raise-falls (n .up) (n .dropped) low (chosen t (c .before .before .before .before .before .before .before .before .before))) (no-more t (c .before .before .before .before .before .before .before .before .before))),
-      (c .before .before .before .before .before .before .before .before .before .before .before .before .before .before .before .before .before .before .before .before .pre .1 .0, gathered-ordered (c .before .before .if3 .left) (c .before .before .before .before .before .search .ensures)),
+          (lt-of-lt-of-le (raise-falls (n .up) (n .dropped) low (chosen t c9)) (no-more t c9)),
+      (c20 .pre .1 .0, gathered-ordered (c .before .before .if3 .left) (c5 .search .ensures)),
     )
 
 search-same-length-3 : (t : ℕ) → search-lts.Need-same-length-3 (calls t) (search-at t) search′.Post
-search-same-length-3 t c = c .before .before .search2 .kept .1 .1 .1 .1 .1 .0 ∙ c .before .before .before .before .before .before .before .before .search .kept .1 .1 .1 .1 .1 .0
+search-same-length-3 t c =
+    let c8 = c .before .before .before .before .before .before .before .before in
+    c .before .before .search2 .kept .1 .1 .1 .1 .1 .0 ∙ c8 .search .kept .1 .1 .1 .1 .1 .0
 
 search-returns-4 : (t : ℕ) → search-lts.Need-returns-4 (calls t) (search-at t) search′.Post
 search-returns-4 t c =
-    let at = c .before .before .before .before .before .before .before .before .before .before .before .before .before .before .before .before .before .before .before .before .before .before .before .args in
-    let n = c .before .before .before .before .before .before .before .before .before .before .before .before .before .before .before .before .before .narrow .result in
+    let c4 = c .before .before .before .before in
+    let c5 = c4 .before in
+    let c8 = c5 .before .before .before in
+    let c10 = c8 .before .before in
+    let c11 = c10 .before in
+    let c12 = c11 .before in
+    let c17 = c12 .before .before .before .before .before in
+    let c23 = c17 .before .before .before .before .before .before in
+    let at = c23 .args in
+    let n = c17 .narrow .result in
     search-narrowed (now (at .rules)) (now (at .table)) (now (at .counts)) (now (at .heads)) (at .unit) (now (at .list)) (at .count)
     (record { up = at .up; dropped = at .dropped })
-    (c .before .before .before .before .before .before .before .before .before .before .before .before .before .before .before .before .before .narrow .result) (c .before .before .before .before .before .before .before .before .before .before .before .before .before .before .before .before .before .narrow .ensures)
-    (search-both (now (at .rules)) (now (at .table)) (now (at .counts)) (now (at .heads)) (at .unit) (now (at .list)) (at .count) n (c .before .before .before .before .before .before .before .before .before .before .before .before .choose .result) (c .before .before .before .before .before .before .before .before .search .last .1 .1 .1 .1 .1 .0) (c .before .before .before .before .before .before .before .before .search .result)
-    (subst (λ (w : ℕ). Gathered (Grown (now (at .list)) (at .count) (Wanted (now (at .rules)) (now (at .table)) (now (at .counts)) (now (at .heads)) (at .unit) (record { up = n .up; dropped = w }))) (c .before .before .before .before .before .before .before .before .search .last .1 .1 .1 .1 .1 .0) (c .before .before .before .before .before .before .before .before .search .result))
-    (c .before .before .before .before .before .before .before .before .before .before .union .ensures ∙ ap (λ (w : ℕ). n .dropped ∪ w) (c .before .before .before .before .before .before .before .before .before .before .before .single .ensures)) (c .before .before .before .before .before .before .before .before .search .ensures))
-    (c .before .before .before .before .before .if3 .left)
-    (subst (λ (w : ℕ). Gathered (Grown (c .before .before .before .before .before .before .before .before .search .last .1 .1 .1 .1 .1 .0) (c .before .before .before .before .before .before .before .before .search .result) (Wanted (now (at .rules)) (now (at .table)) (now (at .counts)) (now (at .heads)) (at .unit) (record { up = w; dropped = n .dropped }))) (c .before .before .search2 .last .1 .1 .1 .1 .1 .0) (c .before .before .search2 .result))
-    (c .before .before .before .before .union2 .ensures ∙ ap (λ (w : ℕ). n .up ∪ w) (c .before .before .before .before .before .before .before .before .before .before .before .single .ensures)) (c .before .before .search2 .ensures)))
+    (c17 .narrow .result) (c17 .narrow .ensures)
+    (search-both (now (at .rules)) (now (at .table)) (now (at .counts)) (now (at .heads)) (at .unit) (now (at .list)) (at .count) n (c12 .choose .result) (c8 .search .last .1 .1 .1 .1 .1 .0) (c8 .search .result)
+    (subst (λ (w : ℕ). Gathered (Grown (now (at .list)) (at .count) (Wanted (now (at .rules)) (now (at .table)) (now (at .counts)) (now (at .heads)) (at .unit) (record { up = n .up; dropped = w }))) (c8 .search .last .1 .1 .1 .1 .1 .0) (c8 .search .result))
+    (c10 .union .ensures ∙ ap (λ (w : ℕ). n .dropped ∪ w) (c11 .single .ensures)) (c8 .search .ensures))
+    (c5 .if3 .left)
+    (subst (λ (w : ℕ). Gathered (Grown (c8 .search .last .1 .1 .1 .1 .1 .0) (c8 .search .result) (Wanted (now (at .rules)) (now (at .table)) (now (at .counts)) (now (at .heads)) (at .unit) (record { up = w; dropped = n .dropped }))) (c .before .before .search2 .last .1 .1 .1 .1 .1 .0) (c .before .before .search2 .result))
+    (c4 .union2 .ensures ∙ ap (λ (w : ℕ). n .up ∪ w) (c11 .single .ensures)) (c .before .before .search2 .ensures)))
 
 pub +search-spec : {M : Type 1} → statement M
 +search-spec = close μ-search λ t. search-lts.spec (calls t)

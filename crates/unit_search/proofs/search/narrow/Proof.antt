@@ -24,7 +24,9 @@ fits c = omega arith
 
 -- the live rules are lent too
 lent-too : (c : tie.After-live-rules) → Lent (now (c .before .before .before .before .before .before .before .args .rules)) (c .live-rules .result)
-lent-too c = live-lent (now (c .before .before .before .before .before .before .before .args .rules)) (c .before .grow .result) (c .before .before .before .before .before .before .before .pre .rules-lent) (c .live-rules .ensures)
+lent-too c =
+    let c7 = c .before .before .before .before .before .before .before in
+    live-lent (now (c7 .args .rules)) (c .before .grow .result) (c7 .pre .rules-lent) (c .live-rules .ensures)
 
 support-pass-requires : tie.Need-support-pass-requires
 support-pass-requires c κs = lent-too c
@@ -34,9 +36,12 @@ founded-pass-requires c κs = lent-too (c .before)
 
 returns : tie.Need-returns
 returns c =
-    let at = c .before .before .before .before .before .before .before .before .before .args in
-    passes-narrow (now (at .rules)) (now (at .table)) (now (at .counts)) (now (at .heads)) (at .unit) (fits (c .before .before .before .before))
-    (c .before .before .live-rules .result) (c .before .before .before .before .join-all .ensures) (c .before .before .before .grow .ensures) (c .before .before .live-rules .ensures)
+    let c4 = c .before .before .before .before in
+    let c9 = c4 .before .before .before .before .before in
+    let at = c9 .args in
+    passes-narrow (now (at .rules)) (now (at .table)) (now (at .counts)) (now (at .heads)) (at .unit) (fits c4)
+    (c .before .before .live-rules .result) (c4 .join-all .ensures) (c .before .before .before .grow .ensures)
+    (c .before .before .live-rules .ensures)
     (c .before .support-pass .ensures) (c .founded-pass .ensures)
 
 pub narrow-spec : {M : Type 1} → statement M

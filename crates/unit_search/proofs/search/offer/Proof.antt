@@ -14,9 +14,10 @@ belongs-requires c κs = search needs
 
 returns : tie.Need-returns
 returns c =
-    let at = c .before .before .before .before .before .before .before .args in
+    let c7 = c .before .before .before .before .before .before .before in
+    let at = c7 .args in
     offer-none (now (at .rules)) (now (at .table)) (now (at .counts)) (now (at .heads)) (at .unit) (now (at .list)) (at .count) (at .position)
-    (c .before .before .before .before .before .before .before .pre .1)
+    (c7 .pre .1)
     (subst (Decides (Belongs (now (at .rules)) (now (at .table)) (now (at .counts)) (now (at .heads)) (at .unit) (at .position))) (not-true (c .before .belongs .result) (c .if1 .taken)) (c .before .belongs .ensures))
 
 insert-requires : tie.Need-insert-requires
@@ -27,11 +28,14 @@ same-length c = search needs
 
 returns-2 : tie.Need-returns-2
 returns-2 c =
-    let at = c .before .before .before .before .before .before .before .before .before .before .before .args in
+    let c4 = c .before .before .before .before in
+    let c5 = c4 .before in
+    let c11 = c5 .before .before .before .before .before .before in
+    let at = c11 .args in
     offer-one (now (at .rules)) (now (at .table)) (now (at .counts)) (now (at .heads)) (at .unit) (now (at .list)) (at .count) (at .position)
     (c .before .before .insert .last .0) (c .before .before .insert .result)
-    (c .before .before .before .before .before .before .before .before .before .before .before .pre .1)
-    (c .before .before .before .before .before .belongs .ensures .yes (not-false (c .before .before .before .before .before .belongs .result) (c .before .before .before .before .if1 .left))) (c .before .before .insert .ensures)
+    (c11 .pre .1)
+    (c5 .belongs .ensures .yes (not-false (c5 .belongs .result) (c4 .if1 .left))) (c .before .before .insert .ensures)
 
 pub offer-spec : {M : Type 1} → statement M
 offer-spec = tie.close (tie.spec belongs-requires returns insert-requires same-length returns-2)
