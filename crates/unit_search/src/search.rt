@@ -109,15 +109,6 @@ pub fn search(
         return found;
     }
     let upper = atoms::union(t.up, atom);
-    search(
-        rules,
-        table,
-        counts,
-        heads,
-        unit,
-        list,
-        found,
-        upper,
-        t.dropped,
-    )
+    let down = t.dropped;
+    search(rules, table, counts, heads, unit, list, found, upper, down)
 }
