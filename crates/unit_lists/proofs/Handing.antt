@@ -132,9 +132,9 @@ module _ (rules : List ℕ) (n : ℕ) (units : List ℕ) (m : ℕ) (predecessors
     unfolding unitsOf
     last-done =
         let f = as-fit worked fit in
-        unit-done (lastList (unitsOf rules n units m predecessors)) rules heads′ (record { rules = 0; inputs = last .input; predecessors = below m })
+        unit-done (lastList (unitsOf rules n units m predecessors)) rules heads′ (record { rules = 0; inputs = last .input; predecessors = below m; nearest = last .near })
         (last .input) 4096 16 table₂ counts₂ table₃ counts₃ b
-        (last-answer rules n units m predecessors heads′ inputs s (f .done) table₁ table₂ counts₂ (f .working) (f .all) (last .input) (last .is) (last .fits))
+        (last-answer rules n units m predecessors heads′ inputs s (f .done) table₁ table₂ counts₂ (f .working) (f .all) (last .input) (last .near) (last .is) (last .fits))
         (last .worked)
 
     pub handed-last-long : (r : Listing) (table₄ : List ℕ) → b ≡ false → r ≡ refusal (LongList m) → table₄ ≡ cleared table₃

@@ -113,10 +113,10 @@ module _ (rules : List ℕ) (n : ℕ) (units : List ℕ) (m : ℕ) (predecessors
           words = subst (λ (x : List ℕ). (i : ℕ) → i < length x → getD table (256 * v + i) 0 ≡ getD x i 0) e (w .words);
         }
 
-    last-asked : (input : ℕ) → input ≡ unionIn m (below m) (λ v. getD heads′ v 0)
-        → Asked (withLast (unitsOf rules n units m predecessors)) m table counts heads′ (record { rules = 0; inputs = input; predecessors = below m })
+    last-asked : (input near : ℕ) → input ≡ unionIn m (below m) (λ v. getD heads′ v 0)
+        → Asked (withLast (unitsOf rules n units m predecessors)) m table counts heads′ (record { rules = 0; inputs = input; predecessors = below m; nearest = near })
     unfolding unitsOf withLast
-    last-asked input e = record {
+    last-asked input near e = record {
       is-unit = omega arith;
       numbers = no-rules;
       inputs = e ∙ input-of-last;
@@ -130,19 +130,19 @@ module _ (rules : List ℕ) (n : ℕ) (units : List ℕ) (m : ℕ) (predecessors
       stored = λ v f. stored-last v (below-lt m (subst (λ (w : ℕ). Has w v) (last-predecessors (unitsOf rules n units m predecessors)) (f .edge)));
     }
 
-    pub last-answer : (input : ℕ) → input ≡ unionIn m (below m) (λ v. getD heads′ v 0) → input < 2 ^ 64 → (list : List ℕ) (r : ℕ)
+    pub last-answer : (input near : ℕ) → input ≡ unionIn m (below m) (λ v. getD heads′ v 0) → input < 2 ^ 64 → (list : List ℕ) (r : ℕ)
         → Gathered
-        (Grown (replicate {A = ℕ} 256 0) 0 (Wanted rules table counts heads′ (record { rules = 0; inputs = input; predecessors = below m }) (record { up = 0; dropped = below 64 ∖ input }))) list r
+        (Grown (replicate {A = ℕ} 256 0) 0 (Wanted rules table counts heads′ (record { rules = 0; inputs = input; predecessors = below m; nearest = near }) (record { up = 0; dropped = below 64 ∖ input }))) list r
         → UnitWorked (lastList (unitsOf rules n units m predecessors)) list r
     unfolding unitsOf withLast lastList
-    last-answer input e fit list r g =
+    last-answer input near e fit list r g =
         let h : input ≡ heads (withLast (unitsOf rules n units m predecessors)) m = e ∙ input-of-last ∙ sym heads-of-last in
         search-answer rules (withLast (unitsOf rules n units m predecessors)) refl
         (last-passes (unitsOf rules n units m predecessors) (s .clean) (s .passes))
         (last-free (unitsOf rules n units m predecessors) (given-free rules n units m predecessors)) refl (s .lent-words .rules-most)
-        m table counts heads′ (record { rules = 0; inputs = input; predecessors = below m }) (last-asked input e)
+        m table counts heads′ (record { rules = 0; inputs = input; predecessors = below m; nearest = near }) (last-asked input near e)
         (subst (λ (x : ℕ). x < 2 ^ 64) h fit) list r
-        (subst (λ (x : ℕ). Gathered (Grown (replicate {A = ℕ} 256 0) 0 (Wanted rules table counts heads′ (record { rules = 0; inputs = input; predecessors = below m }) (record { up = 0; dropped = below 64 ∖ x }))) list r) h g)
+        (subst (λ (x : ℕ). Gathered (Grown (replicate {A = ℕ} 256 0) 0 (Wanted rules table counts heads′ (record { rules = 0; inputs = input; predecessors = below m; nearest = near }) (record { up = 0; dropped = below 64 ∖ x }))) list r) h g)
 
 -- ---- the answer
 

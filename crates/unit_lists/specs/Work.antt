@@ -5,7 +5,7 @@ use mathlib.Core.List.{List, []}
 use Prim.Native.Nat.{ℕ, _^_, _≤_, _<_}
 use lib.ListN.{length, getD, set, replicate}
 use lib.Seq.{paste}
-use Rattle.atoms.specs.Word.{Has, _∩_, _∖_, below}
+use Rattle.atoms.specs.Word.{Has, _⊆_, _∩_, _∖_, below}
 use Rattle.atoms.specs.Bounded.{unionIn}
 use Rattle.unit_search.specs.Listing.{Gathered, Grown}
 use Rattle.unit_search.specs.Job.{Wanted, Joinable}
@@ -23,13 +23,19 @@ use Rattle.unit_lists.specs.Answer.{refuse, workFrom}
 use Rattle.unit_lists.specs.declared.work.Work.{Work}
 use Rattle.unit_lists.specs.declared.work.Work.the-variants.{Fits, Long}
 
--- what the search is told of unit u
-abbrev pub searched : ℕ → List ℕ → List ℕ → List ℕ → ℕ → Unit
-searched n units predecessors inputs u = record {
+-- what the search is told of unit u, where its join pass looks at the predecessors of `near`
+abbrev pub searched : ℕ → List ℕ → List ℕ → List ℕ → ℕ → ℕ → Unit
+searched n units predecessors inputs near u = record {
   rules = getD units u 0 ∩ below n;
   inputs = getD inputs u 0;
   predecessors = getD predecessors u 0;
+  nearest = near;
 }
+
+-- and that these are direct predecessors
+pub record Told (n : ℕ) (units predecessors inputs : List ℕ) (u : ℕ) (r : Unit) : Type 0 where
+  pub is : r ≡ searched n units predecessors inputs (r .nearest) u
+  pub near : r .nearest ⊆ getD predecessors u 0
 
 -- one list is searched for from the start: stored with its count where it fits, and nothing is written where it does not
 pub data ListWorked (rules heads : List ℕ) (unit : Unit) (within base place : ℕ) (table counts table′ counts′ : List ℕ) : Bool → Type 0 where
@@ -78,7 +84,8 @@ pub record LastWorked (rules : List ℕ) (m : ℕ) (heads′ table counts table�
   pub input : ℕ
   pub is : input ≡ unionIn m (below m) (λ v. getD heads′ v 0)
   pub fits : input < 2 ^ 64
-  pub worked : ListWorked rules heads′ (record { rules = 0; inputs = input; predecessors = below m }) input 4096 16 table counts table′ counts′ r
+  pub near : ℕ
+  pub worked : ListWorked rules heads′ (record { rules = 0; inputs = input; predecessors = below m; nearest = near }) input 4096 16 table counts table′ counts′ r
 
 -- a plan that passed reading and graph, and a long enough table
 pub record Workable (rules : List ℕ) (n : ℕ) (units : List ℕ) (m : ℕ) (predecessors table : List ℕ) : Type 0 where

@@ -14,6 +14,7 @@ use plan::Fault;
 use plan::Outcome;
 use unit_search::LIST_WORDS;
 use unit_search::Unit;
+use unit_search::join::nearest;
 use unit_search::search::search;
 ghost use mathlib.Core.Path.{_≡_};
 ghost use Prim.Native.Nat.{_+_, _≤_, _<_};
@@ -25,7 +26,7 @@ ghost use Rattle.dependency_graph.specs.Order.{workingOrder};
 ghost use Rattle.unit_lists.specs.Answer.{workFrom};
 ghost use Rattle.unit_lists.specs.Handed.{refusal, Handed};
 ghost use Rattle.unit_lists.specs.Table.{cleared};
-ghost use Rattle.unit_lists.specs.Work.{searched, ListWorked, Setting, Working, UnitsWorked, LastLent, LastWorked, Workable};
+ghost use Rattle.unit_lists.specs.Work.{Told, ListWorked, Setting, Working, UnitsWorked, LastLent, LastWorked, Workable};
 
 // Whether all lists fit, or the first unit whose list does not.
 pub enum Work {
@@ -59,14 +60,22 @@ pub fn work_list(
 }
 
 // What the search is told of unit u.
-fn unit_at(rule_count: usize, units: &[u64], predecessors: &[u64], inputs: &[u64], u: usize) -> Unit
-    requires { ⌜ («rule_count» ≤ 64) × (u < length (now units)) × (u < length (now predecessors)) × (u < length (now inputs)) ⌝ }
-    ensures { λ r. ⌜ r ≡ searched «rule_count» (now (units .entry)) (now (predecessors .entry)) (now (inputs .entry)) u ⌝ }
+fn unit_at(
+    rule_count: usize,
+    units: &[u64],
+    predecessors: &[u64],
+    heads: &[u64],
+    inputs: &[u64],
+    u: usize,
+) -> Unit
+    requires { ⌜ («rule_count» ≤ 64) × (u < length (now units)) × (u < length (now predecessors)) × (16 ≤ length (now heads)) × (u < length (now inputs)) ⌝ }
+    ensures { λ r. ⌜ Told «rule_count» (now (units .entry)) (now (predecessors .entry)) (now (inputs .entry)) u r ⌝ }
 {
     Unit {
         rules: atoms::cut(units[u], atoms::first(rule_count)),
         inputs: inputs[u],
         predecessors: predecessors[u],
+        nearest: nearest(heads, predecessors[u]),
     }
 }
 
@@ -92,7 +101,7 @@ pub fn work_units(
         if unit_count <= u {
             return Work::Fits;
         }
-        let unit = unit_at(rule_count, units, predecessors, inputs, u);
+        let unit = unit_at(rule_count, units, predecessors, heads, inputs, u);
         if !work_list(
             rules,
             heads,
@@ -128,6 +137,7 @@ pub fn work_last(
         rules: 0,
         inputs,
         predecessors: every,
+        nearest: nearest(heads, every),
     };
     work_list(
         rules,

@@ -10,8 +10,8 @@ use lib.Dec.{eqb}
 use lib.ListN.{length, getD}
 use borrow.Author.Tests.{eqb-true}
 use Rattle.atoms.specs.Word.{Has, _⊆_, subset, Apart, apart, _∩_, _∪_, _∖_, atom}
-use Rattle.atoms.proofs.Sets.{decides-subset, decides-apart, has-cut, cut-left, cut-right, has-left, has-right, union-cases, has-without, without-left, without-right, has-lt, has-dec, subset-refl, subset-trans}
-use Rattle.atoms.proofs.Bounded.{some-at, all-in-at, all-in-none, all-in-take}
+use Rattle.atoms.proofs.Sets.{decides-subset, decides-apart, has-cut, cut-left, cut-right, has-left, has-right, union-cases, has-without, without-left, without-right, has-lt, has-dec, subset-refl, subset-trans, subset-le}
+use Rattle.atoms.proofs.Bounded.{some-at, all-in-at, all-in-intro, all-in-none, all-in-take}
 use Rattle.atoms.specs.Bounded.{Decides}
 use Rattle.atoms.proofs.Tests.{decides}
 use Rattle.answer_sets.specs.State.{Completes, Narrows, clashed}
@@ -138,6 +138,26 @@ pub joined-lt : {table counts heads : List ℕ} {predecessors rest v : ℕ} → 
 joined-lt {predecessors = predecessors} {v = v} j f h = has-lt predecessors 16 (j .few) (f .each v h)
 
 -- ---- the nearest predecessors
+
+-- to join all is to join some
+pub joins-some : (table counts heads : List ℕ) (predecessors near M : ℕ) → near ⊆ predecessors
+    → JoinsAll table counts heads predecessors M → JoinsAll table counts heads near M
+unfolding joins
+joins-some table counts heads predecessors near M f j = record {
+  joined = all-in-intro 16 near (λ v. isListed table (256 * v) (getD counts v 0) (M ∩ getD heads v 0))
+      (λ v l h.
+      all-in-at 16 predecessors (λ u. isListed table (256 * u) (getD counts u 0) (M ∩ getD heads u 0)) (j .joined) v l (f .each v h));
+}
+
+pub joinable-some : {table counts heads : List ℕ} {predecessors near : ℕ} → near ⊆ predecessors
+    → Joinable table counts heads predecessors → Joinable table counts heads near
+joinable-some f j = record {
+  table-long = j .table-long;
+  counts-long = j .counts-long;
+  heads-long = j .heads-long;
+  few = omega (arith, subset-le f, j .few);
+  small = j .small;
+}
 
 module _ (heads : List ℕ) (units word : ℕ) where
   -- none of the units that are done covers the word

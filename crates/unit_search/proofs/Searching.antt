@@ -24,6 +24,7 @@ use Rattle.unit_search.specs.Listing.{Ordered, Inserted, Gathered, Grown
 use Rattle.unit_search.specs.Job.{joins, Belongs, Wanted, Offered}
 use Rattle.unit_search.specs.Agreeing.{JoinsAll}
 use Rattle.unit_search.specs.declared.Unit.{Unit}
+use Rattle.unit_search.proofs.Joining.{joins-some}
 use Rattle.unit_search.proofs.Gathering.{gathered-insert, gathered-same, gathered-iff, gathered-over, gathered-then}
 
 module _ (rules table counts heads : List ℕ) (unit : Unit) where
@@ -52,8 +53,9 @@ module _ (rules table counts heads : List ℕ) (unit : Unit) where
   -- ---- the passes
 
   -- what belongs joins all lists, is an answer set and satisfies each rule of the unit
-  belongs-joins : (M : ℕ) → Belong M → JoinsAll table counts heads (unit .predecessors) M
-  belongs-joins M b = record { joined = b .joined }
+  belongs-joins : unit .nearest ⊆ unit .predecessors → (M : ℕ) → Belong M → JoinsAll table counts heads (unit .nearest) M
+  belongs-joins near M b =
+      joins-some table counts heads (unit .predecessors) (unit .nearest) M near (record { joined = b .joined })
 
   belongs-settled : unit .rules < 2 ^ 64 → (M : ℕ) → Belong M → Settled rules (unit .rules) (unit .inputs) M
   belongs-settled fits M b =
@@ -66,12 +68,12 @@ module _ (rules table counts heads : List ℕ) (unit : Unit) where
   }
 
   -- and is an answer set of the live rules
-  pub passes-narrow : unit .rules < 2 ^ 64 → {s t u v w : State} (live : ℕ)
-      → Narrows (JoinsAll table counts heads (unit .predecessors)) s t → Narrows (SatisfiesAll (lent rules) (unit .rules)) t u
+  pub passes-narrow : unit .rules < 2 ^ 64 → unit .nearest ⊆ unit .predecessors → {s t u v w : State} (live : ℕ)
+      → Narrows (JoinsAll table counts heads (unit .nearest)) s t → Narrows (SatisfiesAll (lent rules) (unit .rules)) t u
       → Live rules (unit .rules) u live → Narrows (Settled rules live (unit .inputs)) u v
-      → Narrows (Settled rules live (unit .inputs)) v w → Narrows (Belong) s w
-  passes-narrow fits {u = u} live j g l n m =
-      narrows-trans (narrows-for belongs-joins j)
+      → Narrows (Settled rules live (unit .inputs)) v w → Narrows Belong s w
+  passes-narrow fits near {u = u} live j g l n m =
+      narrows-trans (narrows-for (belongs-joins near) j)
       (narrows-trans (narrows-for (belongs-satisfies fits) g)
       (narrows-for (belongs-settled fits) (narrows-live rules u (unit .rules) live (unit .inputs) l (narrows-trans n m))))
 
@@ -82,7 +84,7 @@ module _ (rules table counts heads : List ℕ) (unit : Unit) where
       → Gathered (Grown list count (Offer position)) list count
   offer-none list count position o d =
       gathered-same list count (Offer position) o
-      (λ x w. d .no refl (subst (Belong) (w .is) (w .belongs)))
+      (λ x w. d .no refl (subst Belong (w .is) (w .belongs)))
 
   pub offer-one : (list : List ℕ) (count position : ℕ) (after : List ℕ) (r : ℕ) → Ordered list count
       → Belong position → Inserted list count position after r
@@ -91,7 +93,7 @@ module _ (rules table counts heads : List ℕ) (unit : Unit) where
     where
       into : (x : ℕ) → Grown list count (λ y. y ≡ position) x → Grown list count (Offer position) x
       into x (inl m) = inl m
-      into x (inr e) = inr (record { is = e; belongs = subst (Belong) (sym e) b })
+      into x (inr e) = inr (record { is = e; belongs = subst Belong (sym e) b })
 
       from : (x : ℕ) → Grown list count (Offer position) x → Grown list count (λ y. y ≡ position) x
       from x (inl m) = inl m
@@ -99,7 +101,7 @@ module _ (rules table counts heads : List ℕ) (unit : Unit) where
 
   -- ---- the search
 
-  module _ (list : List ℕ) (count : ℕ) (s t : State) (n : Narrows (Belong) s t) where
+  module _ (list : List ℕ) (count : ℕ) (s t : State) (n : Narrows Belong s t) where
     -- after the passes the same positions are wanted
     pub search-narrowed : {after : List ℕ} {r : ℕ} → Gathered (Grown list count (Want t)) after r
         → Gathered (Grown list count (Want s)) after r

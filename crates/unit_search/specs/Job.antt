@@ -4,7 +4,7 @@ use mathlib.Core.Bool.{Bool, true}
 use mathlib.Core.List.{List}
 use Prim.Native.Nat.{ℕ, _+_, _*_, _^_, _≤_, _<_}
 use lib.ListN.{length, getD}
-use Rattle.atoms.specs.Word.{Has, _∩_}
+use Rattle.atoms.specs.Word.{Has, _⊆_, _∩_}
 use Rattle.atoms.specs.Bounded.{allIn}
 use Rattle.answer_sets.specs.Lent.{lent, Lent}
 use Rattle.answer_sets.specs.Test.{answerSet}
@@ -36,6 +36,7 @@ pub record Joinable (table counts heads : List ℕ) (predecessors : ℕ) : Type 
 pub record Searchable (rules table counts heads : List ℕ) (unit : Unit) : Type 0 where
   pub rules-lent : Lent rules (unit .rules)
   pub joinable : Joinable table counts heads (unit .predecessors)
+  pub near : unit .nearest ⊆ unit .predecessors
 
 -- it belongs to the list and completes the state
 pub record Wanted (rules table counts heads : List ℕ) (unit : Unit) (s : State) (M : ℕ) : Type 0 where

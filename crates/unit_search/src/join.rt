@@ -12,6 +12,9 @@ ghost use Rattle.answer_sets.specs.State.{Narrows};
 ghost use Rattle.unit_search.specs.Job.{Joinable, joins as joinsOf};
 ghost use Rattle.unit_search.specs.Agreeing.{TakenIn, SpansAll, JoinsOne, JoinsAll, Covered};
 
+// How many lists of units the table holds.
+const LISTS: usize = 16;
+
 // Whether the position cut to each direct predecessor's head atoms is in that one's list.
 pub fn joins(
     table: &[u64],
@@ -124,12 +127,12 @@ fn without_covered(heads: &[u64], units: u64, v: usize) -> u64
 
 // The predecessors whose head atoms no other one's cover. A unit that another one reaches is covered by it, and what its list
 // tells of a position the other's list tells too: so these are enough for pruning, and the full test joins them all.
-fn nearest(heads: &[u64], predecessors: u64) -> u64
-    requires { ⌜ (16 ≤ length (now heads)) × (predecessors < 2 ^ 16) ⌝ }
+pub fn nearest(heads: &[u64], predecessors: u64) -> u64
+    requires { ⌜ 16 ≤ length (now heads) ⌝ }
     ensures { λ r. ⌜ r ⊆ predecessors ⌝ }
 {
-    let mut near = predecessors;
-    let mut rest = predecessors;
+    let mut near = atoms::cut(predecessors, atoms::first(LISTS));
+    let mut rest = near;
     while rest != 0 {
         let v = atoms::lowest(rest);
         near = without_covered(heads, near, v);
@@ -138,7 +141,7 @@ fn nearest(heads: &[u64], predecessors: u64) -> u64
     near
 }
 
-// The state after all direct predecessors.
+// The state after all these predecessors.
 pub fn join_all(
     table: &[u64],
     counts: &[usize],
@@ -149,7 +152,7 @@ pub fn join_all(
     requires { ⌜ Joinable (now table) (now counts) (now heads) predecessors ⌝ }
     ensures { λ t. ⌜ Narrows (JoinsAll (now (table .entry)) (now (counts .entry)) (now (heads .entry)) predecessors) s t ⌝ }
 {
-    let mut rest = nearest(heads, predecessors);
+    let mut rest = predecessors;
     let mut t = s;
     while rest != 0 {
         let v = atoms::lowest(rest);

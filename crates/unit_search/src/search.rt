@@ -52,7 +52,7 @@ fn narrow(
     requires { ⌜ Searchable (now rules) (now table) (now counts) (now heads) unit ⌝ }
     ensures { λ t. ⌜ Narrows (Belongs (now (rules .entry)) (now (table .entry)) (now (counts .entry)) (now (heads .entry)) unit) s t ⌝ }
 {
-    let joined = join_all(table, counts, heads, unit.predecessors, s);
+    let joined = join_all(table, counts, heads, unit.nearest, s);
     let grown = grow(rules, unit.rules, joined);
     let live = live_rules(rules, unit.rules, grown);
     let supported = support_pass(rules, live, unit.inputs, grown);

@@ -21,24 +21,42 @@ first-requires c κs = search needs
 cut-requires : tie.Need-cut-requires
 cut-requires c κs = search needs
 
-mul-t11 : tie.Need-mul-t11
-mul-t11 c = search needs
+mul-t12 : tie.Need-mul-t12
+mul-t12 c = search needs
 
-shared-slice-read-t13 : tie.Need-shared-slice-read-t13
-shared-slice-read-t13 c = search needs
+shared-slice-read-t14 : tie.Need-shared-slice-read-t14
+shared-slice-read-t14 c = search needs
 
-mul-t14 : tie.Need-mul-t14
-mul-t14 c = search needs
+mul-t15 : tie.Need-mul-t15
+mul-t15 c = search needs
 
-shared-slice-read-t16 : tie.Need-shared-slice-read-t16
-shared-slice-read-t16 c = search needs
+shared-slice-read-t17 : tie.Need-shared-slice-read-t17
+shared-slice-read-t17 c = search needs
+
+mul-nearest : tie.Need-mul-nearest
+mul-nearest c = search needs
+
+shared-slice-read-nearest : tie.Need-shared-slice-read-nearest
+shared-slice-read-nearest c = search needs
+
+nearest-requires : tie.Need-nearest-requires
+nearest-requires c κs = search needs
 
 returns : tie.Need-returns
 returns c =
-    let at = c .before .before .before .before .before .before .before .before .args in
-    let of : ℕ → Unit = λ w. record { rules = w; inputs = getD (now (at .inputs)) (at .u) 0; predecessors = getD (now (at .predecessors)) (at .u) 0 } in
-    ap of
-    (c .before .before .cut .ensures ∙ ap (λ (w : ℕ). getD (now (at .units)) (at .u) 0 ∩ w) (c .before .before .before .first .ensures))
+    let c4 = c .before .before .before .before in
+    let at = c4 .before .before .before .before .before .before .before .args in
+    let of : ℕ → Unit =
+    λ w. record {
+      rules = w;
+      inputs = getD (now (at .inputs)) (at .u) 0;
+      predecessors = getD (now (at .predecessors)) (at .u) 0;
+      nearest = c .nearest .result;
+    } in
+    record {
+      is = ap of (c4 .cut .ensures ∙ ap (λ (w : ℕ). getD (now (at .units)) (at .u) 0 ∩ w) (c4 .before .first .ensures));
+      near = c .nearest .ensures;
+    }
 
 pub unit-at-spec : {M : Type 1} → statement M
 unit-at-spec =
@@ -48,8 +66,11 @@ unit-at-spec =
     shared-slice-read-cut
     first-requires
     cut-requires
-    mul-t11
-    shared-slice-read-t13
-    mul-t14
-    shared-slice-read-t16
+    mul-t12
+    shared-slice-read-t14
+    mul-t15
+    shared-slice-read-t17
+    mul-nearest
+    shared-slice-read-nearest
+    nearest-requires
     returns)

@@ -18,14 +18,19 @@ first-requires c κs = search needs
 union-of-requires : tie.Need-union-of-requires
 union-of-requires c κs = search needs
 
+nearest-requires : tie.Need-nearest-requires
+nearest-requires c κs = search needs
+
 work-list-requires : tie.Need-work-list-requires
 work-list-requires c κs =
-    let at = c .before .before .before .before .before .before .before .before .args in
-    let pre = c .before .before .before .before .before .before .before .before .pre in
-    let first = c .before .before .before .first in (
+    let c9 = c .before .before .before .before .before .before .before .before .before in
+    let at = c9 .args in
+    let pre = c9 .pre in
+    let first = c .before .before .before .before .first in (
       record {
         rules-lent = record { each = λ r h. absurd (has-none h) };
         joinable = subst (λ (w : ℕ). Joinable (now (at .table)) (now (at .counts)) (now (at .heads)) w) (sym (first .ensures)) (pre .joinable);
+        near = c .before .before .nearest .ensures;
       },
       omega (arith, pre .table-long),
       omega (arith, pre .counts-long),
@@ -42,16 +47,18 @@ returns c =
     let c4 = c .before .before .before .before in
     let c7 = c4 .before .before .before in
     let c8 = c7 .before in
-    let c13 = c8 .before .before .before .before .before in
-    let at = c13 .args in
-    let first = c8 .first in
-    let union = c7 .union-of in
+    let c9 = c8 .before in
+    let c14 = c9 .before .before .before .before .before in
+    let at = c14 .args in
+    let first = c9 .first in
+    let union = c8 .union-of in
     record {
       input = union .result;
       is = union .ensures ∙ ap (λ (w : ℕ). unionIn (at .unit-count) w (λ (v : ℕ). getD (now (at .heads)) v 0)) (first .ensures);
       fits = union .ok;
+      near = c7 .nearest .result;
       worked = subst
-          (λ (w : ℕ). ListWorked (now (at .rules)) (now (at .heads)) (record { rules = 0; inputs = union .result; predecessors = w }) (union .result) 4096 16 (now (at .table)) (now (at .counts)) (c4 .work-list .last .1 .1 .1 .1 .1 .1 .0) (c4 .work-list .last .1 .1 .1 .1 .1 .1 .1 .0) (c4 .work-list .result))
+          (λ (w : ℕ). ListWorked (now (at .rules)) (now (at .heads)) (record { rules = 0; inputs = union .result; predecessors = w; nearest = c7 .nearest .result }) (union .result) 4096 16 (now (at .table)) (now (at .counts)) (c4 .work-list .last .1 .1 .1 .1 .1 .1 .0) (c4 .work-list .last .1 .1 .1 .1 .1 .1 .1 .0) (c4 .work-list .result))
           (first .ensures) (c4 .work-list .ensures);
     }
 
@@ -61,6 +68,7 @@ work-last-spec =
     (tie.spec
     first-requires
     union-of-requires
+    nearest-requires
     work-list-requires
     same-length
     same-length-2

@@ -101,6 +101,7 @@ unit-at-requires c κs =
       s .lent-words .rules-most,
       omega (arith, next-small c, s .lent-words),
       omega (arith, next-small c, s .lent-words),
+      s .heads-long,
       omega (arith, next-small c, s .lent-words, s .inputs-long),
     )
 
@@ -134,12 +135,13 @@ work-list-requires c κs =
     (c15 .pre .0 .lent-words .units-most) (l .done) (now (at .table)) (l .table) (l .counts) (l .inv .working) in
     let many = counts-long (unitsOf (now (at .rules)) (at .rule-count) (now (at .units)) (at .unit-count) (now (at .predecessors))) (l .done)
     (now (at .table)) (l .table) (l .counts) (l .inv .working) in (
-      subst (Searchable (now (at .rules)) (l .table) (l .counts) (now (at .heads))) (sym (c .before .before .before .unit-at .ensures)) (record {
+      subst (Searchable (now (at .rules)) (l .table) (l .counts) (now (at .heads))) (sym (c .before .before .before .unit-at .ensures .is)) (record {
         rules-lent = rules-lent (now (at .rules)) (at .rule-count) (now (at .units)) (at .unit-count) (now (at .predecessors)) (now (at .heads))
             (now (at .inputs)) (c15 .pre .0) (getD (now (at .units)) u 0);
         joinable = joinable (now (at .rules)) (at .rule-count) (now (at .units)) (at .unit-count) (now (at .predecessors)) (now (at .heads))
             (now (at .inputs)) (c15 .pre .0) (l .done) (now (at .table)) (l .table) (l .counts) (getD (now (at .predecessors)) u 0) (l .inv .working)
             (λ v h. named-few (now (at .rules)) (at .rule-count) (now (at .units)) (at .unit-count) (now (at .predecessors)) (now (at .heads)) (now (at .inputs)) (c15 .pre .0) u v small h);
+        near = c .before .before .before .unit-at .ensures .near;
       }),
       omega (arith, long, l .inv .working .long, small, c15 .pre .0 .lent-words .units-most),
       omega (arith, many, small, c15 .pre .0 .lent-words .units-most),
@@ -165,7 +167,7 @@ worked c =
     let l = c8 .loop in
     let u = c6 .next-unit .result in
     let unit = c4 .unit-at .result in
-    let e = c4 .unit-at .ensures in
+    let e = c4 .unit-at .ensures .is in
     unit-done (unitList (unitsOf (now (at .rules)) (at .rule-count) (now (at .units)) (at .unit-count) (now (at .predecessors))) u)
     (now (at .rules)) (now (at .heads)) unit (getD (now (at .heads)) u 0) (256 * u) u (l .table) (l .counts)
     (c .work-list .last .1 .1 .1 .1 .1 .1 .0) (c .work-list .last .1 .1 .1 .1 .1 .1 .1 .0) (c .work-list .result)

@@ -4,6 +4,7 @@ use denote.Ref.{now}
 use lib.Count.{ones}
 use native.Mathlib.Omega.{arith}
 use Rattle.atoms.specs.Word.{_⊆_}
+use Rattle.atoms.proofs.Sets.{subset-refl}
 use Rattle.atoms.proofs.Counting.{taken-less, taken-within}
 use Rattle.answer_sets.specs.State.{Narrows}
 use Rattle.answer_sets.proofs.Narrowing.{narrows-refl, narrows-trans, narrows-for}
@@ -19,15 +20,12 @@ Inv-loop table counts heads predecessors rest₀ t₀ rest t =
 abbrev μ-loop : tie.MeasureT-loop
 μ-loop table counts heads predecessors rest₀ t₀ rest t = ones rest
 
-nearest-requires : tie.Need-nearest-requires Inv-loop μ-loop
-nearest-requires c κs = let pre = c .before .before .before .pre in (pre .heads-long, pre .few)
-
 loop-holds : tie.Need-loop-holds Inv-loop μ-loop
-loop-holds c = (c .nearest .ensures, narrows-refl)
+loop-holds c = (subset-refl, narrows-refl)
 
 -- the predecessor that is joined is below 16
 inside : (c : tie.After-lowest Inv-loop μ-loop) → c .lowest .result < 16
-inside c = joined-lt (c .before .before .before .before .before .before .before .pre) (c .before .before .loop .inv .0) (c .lowest .ensures .0 .here)
+inside c = joined-lt (c .before .before .before .before .before .before .pre) (c .before .before .loop .inv .0) (c .lowest .ensures .0 .here)
 
 lowest-requires : tie.Need-lowest-requires Inv-loop μ-loop
 lowest-requires c κs = c .loop-test .taken
@@ -39,20 +37,18 @@ mul-join-one-2 : tie.Need-mul-join-one-2 Inv-loop μ-loop
 mul-join-one-2 c = omega (arith, inside c)
 
 shared-slice-read-join-one : tie.Need-shared-slice-read-join-one Inv-loop μ-loop
-shared-slice-read-join-one c = omega (arith, inside (c .before), c .before .before .before .before .before .before .before .before .pre)
+shared-slice-read-join-one c = omega (arith, inside (c .before), c .before .before .before .before .before .before .before .pre)
 
 mul-join-one-3 : tie.Need-mul-join-one-3 Inv-loop μ-loop
 mul-join-one-3 c = omega (arith, inside (c .before))
 
 shared-slice-read-join-one-2 : tie.Need-shared-slice-read-join-one-2 Inv-loop μ-loop
-shared-slice-read-join-one-2 c =
-    let c9 = c .before .before .before .before .before .before .before .before .before in
-    omega (arith, inside (c .before .before), c9 .pre)
+shared-slice-read-join-one-2 c = omega (arith, inside (c .before .before), c .before .before .before .before .before .before .before .before .pre)
 
 join-one-requires : tie.Need-join-one-requires Inv-loop μ-loop
 join-one-requires c κs =
-    let c9 = c .before .before .before .before .before .before .before .before .before in
-    omega (arith, inside (c .before .before), c9 .pre, c9 .pre .small (c .before .before .lowest .result) (inside (c .before .before)))
+    let c8 = c .before .before .before .before .before .before .before .before in
+    omega (arith, inside (c .before .before), c8 .pre, c8 .pre .small (c .before .before .lowest .result) (inside (c .before .before)))
 
 drop-requires : tie.Need-drop-requires Inv-loop μ-loop
 drop-requires c κs = c .before .before .before .lowest .ensures .1
@@ -64,15 +60,15 @@ loop-again : tie.Need-loop-again Inv-loop μ-loop
 loop-again c =
     let c4 = c .before .before .before .before in
     let c6 = c4 .before .before in
-    let c11 = c6 .before .before .before .before .before in
-    let at = c11 .args in
+    let c10 = c6 .before .before .before .before in
+    let at = c10 .args in
     let low = c4 .lowest in
     let inv = c6 .loop .inv in (
       taken-within (inv .0) (low .ensures .0) (c .drop .ensures),
       narrows-trans (inv .1)
           (narrows-for
           (λ M j.
-          joins-one (now (at .table)) (now (at .counts)) (now (at .heads)) (at .predecessors) M (low .result) (inside c4)
+          joins-one (now (at .table)) (now (at .counts)) (now (at .heads)) (at .predecessors) M (low .result) (inside (c4))
           (inv .0 .each (low .result) (low .ensures .0 .here)) j)
           (c .before .join-one .ensures)),
     )
@@ -86,7 +82,6 @@ join-all-spec =
     (tie.spec
     Inv-loop
     μ-loop
-    nearest-requires
     loop-holds
     lowest-requires
     mul-join-one

@@ -1,18 +1,34 @@
 -- Some of the predecessors are left. The measure is how many are to be tried.
-use Prim.Native.Nat.{_≤_, _<_}
-use native.Mathlib.Omega.{arith}
+use mathlib.Core.Path.{ap, subst, _∙_}
+use Prim.Native.Nat.{ℕ, _<_}
 use lib.Count.{ones}
-use Rattle.atoms.specs.Word.{_⊆_}
-use Rattle.atoms.proofs.Sets.{subset-refl, subset-trans, subset-le, has-lt}
+use Rattle.atoms.specs.Word.{Has, _⊆_, _∩_, below}
+use Rattle.atoms.proofs.Sets.{subset-refl, subset-trans, cut-left, cut-right, below-lt, lt-of-has}
 use Rattle.atoms.proofs.Counting.{taken-less, taken-within}
+use borrow.Author.Needs.{needs}
 use Rattle.unit_search.proofs.join.nearest.Statement.{statement}
 use Rattle.unit_search.proofs.join.nearest.Tie as tie
 
 abbrev Inv-loop : tie.InvT-loop
-Inv-loop heads predecessors near₀ rest₀ near rest = (rest ⊆ predecessors) × (near ⊆ predecessors)
+Inv-loop heads predecessors near₀ rest₀ near rest = (rest ⊆ near₀) × (near ⊆ near₀)
 
 abbrev μ-loop : tie.MeasureT-loop
 μ-loop heads predecessors near₀ rest₀ near rest = ones rest
+
+-- the loop starts with the predecessors below 16
+started : (c : tie.After-cut Inv-loop μ-loop) → {i : ℕ} → Has (c .cut .result) i → Has (c .before .before .before .args .predecessors ∩ below 16) i
+started c {i} h =
+    subst (λ (w : ℕ). Has w i)
+    (c .cut .ensures ∙ ap (λ (w : ℕ). c .before .before .before .args .predecessors ∩ w) (c .before .first .ensures)) h
+
+inside : (c : tie.After-cut Inv-loop μ-loop) → {i : ℕ} → Has (c .cut .result) i → i < 16
+inside c h = below-lt 16 (cut-right (c .before .before .before .args .predecessors) (below 16) (started c h))
+
+first-requires : tie.Need-first-requires Inv-loop μ-loop
+first-requires c κs = search needs
+
+cut-requires : tie.Need-cut-requires Inv-loop μ-loop
+cut-requires c κs = search needs
 
 loop-holds : tie.Need-loop-holds Inv-loop μ-loop
 loop-holds c = (subset-refl, subset-refl)
@@ -22,12 +38,11 @@ lowest-requires c κs = c .loop-test .taken
 
 without-covered-requires : tie.Need-without-covered-requires Inv-loop μ-loop
 without-covered-requires c κs =
-    let pre = c .before .before .before .before .pre in
-    let at = c .before .before .before .before .args in
-    let inv = c .before .before .loop .inv in (
-      pre .0,
-      omega (arith, subset-le (inv .1), pre .1),
-      has-lt (at .predecessors) 16 (pre .1) (inv .0 .each (c .lowest .result) (c .lowest .ensures .0 .here)),
+    let old = c .before .before .loop in
+    let start = c .before .before .before in (
+      start .before .before .before .pre,
+      lt-of-has (old .near) 16 (λ i h. inside start (old .inv .1 .each i h)),
+      inside start (old .inv .0 .each (c .lowest .result) (c .lowest .ensures .0 .here)),
     )
 
 drop-requires : tie.Need-drop-requires Inv-loop μ-loop
@@ -44,7 +59,11 @@ loop-again c =
     )
 
 returns : tie.Need-returns Inv-loop μ-loop
-returns c = c .before .loop .inv .1
+returns c =
+    let start = c .before .before in
+    record {
+      each = λ i h. cut-left (start .before .before .before .args .predecessors) (below 16) (started start (c .before .loop .inv .1 .each i h));
+    }
 
 pub nearest-spec : {M : Type 1} → statement M
 nearest-spec =
@@ -52,6 +71,8 @@ nearest-spec =
     (tie.spec
     Inv-loop
     μ-loop
+    first-requires
+    cut-requires
     loop-holds
     lowest-requires
     without-covered-requires

@@ -4,13 +4,15 @@ use native.Mathlib.Omega.{arith}
 use denote.Ref.{now}
 use Rattle.answer_sets.specs.Lent.{Lent}
 use Rattle.narrowing.proofs.Living.{live-lent}
+use Rattle.unit_search.proofs.Joining.{joinable-some}
 use Rattle.unit_search.proofs.Searching.{passes-narrow}
 use borrow.Author.Needs.{needs}
 use Rattle.unit_search.proofs.search.narrow.Statement.{statement}
 use Rattle.unit_search.proofs.search.narrow.Tie as tie
 
 join-all-requires : tie.Need-join-all-requires
-join-all-requires c κs = search needs
+join-all-requires c κs =
+    let pre = c .before .before .before .before .pre in joinable-some (pre .near) (pre .joinable)
 
 grow-requires : tie.Need-grow-requires
 grow-requires c κs = search needs
@@ -39,7 +41,7 @@ returns c =
     let c4 = c .before .before .before .before in
     let c9 = c4 .before .before .before .before .before in
     let at = c9 .args in
-    passes-narrow (now (at .rules)) (now (at .table)) (now (at .counts)) (now (at .heads)) (at .unit) (fits c4)
+    passes-narrow (now (at .rules)) (now (at .table)) (now (at .counts)) (now (at .heads)) (at .unit) (fits c4) (c9 .pre .near)
     (c .before .before .live-rules .result) (c4 .join-all .ensures) (c .before .before .before .grow .ensures)
     (c .before .before .live-rules .ensures)
     (c .before .support-pass .ensures) (c .founded-pass .ensures)
