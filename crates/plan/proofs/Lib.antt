@@ -9,3 +9,4 @@ pub mod RoundTrip
 pub mod Pigeonhole
 pub mod Accepted
 pub mod Limits
+pub mod Prefix

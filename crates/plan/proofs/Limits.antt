@@ -15,19 +15,19 @@ use Rattle.plan.specs.declared.record.Plan.{Plan}
 use Rattle.plan.specs.declared.command.Command.{Command}
 use Rattle.plan.specs.declared.command.Command.the-variants.{Rule, Unit as UnitOf, Edge, End, Fault as Faulty}
 
-rule-fits : (p : Plan) (at : ℕ) (s : List ℕ) (h b n : ℕ) → Fitting p → commandAt p at s ≡ Rule h b n → Fitting (withRule p h b n)
+pub rule-fits : (p : Plan) (at : ℕ) (s : List ℕ) (h b n : ℕ) → Fitting p → commandAt p at s ≡ Rule h b n → Fitting (withRule p h b n)
 unfolding withRule
 rule-fits p at s h b n f e =
     let room : p .«rule_count» < MAX_RULES = leb-false _ _ (carried-rule p at s h b n e .passed .1 .0) in
     record { rules-fit = omega arith; units-fit = f .units-fit }
 
-unit-fits : (p : Plan) (at : ℕ) (s : List ℕ) (w : ℕ) → Fitting p → commandAt p at s ≡ UnitOf w → Fitting (withUnit p w)
+pub unit-fits : (p : Plan) (at : ℕ) (s : List ℕ) (w : ℕ) → Fitting p → commandAt p at s ≡ UnitOf w → Fitting (withUnit p w)
 unfolding withUnit
 unit-fits p at s w f e =
     let room : p .«unit_count» < MAX_UNITS = leb-false _ _ (carried-unit p at s w e .passed .1 .0) in
     record { rules-fit = f .rules-fit; units-fit = omega arith }
 
-edge-fits : (p : Plan) (u v : ℕ) → Fitting p → Fitting (withEdge p u v)
+pub edge-fits : (p : Plan) (u v : ℕ) → Fitting p → Fitting (withEdge p u v)
 unfolding withEdge
 edge-fits p u v f = record { rules-fit = f .rules-fit; units-fit = f .units-fit }
 

@@ -7,7 +7,7 @@ use sheet::written_part;
 use unit_lists::TABLE_WORDS;
 
 fn main() {
-    // The first 4,096 bytes are kept: every reading fault shows within 2,467.
+    // The first 4,096 bytes are kept, and they decide the sheet: every reading fault shows within 2,467.
     let mut plan = io::buffer();
     let n = io::read_full(STDIN_FILENO, &mut plan);
     let mut table = [0u64; TABLE_WORDS];
