@@ -1,10 +1,10 @@
--- The sheet by the outcome, and that an accepted plan came with a long enough table.
-use mathlib.Core.Path.{_≡_, sym, ap, _∙_}
+-- The sheet by the outcome, that an accepted plan came with a long enough table, and the greatest length of a sheet.
+use mathlib.Core.Path.{_≡_, sym, ap, ap₂, _∙_, subst}
 use mathlib.Core.List.{List}
-use Prim.Native.Nat.{ℕ, _-_, _≤_, _<_}
+use Prim.Native.Nat.{ℕ, _-_, _^_, _≤_, _<_}
 use native.Mathlib.Omega.{arith}
 use native.Mathlib.Decide.{decLt}
-use lib.ListN.{length, take, drop, getD, length-drop}
+use lib.ListN.{length, take, drop, getD, length-take, length-drop}
 use lib.Seq.{take-all}
 use Rattle.plan.specs.Faults.{number, spot}
 use Rattle.plan.specs.declared.fault.Fault.{Fault}
@@ -12,9 +12,14 @@ use Rattle.plan.specs.declared.fault.Fault.the-variants.{TableShort}
 use Rattle.plan.specs.declared.reader.Outcome.{Outcome}
 use Rattle.plan.specs.declared.reader.Outcome.the-variants.{Accepted, Refused}
 use Rattle.sheet.specs.Sheet.{positionsSheet, refusalSheet}
+use Rattle.sheet.specs.Lent.{part}
+use Rattle.sheet.specs.declared.Written.{Written}
+use Rattle.sheet.proofs.Sheets.{positions-at-most, refusal-at-most}
+use Rattle.sheet.proofs.Writing.{part-filled}
 use Rattle.unit_lists.specs.Answer.{Answer, answer}
 use Rattle.unit_lists.proofs.Handing.{short-answer}
-use Rattle.print_sheet.specs.Sheets.{sheetFor, sheetOf}
+use Rattle.unit_lists.proofs.LastCount.{last-count-at-most}
+use Rattle.print_sheet.specs.Sheets.{sheetFor, sheetOf, SHEET_BYTES, Printed}
 
 pub sheet-refused : (a : Answer) (f : Fault) → a .outcome ≡ Refused f → refusalSheet (number f) (spot f) ≡ sheetOf a
 unfolding sheetOf sheetFor
@@ -38,3 +43,21 @@ accepted-long bytes table e = go (decLt (length table) 4352)
 -- the part of the table from 4,096 on
 pub part-is : (table : List ℕ) → take (length table - 4096) (drop 4096 table) ≡ drop 4096 table
 part-is table = take-all (length table - 4096) (drop 4096 table) (omega (arith, length-drop 4096 table))
+
+-- ---- no sheet is longer than SHEET_BYTES
+
+pub refused-at-most : (a : Answer) (number spot : ℕ) → number < 2 ^ 64 → spot < 2 ^ 64 → refusalSheet number spot ≡ sheetOf a → length (sheetOf a) ≤ SHEET_BYTES
+refused-at-most a number spot h l e = omega (arith, ap length e, refusal-at-most number spot h l)
+
+pub listed-at-most : (bytes table : List ℕ) → answer bytes table .outcome ≡ Accepted → length (sheetOf (answer bytes table)) ≤ SHEET_BYTES
+listed-at-most bytes table e =
+    let a = answer bytes table in
+    let words : List ℕ = take (getD (a .counts) 16 0) (drop 4096 (a .table)) in
+    let few : length words ≤ 256 = omega (arith, length-take (getD (a .counts) 16 0) (drop 4096 (a .table)), last-count-at-most bytes table) in
+    subst (λ (l : List ℕ). length l ≤ SHEET_BYTES) (sheet-listed a e) (positions-at-most words few)
+
+-- what is shown of a buffer of SHEET_BYTES or more is the sheet
+pub shown-is-sheet : (bytes table table′ sheet sheet′ : List ℕ) (r : Written) → Printed bytes table table′ sheet sheet′ r → SHEET_BYTES ≤ length sheet
+    → part r sheet′ ≡ sheetOf (answer bytes table)
+shown-is-sheet bytes table table′ sheet sheet′ r p long =
+    ap₂ part (p .written-is) (p .sheet-is) ∙ part-filled (sheetOf (answer bytes table)) sheet (omega (arith, p .at-most))

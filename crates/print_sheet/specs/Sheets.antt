@@ -1,8 +1,8 @@
 -- The sheet of an answer (document 01, The sheet it prints).
 use mathlib.Core.Path.{_≡_}
 use mathlib.Core.List.{List}
-use Prim.Native.Nat.{ℕ}
-use lib.ListN.{take, drop, getD}
+use Prim.Native.Nat.{ℕ, _≤_}
+use lib.ListN.{length, take, drop, getD}
 use Rattle.plan.specs.Faults.{number, spot}
 use Rattle.plan.specs.declared.reader.Outcome.{Outcome}
 use Rattle.plan.specs.declared.reader.Outcome.the-variants.{Accepted, Refused}
@@ -19,8 +19,13 @@ sheetFor Accepted counts table = positionsSheet (take (getD counts 16 0) (drop 4
 unfoldable pub sheetOf : Answer → List ℕ
 sheetOf a = sheetFor (a .outcome) (a .counts) (a .table)
 
--- the table is the answer's, and the sheet its sheet, where the buffer has room for it
+-- the length of the longest sheet: 256 positions make 14 bytes and 256 lines of 17
+abbrev pub SHEET_BYTES : ℕ
+SHEET_BYTES = 4366
+
+-- the table is the answer's, and the sheet its sheet, where the buffer has room for it; SHEET_BYTES are always enough
 pub record Printed (bytes table table′ sheet sheet′ : List ℕ) (r : Written) : Type 0 where
   pub table-is : table′ ≡ answer bytes table .table
   pub written-is : r ≡ written (sheetOf (answer bytes table)) sheet
   pub sheet-is : sheet′ ≡ filled (sheetOf (answer bytes table)) sheet
+  pub at-most : length (sheetOf (answer bytes table)) ≤ SHEET_BYTES

@@ -10,7 +10,7 @@ use unit_lists::LAST_LIST;
 use unit_lists::list_positions;
 ghost use Rattle.print_sheet.specs.Sheets.{Printed};
 
-// The longest sheet has 256 positions: 14 bytes and 256 lines of 17.
+// The length of the longest sheet, with 256 positions: 14 bytes and 256 lines of 17. The contract says that none is longer.
 pub const SHEET_BYTES: usize = 4366;
 
 // Lists the plan in the lent table and writes its sheet into the lent buffer.

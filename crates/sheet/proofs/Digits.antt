@@ -6,6 +6,7 @@ use mathlib.Core.Bool.{Bool, true, false}
 use native.Mathlib.Nat.{pow-suc, pow-le-pow-right, lt-trans}
 use native.Mathlib.Numerals.{add-one}
 use native.Mathlib.Omega.{arith}
+use native.Mathlib.Decide.{decLt}
 use borrow.Author.Tests.{lt-ltb, le-ltb, leb-true, leb-false}
 use lib.Dec.{leb, lit<, lit≤}
 use lib.ListN.{length, length-append}
@@ -59,6 +60,26 @@ fewest-at-most b least most n k pos le below f = go (leb k most) refl
         let low = f .2 (omega arith) in
         let powers : b ^ most ≤ b ^ (k - 1) = pow-le-pow-right pos (omega arith) in
         absurd (omega arith)
+
+-- the same of the definition's digits
+places-at-most : (turns n k : ℕ) → 0 < k → n < 10 ^ k → placesWithin turns n ≤ k
+unfolding placesWithin
+places-at-most zero n k pos h = omega arith
+places-at-most (suc turns) n zero pos h = absurd (omega arith)
+places-at-most (suc turns) n (suc zero) pos h = let e : placesWithin (suc turns) n ≡ 1 = places-last turns n (omega arith) in omega arith
+places-at-most (suc turns) n (suc (suc k)) pos h = go (decLt n 10) (places-at-most turns (n / 10) (suc k))
+  where
+    go : Dec (n < 10) → (0 < suc k → n / 10 < 10 ^ suc k → placesWithin turns (n / 10) ≤ suc k) → placesWithin (suc turns) n ≤ suc (suc k)
+    go (yes l) rec = let e : placesWithin (suc turns) n ≡ 1 = places-last turns n l in omega arith
+    go (no l) rec =
+        let top : n < 10 ^ suc k * 10 = rw (← pow-suc) h in
+        let e : placesWithin (suc turns) n ≡ suc (placesWithin turns (n / 10)) = places-step turns n (omega arith) in
+        let few : placesWithin turns (n / 10) ≤ suc k = rec (omega arith) (omega arith) in
+        omega arith
+
+pub decimal-at-most : (n k : ℕ) → 0 < k → n < 10 ^ k → length (decimal n) ≤ k
+unfolding decimal places
+decimal-at-most n k pos h = omega (arith, length-digits 10 (placesWithin (suc n) n) n, places-at-most (suc n) n k pos h)
 
 -- what `io::decimal` makes
 pub decimal-made : (n k : ℕ) (bytes : List ℕ) → Fewest 10 1 n k → bytes ≡ digits 10 k n → bytes ≡ decimal n

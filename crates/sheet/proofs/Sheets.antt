@@ -1,15 +1,17 @@
 -- A sheet is put together from its pieces, one behind the other, and its length is theirs.
-use Prim.Native.Nat.{ℕ, _+_, _*_, _<_}
+use Prim.Native.Nat.{ℕ, _+_, _*_, _^_, _≤_, _<_}
 use mathlib.Core.Path.{_≡_, refl, _∙_}
 use mathlib.Core.List.{List, [], _∷_, _++_, append-assoc, append-nil}
+use native.Mathlib.Nat.{lt-trans, lt-of-le-of-lt}
 use native.Mathlib.Numerals.{add-one}
 use native.Mathlib.Omega.{arith}
+use lib.Dec.{lit<}
 use lib.ListN.{length, take, getD, length-append}
 use lib.Seq.{take-suc}
 use Rattle.sheet.specs.Sheet.{lineEnd, positionsWord, refusedWord, atWord, decimal, hexadecimal, lineLength}
 use Rattle.sheet.specs.Sheet.{positionLine, positionLines, positionsSheet, refusalSheet}
 use Rattle.sheet.specs.Lent.{Put}
-use Rattle.sheet.proofs.Digits.{length-hexadecimal}
+use Rattle.sheet.proofs.Digits.{decimal-at-most, length-hexadecimal}
 use Rattle.sheet.proofs.Writing.{put-append, put-nothing}
 
 pub length-positionLine : (w : ℕ) → length (positionLine w) ≡ lineLength
@@ -43,6 +45,19 @@ length-positionsSheet ws =
 pub length-refusalSheet : (number spot : ℕ) → length (refusalSheet number spot) ≡ length (decimal number) + length (decimal spot) + 13
 unfolding refusalSheet refusedWord atWord lineEnd
 length-refusalSheet number spot = simp length-append (omega arith)
+
+-- 256 positions make a first line of 14 bytes, three of them the count's, and 256 lines
+pub positions-at-most : (ws : List ℕ) → length ws ≤ 256 → length (positionsSheet ws) ≤ 14 + lineLength * 256
+positions-at-most ws h =
+    let few : length (decimal (length ws)) ≤ 3 = decimal-at-most (length ws) 3 (lit< tt) (lt-of-le-of-lt h (lit< tt)) in
+    omega (arith, length-positionsSheet ws)
+
+-- a refusal's number and spot have at most twenty digits each, as every word
+pub refusal-at-most : (number spot : ℕ) → number < 2 ^ 64 → spot < 2 ^ 64 → length (refusalSheet number spot) ≤ 53
+refusal-at-most number spot h l =
+    let few : length (decimal number) ≤ 20 = decimal-at-most number 20 (lit< tt) (lt-trans h (lit< tt)) in
+    let few-more : length (decimal spot) ≤ 20 = decimal-at-most spot 20 (lit< tt) (lt-trans l (lit< tt)) in
+    omega (arith, length-refusalSheet number spot)
 
 pub put-positionLine : (w : ℕ) {at mid next : ℕ} {s t u : List ℕ} → Put (hexadecimal w) at s t mid → Put lineEnd mid t u next → Put (positionLine w) at s u next
 unfolding positionLine

@@ -9,3 +9,4 @@ pub mod Handing
 pub mod Reading
 pub mod Demand2
 pub mod Demand3
+pub mod LastCount

@@ -9,7 +9,7 @@ use Rattle.sheet.specs.Sheet.{positionsSheet, refusalSheet}
 use Rattle.sheet.specs.Lent.{answer as written, filled}
 use Rattle.unit_lists.specs.Answer.{answer}
 use Rattle.print_sheet.specs.Sheets.{sheetOf}
-use Rattle.print_sheet.proofs.Sheets.{sheet-refused, sheet-listed, accepted-long, part-is}
+use Rattle.print_sheet.proofs.Sheets.{sheet-refused, sheet-listed, accepted-long, part-is, refused-at-most, listed-at-most}
 use borrow.Author.Needs.{needs}
 use Rattle.print_sheet.proofs.print_sheet.Statement.{statement}
 use Rattle.print_sheet.proofs.print_sheet.Tie as tie
@@ -53,6 +53,9 @@ returns c =
       table-is = handed .table-is;
       written-is = c .before .before .write-refusal .ensures .0 ∙ ap (λ (b : List ℕ). written b (now (at .sheet))) e;
       sheet-is = c .before .before .write-refusal .ensures .1 ∙ ap (λ (b : List ℕ). filled b (now (at .sheet))) e;
+      at-most =
+          refused-at-most (answer (now (at .plan)) (now (at .table))) (c .before .before .before .before .before .fault-number .result) (c .before .before .before .before .fault-spot .result)
+          (c .before .before .before .before .before .fault-number .ok) (c .before .before .before .before .fault-spot .ok) e;
     }
 
 enum-told : tie.Need-enum-told
@@ -92,6 +95,7 @@ returns-2 c =
       table-is = handed .table-is;
       written-is = c .before .before .write-positions .ensures .0 ∙ ap (λ (b : List ℕ). written b (now (at .sheet))) e;
       sheet-is = c .before .before .write-positions .ensures .1 ∙ ap (λ (b : List ℕ). filled b (now (at .sheet))) e;
+      at-most = listed-at-most (now (at .plan)) (now (at .table)) accepted;
     }
 
 pub print-sheet-spec : {M : Type 1} → statement M
