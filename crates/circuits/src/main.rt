@@ -3,16 +3,14 @@
 // brute-force lister found. Each plan `several-..` breaks one graph condition in several places.
 use libc::STDOUT_FILENO;
 use print_sheet::SHEET_BYTES;
-use print_sheet::print_sheet;
-use sheet::written_part;
+use print_sheet::shown_sheet;
 use unit_lists::TABLE_WORDS;
 
 // Writes the sheet of a plan.
 fn write_sheet(plan: &[u8]) {
     let mut table = [0u64; TABLE_WORDS];
     let mut sheet = [0u8; SHEET_BYTES];
-    let written = print_sheet(plan, &mut table, &mut sheet);
-    io::write_all(STDOUT_FILENO, written_part(&sheet, written));
+    io::write_all(STDOUT_FILENO, shown_sheet(plan, &mut table, &mut sheet));
 }
 
 // Writes a plan's name and its sheet.

@@ -1,5 +1,5 @@
 -- The sheet by the outcome, that an accepted plan came with a long enough table, and the greatest length of a sheet.
-use mathlib.Core.Path.{_≡_, sym, ap, ap₂, _∙_, subst}
+use mathlib.Core.Path.{_≡_, sym, ap, ap₂, _∙_}
 use mathlib.Core.List.{List}
 use Prim.Native.Nat.{ℕ, _-_, _^_, _≤_, _<_}
 use native.Mathlib.Omega.{arith}
@@ -54,7 +54,7 @@ listed-at-most bytes table e =
     let a = answer bytes table in
     let words : List ℕ = take (getD (a .counts) 16 0) (drop 4096 (a .table)) in
     let few : length words ≤ 256 = omega (arith, length-take (getD (a .counts) 16 0) (drop 4096 (a .table)), last-count-at-most bytes table) in
-    subst (λ (l : List ℕ). length l ≤ SHEET_BYTES) (sheet-listed a e) (positions-at-most words few)
+    omega (arith, ap length (sheet-listed a e), positions-at-most words few)
 
 -- what is shown of a buffer of SHEET_BYTES or more is the sheet
 pub shown-is-sheet : (bytes table table′ sheet sheet′ : List ℕ) (r : Written) → Printed bytes table table′ sheet sheet′ r → SHEET_BYTES ≤ length sheet

@@ -5,10 +5,15 @@ use plan::fault_spot;
 use sheet::Written;
 use sheet::write_positions;
 use sheet::write_refusal;
+use sheet::written_part;
 use unit_lists::LAST_COUNT;
 use unit_lists::LAST_LIST;
 use unit_lists::list_positions;
-ghost use Rattle.print_sheet.specs.Sheets.{Printed};
+ghost use Prim.Native.Nat.{_≤_};
+ghost use mathlib.Core.Path.{_≡_};
+ghost use lib.ListN.{length};
+ghost use Rattle.unit_lists.specs.Answer.{answer};
+ghost use Rattle.print_sheet.specs.Sheets.{sheetOf, SHEET_BYTES, Printed};
 
 // The length of the longest sheet, with 256 positions: 14 bytes and 256 lines of 17. The contract says that none is longer.
 pub const SHEET_BYTES: usize = 4366;
@@ -24,4 +29,14 @@ pub fn print_sheet(plan: &[u8], table: &mut [u64], sheet: &mut [u8]) -> Written
     }
     let counts = listing.counts;
     write_positions(&table[LAST_LIST..], counts[LAST_COUNT], sheet)
+}
+
+// Prints the plan's sheet and hands it back: the part of the lent buffer that it fills.
+pub fn shown_sheet<'a>(plan: &[u8], table: &mut [u64], sheet: &'a mut [u8]) -> &'a [u8]
+    requires { ⌜ SHEET_BYTES ≤ length (now sheet) ⌝ }
+    ensures { λ r. ⌜ now r ≡ sheetOf (answer (now (plan .entry)) (now (table .entry))) ⌝ }
+    ensures { λ _. ⌜ now (table .exit) ≡ answer (now (plan .entry)) (now (table .entry)) .table ⌝ }
+{
+    let written = print_sheet(plan, table, sheet);
+    written_part(sheet, written)
 }

@@ -2,8 +2,7 @@
 use libc::STDIN_FILENO;
 use libc::STDOUT_FILENO;
 use print_sheet::SHEET_BYTES;
-use print_sheet::print_sheet;
-use sheet::written_part;
+use print_sheet::shown_sheet;
 use unit_lists::TABLE_WORDS;
 
 fn main() {
@@ -12,6 +11,8 @@ fn main() {
     let n = io::read_full(STDIN_FILENO, &mut plan);
     let mut table = [0u64; TABLE_WORDS];
     let mut sheet = [0u8; SHEET_BYTES];
-    let written = print_sheet(&plan[0..n], &mut table, &mut sheet);
-    io::write_all(STDOUT_FILENO, written_part(&sheet, written));
+    io::write_all(
+        STDOUT_FILENO,
+        shown_sheet(&plan[0..n], &mut table, &mut sheet),
+    );
 }
