@@ -1,77 +1,27 @@
--- The steps of the check: words of offenders built number by number, and what they are of lent words.
-use mathlib.Core.Path.{_≡_, refl, sym, ap, _∙_, subst}
-use mathlib.Core.Bool.{Bool, true, false, not, _&&_}
+-- The words of offenders, of lent words, and the rows of the verdict.
+use mathlib.Core.Path.{_≡_, refl, sym, ap, _∙_}
+use mathlib.Core.Bool.{Bool, not, _&&_}
 use mathlib.Core.List.{List, []}
-use Prim.Native.Nat.{ℕ, suc, _+_, _*_, _≤_, _<_}
-use native.Mathlib.Omega.{arith}
-use native.Mathlib.Numerals.{add-one}
+use Prim.Native.Nat.{ℕ, _+_, _*_, _<_}
 use lib.Dec.{eqb}
 use lib.ListN.{getD}
-use Rattle.atoms.specs.Word.{Has, has, _∩_, _∪_, _∖_, atom, below, apart, Lowest}
+use Rattle.atoms.specs.Word.{has, _∩_, _∪_, _∖_, below, apart, Lowest}
 use Rattle.atoms.specs.Bounded.{unionIn, wordBelow}
-use Rattle.atoms.proofs.Tests.{and-true, decided-true, not-both}
-use Rattle.atoms.proofs.Sets.{decides-has, has-atom, atom-only, has-none, has-below, ext}
+use Rattle.atoms.proofs.Sets.{has-below, ext}
 use Rattle.atoms.proofs.Bounded.{union-has, union-at, word-has, word-at}
-use Rattle.atoms.proofs.MoreSets.{union-none-right}
 use Rattle.answer_sets.specs.Lent.{lent}
 use Rattle.dependency_graph.specs.Heads.{reach}
 use Rattle.dependency_graph.specs.Lowest.{lowestOf}
 use Rattle.dependency_graph.specs.Slices.{unitsOf, edgesOf, Filled}
-use Rattle.dependency_graph.specs.Steps.{singleIf}
 use Rattle.dependency_graph.specs.Offenders.{unionBelow, twiceBelow, seen, unseenHeads, clashing, covered, unplaced, shared, cyclic, nonmonotonicUnseen, monotonicUnseen}
 use Rattle.dependency_graph.specs.declared.Verdict.{Verdict}
-use Rattle.dependency_graph.specs.Check.{row, verdict}
+use Rattle.dependency_graph.specs.Check.{row}
 use Rattle.dependency_graph.proofs.Lowest.{lowest-of}
 use Rattle.dependency_graph.proofs.Offenders.{union-below-has, union-below-at}
 use Rattle.dependency_graph.proofs.Slices.{reach-edges}
 use Rattle.dependency_graph.proofs.Verdicts.{row-misses, row-fits}
 
--- ---- one number more
-
-single-if-has : (b : Bool) (i : ℕ) → b ≡ true → Has (singleIf b i) i
-unfolding singleIf
-single-if-has true i e = has-atom i
-single-if-has false i e = absurd (not-both e refl)
-
-single-if-at : (b : Bool) (i : ℕ) {a : ℕ} → Has (singleIf b i) a → (b ≡ true) × (i ≡ a)
-unfolding singleIf
-single-if-at true i h = (refl, atom-only i h)
-single-if-at false i h = absurd (has-none h)
-
-word-suc : (n : ℕ) (p : ℕ → Bool) → wordBelow n p ∪ singleIf (p n) n ≡ wordBelow (suc n) p
-unfolding wordBelow singleIf
-word-suc n p = go (p n)
-  where
-    go : (b : Bool) → wordBelow n p ∪ (elim b [ true ↦ atom n | false ↦ 0 ])
-        ≡ (elim b [ true ↦ wordBelow n p ∪ atom n | false ↦ wordBelow n p ])
-    go true = refl
-    go false = union-none-right (wordBelow n p)
-
-pub word-more : {w w′ x : ℕ} (n : ℕ) (p : ℕ → Bool) → w ≡ wordBelow n p → x ≡ singleIf (p n) n → w′ ≡ w ∪ x
-    → w′ ≡ wordBelow (n + 1) p
-word-more {x = x} n p e d f =
-    f ∙ ap (λ (y : ℕ). y ∪ x) e ∙ ap (λ (y : ℕ). wordBelow n p ∪ y) d ∙ word-suc n p ∙ ap (λ (k : ℕ). wordBelow k p) (sym (add-one n))
-
-pub word-end : {w k : ℕ} (n : ℕ) (p : ℕ → Bool) → w ≡ wordBelow k p → k ≤ n → n ≤ k → w ≡ wordBelow n p
-word-end {k = k} n p e a b = let q : k ≡ n = omega arith in e ∙ ap (λ (i : ℕ). wordBelow i p) q
-
-pub union-more : {w w′ x : ℕ} (n : ℕ) (f : ℕ → ℕ) → w ≡ unionBelow n f → x ≡ f n → w′ ≡ w ∪ x → w′ ≡ unionBelow (n + 1) f
-unfolding unionBelow
-union-more {x = x} n f e d g =
-    g ∙ ap (λ (y : ℕ). y ∪ x) e ∙ ap (λ (y : ℕ). unionBelow n f ∪ y) d ∙ ap (λ (k : ℕ). unionBelow k f) (sym (add-one n))
-
-pub union-end : {w k : ℕ} (n : ℕ) (f : ℕ → ℕ) → w ≡ unionBelow k f → k ≤ n → n ≤ k → w ≡ unionBelow n f
-union-end {k = k} n f e a b = let q : k ≡ n = omega arith in e ∙ ap (λ (i : ℕ). unionBelow i f) q
-
-pub twice-more : {o t t′ c : ℕ} (n : ℕ) (f : ℕ → ℕ) → o ≡ unionBelow n f → t ≡ twiceBelow n f → c ≡ o ∩ f n → t′ ≡ t ∪ c
-    → t′ ≡ twiceBelow (n + 1) f
-unfolding twiceBelow
-twice-more {c = c} n f o t e g =
-    g ∙ ap (λ (y : ℕ). y ∪ c) t ∙ ap (λ (y : ℕ). twiceBelow n f ∪ y) (e ∙ ap (λ (y : ℕ). y ∩ f n) o)
-    ∙ ap (λ (k : ℕ). twiceBelow k f) (sym (add-one n))
-
-pub twice-end : {w k : ℕ} (n : ℕ) (f : ℕ → ℕ) → w ≡ twiceBelow k f → k ≤ n → n ≤ k → w ≡ twiceBelow n f
-twice-end {k = k} n f e a b = let q : k ≡ n = omega arith in e ∙ ap (λ (i : ℕ). twiceBelow i f) q
+-- ---- sets of numbers below a bound
 
 -- the union over all numbers below a bound
 pub union-all : (n : ℕ) (f : ℕ → ℕ) → unionIn n (below n) f ≡ unionBelow n f
@@ -79,24 +29,6 @@ union-all n f =
     ext (unionIn n (below n) f) (unionBelow n f)
     (λ a h. let s = union-at n (below n) f a h in union-below-has n f (s .0) a (s .1) (s .3))
     (λ a h. let s = union-below-at n f a h in union-has n (below n) f (s .0) a (s .1) (has-below n (s .0) (s .1)) (s .2))
-
--- the members of a word of which a test holds, gathered one by one
-pub word-in : (n w : ℕ) (p : ℕ → Bool) → unionIn n w (λ s. singleIf (p s) s) ≡ wordBelow n (λ s. has w s && p s)
-word-in n w p =
-    ext (unionIn n w (λ s. singleIf (p s) s)) (wordBelow n (λ s. has w s && p s)) into from
-  where
-    into : (a : ℕ) → Has (unionIn n w (λ s. singleIf (p s) s)) a → Has (wordBelow n (λ s. has w s && p s)) a
-    into a h =
-        let s = union-at n w (λ i. singleIf (p i) i) a h in
-        let t = single-if-at (p (s .0)) (s .0) (s .3) in
-        subst (λ (x : ℕ). Has (wordBelow n (λ i. has w i && p i)) x) (t .1)
-        (word-has n (λ i. has w i && p i) (s .0) (s .1) (and-true (has w (s .0)) (p (s .0)) .1 (decided-true (decides-has w (s .0)) (s .2), t .0)))
-
-    from : (a : ℕ) → Has (wordBelow n (λ s. has w s && p s)) a → Has (unionIn n w (λ s. singleIf (p s) s)) a
-    from a h =
-        let s = word-at n (λ i. has w i && p i) a h in
-        let t = and-true (has w a) (p a) .0 (s .1) in
-        union-has n w (λ i. singleIf (p i) i) a a (s .0) (decides-has w a .yes (t .0)) (single-if-has (p a) a (t .1))
 
 word-same : (n : ℕ) (p q : ℕ → Bool) → ((i : ℕ) → i < n → p i ≡ q i) → wordBelow n p ≡ wordBelow n q
 word-same n p q e =
@@ -184,17 +116,3 @@ row-found f below {v} {w} {r} e n l =
 -- it has none: the rows below
 pub row-passed : (f : ℕ → Verdict) (below : Verdict) {v w : ℕ} → v ≡ w → v ≡ 0 → below ≡ row w f below
 row-passed f below {v} {w} e z = sym (row-misses w f below (sym e ∙ z))
-
--- ---- no number yet
-
-pub word-start : (p : ℕ → Bool) → 0 ≡ wordBelow 0 p
-unfolding wordBelow
-word-start p = refl
-
-pub union-start : (f : ℕ → ℕ) → 0 ≡ unionBelow 0 f
-unfolding unionBelow
-union-start f = refl
-
-pub twice-start : (f : ℕ → ℕ) → 0 ≡ twiceBelow 0 f
-unfolding twiceBelow
-twice-start f = refl

@@ -8,20 +8,50 @@ use lib.ListN.{length, getD, set, length-set}
 use lib.Seq.{getD-set-same, getD-set-other}
 use Rattle.dependency_graph.specs.Slices.{Filled}
 
-pub filled-none : {f : ℕ → ℕ} {xs : List ℕ} → Filled 0 f xs xs
-filled-none = record { same-length = refl; filled = λ i l. absurd (omega arith); kept = λ i l. refl }
+-- ---- while it is filled
 
-pub filled-more : {i : ℕ} {f : ℕ → ℕ} {before after : List ℕ} → Filled i f before after → (v : ℕ) → i < length after → v ≡ f i
-    → Filled (i + 1) f before (set after i v)
-filled-more {i} {f} {before} {after} t v l e = record {
-  same-length = length-set after i v ∙ t .same-length;
-  filled = λ j k. at j k (ℕ-discrete j i);
-  kept = λ j k. getD-set-other after i j v 0 (λ q. absurd (omega arith)) ∙ t .kept j (omega arith);
+-- of n words, for which there is room, the first i are filled
+pub record Filling (n i : ℕ) (f : ℕ → ℕ) (before after : List ℕ) : Type 0 where
+  pub room : n ≤ length before
+  pub within : i ≤ n
+  pub so-far : Filled i f before after
+
+pub filling-start : {n : ℕ} {f : ℕ → ℕ} {xs : List ℕ} → n ≤ length xs → Filling n 0 f xs xs
+filling-start l = record {
+  room = l;
+  within = omega arith;
+  so-far = record { same-length = refl; filled = λ i k. absurd (omega arith); kept = λ i k. refl };
+}
+
+-- a word that is not reached yet is as it came
+pub unreached : {n i : ℕ} {f : ℕ → ℕ} {before after : List ℕ} → Filling n i f before after → getD after i 0 ≡ getD before i 0
+unreached {i = i} t = t .so-far .kept i (omega arith)
+
+-- one word more
+pub filling-more : {n i v : ℕ} {f : ℕ → ℕ} {before after : List ℕ} → Filling n i f before after → i < n → v ≡ f i
+    → Filling n (i + 1) f before (set after i v)
+filling-more {n} {i} {v} {f} {before} {after} t l e = record {
+  room = t .room;
+  within = omega arith;
+  so-far = record {
+    same-length = length-set after i v ∙ t .so-far .same-length;
+    filled = λ j k. at j k (ℕ-discrete j i);
+    kept = λ j k. getD-set-other after i j v 0 (λ q. absurd (omega arith)) ∙ t .so-far .kept j (omega arith);
+  };
 }
   where
     at : (j : ℕ) → j < i + 1 → Dec (j ≡ i) → getD (set after i v) j 0 ≡ f j
-    at j k (yes q) = rw q (getD-set-same after i v 0 l ∙ e)
-    at j k (no q) = getD-set-other after i j v 0 q ∙ t .filled j (omega arith)
+    at j k (yes q) = rw q (getD-set-same after i v 0 (omega (arith, t .room, t .so-far .same-length)) ∙ e)
+    at j k (no q) = getD-set-other after i j v 0 q ∙ t .so-far .filled j (omega arith)
+
+pub filling-end : {n i : ℕ} {f : ℕ → ℕ} {before after : List ℕ} → Filling n i f before after → n ≤ i → Filled n f before after
+filling-end t l = record {
+  same-length = t .so-far .same-length;
+  filled = λ j k. t .so-far .filled j (omega (arith, t .within));
+  kept = λ j k. t .so-far .kept j (omega (arith, t .within));
+}
+
+-- ---- once it is filled
 
 -- the same table, its words given otherwise
 pub filled-same : {n : ℕ} {f : ℕ → ℕ} {before after : List ℕ} → Filled n f before after → (g : ℕ → ℕ)
@@ -38,13 +68,6 @@ filled-again s t = record {
   same-length = t .same-length ∙ s .same-length;
   filled = t .filled;
   kept = λ i l. t .kept i l ∙ s .kept i l;
-}
-
-pub filled-end : {i n : ℕ} {f : ℕ → ℕ} {before after : List ℕ} → Filled i f before after → i ≤ n → n ≤ i → Filled n f before after
-filled-end {i} {n} t k l = record {
-  same-length = t .same-length;
-  filled = λ j q. t .filled j (omega arith);
-  kept = λ j q. t .kept j (omega arith);
 }
 
 pub filled-itself : {n : ℕ} {f : ℕ → ℕ} {before after : List ℕ} → Filled n f before after → Filled n f after after

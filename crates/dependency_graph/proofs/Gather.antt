@@ -1,33 +1,108 @@
--- A union of words by number, gathered one number at a time: what is gathered and what the rest would add make the whole.
-use mathlib.Core.Path.{_≡_, sym, ap, _∙_, subst}
+-- What a loop gathers over the numbers of a word, which it takes out one by one, the lowest first: the union of their words, or
+-- those of which a test holds. What is gathered and what the rest would add make the whole.
+use mathlib.Core.Path.{_≡_, refl, sym, ap, _∙_, subst}
+use mathlib.Core.Bool.{Bool, true, false, _&&_}
 use Prim.Native.Nat.{ℕ, _<_}
-use Rattle.atoms.specs.Word.{Has, _∩_, _∪_, _∖_, atom, below}
-use Rattle.atoms.specs.Bounded.{unionIn}
-use Rattle.atoms.proofs.Sets.{cut-right, without-left, below-lt}
+use lib.Count.{ones}
+use Rattle.atoms.specs.Word.{Has, has, _∩_, _∪_, _∖_, atom, below, Lowest}
+use Rattle.atoms.specs.Bounded.{unionIn, wordBelow}
+use Rattle.atoms.proofs.Tests.{and-true, decided-true, not-both}
+use Rattle.atoms.proofs.Sets.{decides-has, has-atom, atom-only, has-none, cut-right, without-left, below-lt, ext}
+use Rattle.atoms.proofs.Counting.{taken-less}
+use Rattle.atoms.proofs.Bounded.{union-has, union-at, word-has, word-at}
 use Rattle.atoms.proofs.MoreSets.{union-none-left, union-none-right, union-assoc, union-in-none, union-in-cut, union-in-take}
+use Rattle.dependency_graph.specs.Steps.{singleIf}
+
+-- ---- one number is taken out of the rest
+
+taken : (rest i : ℕ) {one rest′ : ℕ} → one ≡ atom i → rest′ ≡ rest ∖ one → rest′ ≡ rest ∖ atom i
+taken rest i p e = e ∙ ap (λ (w : ℕ). rest ∖ w) p
+
+pub fewer-left : {rest one rest′ i : ℕ} → Lowest rest i → one ≡ atom i → rest′ ≡ rest ∖ one → ones rest′ < ones rest
+fewer-left {rest} {i = i} low p e = taken-less low (taken rest i p e)
+
+-- ---- the union of the words f i
 
 pub record Gathers (n : ℕ) (f : ℕ → ℕ) (which all rest : ℕ) : Type 0 where
   pub same : all ∪ unionIn n rest f ≡ unionIn n which f
   pub bounded : (i : ℕ) → Has rest i → i < n
 
-pub gathers-start : (n : ℕ) (f : ℕ → ℕ) (which rest : ℕ) → rest ≡ which ∩ below n → Gathers n f which 0 rest
-gathers-start n f which rest e = record {
+pub gathers-start : {n : ℕ} {f : ℕ → ℕ} {which first rest : ℕ} → first ≡ below n → rest ≡ which ∩ first → Gathers n f which 0 rest
+gathers-start {n} {f} {which} {first} {rest} p q = record {
   same = union-none-left (unionIn n rest f) ∙ ap (λ (w : ℕ). unionIn n w f) e ∙ union-in-cut n which f;
   bounded = λ i h. below-lt n (cut-right which (below n) (subst (λ (w : ℕ). Has w i) e h));
 }
+  where
+    e : rest ≡ which ∩ below n
+    e = q ∙ ap (λ (w : ℕ). which ∩ w) p
 
-pub gathers-more : {n : ℕ} {f : ℕ → ℕ} {which all rest : ℕ} → Gathers n f which all rest → (i all′ rest′ x : ℕ) → Has rest i
-    → f i ≡ x → rest′ ≡ rest ∖ atom i → all′ ≡ all ∪ x → Gathers n f which all′ rest′
-gathers-more {n} {f} {which} {all} {rest} g i all′ rest′ x h v e d = record {
+-- the next number is one of the n
+pub next-lt : {n : ℕ} {f : ℕ → ℕ} {which all rest i : ℕ} → Gathers n f which all rest → Lowest rest i → i < n
+next-lt {i = i} g low = g .bounded i (low .here)
+
+pub gathers-more : {n : ℕ} {f : ℕ → ℕ} {which all rest i one rest′ x all′ : ℕ} → Gathers n f which all rest → Lowest rest i
+    → one ≡ atom i → rest′ ≡ rest ∖ one → x ≡ f i → all′ ≡ all ∪ x → Gathers n f which all′ rest′
+gathers-more {n} {f} {which} {all} {rest} {i} {one} {rest′} g low p q v d = record {
   same =
-      ap (λ (w : ℕ). w ∪ unionIn n rest′ f) (d ∙ ap (λ (y : ℕ). all ∪ y) (sym v))
+      ap (λ (w : ℕ). w ∪ unionIn n rest′ f) (d ∙ ap (λ (y : ℕ). all ∪ y) v)
       ∙ ap (λ (w : ℕ). (all ∪ f i) ∪ unionIn n w f) e
       ∙ union-assoc all (f i) (unionIn n (rest ∖ atom i) f)
-      ∙ ap (λ (w : ℕ). all ∪ w) (sym (union-in-take n rest f i (g .bounded i h) h))
+      ∙ ap (λ (w : ℕ). all ∪ w) (sym (union-in-take n rest f i (next-lt g low) (low .here)))
       ∙ g .same;
-  bounded = λ j p. g .bounded j (without-left rest (atom i) (subst (λ (w : ℕ). Has w j) e p));
+  bounded = λ j h. g .bounded j (without-left rest (atom i) (subst (λ (w : ℕ). Has w j) e h));
 }
+  where
+    e : rest′ ≡ rest ∖ atom i
+    e = taken rest i p q
 
 pub gathers-end : {n : ℕ} {f : ℕ → ℕ} {which all rest : ℕ} → Gathers n f which all rest → rest ≡ 0 → all ≡ unionIn n which f
 gathers-end {n} {f} {which} {all} {rest} g e =
     sym (ap (λ (w : ℕ). all ∪ w) (ap (λ (w : ℕ). unionIn n w f) e ∙ union-in-none n f) ∙ union-none-right all) ∙ g .same
+
+-- ---- the numbers of which the test p holds
+
+pub record Picks (n : ℕ) (p : ℕ → Bool) (which found rest : ℕ) : Type 0 where
+  pub gathered : Gathers n (λ i. singleIf (p i) i) which found rest
+
+pub picks-start : {n : ℕ} {p : ℕ → Bool} {which first rest : ℕ} → first ≡ below n → rest ≡ which ∩ first → Picks n p which 0 rest
+picks-start e d = record { gathered = gathers-start e d }
+
+pub picked-lt : {n : ℕ} {p : ℕ → Bool} {which found rest i : ℕ} → Picks n p which found rest → Lowest rest i → i < n
+picked-lt g low = next-lt (g .gathered) low
+
+pub picks-more : {n : ℕ} {p : ℕ → Bool} {which found rest i one rest′ x found′ : ℕ} {b : Bool} → Picks n p which found rest
+    → Lowest rest i → one ≡ atom i → rest′ ≡ rest ∖ one → b ≡ p i → x ≡ singleIf b i → found′ ≡ found ∪ x → Picks n p which found′ rest′
+picks-more {i = i} g low e d t v u = record {
+  gathered = gathers-more (g .gathered) low e d (v ∙ ap (λ (y : Bool). singleIf y i) t) u;
+}
+
+single-if-has : (b : Bool) (i : ℕ) → b ≡ true → Has (singleIf b i) i
+unfolding singleIf
+single-if-has true i e = has-atom i
+single-if-has false i e = absurd (not-both e refl)
+
+single-if-at : (b : Bool) (i : ℕ) {a : ℕ} → Has (singleIf b i) a → (b ≡ true) × (i ≡ a)
+unfolding singleIf
+single-if-at true i h = (refl, atom-only i h)
+single-if-at false i h = absurd (has-none h)
+
+word-in : (n w : ℕ) (p : ℕ → Bool) → unionIn n w (λ s. singleIf (p s) s) ≡ wordBelow n (λ s. has w s && p s)
+word-in n w p =
+    ext (unionIn n w (λ s. singleIf (p s) s)) (wordBelow n (λ s. has w s && p s)) into from
+  where
+    into : (a : ℕ) → Has (unionIn n w (λ s. singleIf (p s) s)) a → Has (wordBelow n (λ s. has w s && p s)) a
+    into a h =
+        let s = union-at n w (λ i. singleIf (p i) i) a h in
+        let t = single-if-at (p (s .0)) (s .0) (s .3) in
+        subst (λ (x : ℕ). Has (wordBelow n (λ i. has w i && p i)) x) (t .1)
+        (word-has n (λ i. has w i && p i) (s .0) (s .1) (and-true (has w (s .0)) (p (s .0)) .1 (decided-true (decides-has w (s .0)) (s .2), t .0)))
+
+    from : (a : ℕ) → Has (wordBelow n (λ s. has w s && p s)) a → Has (unionIn n w (λ s. singleIf (p s) s)) a
+    from a h =
+        let s = word-at n (λ i. has w i && p i) a h in
+        let t = and-true (has w a) (p a) .0 (s .1) in
+        union-has n w (λ i. singleIf (p i) i) a a (s .0) (decides-has w a .yes (t .0)) (single-if-has (p a) a (t .1))
+
+pub picks-end : {n : ℕ} {p : ℕ → Bool} {which found rest : ℕ} → Picks n p which found rest → rest ≡ 0
+    → found ≡ wordBelow n (λ i. has which i && p i)
+picks-end {n} {p} {which} g e = gathers-end (g .gathered) e ∙ word-in n which p

@@ -1,5 +1,6 @@
 pub mod Heads
 pub mod Gather
+pub mod Building
 pub mod Filling
 pub mod Lowest
 pub mod Steps

@@ -29,14 +29,17 @@ lowest-requires-2 c κs = search needs
 returns-2 : tie.Need-returns-2
 unfolding dependenceRows
 returns-2 c =
-    row-found _ _ (monotonic-lent _ _ _ _ _ (c .before .before .before .first .ensures) (c .before .before .before .before .before .judge-dependences .ensures .1) (c .before .before .without .ensures)) (c .before .if2 .taken) (c .lowest2 .ensures)
-    ∙ row-passed _ _ (c .before .before .before .before .before .judge-dependences .ensures .0 ∙ nonmonotonic-lent _ _ _ _ _) (c .before .before .before .before .if1 .left)
+    let c4 = c .before .before .before .before in
+    let c5 = c4 .before in
+    row-found _ _ (monotonic-lent _ _ _ _ _ (c .before .before .before .first .ensures) (c5 .judge-dependences .ensures .1) (c .before .before .without .ensures)) (c .before .if2 .taken) (c .lowest2 .ensures)
+    ∙ row-passed _ _ (c5 .judge-dependences .ensures .0 ∙ nonmonotonic-lent _ _ _ _ _) (c4 .if1 .left)
 
 returns-3 : tie.Need-returns-3
 unfolding dependenceRows
 returns-3 c =
-    row-passed _ _ (monotonic-lent _ _ _ _ _ (c .before .before .first .ensures) (c .before .before .before .before .judge-dependences .ensures .1) (c .before .without .ensures)) (c .if2 .left)
-    ∙ row-passed _ _ (c .before .before .before .before .judge-dependences .ensures .0 ∙ nonmonotonic-lent _ _ _ _ _) (c .before .before .before .if1 .left)
+    let c4 = c .before .before .before .before in
+    row-passed _ _ (monotonic-lent _ _ _ _ _ (c .before .before .first .ensures) (c4 .judge-dependences .ensures .1) (c .before .without .ensures)) (c .if2 .left)
+    ∙ row-passed _ _ (c4 .judge-dependences .ensures .0 ∙ nonmonotonic-lent _ _ _ _ _) (c .before .before .before .if1 .left)
 
 pub check-dependences-spec : {M : Type 1} → statement M
 check-dependences-spec =

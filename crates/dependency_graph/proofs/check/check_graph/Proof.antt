@@ -26,8 +26,9 @@ lowest-requires-2 c κs = search needs
 returns-2 : tie.Need-returns-2
 unfolding verdict
 returns-2 c =
+    let c4 = c .before .before .before .before in
     row-found _ _ (c .before .before .shared-rules .ensures ∙ shared-is _ _ _ _ _) (c .before .if2 .taken) (c .lowest2 .ensures)
-    ∙ row-passed _ _ (c .before .before .before .before .unplaced-rules .ensures ∙ unplaced-is _ _ _ _ _) (c .before .before .before .if1 .left)
+    ∙ row-passed _ _ (c4 .unplaced-rules .ensures ∙ unplaced-is _ _ _ _ _) (c .before .before .before .if1 .left)
 
 cyclic-units-requires : tie.Need-cyclic-units-requires
 cyclic-units-requires c κs = search needs
@@ -38,9 +39,12 @@ lowest-requires-3 c κs = search needs
 returns-3 : tie.Need-returns-3
 unfolding verdict
 returns-3 c =
+    let c4 = c .before .before .before .before in
+    let c5 = c4 .before in
+    let c6 = c5 .before in
     row-found _ _ (c .before .before .cyclic-units .ensures ∙ cyclic-is _ _ _ _ _) (c .before .if3 .taken) (c .lowest3 .ensures)
-    ∙ row-passed _ _ (c .before .before .before .before .shared-rules .ensures ∙ shared-is _ _ _ _ _) (c .before .before .before .if2 .left)
-    ∙ row-passed _ _ (c .before .before .before .before .before .before .unplaced-rules .ensures ∙ unplaced-is _ _ _ _ _) (c .before .before .before .before .before .if1 .left)
+    ∙ row-passed _ _ (c4 .shared-rules .ensures ∙ shared-is _ _ _ _ _) (c .before .before .before .if2 .left)
+    ∙ row-passed _ _ (c6 .unplaced-rules .ensures ∙ unplaced-is _ _ _ _ _) (c5 .if1 .left)
 
 check-dependences-requires : tie.Need-check-dependences-requires
 check-dependences-requires c κs = search needs
@@ -48,10 +52,13 @@ check-dependences-requires c κs = search needs
 returns-4 : tie.Need-returns-4
 unfolding verdict
 returns-4 c =
+    let c4 = c .before .before .before .before in
+    let c5 = c4 .before in
+    let c6 = c5 .before in
     c .check-dependences .ensures
     ∙ row-passed _ _ (c .before .before .cyclic-units .ensures ∙ cyclic-is _ _ _ _ _) (c .before .if3 .left)
-    ∙ row-passed _ _ (c .before .before .before .before .shared-rules .ensures ∙ shared-is _ _ _ _ _) (c .before .before .before .if2 .left)
-    ∙ row-passed _ _ (c .before .before .before .before .before .before .unplaced-rules .ensures ∙ unplaced-is _ _ _ _ _) (c .before .before .before .before .before .if1 .left)
+    ∙ row-passed _ _ (c4 .shared-rules .ensures ∙ shared-is _ _ _ _ _) (c .before .before .before .if2 .left)
+    ∙ row-passed _ _ (c6 .unplaced-rules .ensures ∙ unplaced-is _ _ _ _ _) (c5 .if1 .left)
 
 pub check-graph-spec : {M : Type 1} → statement M
 check-graph-spec =

@@ -1,21 +1,16 @@
--- Rules gathered one by one (Gather) are those of which the test holds (Checking).
-use mathlib.Core.Path.{sym, ap, _∙_}
-use mathlib.Core.Bool.{Bool}
-use Prim.Native.Nat.{ℕ, _+_, _*_, _-_}
+-- The rules of which the test holds are picked one by one (Gather).
+use Prim.Native.Nat.{_+_, _*_}
 use native.Mathlib.Omega.{arith}
 use lib.ListN.{getD}
 use lib.Count.{ones}
 use borrow.Author.Needs.{needs}
-use Rattle.atoms.specs.Word.{apart, _∩_, _∪_, _∖_}
-use Rattle.atoms.proofs.Counting.{count-without}
-use Rattle.dependency_graph.specs.Steps.{singleIf}
-use Rattle.dependency_graph.proofs.Gather.{Gathers, gathers-start, gathers-more, gathers-end}
-use Rattle.dependency_graph.proofs.Checking.{word-in}
+use Rattle.atoms.specs.Word.{apart, _∪_}
+use Rattle.dependency_graph.proofs.Gather.{Picks, picks-start, picked-lt, picks-more, picks-end, fewer-left}
 use Rattle.dependency_graph.proofs.check.covered_rules.Statement.{statement}
 use Rattle.dependency_graph.proofs.check.covered_rules.Tie as tie
 
 abbrev Inv-loop : tie.InvT-loop
-Inv-loop rules rule-count held unseen found₀ rest₀ found rest = Gathers rule-count (λ s. singleIf (apart (getD rules (3 * s + 1) 0 ∪ getD rules (3 * s) 0) unseen) s) held found rest
+Inv-loop rules rule-count held unseen found₀ rest₀ found rest = Picks rule-count (λ s. apart (getD rules (3 * s + 1) 0 ∪ getD rules (3 * s) 0) unseen) held found rest
 
 abbrev μ-loop : tie.MeasureT-loop
 μ-loop rules rule-count held unseen found₀ rest₀ found rest = ones rest
@@ -27,7 +22,7 @@ cut-requires : tie.Need-cut-requires Inv-loop μ-loop
 cut-requires c κs = search needs
 
 loop-holds : tie.Need-loop-holds Inv-loop μ-loop
-loop-holds c = gathers-start _ _ _ _ (c .cut .ensures ∙ ap (λ (w : ℕ). c .before .before .before .args .held ∩ w) (c .before .first .ensures))
+loop-holds c = picks-start (c .before .first .ensures) (c .cut .ensures)
 
 lowest-requires : tie.Need-lowest-requires Inv-loop μ-loop
 lowest-requires c κs = search needs
@@ -48,7 +43,8 @@ mul-union-2 : tie.Need-mul-union-2 Inv-loop μ-loop
 mul-union-2 c = omega (arith, c .before .before .lowest .ensures .1)
 
 shared-slice-read-union : tie.Need-shared-slice-read-union Inv-loop μ-loop
-shared-slice-read-union c = omega (arith, c .before .before .before .before .before .loop .inv .bounded _ (c .before .before .before .lowest .ensures .0 .here))
+shared-slice-read-union c =
+    omega (arith, picked-lt (c .before .before .before .before .before .loop .inv) (c .before .before .before .lowest .ensures .0))
 
 mul-union-3 : tie.Need-mul-union-3 Inv-loop μ-loop
 mul-union-3 c = omega (arith, c .before .before .before .lowest .ensures .1)
@@ -57,7 +53,8 @@ mul-union-4 : tie.Need-mul-union-4 Inv-loop μ-loop
 mul-union-4 c = omega (arith, c .before .before .before .lowest .ensures .1)
 
 shared-slice-read-union-2 : tie.Need-shared-slice-read-union-2 Inv-loop μ-loop
-shared-slice-read-union-2 c = omega (arith, c .before .before .before .before .before .before .loop .inv .bounded _ (c .before .before .before .before .lowest .ensures .0 .here))
+shared-slice-read-union-2 c =
+    omega (arith, picked-lt (c .before .before .before .before .before .before .loop .inv) (c .before .before .before .before .lowest .ensures .0))
 
 union-requires : tie.Need-union-requires Inv-loop μ-loop
 union-requires c κs = search needs
@@ -72,13 +69,23 @@ union-requires-2 : tie.Need-union-requires-2 Inv-loop μ-loop
 union-requires-2 c κs = search needs
 
 loop-less : tie.Need-loop-less Inv-loop μ-loop
-loop-less c = rw (c .before .before .before .before .before .before .without .ensures, c .before .before .before .before .before .before .before .single .ensures) (count-without _ _ (c .before .before .before .before .before .before .before .before .lowest .ensures .0 .here))
+loop-less c =
+    let c6 = c .before .before .before .before .before .before in
+    let c7 = c6 .before in
+    let c8 = c7 .before in
+    fewer-left (c8 .lowest .ensures .0) (c7 .single .ensures) (c6 .without .ensures)
 
 loop-again : tie.Need-loop-again Inv-loop μ-loop
-loop-again c = gathers-more (c .before .before .before .before .before .before .before .before .before .before .loop .inv) (c .before .before .before .before .before .before .before .before .lowest .result) _ _ _ (c .before .before .before .before .before .before .before .before .lowest .ensures .0 .here) (sym (c .before .single-if .ensures ∙ ap (λ (b : Bool). singleIf b (c .before .before .before .before .before .before .before .before .lowest .result)) (c .before .before .are-apart .ensures ∙ ap (λ (w : ℕ). apart w (c .before .before .before .before .before .before .before .before .before .before .before .before .before .before .args .unseen)) (c .before .before .before .union .ensures)))) (c .before .before .before .before .before .before .without .ensures ∙ ap (λ (w : ℕ). c .before .before .before .before .before .before .before .before .before .before .loop .rest ∖ w) (c .before .before .before .before .before .before .before .single .ensures)) (c .union2 .ensures)
+loop-again c =
+    let c6 = c .before .before .before .before .before .before in
+    let c7 = c6 .before in
+    let c8 = c7 .before in
+    let c10 = c8 .before .before in
+    picks-more (c10 .loop .inv) (c8 .lowest .ensures .0) (c7 .single .ensures) (c6 .without .ensures)
+    (rw (c .before .before .before .union .ensures) at (c .before .before .are-apart .ensures)) (c .before .single-if .ensures) (c .union2 .ensures)
 
 returns : tie.Need-returns Inv-loop μ-loop
-returns c = gathers-end (c .before .loop .inv) (c .loop-test .left) ∙ word-in _ _ _
+returns c = picks-end (c .before .loop .inv) (c .loop-test .left)
 
 pub covered-rules-spec : {M : Type 1} → statement M
 covered-rules-spec =

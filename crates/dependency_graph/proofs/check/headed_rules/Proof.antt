@@ -1,24 +1,23 @@
--- The word is built rule by rule (Checking).
-use mathlib.Core.Path.{_≡_}
+-- The word is built rule by rule (Building).
 use mathlib.Core.Bool.{not}
-use Prim.Native.Nat.{_*_, _-_, _≤_}
+use Prim.Native.Nat.{_*_, _-_}
 use native.Mathlib.Omega.{arith}
 use lib.Dec.{eqb}
 use lib.ListN.{getD}
 use borrow.Author.Needs.{needs}
 use Rattle.atoms.specs.Bounded.{wordBelow}
-use Rattle.dependency_graph.proofs.Checking.{word-start, word-more, word-end}
+use Rattle.dependency_graph.proofs.Building.{Built, built-end, word-start, word-more}
 use Rattle.dependency_graph.proofs.check.headed_rules.Statement.{statement}
 use Rattle.dependency_graph.proofs.check.headed_rules.Tie as tie
 
 abbrev Inv-loop : tie.InvT-loop
-Inv-loop rules rule-count headed₀ r₀ headed r = (headed ≡ wordBelow r (λ s. not (eqb (getD rules (3 * s) 0) 0))) × (r ≤ rule-count)
+Inv-loop rules rule-count headed₀ r₀ headed r = Built (λ k. wordBelow k (λ s. not (eqb (getD rules (3 * s) 0) 0))) rule-count r headed
 
 abbrev μ-loop : tie.MeasureT-loop
 μ-loop rules rule-count headed₀ r₀ headed r = rule-count - r
 
 loop-holds : tie.Need-loop-holds Inv-loop μ-loop
-loop-holds c = (word-start _, omega arith)
+loop-holds c = word-start _
 
 mul-single-if : tie.Need-mul-single-if Inv-loop μ-loop
 mul-single-if c = search needs
@@ -42,10 +41,12 @@ loop-less : tie.Need-loop-less Inv-loop μ-loop
 loop-less c = search needs
 
 loop-again : tie.Need-loop-again Inv-loop μ-loop
-loop-again c = (word-more _ _ (c .before .before .before .before .loop .inv .0) (c .before .single-if .ensures) (c .union .ensures), omega arith)
+loop-again c =
+    let c4 = c .before .before .before .before in
+    word-more _ (c4 .loop .inv) (c .before .before .before .loop-test .taken) (c .before .single-if .ensures) (c .union .ensures)
 
 returns : tie.Need-returns Inv-loop μ-loop
-returns c = word-end _ _ (c .before .loop .inv .0) (c .before .loop .inv .1) (c .loop-test .left)
+returns c = built-end (c .before .loop .inv) (c .loop-test .left)
 
 pub headed-rules-spec : {M : Type 1} → statement M
 headed-rules-spec =

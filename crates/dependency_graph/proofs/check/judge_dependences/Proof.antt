@@ -1,22 +1,23 @@
--- Both words are built unit by unit (Checking).
-use mathlib.Core.Path.{_≡_, _∙_}
-use Prim.Native.Nat.{_-_, _≤_}
+-- Both words are built unit by unit (Building).
+use mathlib.Core.Path.{_∙_}
+use Prim.Native.Nat.{_-_}
 use native.Mathlib.Omega.{arith}
 use borrow.Author.Needs.{needs}
 use Rattle.dependency_graph.specs.Slices.{unitsOf}
 use Rattle.dependency_graph.specs.Offenders.{clashing as clashingOf, covered as coveredOf, unionBelow}
-use Rattle.dependency_graph.proofs.Checking.{union-start, union-more, union-end, clashing-lent, covered-lent}
+use Rattle.dependency_graph.proofs.Building.{Built, built-end, union-start, union-more}
+use Rattle.dependency_graph.proofs.Checking.{clashing-lent, covered-lent}
 use Rattle.dependency_graph.proofs.check.judge_dependences.Statement.{statement}
 use Rattle.dependency_graph.proofs.check.judge_dependences.Tie as tie
 
 abbrev Inv-loop : tie.InvT-loop
-Inv-loop rules rule-count units unit-count predecessors clashing₀ covered₀ u₀ clashing covered u = (clashing ≡ unionBelow u (clashingOf (unitsOf rules rule-count units unit-count predecessors))) × (covered ≡ unionBelow u (coveredOf (unitsOf rules rule-count units unit-count predecessors))) × (u ≤ unit-count)
+Inv-loop rules rule-count units unit-count predecessors clashing₀ covered₀ u₀ clashing covered u = Built (λ k. unionBelow k (clashingOf (unitsOf rules rule-count units unit-count predecessors))) unit-count u clashing × Built (λ k. unionBelow k (coveredOf (unitsOf rules rule-count units unit-count predecessors))) unit-count u covered
 
 abbrev μ-loop : tie.MeasureT-loop
 μ-loop rules rule-count units unit-count predecessors clashing₀ covered₀ u₀ clashing covered u = unit-count - u
 
 loop-holds : tie.Need-loop-holds Inv-loop μ-loop
-loop-holds c = (union-start _, union-start _, omega arith)
+loop-holds c = (union-start _, union-start _)
 
 unseen-heads-requires : tie.Need-unseen-heads-requires Inv-loop μ-loop
 unseen-heads-requires c κs = search needs
@@ -52,10 +53,20 @@ loop-less : tie.Need-loop-less Inv-loop μ-loop
 loop-less c = search needs
 
 loop-again : tie.Need-loop-again Inv-loop μ-loop
-loop-again c = (union-more _ _ (c .before .before .before .before .before .before .before .before .loop .inv .0) (c .before .before .before .before .clashing-rules .ensures ∙ clashing-lent _ _ _ _ _ _ (c .before .before .before .before .before .before .unseen-heads .ensures)) (c .before .before .before .union .ensures), union-more _ _ (c .before .before .before .before .before .before .before .before .loop .inv .1) (c .before .covered-rules .ensures ∙ covered-lent _ _ _ _ _ _ (c .before .before .before .before .before .before .unseen-heads .ensures)) (c .union2 .ensures), omega arith)
+loop-again c =
+    let c4 = c .before .before .before .before in
+    let c6 = c4 .before .before in
+    let c7 = c6 .before in
+    let c8 = c7 .before in
+    let inv = c8 .loop .inv in
+    let unseen = c6 .unseen-heads .ensures in (
+      union-more _ (inv .0) (c7 .loop-test .taken) (c4 .clashing-rules .ensures ∙ clashing-lent _ _ _ _ _ _ unseen) (c .before .before .before .union .ensures),
+      union-more _ (inv .1) (c7 .loop-test .taken) (c .before .covered-rules .ensures ∙ covered-lent _ _ _ _ _ _ unseen) (c .union2 .ensures),
+    )
 
 returns : tie.Need-returns Inv-loop μ-loop
-returns c = (union-end _ _ (c .before .loop .inv .0) (c .before .loop .inv .2) (c .loop-test .left), union-end _ _ (c .before .loop .inv .1) (c .before .loop .inv .2) (c .loop-test .left))
+returns c =
+    (built-end (c .before .loop .inv .0) (c .loop-test .left), built-end (c .before .loop .inv .1) (c .loop-test .left))
 
 pub judge-dependences-spec : {M : Type 1} → statement M
 judge-dependences-spec =

@@ -1,26 +1,23 @@
--- The word is built unit by unit (Checking).
-use mathlib.Core.Path.{_≡_, ap, _∙_}
-use mathlib.Core.Bool.{Bool}
-use Prim.Native.Nat.{_-_, _≤_}
+-- The word is built unit by unit (Building).
+use Prim.Native.Nat.{_-_}
 use native.Mathlib.Omega.{arith}
 use lib.ListN.{getD}
 use borrow.Author.Needs.{needs}
 use Rattle.atoms.specs.Word.{has}
 use Rattle.atoms.specs.Bounded.{wordBelow}
-use Rattle.dependency_graph.specs.Steps.{singleIf}
 use Rattle.dependency_graph.proofs.Steps.{has-is-test}
-use Rattle.dependency_graph.proofs.Checking.{word-start, word-more, word-end}
+use Rattle.dependency_graph.proofs.Building.{Built, built-end, word-start, word-more}
 use Rattle.dependency_graph.proofs.check.own_members.Statement.{statement}
 use Rattle.dependency_graph.proofs.check.own_members.Tie as tie
 
 abbrev Inv-loop : tie.InvT-loop
-Inv-loop words unit-count found₀ u₀ found u = (found ≡ wordBelow u (λ i. has (getD words i 0) i)) × (u ≤ unit-count)
+Inv-loop words unit-count found₀ u₀ found u = Built (λ k. wordBelow k (λ i. has (getD words i 0) i)) unit-count u found
 
 abbrev μ-loop : tie.MeasureT-loop
 μ-loop words unit-count found₀ u₀ found u = unit-count - u
 
 loop-holds : tie.Need-loop-holds Inv-loop μ-loop
-loop-holds c = (word-start _, omega arith)
+loop-holds c = word-start _
 
 mul-are-apart : tie.Need-mul-are-apart Inv-loop μ-loop
 mul-are-apart c = search needs
@@ -47,10 +44,14 @@ loop-less : tie.Need-loop-less Inv-loop μ-loop
 loop-less c = search needs
 
 loop-again : tie.Need-loop-again Inv-loop μ-loop
-loop-again c = (word-more _ _ (c .before .before .before .before .before .before .loop .inv .0) (c .before .single-if .ensures ∙ ap (λ (b : Bool). singleIf b (c .before .before .before .before .before .before .loop .u)) (has-is-test _ _ (c .before .before .before .single .ensures) (c .before .before .are-apart .ensures))) (c .union .ensures), omega arith)
+loop-again c =
+    let c5 = c .before .before .before .before .before in
+    let c6 = c5 .before in
+    word-more _ (c6 .loop .inv) (c5 .loop-test .taken)
+    (rw (has-is-test _ _ (c .before .before .before .single .ensures) (c .before .before .are-apart .ensures)) at (c .before .single-if .ensures)) (c .union .ensures)
 
 returns : tie.Need-returns Inv-loop μ-loop
-returns c = word-end _ _ (c .before .loop .inv .0) (c .before .loop .inv .1) (c .loop-test .left)
+returns c = built-end (c .before .loop .inv) (c .loop-test .left)
 
 pub own-members-spec : {M : Type 1} → statement M
 own-members-spec =

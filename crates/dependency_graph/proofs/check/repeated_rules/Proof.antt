@@ -1,22 +1,22 @@
--- What is in one unit and what is in two, unit by unit (Checking).
-use mathlib.Core.Path.{_≡_, refl}
-use Prim.Native.Nat.{_-_, _≤_}
+-- What is in one unit and what is in two, unit by unit (Building).
+use mathlib.Core.Path.{refl}
+use Prim.Native.Nat.{_-_}
 use native.Mathlib.Omega.{arith}
 use lib.ListN.{getD}
 use borrow.Author.Needs.{needs}
 use Rattle.dependency_graph.specs.Offenders.{unionBelow, twiceBelow}
-use Rattle.dependency_graph.proofs.Checking.{union-start, union-more, twice-start, twice-more, twice-end}
+use Rattle.dependency_graph.proofs.Building.{Built, built-end, union-start, union-more, twice-start, twice-more}
 use Rattle.dependency_graph.proofs.check.repeated_rules.Statement.{statement}
 use Rattle.dependency_graph.proofs.check.repeated_rules.Tie as tie
 
 abbrev Inv-loop : tie.InvT-loop
-Inv-loop units unit-count once₀ twice₀ u₀ once twice u = (once ≡ unionBelow u (λ i. getD units i 0)) × (twice ≡ twiceBelow u (λ i. getD units i 0)) × (u ≤ unit-count)
+Inv-loop units unit-count once₀ twice₀ u₀ once twice u = Built (λ k. unionBelow k (λ i. getD units i 0)) unit-count u once × Built (λ k. twiceBelow k (λ i. getD units i 0)) unit-count u twice
 
 abbrev μ-loop : tie.MeasureT-loop
 μ-loop units unit-count once₀ twice₀ u₀ once twice u = unit-count - u
 
 loop-holds : tie.Need-loop-holds Inv-loop μ-loop
-loop-holds c = (union-start _, twice-start _, omega arith)
+loop-holds c = (union-start _, twice-start _)
 
 mul-cut : tie.Need-mul-cut Inv-loop μ-loop
 mul-cut c = search needs
@@ -46,10 +46,16 @@ loop-less : tie.Need-loop-less Inv-loop μ-loop
 loop-less c = search needs
 
 loop-again : tie.Need-loop-again Inv-loop μ-loop
-loop-again c = (union-more _ _ (c .before .before .before .before .before .before .loop .inv .0) refl (c .union2 .ensures), twice-more _ _ (c .before .before .before .before .before .before .loop .inv .0) (c .before .before .before .before .before .before .loop .inv .1) (c .before .before .before .cut .ensures) (c .before .before .union .ensures), omega arith)
+loop-again c =
+    let c5 = c .before .before .before .before .before in
+    let c6 = c5 .before in
+    let inv = c6 .loop .inv in (
+      union-more _ (inv .0) (c5 .loop-test .taken) refl (c .union2 .ensures),
+      twice-more _ (inv .0) (inv .1) (c5 .loop-test .taken) (c .before .before .before .cut .ensures) (c .before .before .union .ensures),
+    )
 
 returns : tie.Need-returns Inv-loop μ-loop
-returns c = twice-end _ _ (c .before .loop .inv .1) (c .before .loop .inv .2) (c .loop-test .left)
+returns c = built-end (c .before .loop .inv .1) (c .loop-test .left)
 
 pub repeated-rules-spec : {M : Type 1} → statement M
 repeated-rules-spec =

@@ -1,23 +1,21 @@
 -- The table is filled from the front (Filling); words not yet reached are as they came.
-use mathlib.Core.Path.{ap, _∙_}
-use Prim.Native.Nat.{ℕ, _-_, _≤_}
+use Prim.Native.Nat.{_-_}
 use native.Mathlib.Omega.{arith}
 use lib.ListN.{getD}
 use borrow.Author.Needs.{needs}
 use Rattle.atoms.specs.Word.{_∪_}
-use Rattle.dependency_graph.specs.Slices.{Filled}
-use Rattle.dependency_graph.proofs.Filling.{filled-end, filled-none, filled-more}
+use Rattle.dependency_graph.proofs.Filling.{Filling, filling-start, unreached, filling-more, filling-end}
 use Rattle.dependency_graph.proofs.head_atoms.add_words.Statement.{statement}
 use Rattle.dependency_graph.proofs.head_atoms.add_words.Tie as tie
 
 abbrev Inv-loop : tie.InvT-loop
-Inv-loop words unit-count table₀ u₀ table u = Filled u (λ i. getD words i 0 ∪ getD table₀ i 0) table₀ table × (u ≤ unit-count)
+Inv-loop words unit-count table₀ u₀ table u = Filling unit-count u (λ i. getD words i 0 ∪ getD table₀ i 0) table₀ table
 
 abbrev μ-loop : tie.MeasureT-loop
 μ-loop words unit-count table₀ u₀ table u = unit-count - u
 
 loop-holds : tie.Need-loop-holds Inv-loop μ-loop
-loop-holds c = (filled-none, omega arith)
+loop-holds c = filling-start (omega arith)
 
 mul-union : tie.Need-mul-union Inv-loop μ-loop
 mul-union c = search needs
@@ -47,13 +45,16 @@ loop-less : tie.Need-loop-less Inv-loop μ-loop
 loop-less c = search needs
 
 loop-again : tie.Need-loop-again Inv-loop μ-loop
-loop-again c = (filled-more (c .before .before .before .before .loop .inv .0) _ (omega arith) (c .union .ensures ∙ ap (λ (w : ℕ). getD (c .before .before .before .before .before .before .before .args .words .now) (c .before .before .before .before .loop .u) 0 ∪ w) (c .before .before .before .before .loop .inv .0 .kept (c .before .before .before .before .loop .u) (omega arith))), omega arith)
+loop-again c =
+    let c4 = c .before .before .before .before in
+    let inv = c4 .loop .inv in
+    filling-more inv (c .before .before .before .loop-test .taken) (rw (unreached inv) at (c .union .ensures))
 
 same-length : tie.Need-same-length Inv-loop μ-loop
-same-length c = c .before .loop .inv .0 .same-length
+same-length c = c .before .loop .inv .so-far .same-length
 
 returns : tie.Need-returns Inv-loop μ-loop
-returns c = filled-end (c .before .loop .inv .0) (c .before .loop .inv .1) (c .loop-test .left)
+returns c = filling-end (c .before .loop .inv) (c .loop-test .left)
 
 pub add-words-spec : {M : Type 1} → statement M
 add-words-spec =

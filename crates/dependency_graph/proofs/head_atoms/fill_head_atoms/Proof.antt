@@ -17,7 +17,9 @@ same-length-2 : tie.Need-same-length-2
 same-length-2 c = search needs
 
 returns : tie.Need-returns
-returns c = (c .before .before .before .before .before .before .before .fill-heads .ensures, input-heads-filled _ _ _ _ _ (c .before .before .before .before .before .before .before .fill-heads .ensures) (c .before .before .fill-unions .ensures))
+returns c =
+    let c7 = c .before .before .before .before .before .before .before in
+    (c7 .fill-heads .ensures, input-heads-filled _ _ _ _ _ (c7 .fill-heads .ensures) (c .before .before .fill-unions .ensures))
 
 pub fill-head-atoms-spec : {M : Type 1} → statement M
 fill-head-atoms-spec =

@@ -35,7 +35,11 @@ same-length : tie.Need-same-length
 same-length c = search needs
 
 returns : tie.Need-returns
-returns c = heads-filled _ _ _ _ _ (c .before .before .before .before .before .before .before .before .before .before .before .before .before .before .before .fill-own .ensures) (c .before .before .before .before .before .before .before .before .before .before .before .before .fill-reach .ensures) (c .before .before .before .before .before .before .before .fill-unions .ensures) (c .before .before .add-words .ensures)
+returns c =
+    let c7 = c .before .before .before .before .before .before .before in
+    let c12 = c7 .before .before .before .before .before in
+    let c15 = c12 .before .before .before in
+    heads-filled _ _ _ _ _ (c15 .fill-own .ensures) (c12 .fill-reach .ensures) (c7 .fill-unions .ensures) (c .before .before .add-words .ensures)
 
 pub fill-heads-spec : {M : Type 1} → statement M
 fill-heads-spec =

@@ -1,24 +1,24 @@
 -- The table is filled from the front (Filling).
 use mathlib.Core.Path.{_∙_}
 use mathlib.Core.List.{[]}
-use Prim.Native.Nat.{_-_, _≤_}
+use Prim.Native.Nat.{_-_}
 use native.Mathlib.Omega.{arith}
 use borrow.Author.Needs.{needs}
 use Rattle.dependency_graph.specs.Heads.{own}
-use Rattle.dependency_graph.specs.Slices.{unitsOf, Filled}
-use Rattle.dependency_graph.proofs.Filling.{filled-end, filled-none, filled-more}
+use Rattle.dependency_graph.specs.Slices.{unitsOf}
+use Rattle.dependency_graph.proofs.Filling.{Filling, filling-start, filling-more, filling-end}
 use Rattle.dependency_graph.proofs.Slices.{own-lent}
 use Rattle.dependency_graph.proofs.head_atoms.fill_own.Statement.{statement}
 use Rattle.dependency_graph.proofs.head_atoms.fill_own.Tie as tie
 
 abbrev Inv-loop : tie.InvT-loop
-Inv-loop rules rule-count units unit-count table₀ u₀ table u = Filled u (own (unitsOf rules rule-count units unit-count [])) table₀ table × (u ≤ unit-count)
+Inv-loop rules rule-count units unit-count table₀ u₀ table u = Filling unit-count u (own (unitsOf rules rule-count units unit-count [])) table₀ table
 
 abbrev μ-loop : tie.MeasureT-loop
 μ-loop rules rule-count units unit-count table₀ u₀ table u = unit-count - u
 
 loop-holds : tie.Need-loop-holds Inv-loop μ-loop
-loop-holds c = (filled-none, omega arith)
+loop-holds c = filling-start (omega arith)
 
 mul-heads-of : tie.Need-mul-heads-of Inv-loop μ-loop
 mul-heads-of c = search needs
@@ -42,13 +42,13 @@ loop-less : tie.Need-loop-less Inv-loop μ-loop
 loop-less c = search needs
 
 loop-again : tie.Need-loop-again Inv-loop μ-loop
-loop-again c = (filled-more (c .before .before .before .loop .inv .0) _ (omega arith) (c .heads-of .ensures ∙ own-lent _ _ _ _ _ _), omega arith)
+loop-again c = filling-more (c .before .before .before .loop .inv) (c .before .before .loop-test .taken) (c .heads-of .ensures ∙ own-lent _ _ _ _ _ _)
 
 same-length : tie.Need-same-length Inv-loop μ-loop
-same-length c = c .before .loop .inv .0 .same-length
+same-length c = c .before .loop .inv .so-far .same-length
 
 returns : tie.Need-returns Inv-loop μ-loop
-returns c = filled-end (c .before .loop .inv .0) (c .before .loop .inv .1) (c .loop-test .left)
+returns c = filling-end (c .before .loop .inv) (c .loop-test .left)
 
 pub fill-own-spec : {M : Type 1} → statement M
 fill-own-spec =

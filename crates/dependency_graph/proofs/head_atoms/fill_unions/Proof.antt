@@ -1,22 +1,21 @@
 -- The table is filled from the front (Filling).
-use Prim.Native.Nat.{_-_, _≤_}
+use Prim.Native.Nat.{_-_}
 use native.Mathlib.Omega.{arith}
 use lib.ListN.{getD}
 use borrow.Author.Needs.{needs}
 use Rattle.atoms.specs.Bounded.{unionIn}
-use Rattle.dependency_graph.specs.Slices.{Filled}
-use Rattle.dependency_graph.proofs.Filling.{filled-end, filled-none, filled-more}
+use Rattle.dependency_graph.proofs.Filling.{Filling, filling-start, filling-more, filling-end}
 use Rattle.dependency_graph.proofs.head_atoms.fill_unions.Statement.{statement}
 use Rattle.dependency_graph.proofs.head_atoms.fill_unions.Tie as tie
 
 abbrev Inv-loop : tie.InvT-loop
-Inv-loop words which unit-count table₀ u₀ table u = Filled u (λ i. unionIn unit-count (getD which i 0) (λ v. getD words v 0)) table₀ table × (u ≤ unit-count)
+Inv-loop words which unit-count table₀ u₀ table u = Filling unit-count u (λ i. unionIn unit-count (getD which i 0) (λ v. getD words v 0)) table₀ table
 
 abbrev μ-loop : tie.MeasureT-loop
 μ-loop words which unit-count table₀ u₀ table u = unit-count - u
 
 loop-holds : tie.Need-loop-holds Inv-loop μ-loop
-loop-holds c = (filled-none, omega arith)
+loop-holds c = filling-start (omega arith)
 
 mul-union-of : tie.Need-mul-union-of Inv-loop μ-loop
 mul-union-of c = search needs
@@ -40,13 +39,13 @@ loop-less : tie.Need-loop-less Inv-loop μ-loop
 loop-less c = search needs
 
 loop-again : tie.Need-loop-again Inv-loop μ-loop
-loop-again c = (filled-more (c .before .before .before .loop .inv .0) _ (omega arith) (c .union-of .ensures), omega arith)
+loop-again c = filling-more (c .before .before .before .loop .inv) (c .before .before .loop-test .taken) (c .union-of .ensures)
 
 same-length : tie.Need-same-length Inv-loop μ-loop
-same-length c = c .before .loop .inv .0 .same-length
+same-length c = c .before .loop .inv .so-far .same-length
 
 returns : tie.Need-returns Inv-loop μ-loop
-returns c = filled-end (c .before .loop .inv .0) (c .before .loop .inv .1) (c .loop-test .left)
+returns c = filling-end (c .before .loop .inv) (c .loop-test .left)
 
 pub fill-unions-spec : {M : Type 1} → statement M
 fill-unions-spec =

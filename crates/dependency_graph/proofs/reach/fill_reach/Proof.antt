@@ -32,13 +32,17 @@ loop-less : tie.Need-loop-less Inv-loop μ-loop
 loop-less c = search needs
 
 loop-again : tie.Need-loop-again Inv-loop μ-loop
-loop-again c = (filled-same (filled-again (c .before .before .before .before .before .loop .inv .0) (c .before .before .open-middle .ensures)) _ (open-next _ _ _ (c .before .before .before .before .before .loop .table) (omega arith) (c .before .before .before .before .before .loop .inv .0 .filled)), omega arith)
+loop-again c =
+    (filled-same (filled-again (c .before .before .before .before .before .loop .inv .0) (c .before .before .open-middle .ensures)) _ (open-next _ _ _ (c .before .before .before .before .before .loop .table) (omega arith) (c .before .before .before .before .before .loop .inv .0 .filled)), omega arith)
 
 same-length : tie.Need-same-length Inv-loop μ-loop
-same-length c = c .before .loop .inv .0 .same-length ∙ c .before .before .before .before .fill-direct .ensures .same-length
+same-length c =
+    let c4 = c .before .before .before .before in
+    c .before .loop .inv .0 .same-length ∙ c4 .fill-direct .ensures .same-length
 
 returns : tie.Need-returns Inv-loop μ-loop
-returns c = filled-same (filled-again (c .before .before .before .before .fill-direct .ensures) (c .before .loop .inv .0)) _ (λ u l. reach-end _ _ _ _ (omega arith))
+returns c =
+    filled-same (filled-again (c .before .before .before .before .fill-direct .ensures) (c .before .loop .inv .0)) _ (λ u l. reach-end _ _ _ _ (omega arith))
 
 pub fill-reach-spec : {M : Type 1} → statement M
 fill-reach-spec =

@@ -1,17 +1,15 @@
 -- The table is filled from the front (Filling); words not yet reached are as they came.
-use mathlib.Core.Path.{ap, _∙_}
-use Prim.Native.Nat.{ℕ, _-_, _≤_}
+use Prim.Native.Nat.{_-_}
 use native.Mathlib.Omega.{arith}
 use lib.ListN.{getD}
 use borrow.Author.Needs.{needs}
 use Rattle.dependency_graph.specs.Steps.{through}
-use Rattle.dependency_graph.specs.Slices.{Filled}
-use Rattle.dependency_graph.proofs.Filling.{filled-end, filled-none, filled-more}
+use Rattle.dependency_graph.proofs.Filling.{Filling, filling-start, unreached, filling-more, filling-end}
 use Rattle.dependency_graph.proofs.reach.open_middle.Statement.{statement}
 use Rattle.dependency_graph.proofs.reach.open_middle.Tie as tie
 
 abbrev Inv-loop : tie.InvT-loop
-Inv-loop unit-count k table₀ middle u₀ table u = Filled u (λ i. through (getD table₀ i 0) k (getD table₀ k 0)) table₀ table × (u ≤ unit-count)
+Inv-loop unit-count k table₀ middle u₀ table u = Filling unit-count u (λ i. through (getD table₀ i 0) k (getD table₀ k 0)) table₀ table
 
 abbrev μ-loop : tie.MeasureT-loop
 μ-loop unit-count k table₀ middle u₀ table u = unit-count - u
@@ -23,7 +21,7 @@ slice-read-middle : tie.Need-slice-read-middle Inv-loop μ-loop
 slice-read-middle c = search needs
 
 loop-holds : tie.Need-loop-holds Inv-loop μ-loop
-loop-holds c = (filled-none, omega arith)
+loop-holds c = filling-start (omega arith)
 
 mul-through : tie.Need-mul-through Inv-loop μ-loop
 mul-through c = search needs
@@ -47,13 +45,15 @@ loop-less : tie.Need-loop-less Inv-loop μ-loop
 loop-less c = search needs
 
 loop-again : tie.Need-loop-again Inv-loop μ-loop
-loop-again c = (filled-more (c .before .before .before .loop .inv .0) _ (omega arith) (c .through .ensures ∙ ap (λ (w : ℕ). through w (c .before .before .before .before .before .before .args .k) (getD (c .before .before .before .before .before .before .args .table .now) (c .before .before .before .before .before .before .args .k) 0)) (c .before .before .before .loop .inv .0 .kept (c .before .before .before .loop .u) (omega arith))), omega arith)
+loop-again c =
+    let inv = c .before .before .before .loop .inv in
+    filling-more inv (c .before .before .loop-test .taken) (rw (unreached inv) at (c .through .ensures))
 
 same-length : tie.Need-same-length Inv-loop μ-loop
-same-length c = c .before .loop .inv .0 .same-length
+same-length c = c .before .loop .inv .so-far .same-length
 
 returns : tie.Need-returns Inv-loop μ-loop
-returns c = filled-end (c .before .loop .inv .0) (c .before .loop .inv .1) (c .loop-test .left)
+returns c = filling-end (c .before .loop .inv) (c .loop-test .left)
 
 pub open-middle-spec : {M : Type 1} → statement M
 open-middle-spec =

@@ -1,13 +1,11 @@
 -- Head atoms gathered rule by rule: what is gathered and what the rest would add make the whole (Gather).
-use mathlib.Core.Path.{refl, ap, _∙_}
-use Prim.Native.Nat.{ℕ, _*_, _-_}
+use mathlib.Core.Path.{refl}
+use Prim.Native.Nat.{_*_}
 use native.Mathlib.Omega.{arith}
 use lib.ListN.{getD}
 use lib.Count.{ones}
 use borrow.Author.Needs.{needs}
-use Rattle.atoms.specs.Word.{_∩_, _∖_}
-use Rattle.atoms.proofs.Counting.{count-without}
-use Rattle.dependency_graph.proofs.Gather.{Gathers, gathers-start, gathers-more, gathers-end}
+use Rattle.dependency_graph.proofs.Gather.{Gathers, gathers-start, next-lt, gathers-more, gathers-end, fewer-left}
 use Rattle.dependency_graph.proofs.words.heads_of.Statement.{statement}
 use Rattle.dependency_graph.proofs.words.heads_of.Tie as tie
 
@@ -24,7 +22,7 @@ cut-requires : tie.Need-cut-requires Inv-loop μ-loop
 cut-requires c κs = search needs
 
 loop-holds : tie.Need-loop-holds Inv-loop μ-loop
-loop-holds c = gathers-start _ _ _ _ (c .cut .ensures ∙ ap (λ (w : ℕ). c .before .before .before .args .which ∩ w) (c .before .first .ensures))
+loop-holds c = gathers-start (c .before .first .ensures) (c .cut .ensures)
 
 lowest-requires : tie.Need-lowest-requires Inv-loop μ-loop
 lowest-requires c κs = search needs
@@ -42,16 +40,22 @@ mul-union-2 : tie.Need-mul-union-2 Inv-loop μ-loop
 mul-union-2 c = omega (arith, c .before .before .lowest .ensures .1)
 
 shared-slice-read-union : tie.Need-shared-slice-read-union Inv-loop μ-loop
-shared-slice-read-union c = omega (arith, c .before .before .before .before .before .loop .inv .bounded _ (c .before .before .before .lowest .ensures .0 .here))
+shared-slice-read-union c =
+    omega (arith, next-lt (c .before .before .before .before .before .loop .inv) (c .before .before .before .lowest .ensures .0))
 
 union-requires : tie.Need-union-requires Inv-loop μ-loop
 union-requires c κs = search needs
 
 loop-less : tie.Need-loop-less Inv-loop μ-loop
-loop-less c = rw (c .before .before .without .ensures, c .before .before .before .single .ensures) (count-without _ _ (c .before .before .before .before .lowest .ensures .0 .here))
+loop-less c =
+    let c4 = c .before .before .before .before in
+    fewer-left (c4 .lowest .ensures .0) (c .before .before .before .single .ensures) (c .before .before .without .ensures)
 
 loop-again : tie.Need-loop-again Inv-loop μ-loop
-loop-again c = gathers-more (c .before .before .before .before .before .before .loop .inv) (c .before .before .before .before .lowest .result) _ _ _ (c .before .before .before .before .lowest .ensures .0 .here) refl (c .before .before .without .ensures ∙ ap (λ (w : ℕ). c .before .before .before .before .before .before .loop .rest ∖ w) (c .before .before .before .single .ensures)) (c .union .ensures)
+loop-again c =
+    let c4 = c .before .before .before .before in
+    let c6 = c4 .before .before in
+    gathers-more (c6 .loop .inv) (c4 .lowest .ensures .0) (c .before .before .before .single .ensures) (c .before .before .without .ensures) refl (c .union .ensures)
 
 returns : tie.Need-returns Inv-loop μ-loop
 returns c = gathers-end (c .before .loop .inv) (c .loop-test .left)

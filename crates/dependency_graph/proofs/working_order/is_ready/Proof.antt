@@ -35,7 +35,12 @@ is-subset-requires : tie.Need-is-subset-requires
 is-subset-requires c κs = search needs
 
 returns-2 : tie.Need-returns-2
-returns-2 c = c .is-subset .ensures ∙ ap (λ (w : ℕ). subset w (c .before .before .before .before .before .before .before .before .args .done)) (c .before .cut .ensures ∙ ap (λ (w : ℕ). getD (c .before .before .before .before .before .before .before .before .args .predecessors .now) (c .before .before .before .before .before .before .before .before .args .u) 0 ∩ w) (c .before .before .first .ensures)) ∙ ready-of-waiting _ _ _ _ (lacks-of-test _ _ (c .before .before .before .before .before .before .single .ensures) (c .before .before .before .before .before .are-apart .ensures) (not-false _ (c .before .before .before .before .if1 .left)))
+returns-2 c =
+    let c4 = c .before .before .before .before in
+    let c5 = c4 .before in
+    let c6 = c5 .before in
+    let c8 = c6 .before .before in
+    c .is-subset .ensures ∙ ap (λ (w : ℕ). subset w (c8 .args .done)) (c .before .cut .ensures ∙ ap (λ (w : ℕ). getD (c8 .args .predecessors .now) (c8 .args .u) 0 ∩ w) (c .before .before .first .ensures)) ∙ ready-of-waiting _ _ _ _ (lacks-of-test _ _ (c6 .single .ensures) (c5 .are-apart .ensures) (not-false _ (c4 .if1 .left)))
 
 pub is-ready-spec : {M : Type 1} → statement M
 is-ready-spec =
