@@ -7,9 +7,14 @@ use sheet::Written;
 use unit_lists::COUNTS;
 use unit_lists::TABLE_WORDS;
 use unit_lists::list_positions;
+ghost use mathlib.Core.Path.{_≡_};
+ghost use Rattle.judge.specs.Answers.{judged, code};
+ghost use Rattle.exports.specs.Handed.{outcomeCode, copied, ListHanded, SheetHanded};
 
 // 0 for a plan that is listed, and 65536 times the number plus the spot for a refusal.
-fn outcome_code(outcome: Outcome) -> u64 {
+fn outcome_code(outcome: Outcome) -> u64
+    ensures { λ r. ⌜ r ≡ outcomeCode outcome ⌝ }
+{
     match outcome {
         Outcome::Accepted => 0,
         Outcome::Refused(fault) => answer_code(Answer::Refused(fault)),
@@ -17,7 +22,9 @@ fn outcome_code(outcome: Outcome) -> u64 {
 }
 
 // Copies as many counts as there is room for.
-fn copy_counts(from: [usize; COUNTS], counts: &mut [u64]) {
+fn copy_counts(from: [usize; COUNTS], counts: &mut [u64])
+    ensures { λ _. ⌜ now (counts .exit) ≡ copied from (now (counts .entry)) ⌝ }
+{
     let mut i = 0;
     while i < COUNTS && i < counts.len() {
         counts[i] = from[i] as u64;
@@ -27,7 +34,9 @@ fn copy_counts(from: [usize; COUNTS], counts: &mut [u64]) {
 
 // Lists a plan in the lent table; the counts go into the lent counts. The code of the outcome.
 #[no_mangle]
-pub extern "C" fn lucarnecress_list(plan: &[u8], table: &mut [u64], counts: &mut [u64]) -> u64 {
+pub extern "C" fn lucarnecress_list(plan: &[u8], table: &mut [u64], counts: &mut [u64]) -> u64
+    ensures { λ r. ⌜ ListHanded (now (plan .entry)) (now (table .entry)) (now (table .exit)) (now (counts .entry)) (now (counts .exit)) r ⌝ }
+{
     let listing = list_positions(plan, table);
     let found = listing.counts;
     let outcome = listing.outcome;
@@ -37,13 +46,17 @@ pub extern "C" fn lucarnecress_list(plan: &[u8], table: &mut [u64], counts: &mut
 
 // Judges one position: 1 settled, 0 not settled, else the code of the refusal.
 #[no_mangle]
-pub extern "C" fn lucarnecress_judge(plan: &[u8], position: u64) -> u64 {
+pub extern "C" fn lucarnecress_judge(plan: &[u8], position: u64) -> u64
+    ensures { λ r. ⌜ r ≡ code (judged (now (plan .entry)) position) ⌝ }
+{
     answer_code(judge::judge(plan, position))
 }
 
 // Writes a plan's sheet: its length in bytes, or 0 where the buffer is too short.
 #[no_mangle]
-pub extern "C" fn lucarnecress_sheet(plan: &[u8], sheet: &mut [u8]) -> u64 {
+pub extern "C" fn lucarnecress_sheet(plan: &[u8], sheet: &mut [u8]) -> u64
+    ensures { λ r. ⌜ SheetHanded (now (plan .entry)) (now (sheet .entry)) (now (sheet .exit)) r ⌝ }
+{
     let mut table = [0u64; TABLE_WORDS];
     match print_sheet(plan, &mut table, sheet) {
         Written::Bytes(length) => length as u64,

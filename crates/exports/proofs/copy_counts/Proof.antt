@@ -1,54 +1,52 @@
--- `copy_counts` stays within both lengths.
-use Prim.Native.Nat.{ℕ, _+_, _-_, _≤_}
-use mathlib.Core.Path.{_≡_, refl}
-use native.Mathlib.Omega.{arith}
+-- The counts passed so far are copied (Copying).
+use Prim.Native.Nat.{_-_}
 use borrow.Author.Needs.{needs}
-use borrow.Author.Tests.{ltb-true}
-use lib.ListN.{length, length-set}
+use borrow.Author.Tests.{ltb-true, ltb-false}
+use Rattle.exports.proofs.Copying.{Copying, copying-start, copying-more, copying-all, copying-full}
 use Rattle.exports.proofs.copy_counts.Statement.{statement}
 use Rattle.exports.proofs.copy_counts.Tie as tie
 
 abbrev Inv-loop : tie.InvT-loop
-Inv-loop counts₀ from i₀ counts i = length counts ≡ length counts₀
+Inv-loop counts₀ from i₀ counts i = Copying 17 from counts₀ counts i
 
 abbrev μ-loop : tie.MeasureT-loop
 μ-loop counts₀ from i₀ counts i = 17 - i
 
 loop-holds : tie.Need-loop-holds Inv-loop μ-loop
-loop-holds c = refl
+loop-holds c = copying-start (search needs)
 
 mul-counts : tie.Need-mul-counts Inv-loop μ-loop
-mul-counts c = omega arith
+mul-counts c = search needs
 
 array-read-counts : tie.Need-array-read-counts Inv-loop μ-loop
-array-read-counts c = omega arith
+array-read-counts c = search needs
 
 mul-counts-2 : tie.Need-mul-counts-2 Inv-loop μ-loop
-mul-counts-2 c = omega arith
+mul-counts-2 c = search needs
 
 slice-write-counts : tie.Need-slice-write-counts Inv-loop μ-loop
 slice-write-counts c = ltb-true _ _ (c .if1 .taken)
 
 add-i : tie.Need-add-i Inv-loop μ-loop
-add-i c = omega arith
+add-i c = search needs
 
 loop-less : tie.Need-loop-less Inv-loop μ-loop
-loop-less c = omega arith
+loop-less c = search needs
 
 loop-again : tie.Need-loop-again Inv-loop μ-loop
-loop-again c = simp length-set (c .before .before .loop .inv)
+loop-again c = copying-more (c .before .before .loop .inv) (c .before .loop-test .taken) (ltb-true _ _ (c .if1 .taken))
 
 same-length : tie.Need-same-length Inv-loop μ-loop
-same-length c = search needs
+same-length c = c .before .before .loop .inv .same-length
 
 returns : tie.Need-returns Inv-loop μ-loop
-returns c = search needs
+returns c = copying-full (c .before .before .loop .inv) (ltb-false _ _ (c .if1 .left))
 
 same-length-2 : tie.Need-same-length-2 Inv-loop μ-loop
-same-length-2 c = search needs
+same-length-2 c = c .before .loop .inv .same-length
 
 returns-2 : tie.Need-returns-2 Inv-loop μ-loop
-returns-2 c = search needs
+returns-2 c = copying-all (c .before .loop .inv) (c .loop-test .left)
 
 pub copy-counts-spec : {M : Type 1} → statement M
 copy-counts-spec =

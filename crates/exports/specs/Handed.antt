@@ -1,0 +1,43 @@
+-- What a host is handed back: numbers, and its own lent words and bytes.
+use mathlib.Core.Path.{_≡_}
+use mathlib.Core.List.{List, _++_}
+use Prim.Native.Nat.{ℕ}
+use lib.ListN.{length, take, drop, replicate}
+use Rattle.plan.specs.declared.reader.Outcome.{Outcome}
+use Rattle.plan.specs.declared.reader.Outcome.the-variants.{Accepted, Refused}
+use Rattle.judge.specs.Answers.{refusalCode}
+use Rattle.unit_lists.specs.Table.{TABLE_WORDS}
+use Rattle.unit_lists.specs.Answer.{answer}
+use Rattle.sheet.specs.Lent.{answer as written, filled}
+use Rattle.sheet.specs.declared.Written.{Written}
+use Rattle.sheet.specs.declared.Written.the-variants.{Bytes, TooShort}
+use Rattle.print_sheet.specs.Sheets.{sheetOf}
+
+-- the outcome of a listing as one number
+abbrev pub outcomeCode : Outcome → ℕ
+outcomeCode Accepted = 0
+outcomeCode (Refused f) = refusalCode f
+
+-- the lent counts afterwards: as many counts as there is room for, and behind them the words that were there
+unfoldable pub copied : List ℕ → List ℕ → List ℕ
+copied from counts = take (length counts) from ++ drop (length from) counts
+
+-- a listing: code, table and counts are the answer's
+pub record ListHanded (bytes table table′ counts counts′ : List ℕ) (r : ℕ) : Type 0 where
+  pub code-is : r ≡ outcomeCode (answer bytes table .outcome)
+  pub table-is : table′ ≡ answer bytes table .table
+  pub counts-are : counts′ ≡ copied (answer bytes table .counts) counts
+
+-- how many bytes were written, none where the buffer is too short
+abbrev pub writtenBytes : Written → ℕ
+writtenBytes (Bytes n) = n
+writtenBytes TooShort = 0
+
+-- the sheet of a plan; the table is the function's own, and no host sees it
+unfoldable pub planSheet : List ℕ → List ℕ
+planSheet bytes = sheetOf (answer bytes (replicate {A = ℕ} TABLE_WORDS 0))
+
+-- a sheet: its bytes where the buffer has room for all of them, and their number
+pub record SheetHanded (bytes sheet sheet′ : List ℕ) (r : ℕ) : Type 0 where
+  pub length-is : r ≡ writtenBytes (written (planSheet bytes) sheet)
+  pub sheet-is : sheet′ ≡ filled (planSheet bytes) sheet
