@@ -39,8 +39,8 @@ pub word-start : (p : ℕ → Bool) {n : ℕ} → Built (λ i. wordBelow i p) n 
 unfolding wordBelow
 word-start p = built-start refl
 
-pub word-more : (p : ℕ → Bool) {n i w x w′ : ℕ} → Built (λ k. wordBelow k p) n i w → i < n → x ≡ singleIf (p i) i → w′ ≡ w ∪ x
-    → Built (λ k. wordBelow k p) n (i + 1) w′
+pub word-more : (p : ℕ → Bool) {n i w x w′ : ℕ} → Built (λ k. wordBelow k p) n i w → i < n → x ≡ singleIf (p i) i
+    → w′ ≡ w ∪ x → Built (λ k. wordBelow k p) n (i + 1) w′
 word-more p {n} {i} {x = x} b l d e =
     built-more l (e ∙ ap (λ (y : ℕ). y ∪ x) (b .is) ∙ ap (λ (y : ℕ). wordBelow i p ∪ y) d ∙ word-suc i p)
 

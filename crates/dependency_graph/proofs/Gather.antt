@@ -27,7 +27,8 @@ pub record Gathers (n : ℕ) (f : ℕ → ℕ) (which all rest : ℕ) : Type 0 w
   pub same : all ∪ unionIn n rest f ≡ unionIn n which f
   pub bounded : (i : ℕ) → Has rest i → i < n
 
-pub gathers-start : {n : ℕ} {f : ℕ → ℕ} {which first rest : ℕ} → first ≡ below n → rest ≡ which ∩ first → Gathers n f which 0 rest
+pub gathers-start : {n : ℕ} {f : ℕ → ℕ} {which first rest : ℕ} → first ≡ below n → rest ≡ which ∩ first
+    → Gathers n f which 0 rest
 gathers-start {n} {f} {which} {first} {rest} p q = record {
   same = union-none-left (unionIn n rest f) ∙ ap (λ (w : ℕ). unionIn n w f) e ∙ union-in-cut n which f;
   bounded = λ i h. below-lt n (cut-right which (below n) (subst (λ (w : ℕ). Has w i) e h));
@@ -55,7 +56,8 @@ gathers-more {n} {f} {which} {all} {rest} {i} {one} {rest′} g low p q v d = re
     e : rest′ ≡ rest ∖ atom i
     e = taken rest i p q
 
-pub gathers-end : {n : ℕ} {f : ℕ → ℕ} {which all rest : ℕ} → Gathers n f which all rest → rest ≡ 0 → all ≡ unionIn n which f
+pub gathers-end : {n : ℕ} {f : ℕ → ℕ} {which all rest : ℕ} → Gathers n f which all rest → rest ≡ 0
+    → all ≡ unionIn n which f
 gathers-end {n} {f} {which} {all} {rest} g e =
     sym (ap (λ (w : ℕ). all ∪ w) (ap (λ (w : ℕ). unionIn n w f) e ∙ union-in-none n f) ∙ union-none-right all) ∙ g .same
 
@@ -64,14 +66,16 @@ gathers-end {n} {f} {which} {all} {rest} g e =
 pub record Picks (n : ℕ) (p : ℕ → Bool) (which found rest : ℕ) : Type 0 where
   pub gathered : Gathers n (λ i. singleIf (p i) i) which found rest
 
-pub picks-start : {n : ℕ} {p : ℕ → Bool} {which first rest : ℕ} → first ≡ below n → rest ≡ which ∩ first → Picks n p which 0 rest
+pub picks-start : {n : ℕ} {p : ℕ → Bool} {which first rest : ℕ} → first ≡ below n → rest ≡ which ∩ first
+    → Picks n p which 0 rest
 picks-start e d = record { gathered = gathers-start e d }
 
 pub picked-lt : {n : ℕ} {p : ℕ → Bool} {which found rest i : ℕ} → Picks n p which found rest → Lowest rest i → i < n
 picked-lt g low = next-lt (g .gathered) low
 
 pub picks-more : {n : ℕ} {p : ℕ → Bool} {which found rest i one rest′ x found′ : ℕ} {b : Bool} → Picks n p which found rest
-    → Lowest rest i → one ≡ atom i → rest′ ≡ rest ∖ one → b ≡ p i → x ≡ singleIf b i → found′ ≡ found ∪ x → Picks n p which found′ rest′
+    → Lowest rest i → one ≡ atom i → rest′ ≡ rest ∖ one → b ≡ p i → x ≡ singleIf b i → found′ ≡ found ∪ x
+    → Picks n p which found′ rest′
 picks-more {i = i} g low e d t v u = record {
   gathered = gathers-more (g .gathered) low e d (v ∙ ap (λ (y : Bool). singleIf y i) t) u;
 }

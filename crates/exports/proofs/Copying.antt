@@ -35,7 +35,8 @@ copying-more {n} {i} {from} {before} {after} c k l = record {
   read = omega arith;
   room = omega (arith, c .same-length);
   so-far =
-      ap (λ (r : List ℕ). set r i (getD from i 0)) (c .so-far) ∙ one-more from before i (omega (arith, c .all)) (omega (arith, c .same-length))
+      ap (λ (r : List ℕ). set r i (getD from i 0)) (c .so-far)
+      ∙ one-more from before i (omega (arith, c .all)) (omega (arith, c .same-length))
       ∙ ap (λ (j : ℕ). take j from ++ drop j before) (sym (add-one i));
 }
 
@@ -45,11 +46,15 @@ unfolding copied
 copying-all {n} {i} {from} {before} {after} c l =
     let e : i ≡ length from = omega (arith, c .read, c .all) in
     c .so-far
-    ∙ ap₂ _++_ (take-all i from (omega (arith, c .all)) ∙ sym (take-all (length before) from (omega (arith, c .room, c .all)))) (ap (λ (j : ℕ). drop j before) e)
+    ∙ ap₂ _++_ (take-all i from (omega (arith, c .all)) ∙ sym (take-all (length before) from (omega (arith, c .room, c .all))))
+    (ap (λ (j : ℕ). drop j before) e)
 
-pub copying-full : {n i : ℕ} {from before after : List ℕ} → Copying n from before after i → length after ≤ i → after ≡ copied from before
+pub copying-full : {n i : ℕ} {from before after : List ℕ} → Copying n from before after i → length after ≤ i
+    → after ≡ copied from before
 unfolding copied
 copying-full {n} {i} {from} {before} {after} c l =
     let e : i ≡ length before = omega (arith, c .room, c .same-length) in
     c .so-far
-    ∙ ap₂ _++_ (ap (λ (j : ℕ). take j from) e) (drop-of-length-le before {i = i} (omega (arith, c .same-length)) ∙ sym (drop-of-length-le before {i = length from} (omega (arith, c .read, c .all, c .same-length))))
+    ∙ ap₂ _++_ (ap (λ (j : ℕ). take j from) e)
+    (drop-of-length-le before {i = i} (omega (arith, c .same-length))
+    ∙ sym (drop-of-length-le before {i = length from} (omega (arith, c .read, c .all, c .same-length))))

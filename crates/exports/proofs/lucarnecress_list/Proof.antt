@@ -32,7 +32,8 @@ returns c =
     record {
       code-is = c .outcome-code .ensures ∙ ap outcomeCode (handed .outcome-is);
       table-is = handed .table-is;
-      counts-are = c .before .before .before .copy-counts .ensures ∙ ap (λ (from : List ℕ). copied from (now (at .counts))) (handed .counts-are);
+      counts-are = c .before .before .before .copy-counts .ensures
+          ∙ ap (λ (from : List ℕ). copied from (now (at .counts))) (handed .counts-are);
     }
 
 pub lucarnecress-list-spec : {M : Type 1} → statement M

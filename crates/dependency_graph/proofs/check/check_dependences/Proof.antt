@@ -15,7 +15,8 @@ lowest-requires c κs = search needs
 returns : tie.Need-returns
 unfolding dependenceRows
 returns c =
-    row-found _ _ (c .before .before .judge-dependences .ensures .0 ∙ nonmonotonic-lent _ _ _ _ _) (c .before .if1 .taken) (c .lowest .ensures)
+    row-found _ _ (c .before .before .judge-dependences .ensures .0 ∙ nonmonotonic-lent _ _ _ _ _) (c .before .if1 .taken)
+    (c .lowest .ensures)
 
 first-requires : tie.Need-first-requires
 first-requires c κs = search needs
@@ -31,14 +32,18 @@ unfolding dependenceRows
 returns-2 c =
     let c4 = c .before .before .before .before in
     let c5 = c4 .before in
-    row-found _ _ (monotonic-lent _ _ _ _ _ (c .before .before .before .first .ensures) (c5 .judge-dependences .ensures .1) (c .before .before .without .ensures)) (c .before .if2 .taken) (c .lowest2 .ensures)
+    row-found _ _
+    (monotonic-lent _ _ _ _ _ (c .before .before .before .first .ensures) (c5 .judge-dependences .ensures .1) (c .before .before .without .ensures))
+    (c .before .if2 .taken) (c .lowest2 .ensures)
     ∙ row-passed _ _ (c5 .judge-dependences .ensures .0 ∙ nonmonotonic-lent _ _ _ _ _) (c4 .if1 .left)
 
 returns-3 : tie.Need-returns-3
 unfolding dependenceRows
 returns-3 c =
     let c4 = c .before .before .before .before in
-    row-passed _ _ (monotonic-lent _ _ _ _ _ (c .before .before .first .ensures) (c4 .judge-dependences .ensures .1) (c .before .without .ensures)) (c .if2 .left)
+    row-passed _ _
+    (monotonic-lent _ _ _ _ _ (c .before .before .first .ensures) (c4 .judge-dependences .ensures .1) (c .before .without .ensures))
+    (c .if2 .left)
     ∙ row-passed _ _ (c4 .judge-dependences .ensures .0 ∙ nonmonotonic-lent _ _ _ _ _) (c .before .before .before .if1 .left)
 
 pub check-dependences-spec : {M : Type 1} → statement M

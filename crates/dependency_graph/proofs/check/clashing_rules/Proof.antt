@@ -12,7 +12,8 @@ use Rattle.dependency_graph.proofs.check.clashing_rules.Statement.{stat
 use Rattle.dependency_graph.proofs.check.clashing_rules.Tie as tie
 
 abbrev Inv-loop : tie.InvT-loop
-Inv-loop rules rule-count held unseen found₀ rest₀ found rest = Picks rule-count (λ s. not (apart (getD rules (3 * s + 2) 0) unseen)) held found rest
+Inv-loop rules rule-count held unseen found₀ rest₀ found rest =
+    Picks rule-count (λ s. not (apart (getD rules (3 * s + 2) 0) unseen)) held found rest
 
 abbrev μ-loop : tie.MeasureT-loop
 μ-loop rules rule-count held unseen found₀ rest₀ found rest = ones rest

@@ -10,7 +10,8 @@ use Rattle.dependency_graph.proofs.check.covered_rules.Statement.{state
 use Rattle.dependency_graph.proofs.check.covered_rules.Tie as tie
 
 abbrev Inv-loop : tie.InvT-loop
-Inv-loop rules rule-count held unseen found₀ rest₀ found rest = Picks rule-count (λ s. apart (getD rules (3 * s + 1) 0 ∪ getD rules (3 * s) 0) unseen) held found rest
+Inv-loop rules rule-count held unseen found₀ rest₀ found rest =
+    Picks rule-count (λ s. apart (getD rules (3 * s + 1) 0 ∪ getD rules (3 * s) 0) unseen) held found rest
 
 abbrev μ-loop : tie.MeasureT-loop
 μ-loop rules rule-count held unseen found₀ rest₀ found rest = ones rest
@@ -54,7 +55,8 @@ mul-union-4 c = omega (arith, c .before .before .before .lowest .ensures .1)
 
 shared-slice-read-union-2 : tie.Need-shared-slice-read-union-2 Inv-loop μ-loop
 shared-slice-read-union-2 c =
-    omega (arith, picked-lt (c .before .before .before .before .before .before .loop .inv) (c .before .before .before .before .lowest .ensures .0))
+    omega
+    (arith, picked-lt (c .before .before .before .before .before .before .loop .inv) (c .before .before .before .before .lowest .ensures .0))
 
 union-requires : tie.Need-union-requires Inv-loop μ-loop
 union-requires c κs = search needs
@@ -82,7 +84,8 @@ loop-again c =
     let c8 = c7 .before in
     let c10 = c8 .before .before in
     picks-more (c10 .loop .inv) (c8 .lowest .ensures .0) (c7 .single .ensures) (c6 .without .ensures)
-    (rw (c .before .before .before .union .ensures) at (c .before .before .are-apart .ensures)) (c .before .single-if .ensures) (c .union2 .ensures)
+    (rw (c .before .before .before .union .ensures) at (c .before .before .are-apart .ensures)) (c .before .single-if .ensures)
+    (c .union2 .ensures)
 
 returns : tie.Need-returns Inv-loop μ-loop
 returns c = picks-end (c .before .loop .inv) (c .loop-test .left)

@@ -11,7 +11,8 @@ use Rattle.dependency_graph.proofs.check.headed_rules.Statement.{statem
 use Rattle.dependency_graph.proofs.check.headed_rules.Tie as tie
 
 abbrev Inv-loop : tie.InvT-loop
-Inv-loop rules rule-count headed₀ r₀ headed r = Built (λ k. wordBelow k (λ s. not (eqb (getD rules (3 * s) 0) 0))) rule-count r headed
+Inv-loop rules rule-count headed₀ r₀ headed r =
+    Built (λ k. wordBelow k (λ s. not (eqb (getD rules (3 * s) 0) 0))) rule-count r headed
 
 abbrev μ-loop : tie.MeasureT-loop
 μ-loop rules rule-count headed₀ r₀ headed r = rule-count - r

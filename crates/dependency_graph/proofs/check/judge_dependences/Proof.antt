@@ -11,7 +11,9 @@ use Rattle.dependency_graph.proofs.check.judge_dependences.Statement.{s
 use Rattle.dependency_graph.proofs.check.judge_dependences.Tie as tie
 
 abbrev Inv-loop : tie.InvT-loop
-Inv-loop rules rule-count units unit-count predecessors clashing₀ covered₀ u₀ clashing covered u = Built (λ k. unionBelow k (clashingOf (unitsOf rules rule-count units unit-count predecessors))) unit-count u clashing × Built (λ k. unionBelow k (coveredOf (unitsOf rules rule-count units unit-count predecessors))) unit-count u covered
+Inv-loop rules rule-count units unit-count predecessors clashing₀ covered₀ u₀ clashing covered u =
+    Built (λ k. unionBelow k (clashingOf (unitsOf rules rule-count units unit-count predecessors))) unit-count u clashing
+    × Built (λ k. unionBelow k (coveredOf (unitsOf rules rule-count units unit-count predecessors))) unit-count u covered
 
 abbrev μ-loop : tie.MeasureT-loop
 μ-loop rules rule-count units unit-count predecessors clashing₀ covered₀ u₀ clashing covered u = unit-count - u
@@ -60,8 +62,10 @@ loop-again c =
     let c8 = c7 .before in
     let inv = c8 .loop .inv in
     let unseen = c6 .unseen-heads .ensures in (
-      union-more _ (inv .0) (c7 .loop-test .taken) (c4 .clashing-rules .ensures ∙ clashing-lent _ _ _ _ _ _ unseen) (c .before .before .before .union .ensures),
-      union-more _ (inv .1) (c7 .loop-test .taken) (c .before .covered-rules .ensures ∙ covered-lent _ _ _ _ _ _ unseen) (c .union2 .ensures),
+      union-more _ (inv .0) (c7 .loop-test .taken) (c4 .clashing-rules .ensures ∙ clashing-lent _ _ _ _ _ _ unseen)
+          (c .before .before .before .union .ensures),
+      union-more _ (inv .1) (c7 .loop-test .taken) (c .before .covered-rules .ensures ∙ covered-lent _ _ _ _ _ _ unseen)
+          (c .union2 .ensures),
     )
 
 returns : tie.Need-returns Inv-loop μ-loop

@@ -11,7 +11,8 @@ use Rattle.dependency_graph.proofs.check.own_members.Statement.{stateme
 use Rattle.dependency_graph.proofs.check.own_members.Tie as tie
 
 abbrev Inv-loop : tie.InvT-loop
-Inv-loop words unit-count found₀ u₀ found u = Built (λ k. wordBelow k (λ i. has (getD words i 0) i)) unit-count u found
+Inv-loop words unit-count found₀ u₀ found u =
+    Built (λ k. wordBelow k (λ i. has (getD words i 0) i)) unit-count u found
 
 abbrev μ-loop : tie.MeasureT-loop
 μ-loop words unit-count found₀ u₀ found u = unit-count - u
@@ -48,7 +49,8 @@ loop-again c =
     let c5 = c .before .before .before .before .before in
     let c6 = c5 .before in
     word-more _ (c6 .loop .inv) (c5 .loop-test .taken)
-    (rw (has-is-test _ _ (c .before .before .before .single .ensures) (c .before .before .are-apart .ensures)) at (c .before .single-if .ensures)) (c .union .ensures)
+    (rw (has-is-test _ _ (c .before .before .before .single .ensures) (c .before .before .are-apart .ensures)) at (c .before .single-if .ensures))
+    (c .union .ensures)
 
 returns : tie.Need-returns Inv-loop μ-loop
 returns c = built-end (c .before .loop .inv) (c .loop-test .left)

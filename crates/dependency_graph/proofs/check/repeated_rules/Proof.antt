@@ -10,7 +10,9 @@ use Rattle.dependency_graph.proofs.check.repeated_rules.Statement.{stat
 use Rattle.dependency_graph.proofs.check.repeated_rules.Tie as tie
 
 abbrev Inv-loop : tie.InvT-loop
-Inv-loop units unit-count once₀ twice₀ u₀ once twice u = Built (λ k. unionBelow k (λ i. getD units i 0)) unit-count u once × Built (λ k. twiceBelow k (λ i. getD units i 0)) unit-count u twice
+Inv-loop units unit-count once₀ twice₀ u₀ once twice u =
+    Built (λ k. unionBelow k (λ i. getD units i 0)) unit-count u once
+    × Built (λ k. twiceBelow k (λ i. getD units i 0)) unit-count u twice
 
 abbrev μ-loop : tie.MeasureT-loop
 μ-loop units unit-count once₀ twice₀ u₀ once twice u = unit-count - u

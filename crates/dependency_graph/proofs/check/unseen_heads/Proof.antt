@@ -35,7 +35,8 @@ heads-of-requires c κs = search needs
 returns : tie.Need-returns
 returns c =
     let c5 = c .before .before .before .before .before in
-    unseen-lent _ _ _ _ _ _ (c5 .union-of .ensures) (c .before .before .before .union .ensures) (c .before .before .first .ensures) (c .before .without .ensures) (c .heads-of .ensures)
+    unseen-lent _ _ _ _ _ _ (c5 .union-of .ensures) (c .before .before .before .union .ensures) (c .before .before .first .ensures)
+    (c .before .without .ensures) (c .heads-of .ensures)
 
 pub unseen-heads-spec : {M : Type 1} → statement M
 unseen-heads-spec =

@@ -39,7 +39,8 @@ returns c =
     let c7 = c .before .before .before .before .before .before .before in
     let c12 = c7 .before .before .before .before .before in
     let c15 = c12 .before .before .before in
-    heads-filled _ _ _ _ _ (c15 .fill-own .ensures) (c12 .fill-reach .ensures) (c7 .fill-unions .ensures) (c .before .before .add-words .ensures)
+    heads-filled _ _ _ _ _ (c15 .fill-own .ensures) (c12 .fill-reach .ensures) (c7 .fill-unions .ensures)
+    (c .before .before .add-words .ensures)
 
 pub fill-heads-spec : {M : Type 1} → statement M
 fill-heads-spec =

@@ -12,7 +12,8 @@ use Rattle.dependency_graph.proofs.head_atoms.fill_own.Statement.{state
 use Rattle.dependency_graph.proofs.head_atoms.fill_own.Tie as tie
 
 abbrev Inv-loop : tie.InvT-loop
-Inv-loop rules rule-count units unit-count table₀ u₀ table u = Filling unit-count u (own (unitsOf rules rule-count units unit-count [])) table₀ table
+Inv-loop rules rule-count units unit-count table₀ u₀ table u =
+    Filling unit-count u (own (unitsOf rules rule-count units unit-count [])) table₀ table
 
 abbrev μ-loop : tie.MeasureT-loop
 μ-loop rules rule-count units unit-count table₀ u₀ table u = unit-count - u
@@ -42,7 +43,9 @@ loop-less : tie.Need-loop-less Inv-loop μ-loop
 loop-less c = search needs
 
 loop-again : tie.Need-loop-again Inv-loop μ-loop
-loop-again c = filling-more (c .before .before .before .loop .inv) (c .before .before .loop-test .taken) (c .heads-of .ensures ∙ own-lent _ _ _ _ _ _)
+loop-again c =
+    filling-more (c .before .before .before .loop .inv) (c .before .before .loop-test .taken)
+    (c .heads-of .ensures ∙ own-lent _ _ _ _ _ _)
 
 same-length : tie.Need-same-length Inv-loop μ-loop
 same-length c = c .before .loop .inv .so-far .same-length

@@ -9,7 +9,8 @@ use Rattle.dependency_graph.proofs.head_atoms.fill_unions.Statement.{st
 use Rattle.dependency_graph.proofs.head_atoms.fill_unions.Tie as tie
 
 abbrev Inv-loop : tie.InvT-loop
-Inv-loop words which unit-count table₀ u₀ table u = Filling unit-count u (λ i. unionIn unit-count (getD which i 0) (λ v. getD words v 0)) table₀ table
+Inv-loop words which unit-count table₀ u₀ table u =
+    Filling unit-count u (λ i. unionIn unit-count (getD which i 0) (λ v. getD words v 0)) table₀ table
 
 abbrev μ-loop : tie.MeasureT-loop
 μ-loop words which unit-count table₀ u₀ table u = unit-count - u

@@ -11,7 +11,8 @@ use Rattle.dependency_graph.proofs.reach.fill_direct.Statement.{stateme
 use Rattle.dependency_graph.proofs.reach.fill_direct.Tie as tie
 
 abbrev Inv-loop : tie.InvT-loop
-Inv-loop predecessors unit-count table₀ all u₀ table u = Filling unit-count u (reachVia (edgesOf unit-count predecessors) 0) table₀ table
+Inv-loop predecessors unit-count table₀ all u₀ table u =
+    Filling unit-count u (reachVia (edgesOf unit-count predecessors) 0) table₀ table
 
 abbrev μ-loop : tie.MeasureT-loop
 μ-loop predecessors unit-count table₀ all u₀ table u = unit-count - u
@@ -46,7 +47,8 @@ loop-less c = search needs
 loop-again : tie.Need-loop-again Inv-loop μ-loop
 loop-again c =
     let c4 = c .before .before .before .before in
-    filling-more (c .before .before .before .loop .inv) (c .before .before .loop-test .taken) ((rw (c4 .first .ensures) at (c .cut .ensures)) ∙ direct-lent _ _ _)
+    filling-more (c .before .before .before .loop .inv) (c .before .before .loop-test .taken)
+    ((rw (c4 .first .ensures) at (c .cut .ensures)) ∙ direct-lent _ _ _)
 
 same-length : tie.Need-same-length Inv-loop μ-loop
 same-length c = c .before .loop .inv .so-far .same-length

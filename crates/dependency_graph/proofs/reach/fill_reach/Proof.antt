@@ -11,7 +11,8 @@ use Rattle.dependency_graph.proofs.reach.fill_reach.Statement.{statemen
 use Rattle.dependency_graph.proofs.reach.fill_reach.Tie as tie
 
 abbrev Inv-loop : tie.InvT-loop
-Inv-loop predecessors unit-count table₀ k₀ table k = Filled unit-count (reachVia (edgesOf unit-count predecessors) k) table₀ table × (k ≤ unit-count)
+Inv-loop predecessors unit-count table₀ k₀ table k =
+    Filled unit-count (reachVia (edgesOf unit-count predecessors) k) table₀ table × (k ≤ unit-count)
 
 abbrev μ-loop : tie.MeasureT-loop
 μ-loop predecessors unit-count table₀ k₀ table k = unit-count - k
@@ -33,7 +34,12 @@ loop-less c = search needs
 
 loop-again : tie.Need-loop-again Inv-loop μ-loop
 loop-again c =
-    (filled-same (filled-again (c .before .before .before .before .before .loop .inv .0) (c .before .before .open-middle .ensures)) _ (open-next _ _ _ (c .before .before .before .before .before .loop .table) (omega arith) (c .before .before .before .before .before .loop .inv .0 .filled)), omega arith)
+    let c4 = c .before .before .before .before in
+    let old = c4 .before .loop in (
+      filled-same (filled-again (old .inv .0) (c .before .before .open-middle .ensures)) _
+          (open-next _ _ _ (old .table) (c4 .loop-test .taken) (old .inv .0 .filled)),
+      omega arith,
+    )
 
 same-length : tie.Need-same-length Inv-loop μ-loop
 same-length c =
@@ -42,7 +48,8 @@ same-length c =
 
 returns : tie.Need-returns Inv-loop μ-loop
 returns c =
-    filled-same (filled-again (c .before .before .before .before .fill-direct .ensures) (c .before .loop .inv .0)) _ (λ u l. reach-end _ _ _ _ (omega arith))
+    filled-same (filled-again (c .before .before .before .before .fill-direct .ensures) (c .before .loop .inv .0)) _
+    (λ u l. reach-end _ _ _ _ (omega arith))
 
 pub fill-reach-spec : {M : Type 1} → statement M
 fill-reach-spec =

@@ -9,7 +9,8 @@ use Rattle.dependency_graph.proofs.reach.open_middle.Statement.{stateme
 use Rattle.dependency_graph.proofs.reach.open_middle.Tie as tie
 
 abbrev Inv-loop : tie.InvT-loop
-Inv-loop unit-count k table₀ middle u₀ table u = Filling unit-count u (λ i. through (getD table₀ i 0) k (getD table₀ k 0)) table₀ table
+Inv-loop unit-count k table₀ middle u₀ table u =
+    Filling unit-count u (λ i. through (getD table₀ i 0) k (getD table₀ k 0)) table₀ table
 
 abbrev μ-loop : tie.MeasureT-loop
 μ-loop unit-count k table₀ middle u₀ table u = unit-count - u

@@ -55,7 +55,8 @@ loop-again : tie.Need-loop-again Inv-loop μ-loop
 loop-again c =
     let c4 = c .before .before .before .before in
     let c6 = c4 .before .before in
-    gathers-more (c6 .loop .inv) (c4 .lowest .ensures .0) (c .before .before .before .single .ensures) (c .before .before .without .ensures) refl (c .union .ensures)
+    gathers-more (c6 .loop .inv) (c4 .lowest .ensures .0) (c .before .before .before .single .ensures)
+    (c .before .before .without .ensures) refl (c .union .ensures)
 
 returns : tie.Need-returns Inv-loop μ-loop
 returns c = gathers-end (c .before .loop .inv) (c .loop-test .left)

@@ -1,10 +1,7 @@
 -- The test of u is membership; the predecessors' word is cut to the units there are.
-use mathlib.Core.Path.{_∙_, ap}
-use Prim.Native.Nat.{ℕ}
-use lib.ListN.{getD}
+use mathlib.Core.Path.{_∙_}
 use borrow.Author.Tests.{not-true, not-false}
 use borrow.Author.Needs.{needs}
-use Rattle.atoms.specs.Word.{_∩_, subset}
 use Rattle.dependency_graph.proofs.Steps.{lacks-of-test, has-of-test}
 use Rattle.dependency_graph.proofs.Slices.{done-not-ready, ready-of-waiting}
 use Rattle.dependency_graph.proofs.working_order.is_ready.Statement.{statement}
@@ -17,7 +14,9 @@ are-apart-requires : tie.Need-are-apart-requires
 are-apart-requires c κs = search needs
 
 returns : tie.Need-returns
-returns c = done-not-ready _ _ _ _ (has-of-test _ _ (c .before .before .single .ensures) (c .before .are-apart .ensures) (not-true _ (c .if1 .taken)))
+returns c =
+    done-not-ready _ _ _ _
+    (has-of-test _ _ (c .before .before .single .ensures) (c .before .are-apart .ensures) (not-true _ (c .if1 .taken)))
 
 mul-cut : tie.Need-mul-cut
 mul-cut c = search needs
@@ -39,8 +38,9 @@ returns-2 c =
     let c4 = c .before .before .before .before in
     let c5 = c4 .before in
     let c6 = c5 .before in
-    let c8 = c6 .before .before in
-    c .is-subset .ensures ∙ ap (λ (w : ℕ). subset w (c8 .args .done)) (c .before .cut .ensures ∙ ap (λ (w : ℕ). getD (c8 .args .predecessors .now) (c8 .args .u) 0 ∩ w) (c .before .before .first .ensures)) ∙ ready-of-waiting _ _ _ _ (lacks-of-test _ _ (c6 .single .ensures) (c5 .are-apart .ensures) (not-false _ (c4 .if1 .left)))
+    (rw (rw (c .before .before .first .ensures) at (c .before .cut .ensures)) at (c .is-subset .ensures))
+    ∙ ready-of-waiting _ _ _ _
+    (lacks-of-test _ _ (c6 .single .ensures) (c5 .are-apart .ensures) (not-false _ (c4 .if1 .left)))
 
 pub is-ready-spec : {M : Type 1} → statement M
 is-ready-spec =
