@@ -10,7 +10,7 @@ use lib.Dec.{eqb}
 use lib.ListN.{length, getD}
 use borrow.Author.Tests.{eqb-true}
 use Rattle.atoms.specs.Word.{Has, _⊆_, subset, Apart, apart, _∩_, _∪_, _∖_, atom}
-use Rattle.atoms.proofs.Sets.{decides-subset, decides-apart, has-cut, cut-left, cut-right, has-left, has-right, union-cases, has-without, without-left, without-right, has-lt, has-dec, subset-refl, subset-trans, subset-le}
+use Rattle.atoms.proofs.Sets.{decides-subset, decides-apart, has-cut, cut-left, cut-right, has-left, has-right, union-cases, has-without, without-left, without-right, has-lt, has-dec, subset-refl, subset-trans, subset-le, ext}
 use Rattle.atoms.proofs.Bounded.{some-at, all-in-at, all-in-intro, all-in-none, all-in-take}
 use Rattle.atoms.specs.Bounded.{Decides}
 use Rattle.atoms.proofs.Tests.{decides}
@@ -25,18 +25,12 @@ use Rattle.unit_search.specs.declared.join.Agreement.{Agreement}
 
 -- ---- one entry
 
-pub passes-up : (r : Agreement) (up dropped entry : ℕ) → subset up entry ≡ false → TakenIn r up dropped entry r
-passes-up r up dropped entry e = record { still = λ x s. s; new = λ a. absurd (decides-subset up entry .no e (a .has-up)) }
+pub passes-by : (r : Agreement) (up decided entry : ℕ) → ¬ (entry ∩ decided ≡ up) → TakenIn r up decided entry r
+passes-by r up decided entry n = record { still = λ x s. s; new = λ a. absurd (n (a .same)) }
 
-pub passes-dropped : (r : Agreement) (up dropped entry : ℕ) → apart dropped entry ≡ false → TakenIn r up dropped entry r
-passes-dropped r up dropped entry e = record {
-  still = λ x s. s;
-  new = λ a. absurd (decides-apart dropped entry .no e (a .no-dropped));
-}
-
-pub taken-in : (r : Agreement) (up dropped entry : ℕ)
-    → TakenIn r up dropped entry (record { all = r .all ∩ entry; some = r .some ∪ entry })
-taken-in r up dropped entry = record {
+pub taken-in : (r : Agreement) (up decided entry : ℕ)
+    → TakenIn r up decided entry (record { all = r .all ∩ entry; some = r .some ∪ entry })
+taken-in r up decided entry = record {
   still = λ x s. record {
     from-all = record { each = λ i p. s .from-all .each i (cut-left (r .all) entry p) };
     to-some = record { each = λ i p. has-left (r .some) entry (s .to-some .each i p) };
@@ -49,37 +43,45 @@ taken-in r up dropped entry = record {
 
 -- ---- a list
 
-pub spans-start : (words : List ℕ) (base up dropped : ℕ) (r : Agreement) → SpansAll words base 0 up dropped r
-spans-start words base up dropped r = record { each = λ i l. absurd (omega arith) }
+pub spans-start : (words : List ℕ) (base up decided : ℕ) (r : Agreement) → SpansAll words base 0 up decided r
+spans-start words base up decided r = record { each = λ i l. absurd (omega arith) }
 
-pub spans-next : (words : List ℕ) (base i up dropped : ℕ) (r r′ : Agreement) → SpansAll words base i up dropped r
-    → TakenIn r up dropped (getD words (base + i) 0) r′ → SpansAll words base (i + 1) up dropped r′
-spans-next words base i up dropped r r′ s t = record { each = λ j l a. go j l a (ℕ-discrete j i) }
+pub spans-next : (words : List ℕ) (base i up decided : ℕ) (r r′ : Agreement) → SpansAll words base i up decided r
+    → TakenIn r up decided (getD words (base + i) 0) r′ → SpansAll words base (i + 1) up decided r′
+spans-next words base i up decided r r′ s t = record { each = λ j l a. go j l a (ℕ-discrete j i) }
   where
-    go : (j : ℕ) → j < i + 1 → Agrees up dropped (getD words (base + j) 0) → Dec (j ≡ i) → Spans r′ (getD words (base + j) 0)
+    go : (j : ℕ) → j < i + 1 → Agrees up decided (getD words (base + j) 0) → Dec (j ≡ i) → Spans r′ (getD words (base + j) 0)
     go j l a (yes e) =
         subst (λ (k : ℕ). Spans r′ (getD words (base + k) 0)) (sym e)
-        (t .new (subst (λ (k : ℕ). Agrees up dropped (getD words (base + k) 0)) e a))
+        (t .new (subst (λ (k : ℕ). Agrees up decided (getD words (base + k) 0)) e a))
     go j l a (no n) = t .still (getD words (base + j) 0) (s .each j (omega arith) a)
 
 -- ---- one predecessor
 
 module _ (words : List ℕ) (base count heads : ℕ) (s : State) (r : Agreement)
-    (spans : SpansAll words base count (s .up ∩ heads) (s .dropped) r) where
+    (spans : SpansAll words base count (s .up ∩ heads) (s .up ∩ heads ∪ s .dropped) r) where
   -- the position's own entry agrees, so that it is spanned
   own-entry : (M : ℕ) → JoinsOne words base count heads M → Completes s M → Spans r (M ∩ heads)
   unfolding isListed
   own-entry M j c =
       let found = some-at count (λ i. eqb (getD words (base + i) 0) (M ∩ heads)) (j .listed) in
       let e : getD words (base + found .0) 0 ≡ M ∩ heads = eqb-true (getD words (base + found .0) 0) (M ∩ heads) (found .2) in
-      subst (Spans r) e (spans .each (found .0) (found .1) (subst (Agrees (s .up ∩ heads) (s .dropped)) (sym e) agrees))
+      subst (Spans r) e (spans .each (found .0) (found .1) (subst (Agrees (s .up ∩ heads) (s .up ∩ heads ∪ s .dropped)) (sym e) agrees))
     where
-      agrees : Agrees (s .up ∩ heads) (s .dropped) (M ∩ heads)
+      only-up : (i : ℕ) → Has M i → Has (s .up ∩ heads) i ⊎ Has (s .dropped) i → Has (s .up ∩ heads) i
+      only-up i m (inl p) = p
+      only-up i m (inr p) = absurd (c .no-dropped .none i p m)
+
+      agrees : Agrees (s .up ∩ heads) (s .up ∩ heads ∪ s .dropped) (M ∩ heads)
       agrees = record {
-        has-up = record {
-          each = λ i p. has-cut M heads (c .has-up .each i (cut-left (s .up) heads p)) (cut-right (s .up) heads p);
-        };
-        no-dropped = record { none = λ i p q. c .no-dropped .none i p (cut-left M heads q) };
+        same = ext (M ∩ heads ∩ (s .up ∩ heads ∪ s .dropped)) (s .up ∩ heads)
+            (λ i p.
+            only-up i (cut-left M heads (cut-left (M ∩ heads) (s .up ∩ heads ∪ s .dropped) p))
+            (union-cases (s .up ∩ heads) (s .dropped) (cut-right (M ∩ heads) (s .up ∩ heads ∪ s .dropped) p)))
+            (λ i p.
+            has-cut (M ∩ heads) (s .up ∩ heads ∪ s .dropped)
+            (has-cut M heads (c .has-up .each i (cut-left (s .up) heads p)) (cut-right (s .up) heads p))
+            (has-left (s .up ∩ heads) (s .dropped) p));
       }
 
   pub join-clash : subset (r .all) heads ≡ false → Narrows (JoinsOne words base count heads) s (clashed s)

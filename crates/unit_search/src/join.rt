@@ -48,14 +48,11 @@ pub struct Agreement {
     pub some: u64,
 }
 
-// What is known with one more entry, which counts where it has every atom of `up` and none of `dropped`.
-fn take_in(found: Agreement, up: u64, dropped: u64, entry: u64) -> Agreement
-    ensures { λ r. ⌜ TakenIn found up dropped entry r ⌝ }
+// What is known with one more entry, which counts where of the decided atoms it has just those that are up.
+fn take_in(found: Agreement, up: u64, decided: u64, entry: u64) -> Agreement
+    ensures { λ r. ⌜ TakenIn found up decided entry r ⌝ }
 {
-    if !atoms::is_subset(up, entry) {
-        return found;
-    }
-    if !atoms::are_apart(dropped, entry) {
+    if atoms::cut(entry, decided) != up {
         return found;
     }
     Agreement {
@@ -64,10 +61,10 @@ fn take_in(found: Agreement, up: u64, dropped: u64, entry: u64) -> Agreement
     }
 }
 
-// Of the entries of a list that have every atom of `up` and none of `dropped`: what is in all of them and what is in some.
-fn agreeing_entries(words: &[u64], base: usize, count: usize, up: u64, dropped: u64) -> Agreement
+// Of the entries of a list that have of the decided atoms just those that are up: what is in all of them and what is in some.
+fn agreeing_entries(words: &[u64], base: usize, count: usize, up: u64, decided: u64) -> Agreement
     requires { ⌜ base + count ≤ length (now words) ⌝ }
-    ensures { λ r. ⌜ SpansAll (now (words .entry)) base count up dropped r ⌝ }
+    ensures { λ r. ⌜ SpansAll (now (words .entry)) base count up decided r ⌝ }
 {
     let mut found = Agreement {
         all: atoms::first(64),
@@ -75,7 +72,7 @@ fn agreeing_entries(words: &[u64], base: usize, count: usize, up: u64, dropped: 
     };
     let mut i = 0;
     while i < count {
-        found = take_in(found, up, dropped, words[base + i]);
+        found = take_in(found, up, decided, words[base + i]);
         i += 1;
     }
     found
@@ -87,7 +84,8 @@ fn join_one(words: &[u64], base: usize, count: usize, heads: u64, s: State) -> S
     requires { ⌜ base + count ≤ length (now words) ⌝ }
     ensures { λ t. ⌜ Narrows (JoinsOne (now (words .entry)) base count heads) s t ⌝ }
 {
-    let found = agreeing_entries(words, base, count, atoms::cut(s.up, heads), s.dropped);
+    let up = atoms::cut(s.up, heads);
+    let found = agreeing_entries(words, base, count, up, atoms::union(up, s.dropped));
     if !atoms::is_subset(found.all, heads) {
         return clash(s);
     }

@@ -10,10 +10,10 @@ use Rattle.unit_search.proofs.join.agreeing_entries.Statement.{statemen
 use Rattle.unit_search.proofs.join.agreeing_entries.Tie as tie
 
 abbrev Inv-loop : tie.InvT-loop
-Inv-loop words base count up dropped found₀ i₀ found i = (i ≤ count) × SpansAll words base i up dropped found
+Inv-loop words base count up decided found₀ i₀ found i = (i ≤ count) × SpansAll words base i up decided found
 
 abbrev μ-loop : tie.MeasureT-loop
-μ-loop words base count up dropped found₀ i₀ found i = count - i
+μ-loop words base count up decided found₀ i₀ found i = count - i
 
 first-requires : tie.Need-first-requires Inv-loop μ-loop
 first-requires c κs = search needs
@@ -44,13 +44,13 @@ loop-again c =
     let c6 = c .before .before .before .before .before .before in
     let at = c6 .args in
     let loop = c .before .before .before .loop in
-    (omega arith, spans-next (now (at .words)) (at .base) (loop .i) (at .up) (at .dropped) (loop .found) (c .take-in .result) (loop .inv .1) (c .take-in .ensures))
+    (omega arith, spans-next (now (at .words)) (at .base) (loop .i) (at .up) (at .decided) (loop .found) (c .take-in .result) (loop .inv .1) (c .take-in .ensures))
 
 returns : tie.Need-returns Inv-loop μ-loop
 returns c =
     let at = c .before .before .before .before .args in
     let e : c .before .loop .i ≡ at .count = omega arith in
-    subst (λ (i : ℕ). SpansAll (now (at .words)) (at .base) i (at .up) (at .dropped) (c .before .loop .found)) e (c .before .loop .inv .1)
+    subst (λ (i : ℕ). SpansAll (now (at .words)) (at .base) i (at .up) (at .decided) (c .before .loop .found)) e (c .before .loop .inv .1)
 
 pub agreeing-entries-spec : {M : Type 1} → statement M
 agreeing-entries-spec =
