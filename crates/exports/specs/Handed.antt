@@ -1,7 +1,7 @@
 -- What a host is handed back: numbers, and its own lent words and bytes.
 use mathlib.Core.Path.{_≡_}
 use mathlib.Core.List.{List, _++_}
-use Prim.Native.Nat.{ℕ}
+use Prim.Native.Nat.{ℕ, _≤_}
 use lib.ListN.{length, take, drop, replicate}
 use Rattle.plan.specs.declared.reader.Outcome.{Outcome}
 use Rattle.plan.specs.declared.reader.Outcome.the-variants.{Accepted, Refused}
@@ -11,7 +11,7 @@ use Rattle.unit_lists.specs.Answer.{answer}
 use Rattle.sheet.specs.Lent.{answer as written, filled}
 use Rattle.sheet.specs.declared.Written.{Written}
 use Rattle.sheet.specs.declared.Written.the-variants.{Bytes, TooShort}
-use Rattle.print_sheet.specs.Sheets.{sheetOf}
+use Rattle.print_sheet.specs.Sheets.{sheetOf, SHEET_BYTES}
 
 -- the outcome of a listing as one number
 abbrev pub outcomeCode : Outcome → ℕ
@@ -37,7 +37,8 @@ writtenBytes TooShort = 0
 unfoldable pub planSheet : List ℕ → List ℕ
 planSheet bytes = sheetOf (answer bytes (replicate {A = ℕ} TABLE_WORDS 0))
 
--- a sheet: its bytes where the buffer has room for all of them, and their number
+-- a sheet: its bytes where the buffer has room for all of them, and their number; SHEET_BYTES are always enough
 pub record SheetHanded (bytes sheet sheet′ : List ℕ) (r : ℕ) : Type 0 where
   pub length-is : r ≡ writtenBytes (written (planSheet bytes) sheet)
   pub sheet-is : sheet′ ≡ filled (planSheet bytes) sheet
+  pub at-most : length (planSheet bytes) ≤ SHEET_BYTES

@@ -28,6 +28,7 @@ returns c =
     record {
       length-is = ap writtenBytes (sym (c .before .length .given .1) ∙ printed .written-is);
       sheet-is = printed .sheet-is;
+      at-most = printed .at-most;
     }
 
 same-length-2 : tie.Need-same-length-2
@@ -41,6 +42,7 @@ returns-2 c =
     record {
       length-is = ap writtenBytes (sym (c .enum-told .given .1) ∙ printed .written-is);
       sheet-is = printed .sheet-is;
+      at-most = printed .at-most;
     }
 
 pub lucarnecress-sheet-spec : {M : Type 1} → statement M
