@@ -1,10 +1,12 @@
 # Functions that build the test programs; read by the scripts of this folder and of bench/.
 
-# Makes sure that rustc is there and works. It may stand in cargo's folder off the path; on a Debian machine without it,
-# root installs it.
+# Makes sure that rustc is there and works. It may stand in the folder of the user's cargo, off the path; on a Debian machine
+# without it, root installs it.
 need_rustc() {
     rustc --version >/dev/null 2>&1 && return
-    PATH="$PATH:${CARGO_HOME:-$HOME/.cargo}/bin:/root/.cargo/bin"
+    HOME=$(getent passwd "$(id -u)" | cut -d: -f6)
+    PATH="$PATH:$HOME/.cargo/bin"
+    export HOME PATH
     rustc --version >/dev/null 2>&1 && return
     if [ "$(id -u)" = 0 ] && command -v apt-get >/dev/null; then
         { apt-get update && apt-get install -y rustc; } >&2
