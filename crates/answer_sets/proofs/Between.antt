@@ -17,7 +17,7 @@ use Rattle.answer_sets.specs.Lent.{lent, negative}
 use Rattle.answer_sets.specs.State.{Completes, Narrows, undecided}
 use Rattle.answer_sets.specs.Growth.{Between, Confines, InRule, in-head, in-positive, in-negative}
 use Rattle.answer_sets.specs.Test.{Smaller, someSmaller}
-use Rattle.answer_sets.specs.declared.State.{State}
+use Rattle.answer_sets.specs.declared.state.State.{State}
 use Rattle.answer_sets.proofs.Narrowing.{completes-back, overlap-none, with-up, with-dropped, without-up, without-dropped}
 use Rattle.answer_sets.proofs.HalfDecided.{decided-cases, undecided-up, undecided-dropped, undecided-intro, undecided-lt, undecided-shrinks}
 use Rattle.answer_sets.proofs.Judged.{decides-smaller}

@@ -12,9 +12,9 @@ use Rattle.atoms.proofs.Sets.{decides-subset, decides-apart, without-left, with
 use Rattle.answer_sets.specs.Program.{Program, Body}
 use Rattle.answer_sets.specs.Lent.{lent, negative}
 use Rattle.answer_sets.specs.State.{Completes, undecided, known, bodyKnown}
-use Rattle.answer_sets.specs.declared.Truth.{Truth}
-use Rattle.answer_sets.specs.declared.Truth.the-variants.{Holds, Fails, Open}
-use Rattle.answer_sets.specs.declared.State.{State}
+use Rattle.answer_sets.specs.declared.state.Truth.{Truth}
+use Rattle.answer_sets.specs.declared.state.Truth.the-variants.{Holds, Fails, Open}
+use Rattle.answer_sets.specs.declared.state.State.{State}
 
 module _ (rules : List ℕ) (r up dropped : ℕ) where
   -- ---- the tests, in the order of the code

@@ -10,8 +10,8 @@ use Rattle.answer_sets.specs.Program.{Program, Body, Satisfies, Satisfie
 use Rattle.answer_sets.specs.Lent.{lent, negative}
 use Rattle.answer_sets.specs.State.{Completes, Narrows, clashed, bodyKnown}
 use Rattle.answer_sets.specs.Growth.{HeadUp, NotAll, InRule, in-head, in-positive, in-negative, Candidates}
-use Rattle.answer_sets.specs.declared.State.{State}
-use Rattle.answer_sets.specs.declared.Truth.the-variants.{Holds}
+use Rattle.answer_sets.specs.declared.state.State.{State}
+use Rattle.answer_sets.specs.declared.state.Truth.the-variants.{Holds}
 use Rattle.answer_sets.proofs.HalfDecided.{known-holds}
 
 pub narrows-refl : {K : ℕ → Type 0} {s : State} → Narrows K s s

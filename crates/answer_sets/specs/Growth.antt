@@ -6,7 +6,7 @@ use Rattle.atoms.specs.Word.{Has, _⊆_, _⊂_}
 use Rattle.answer_sets.specs.Program.{Program, Satisfies, SatisfiesAll}
 use Rattle.answer_sets.specs.Lent.{lent, negative}
 use Rattle.answer_sets.specs.State.{Completes}
-use Rattle.answer_sets.specs.declared.State.{State}
+use Rattle.answer_sets.specs.declared.state.State.{State}
 use Rattle.answer_sets.specs.declared.reduct.Found.{Found}
 use Rattle.answer_sets.specs.declared.reduct.Found.the-variants.{Rule, Nothing}
 

@@ -9,6 +9,10 @@ use Rattle.answer_sets.specs.Program.{Program}
 abbrev pub negative : List ℕ → ℕ → ℕ
 negative rules r = getD rules (3 * r + 2) 0
 
+-- the atoms that the rest of the body looks at: its negative atoms
+abbrev pub looks : List ℕ → ℕ → ℕ
+looks rules r = negative rules r
+
 -- the program that the words are: "M has .. no negative one"
 unfoldable pub lent : List ℕ → Program
 lent rules = record {

@@ -5,9 +5,9 @@ use Prim.Native.Nat.{ℕ}
 use Rattle.atoms.specs.Word.{Has, _⊆_, subset, Apart, apart, _∪_, _∖_, atom, below}
 use Rattle.answer_sets.specs.Program.{Program}
 use Rattle.answer_sets.specs.Lent.{lent, negative}
-use Rattle.answer_sets.specs.declared.Truth.{Truth}
-use Rattle.answer_sets.specs.declared.Truth.the-variants.{Holds, Fails, Open}
-use Rattle.answer_sets.specs.declared.State.{State}
+use Rattle.answer_sets.specs.declared.state.Truth.{Truth}
+use Rattle.answer_sets.specs.declared.state.Truth.the-variants.{Holds, Fails, Open}
+use Rattle.answer_sets.specs.declared.state.State.{State}
 
 -- "a completion is a position with every up atom and no dropped one"
 pub record Completes (s : State) (N : ℕ) : Type 0 where

@@ -1,10 +1,10 @@
 // The rule pass: what every position that satisfies the rules must have or lack, told from what is known of it.
-use super::State;
-use super::Truth;
-use super::known::body_known;
-use super::rule::head;
-use super::rule::negative_body;
-use super::rule::positive_body;
+use crate::known::body_known;
+use crate::rule::head;
+use crate::rule::negative_body;
+use crate::rule::positive_body;
+use crate::state::State;
+use crate::state::Truth;
 ghost use mathlib.Core.Path.{_≡_};
 ghost use Rattle.answer_sets.specs.Program.{Satisfies, SatisfiesAll};
 ghost use Rattle.answer_sets.specs.Lent.{lent, IsLent, Lent};

@@ -1,7 +1,7 @@
 // A body at a half-decided position.
-use super::Truth;
-use super::rule::negative_body;
-use super::rule::positive_body;
+use crate::rule::negative_body;
+use crate::rule::positive_body;
+use crate::state::Truth;
 ghost use mathlib.Core.Path.{_≡_};
 ghost use Rattle.answer_sets.specs.Lent.{IsLent};
 ghost use Rattle.answer_sets.specs.State.{bodyKnown, undecided as undecidedOf};

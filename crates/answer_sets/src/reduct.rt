@@ -1,6 +1,6 @@
 // A word of rule numbers at a position: whether all are satisfied, and the rules that the reduct keeps.
-use super::rule::body_holds;
-use super::rule::satisfies;
+use crate::rule::body_holds;
+use crate::rule::satisfies;
 ghost use mathlib.Core.Path.{_≡_};
 ghost use Rattle.answer_sets.specs.Lent.{lent, IsLent, Lent};
 ghost use Prim.Native.Nat.{_<_};

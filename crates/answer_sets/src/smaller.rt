@@ -1,13 +1,13 @@
 // The subset test: whether some proper subset of a position has all the facts and satisfies each rule of a word.
 // It grows from the facts: what every such subset must have goes up, and only then is an atom tried both ways.
-use super::State;
-use super::growth::grow;
-use super::known::undecided;
-use super::reduct::Found;
-use super::reduct::find_unsatisfied;
-use super::rule::head;
-use super::rule::negative_body;
-use super::rule::positive_body;
+use crate::growth::grow;
+use crate::known::undecided;
+use crate::reduct::Found;
+use crate::reduct::find_unsatisfied;
+use crate::rule::head;
+use crate::rule::negative_body;
+use crate::rule::positive_body;
+use crate::state::State;
 ghost use mathlib.Core.Path.{_≡_};
 ghost use Prim.Native.Nat.{_<_};
 ghost use Rattle.atoms.specs.Bounded.{Decides};

@@ -8,14 +8,14 @@ use Rattle.atoms.specs.Bounded.{allBelow, someBelow, wordBelow, unionIn}
 use Rattle.atoms.specs.Rising.{members}
 use Rattle.answer_sets.specs.Lent.{lent}
 use Rattle.answer_sets.specs.Test.{body, satisfies, satisfiesAll, kept, keptIf, someSmaller, answerSet}
-use Rattle.plan.specs.Words.{number, wordAt}
+use Rattle.reading.specs.Words.{number, wordAt}
 use Rattle.plan.specs.Record.{emptyPlan, withRule, withUnit, withEdge}
-use Rattle.plan.specs.Commands.{kindOf, carrying, lateRule, lateUnit, emptyRule, absentRule, badEdge, ofKind, commandAt}
-use Rattle.plan.specs.Reading.{walk, reading}
+use Rattle.reading.specs.Commands.{kindOf, carrying, lateRule, lateUnit, emptyRule, absentRule, badEdge, ofKind, commandAt}
+use Rattle.reading.specs.Reading.{walk, reading}
 use Rattle.plan.specs.declared.fault.Fault.the-variants.{Cycle, NonmonotonicUnseen, MonotonicUnseen}
 use Rattle.plan.specs.declared.record.Plan.{Plan}
-use Rattle.plan.specs.declared.reader.Outcome.{Outcome}
-use Rattle.plan.specs.declared.reader.Outcome.the-variants.{Accepted, Refused}
+use Rattle.plan.specs.declared.fault.Outcome.{Outcome}
+use Rattle.plan.specs.declared.fault.Outcome.the-variants.{Accepted, Refused}
 use Rattle.dependency_graph.specs.Heads.{reachVia, reach, own, heads, inputHeads}
 use Rattle.dependency_graph.specs.Lowest.{lowest, lowestOf}
 use Rattle.dependency_graph.specs.Order.{ready, nextUnit, orderFrom, workingOrder}

@@ -1,7 +1,7 @@
 // The functions that other languages call: a slice passes as a pointer and a length.
-use judge::Answer;
 use judge::answer_code;
 use plan::Outcome;
+use plan::refusal_code;
 use print_sheet::print_sheet;
 use sheet::Written;
 use unit_lists::COUNTS;
@@ -17,7 +17,7 @@ fn outcome_code(outcome: Outcome) -> u64
 {
     match outcome {
         Outcome::Accepted => 0,
-        Outcome::Refused(fault) => answer_code(Answer::Refused(fault)),
+        Outcome::Refused(fault) => refusal_code(fault),
     }
 }
 

@@ -5,30 +5,12 @@ use Prim.Native.Nat.{ℕ, _+_, _*_, _≤_, min}
 use native.Mathlib.Omega.{arith}
 use lib.ListN.{length}
 use Rattle.plan.specs.Faults.{number, spot}
-use Rattle.plan.specs.Reading.{reading}
-use Rattle.plan.specs.declared.reader.Outcome.the-variants.{Refused as RefusedWith}
+use Rattle.reading.specs.Reading.{reading}
+use Rattle.plan.specs.declared.fault.Outcome.the-variants.{Refused as RefusedWith}
 use Rattle.plan.specs.declared.fault.Fault.{Fault}
-use Rattle.plan.specs.declared.fault.Fault.the-variants.{TableShort, Truncated, UnknownCommand, OutOfOrder, TooMany, EmptyRule, AbsentRule, BadEdge, TrailingBytes, RuleInNoUnit, HeadedRuleInSeveral, Cycle, NonmonotonicUnseen, MonotonicUnseen, LongList}
 use Rattle.judge.specs.Answers.{judged, code}
 use Rattle.judge.proofs.Settled.{judged-refused}
 use Rattle.judge.proofs.Spots.{spot-within}
-
-pub number-at-most : (f : Fault) → number f ≤ 15
-number-at-most (TableShort s) = omega arith
-number-at-most (Truncated s) = omega arith
-number-at-most (UnknownCommand s) = omega arith
-number-at-most (OutOfOrder s) = omega arith
-number-at-most (TooMany s) = omega arith
-number-at-most (EmptyRule s) = omega arith
-number-at-most (AbsentRule s) = omega arith
-number-at-most (BadEdge s) = omega arith
-number-at-most (TrailingBytes s) = omega arith
-number-at-most (RuleInNoUnit s) = omega arith
-number-at-most (HeadedRuleInSeveral s) = omega arith
-number-at-most (Cycle s) = omega arith
-number-at-most (NonmonotonicUnseen s) = omega arith
-number-at-most (MonotonicUnseen s) = omega arith
-number-at-most (LongList s) = omega arith
 
 -- the code of a refused plan has the fault's number and its spot
 pub code-exact : (bytes : List ℕ) (position : ℕ) (f : Fault) → length bytes ≤ 65535 → reading bytes .outcome ≡ RefusedWith f

@@ -14,13 +14,14 @@ use Rattle.atoms.proofs.Tests.{decided-true, decided-false}
 use Rattle.answer_sets.specs.Lent.{lent, Lent}
 use Rattle.answer_sets.proofs.Judged.{decides-answer-set}
 use Rattle.answer_sets.proofs.Support.{Supported, supported}
-use Rattle.plan.specs.Record.{MAX_RULES, RULE_WORDS, Fitting}
-use Rattle.plan.specs.Reading.{reading}
-use Rattle.plan.proofs.Limits.{record-fits}
+use Rattle.plan.specs.Limits.{MAX_RULES, RULE_WORDS}
+use Rattle.plan.specs.Record.{Fitting}
+use Rattle.reading.specs.Reading.{reading}
+use Rattle.reading.proofs.Limits.{record-fits}
 use Rattle.plan.specs.declared.record.Plan.{Plan}
 use Rattle.plan.specs.declared.fault.Fault.{Fault}
-use Rattle.plan.specs.declared.reader.Outcome.the-variants.{Accepted, Refused as RefusedWith}
-use Rattle.plan.specs.declared.reader.Reading.{Reading}
+use Rattle.plan.specs.declared.fault.Outcome.the-variants.{Accepted, Refused as RefusedWith}
+use Rattle.reading.specs.declared.reader.Reading.{Reading}
 use Rattle.judge.specs.Settled.{Settles, settled}
 use Rattle.judge.specs.Answers.{yesNo, isYes, judged, Judged}
 use Rattle.judge.specs.declared.Answer.{Answer}

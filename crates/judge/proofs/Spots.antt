@@ -9,16 +9,16 @@ use lib.ListN.{length}
 use borrow.Author.Tests.{ltb-false}
 use Rattle.plan.specs.Faults.{spot}
 use Rattle.plan.specs.Record.{emptyPlan, withRule, withUnit, withEdge}
-use Rattle.plan.specs.Commands.{Kind, rule, unit, edge, end, Row, rows, firstFit, ofKind, carrying, kindOf, operandBytes, commandAt}
-use Rattle.plan.specs.Reading.{walk, reading, commandBytes}
-use Rattle.plan.proofs.Commands.{known-command, unknown-command, carried-rule, carried-unit, carried-edge}
+use Rattle.reading.specs.Commands.{Kind, rule, unit, edge, end, Row, rows, firstFit, ofKind, carrying, kindOf, operandBytes, commandAt}
+use Rattle.reading.specs.Reading.{walk, reading, commandBytes}
+use Rattle.reading.proofs.Commands.{known-command, unknown-command, carried-rule, carried-unit, carried-edge}
 use Rattle.plan.specs.declared.record.Plan.{Plan}
 use Rattle.plan.specs.declared.fault.Fault.{Fault}
 use Rattle.plan.specs.declared.fault.Fault.the-variants.{UnknownCommand}
-use Rattle.plan.specs.declared.reader.Outcome.{Outcome}
-use Rattle.plan.specs.declared.reader.Outcome.the-variants.{Accepted, Refused as RefusedWith}
-use Rattle.plan.specs.declared.command.Command.{Command}
-use Rattle.plan.specs.declared.command.Command.the-variants.{Rule, Unit as UnitOf, Edge, End, Fault as Faulty}
+use Rattle.plan.specs.declared.fault.Outcome.{Outcome}
+use Rattle.plan.specs.declared.fault.Outcome.the-variants.{Accepted, Refused as RefusedWith}
+use Rattle.reading.specs.declared.command.Command.{Command}
+use Rattle.reading.specs.declared.command.Command.the-variants.{Rule, Unit as UnitOf, Edge, End, Fault as Faulty}
 
 -- the fault of a command, if it is one, has a spot of at most n
 abbrev SpotBy : ℕ → Command → Type 0

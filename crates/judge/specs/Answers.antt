@@ -3,12 +3,12 @@
 use mathlib.Core.Path.{_≡_}
 use mathlib.Core.Bool.{Bool, true, false}
 use mathlib.Core.List.{List}
-use Prim.Native.Nat.{ℕ, _+_, _*_, min}
+use Prim.Native.Nat.{ℕ}
 use Rattle.atoms.specs.Bounded.{Decides}
-use Rattle.plan.specs.Faults.{number, spot}
-use Rattle.plan.specs.Reading.{reading}
+use Rattle.plan.specs.Faults.{refusalCode}
+use Rattle.reading.specs.Reading.{reading}
 use Rattle.plan.specs.declared.fault.Fault.{Fault}
-use Rattle.plan.specs.declared.reader.Outcome.the-variants.{Accepted, Refused as RefusedWith}
+use Rattle.plan.specs.declared.fault.Outcome.the-variants.{Accepted, Refused as RefusedWith}
 use Rattle.judge.specs.Settled.{Settles, settled}
 use Rattle.judge.specs.declared.Answer.{Answer}
 use Rattle.judge.specs.declared.Answer.the-variants.{Settled, NotSettled, Refused}
@@ -32,10 +32,6 @@ judged bytes position =
 pub record Judged (bytes : List ℕ) (position : ℕ) (answer : Answer) : Type 0 where
   pub is : answer ≡ judged bytes position
   pub decides : reading bytes .outcome ≡ Accepted → Decides (Settles (reading bytes .plan) position) (isYes answer)
-
--- a refusal as one number: its fault number above 16 bits for its spot
-abbrev pub refusalCode : Fault → ℕ
-refusalCode f = 65536 * number f + min 65535 (spot f)
 
 -- the answer as one number
 abbrev pub code : Answer → ℕ

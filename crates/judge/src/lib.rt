@@ -2,10 +2,11 @@
 use plan::Fault;
 use plan::Outcome;
 use plan::Plan;
+use plan::refusal_code;
 ghost use mathlib.Core.Path.{_≡_};
 ghost use Rattle.plan.specs.Record.{Fitting};
 ghost use Rattle.judge.specs.Settled.{settled};
-ghost use Rattle.judge.specs.Answers.{Judged, refusalCode, code};
+ghost use Rattle.judge.specs.Answers.{Judged, code};
 
 // What the question is answered: yes, no, or the fault for which the plan is refused.
 pub enum Answer {
@@ -28,7 +29,7 @@ fn is_settled(plan: Plan, position: u64) -> bool
 pub fn judge(plan: &[u8], position: u64) -> Answer
     ensures { λ r. ⌜ Judged (now (plan .entry)) position r ⌝ }
 {
-    let reading = plan::read_plan(plan);
+    let reading = reading::read_plan(plan);
     let outcome = reading.outcome;
     if let Outcome::Refused(fault) = outcome {
         return Answer::Refused(fault);
@@ -38,23 +39,6 @@ pub fn judge(plan: &[u8], position: u64) -> Answer
         return Answer::Settled;
     }
     Answer::NotSettled
-}
-
-// A refusal's code is its number times CODE_STEP and its spot, of which WIDEST_SPOT is the most that fits.
-const CODE_STEP: u64 = 65536;
-
-const WIDEST_SPOT: usize = 65535;
-
-// The refusal as one number.
-fn refusal_code(fault: Fault) -> u64
-    ensures { λ r. ⌜ r ≡ refusalCode fault ⌝ }
-{
-    let number = CODE_STEP * plan::fault_number(fault);
-    let spot = plan::fault_spot(fault);
-    if WIDEST_SPOT < spot {
-        return number + WIDEST_SPOT as u64;
-    }
-    number + spot as u64
 }
 
 // The answer as one number, for hosts: 1 settled, 0 not settled, from 65,536 on a refusal.

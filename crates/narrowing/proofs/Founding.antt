@@ -9,7 +9,7 @@ use Rattle.answer_sets.specs.Program.{Body}
 use Rattle.answer_sets.specs.AnswerSet.{ReductModel}
 use Rattle.answer_sets.specs.Lent.{lent, negative}
 use Rattle.answer_sets.specs.State.{Completes, Narrows}
-use Rattle.answer_sets.specs.declared.State.{State}
+use Rattle.answer_sets.specs.declared.state.State.{State}
 use Rattle.answer_sets.proofs.Support.{least}
 use Rattle.answer_sets.proofs.Narrowing.{down-narrows}
 use Rattle.narrowing.specs.Settled.{Settled}

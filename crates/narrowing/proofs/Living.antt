@@ -8,8 +8,8 @@ use Rattle.answer_sets.specs.Program.{Body}
 use Rattle.answer_sets.specs.AnswerSet.{Kept}
 use Rattle.answer_sets.specs.Lent.{lent, Lent}
 use Rattle.answer_sets.specs.State.{Completes, Narrows, bodyKnown}
-use Rattle.answer_sets.specs.declared.State.{State}
-use Rattle.answer_sets.specs.declared.Truth.the-variants.{Fails}
+use Rattle.answer_sets.specs.declared.state.State.{State}
+use Rattle.answer_sets.specs.declared.state.Truth.the-variants.{Fails}
 use Rattle.answer_sets.proofs.HalfDecided.{known-fails}
 use Rattle.answer_sets.proofs.Narrowing.{narrows-when}
 use Rattle.narrowing.specs.Settled.{Settled, Live}

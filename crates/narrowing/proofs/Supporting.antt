@@ -15,7 +15,7 @@ use Rattle.answer_sets.specs.AnswerSet.{Kept, AnswerSet}
 use Rattle.answer_sets.specs.Lent.{lent, negative}
 use Rattle.answer_sets.specs.State.{Completes}
 use Rattle.answer_sets.specs.Test.{kept, satisfies}
-use Rattle.answer_sets.specs.declared.State.{State}
+use Rattle.answer_sets.specs.declared.state.State.{State}
 use Rattle.answer_sets.proofs.Judged.{decides-body, decides-satisfies, kept-has, kept-at, kept-fits}
 use Rattle.narrowing.specs.Support.{Supports, MaySupport, Collects}
 

@@ -8,7 +8,7 @@ use Rattle.atoms.specs.Word.{Has, _⊆_, Apart, _∩_, _∪_, _∖_, atom, belo
 use Rattle.atoms.proofs.Sets.{has-cut, cut-left, cut-right, has-left, has-right, union-cases, without-left, without-right, has-atom}
 use Rattle.answer_sets.specs.Lent.{lent, negative}
 use Rattle.answer_sets.specs.State.{Completes, Narrows}
-use Rattle.answer_sets.specs.declared.State.{State}
+use Rattle.answer_sets.specs.declared.state.State.{State}
 use Rattle.answer_sets.proofs.Narrowing.{narrows-trans, narrows-when, up-narrows, down-narrows, completes-back}
 use Rattle.narrowing.specs.Settled.{Settled}
 use Rattle.narrowing.specs.Support.{Supports, MaySupport, Collects, Tallied, HoldsSole, HoldsSoles}

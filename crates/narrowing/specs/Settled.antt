@@ -6,7 +6,7 @@ use Rattle.answer_sets.specs.Program.{Body}
 use Rattle.answer_sets.specs.AnswerSet.{AnswerSet}
 use Rattle.answer_sets.specs.Lent.{lent}
 use Rattle.answer_sets.specs.State.{Completes}
-use Rattle.answer_sets.specs.declared.State.{State}
+use Rattle.answer_sets.specs.declared.state.State.{State}
 
 -- M is an answer set of the numbered rules, with those of its atoms that are inputs as facts
 pub record Settled (rules : List ℕ) (which inputs M : ℕ) : Type 0 where

@@ -5,7 +5,7 @@ use Prim.Native.Nat.{ℕ}
 use Rattle.atoms.specs.Word.{Has}
 use Rattle.answer_sets.specs.Program.{Program, Body}
 use Rattle.answer_sets.specs.Lent.{lent, negative}
-use Rattle.answer_sets.specs.declared.State.{State}
+use Rattle.answer_sets.specs.declared.state.State.{State}
 use Rattle.narrowing.specs.declared.support.Supporters.{Supporters}
 
 -- rule r supports atom a in M: its body holds without a, and a is the one head atom that is up

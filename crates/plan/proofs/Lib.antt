@@ -1,12 +1,1 @@
-pub mod Numbers
-pub mod Units
-pub mod Edges
-pub mod Commands
-pub mod Walk
-pub mod Groups
-pub mod Records
-pub mod RoundTrip
-pub mod Pigeonhole
-pub mod Accepted
-pub mod Limits
-pub mod Prefix
+pub mod Faults

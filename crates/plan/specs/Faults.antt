@@ -1,5 +1,5 @@
 -- The numbers and spots of faults. Document 01, "Faults, by where they are found": columns "no." and "spot".
-use Prim.Native.Nat.{ℕ}
+use Prim.Native.Nat.{ℕ, _+_, _*_, min}
 use Rattle.plan.specs.declared.fault.Fault.{Fault}
 use Rattle.plan.specs.declared.fault.Fault.the-variants.{TableShort, Truncated, UnknownCommand, OutOfOrder, TooMany, EmptyRule, AbsentRule, BadEdge, TrailingBytes, RuleInNoUnit, HeadedRuleInSeveral, Cycle, NonmonotonicUnseen, MonotonicUnseen, LongList}
 
@@ -38,3 +38,7 @@ spot (Cycle s) = s
 spot (NonmonotonicUnseen s) = s
 spot (MonotonicUnseen s) = s
 spot (LongList s) = s
+
+-- a refusal as one number: its fault number above 16 bits for its spot
+abbrev pub refusalCode : Fault → ℕ
+refusalCode f = 65536 * number f + min 65535 (spot f)

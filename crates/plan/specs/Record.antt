@@ -2,21 +2,8 @@
 use Prim.Native.Nat.{ℕ, _+_, _*_, _≤_}
 use lib.ListN.{getD, set, replicate}
 use Rattle.atoms.specs.Word.{_∪_, atom}
+use Rattle.plan.specs.Limits.{MAX_RULES, MAX_UNITS, RULE_WORDS}
 use Rattle.plan.specs.declared.record.Plan.{Plan}
-
--- column "most"
-abbrev pub MAX_RULES : ℕ
-MAX_RULES = 64
-
-abbrev pub MAX_UNITS : ℕ
-MAX_UNITS = 16
-
-abbrev pub MAX_EDGES : ℕ
-MAX_EDGES = 240
-
--- "head, positive, negative: three words"
-abbrev pub RULE_WORDS : ℕ
-RULE_WORDS = 3
 
 -- no more rules and units than there may be
 pub record Fitting (p : Plan) : Type 0 where

@@ -1,6 +1,6 @@
-// The faults of a plan, each with its spot.
+// The faults for which a plan is refused, each with its number, its spot and its code.
 ghost use mathlib.Core.Path.{_≡_};
-ghost use Rattle.plan.specs.Faults.{number, spot};
+ghost use Rattle.plan.specs.Faults.{number, spot, refusalCode};
 
 // A refusal: what is wrong, and its spot (document 01, "Faults, by where they are found").
 pub enum Fault {
@@ -19,6 +19,12 @@ pub enum Fault {
     NonmonotonicUnseen(usize),
     MonotonicUnseen(usize),
     LongList(usize),
+}
+
+// A plan is accepted, or refused with its first fault.
+pub enum Outcome {
+    Accepted,
+    Refused(Fault),
 }
 
 // The number of the fault.
@@ -65,4 +71,21 @@ pub fn fault_spot(f: Fault) -> usize
         Fault::MonotonicUnseen(spot) => spot,
         Fault::LongList(spot) => spot,
     }
+}
+
+// A refusal's code is its number times CODE_STEP and its spot, of which WIDEST_SPOT is the most that fits.
+const CODE_STEP: u64 = 65536;
+
+const WIDEST_SPOT: usize = 65535;
+
+// The refusal as one number.
+pub fn refusal_code(fault: Fault) -> u64
+    ensures { λ r. ⌜ r ≡ refusalCode fault ⌝ }
+{
+    let number = CODE_STEP * fault_number(fault);
+    let spot = fault_spot(fault);
+    if WIDEST_SPOT < spot {
+        return number + WIDEST_SPOT as u64;
+    }
+    number + spot as u64
 }

@@ -1,15 +1,11 @@
 // The record of a read plan.
+use crate::limits::MAX_RULES;
+use crate::limits::MAX_UNITS;
+use crate::limits::RULE_WORDS;
 ghost use mathlib.Core.Path.{_≡_};
 ghost use Prim.Native.Nat.{_<_, _+_, _^_};
 ghost use Rattle.plan.specs.Record.{emptyPlan, withRule, withUnit, withEdge};
-ghost use Rattle.plan.specs.Record.{MAX_RULES as Record·MAX_RULES, MAX_UNITS as Record·MAX_UNITS};
-
-// Column "most" of the command table, and the words of a RULE.
-pub const MAX_RULES: usize = 64;
-
-pub const MAX_UNITS: usize = 16;
-
-pub const RULE_WORDS: usize = 3;
+ghost use Rattle.plan.specs.Limits.{MAX_RULES as Limits·MAX_RULES, MAX_UNITS as Limits·MAX_UNITS};
 
 const ALL_RULE_WORDS: usize = RULE_WORDS * MAX_RULES;
 
@@ -40,7 +36,7 @@ pub fn empty_plan() -> Plan
 
 // The record with one RULE more.
 pub fn with_rule(read: Plan, head: u64, positive: u64, negative: u64) -> Plan
-    requires { ⌜ read .«rule_count» < Record·MAX_RULES ⌝ }
+    requires { ⌜ read .«rule_count» < Limits·MAX_RULES ⌝ }
     ensures { λ r. ⌜ r ≡ withRule read head positive negative ⌝ }
 {
     let count = read.rule_count;
@@ -55,7 +51,7 @@ pub fn with_rule(read: Plan, head: u64, positive: u64, negative: u64) -> Plan
 
 // The record with one UNIT more.
 pub fn with_unit(read: Plan, word: u64) -> Plan
-    requires { ⌜ read .«unit_count» < Record·MAX_UNITS ⌝ }
+    requires { ⌜ read .«unit_count» < Limits·MAX_UNITS ⌝ }
     ensures { λ r. ⌜ r ≡ withUnit read word ⌝ }
 {
     let count = read.unit_count;
@@ -67,7 +63,7 @@ pub fn with_unit(read: Plan, word: u64) -> Plan
 
 // The record with one EDGE more.
 pub fn with_edge(read: Plan, u: u8, v: u8) -> Plan
-    requires { ⌜ (u < Record·MAX_UNITS) × (v < Record·MAX_UNITS) × (read .«edge_count» + 1 < 2 ^ 64) ⌝ }
+    requires { ⌜ (u < Limits·MAX_UNITS) × (v < Limits·MAX_UNITS) × (read .«edge_count» + 1 < 2 ^ 64) ⌝ }
     ensures { λ r. ⌜ r ≡ withEdge read u v ⌝ }
 {
     let count = read.edge_count;

@@ -18,7 +18,7 @@ fn write_number(label: &[u8], number: u64) {
 
 // Writes how many rules, units and edges the plan has, if it reads.
 fn write_counts(plan: &[u8]) {
-    let reading = plan::read_plan(plan);
+    let reading = reading::read_plan(plan);
     let outcome = reading.outcome;
     let Outcome::Accepted = outcome else {
         return;

@@ -6,9 +6,9 @@ use Prim.Native.Nat.{ℕ, _≤_}
 use native.Mathlib.Omega.{arith}
 use lib.Dec.{ltb}
 use lib.ListN.{length, take}
-use Rattle.plan.proofs.Prefix.{DECIDING_BYTES, reading-prefix}
+use Rattle.reading.proofs.Prefix.{DECIDING_BYTES, reading-prefix}
 use Rattle.plan.specs.declared.fault.Fault.the-variants.{TableShort}
-use Rattle.plan.specs.declared.reader.Reading.{Reading}
+use Rattle.reading.specs.declared.reader.Reading.{Reading}
 use Rattle.unit_lists.specs.Table.{TABLE_WORDS}
 use Rattle.unit_lists.specs.Answer.{Answer, refuse, afterReading, answer}
 use Rattle.print_sheet.specs.Sheets.{sheetOf}

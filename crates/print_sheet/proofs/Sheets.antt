@@ -9,8 +9,8 @@ use lib.Seq.{take-all}
 use Rattle.plan.specs.Faults.{number, spot}
 use Rattle.plan.specs.declared.fault.Fault.{Fault}
 use Rattle.plan.specs.declared.fault.Fault.the-variants.{TableShort}
-use Rattle.plan.specs.declared.reader.Outcome.{Outcome}
-use Rattle.plan.specs.declared.reader.Outcome.the-variants.{Accepted, Refused}
+use Rattle.plan.specs.declared.fault.Outcome.{Outcome}
+use Rattle.plan.specs.declared.fault.Outcome.the-variants.{Accepted, Refused}
 use Rattle.sheet.specs.Sheet.{positionsSheet, refusalSheet}
 use Rattle.sheet.specs.Lent.{part}
 use Rattle.sheet.specs.declared.Written.{Written}

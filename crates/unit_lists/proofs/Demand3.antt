@@ -14,11 +14,11 @@ use Rattle.atoms.specs.Word.{below}
 use Rattle.atoms.specs.Rising.{Rising}
 use Rattle.answer_sets.specs.AnswerSet.{AnswerSet}
 use Rattle.answer_sets.specs.Lent.{lent}
-use Rattle.plan.specs.Reading.{reading}
-use Rattle.plan.specs.Layout.{IsByte, All}
+use Rattle.reading.specs.Reading.{reading}
+use Rattle.reading.specs.Layout.{IsByte, All}
 use Rattle.plan.specs.declared.fault.Fault.the-variants.{LongList}
-use Rattle.plan.specs.declared.reader.Outcome.the-variants.{Accepted, Refused}
-use Rattle.plan.proofs.Limits.{record-fits}
+use Rattle.plan.specs.declared.fault.Outcome.the-variants.{Accepted, Refused}
+use Rattle.reading.proofs.Limits.{record-fits}
 use Rattle.dependency_graph.specs.Units.{Units, GivenFree, LooksOnly}
 use Rattle.dependency_graph.specs.Graph.{Passes, Acyclic}
 use Rattle.dependency_graph.specs.Order.{workingOrder}

@@ -10,8 +10,8 @@ use Rattle.atoms.specs.Word.{Has, below}
 use Rattle.atoms.proofs.Sets.{below-lt}
 use Rattle.plan.specs.declared.fault.Fault.{Fault}
 use Rattle.plan.specs.declared.fault.Fault.the-variants.{TableShort, LongList}
-use Rattle.plan.specs.Reading.{reading}
-use Rattle.plan.specs.declared.reader.Outcome.the-variants.{Accepted, Refused}
+use Rattle.reading.specs.Reading.{reading}
+use Rattle.plan.specs.declared.fault.Outcome.the-variants.{Accepted, Refused}
 use Rattle.dependency_graph.specs.Units.{Units}
 use Rattle.dependency_graph.specs.Heads.{heads, inputHeads}
 use Rattle.dependency_graph.specs.Slices.{unitsOf, Filled}

@@ -6,9 +6,9 @@ use native.Mathlib.Omega.{arith}
 use native.Mathlib.Decide.{decLt}
 use lib.ListN.{length, getD}
 use lib.Seq.{getD-at}
-use Rattle.plan.specs.Reading.{reading}
-use Rattle.plan.specs.declared.reader.Outcome.{Outcome}
-use Rattle.plan.specs.declared.reader.Outcome.the-variants.{Accepted, Refused}
+use Rattle.reading.specs.Reading.{reading}
+use Rattle.plan.specs.declared.fault.Outcome.{Outcome}
+use Rattle.plan.specs.declared.fault.Outcome.the-variants.{Accepted, Refused}
 use Rattle.dependency_graph.specs.Units.{Units}
 use Rattle.dependency_graph.specs.Check.{verdict}
 use Rattle.dependency_graph.specs.Order.{workingOrder}

@@ -17,7 +17,7 @@ use Rattle.atoms.proofs.Sets.{ext, empty, has-none, has-below, below-lt, cut-le
 use Rattle.atoms.proofs.Bounded.{union-has, union-at}
 use Rattle.atoms.proofs.Rising.{members-same}
 use Rattle.plan.specs.declared.fault.Fault.the-variants.{LongList}
-use Rattle.plan.specs.declared.reader.Outcome.the-variants.{Accepted}
+use Rattle.plan.specs.declared.fault.Outcome.the-variants.{Accepted}
 use Rattle.dependency_graph.specs.Units.{Units, Edge, GivenFree}
 use Rattle.dependency_graph.specs.Graph.{Passes}
 use Rattle.dependency_graph.specs.Heads.{reach, own, heads, inputHeads}

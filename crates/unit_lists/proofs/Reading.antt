@@ -7,13 +7,13 @@ use native.Mathlib.Omega.{arith}
 use lib.ListN.{length, getD}
 use Rattle.atoms.specs.Word.{Has}
 use Rattle.plan.specs.Record.{Fitting}
-use Rattle.plan.specs.Reading.{reading}
-use Rattle.plan.specs.Layout.{UnitPair, predecessorsOf, tabulate, recordOf, IsByte, All, GoodEdge, Member, IsPlan}
+use Rattle.reading.specs.Reading.{reading}
+use Rattle.reading.specs.Layout.{UnitPair, predecessorsOf, tabulate, recordOf, IsByte, All, GoodEdge, Member, IsPlan}
 use Rattle.plan.specs.declared.record.Plan.{Plan}
-use Rattle.plan.specs.declared.reader.Outcome.the-variants.{Accepted}
-use Rattle.plan.proofs.Records.{getD-tabulate, has-member}
-use Rattle.plan.proofs.Accepted.{accepted-is-plan}
-use Rattle.plan.proofs.Limits.{record-fits}
+use Rattle.plan.specs.declared.fault.Outcome.the-variants.{Accepted}
+use Rattle.reading.proofs.Records.{getD-tabulate, has-member}
+use Rattle.reading.proofs.Accepted.{accepted-is-plan}
+use Rattle.reading.proofs.Limits.{record-fits}
 use Rattle.dependency_graph.specs.Slices.{unitsOf}
 use Rattle.splitting.specs.UnitList.{Clean}
 use Rattle.unit_lists.specs.Answer.{planUnits}

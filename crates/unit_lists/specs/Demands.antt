@@ -8,13 +8,13 @@ use Rattle.atoms.specs.Word.{below}
 use Rattle.atoms.specs.Rising.{Rising}
 use Rattle.answer_sets.specs.AnswerSet.{AnswerSet}
 use Rattle.answer_sets.specs.Lent.{lent}
-use Rattle.plan.specs.Reading.{reading}
+use Rattle.reading.specs.Reading.{reading}
 use Rattle.plan.specs.Faults.{number}
 use Rattle.plan.specs.declared.fault.Fault.{Fault}
 use Rattle.plan.specs.declared.fault.Fault.the-variants.{RuleInNoUnit, HeadedRuleInSeveral, Cycle, NonmonotonicUnseen, MonotonicUnseen, LongList}
 use Rattle.plan.specs.declared.record.Plan.{Plan}
-use Rattle.plan.specs.declared.reader.Outcome.{Outcome}
-use Rattle.plan.specs.declared.reader.Outcome.the-variants.{Accepted, Refused}
+use Rattle.plan.specs.declared.fault.Outcome.{Outcome}
+use Rattle.plan.specs.declared.fault.Outcome.the-variants.{Accepted, Refused}
 use Rattle.dependency_graph.specs.Units.{Units, Path}
 use Rattle.dependency_graph.specs.Graph.{ConditionA, ConditionB, Acyclic, ConditionC, Passes}
 use Rattle.dependency_graph.specs.Lowest.{Least}

@@ -3,7 +3,7 @@ use mathlib.Core.Path.{_≡_}
 use mathlib.Core.List.{List}
 use Prim.Native.Nat.{ℕ}
 use Rattle.plan.specs.declared.fault.Fault.{Fault}
-use Rattle.plan.specs.declared.reader.Outcome.the-variants.{Refused}
+use Rattle.plan.specs.declared.fault.Outcome.the-variants.{Refused}
 use Rattle.unit_lists.specs.Table.{noCounts}
 use Rattle.unit_lists.specs.Answer.{Answer}
 use Rattle.unit_lists.specs.declared.Listing.{Listing}

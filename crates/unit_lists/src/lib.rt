@@ -7,7 +7,7 @@ use dependency_graph::check::check_graph;
 use plan::Fault;
 use plan::Outcome;
 use plan::Plan;
-use plan::read_plan;
+use reading::read_plan;
 use work::work_plan;
 ghost use mathlib.Core.Path.{_≡_};
 ghost use Prim.Native.Nat.{_≤_};

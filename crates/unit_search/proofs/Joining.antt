@@ -15,7 +15,7 @@ use Rattle.atoms.proofs.Bounded.{some-at, all-in-at, all-in-intro, all-in-none,
 use Rattle.atoms.specs.Bounded.{Decides}
 use Rattle.atoms.proofs.Tests.{decides}
 use Rattle.answer_sets.specs.State.{Completes, Narrows, clashed}
-use Rattle.answer_sets.specs.declared.State.{State}
+use Rattle.answer_sets.specs.declared.state.State.{State}
 use Rattle.answer_sets.proofs.Narrowing.{clash-narrows}
 use Rattle.narrowing.proofs.Taking.{none-done, all-done, done-cases}
 use Rattle.unit_search.specs.Listing.{isListed}

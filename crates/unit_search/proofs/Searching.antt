@@ -13,7 +13,7 @@ use Rattle.answer_sets.specs.Program.{SatisfiesAll}
 use Rattle.answer_sets.specs.Lent.{lent}
 use Rattle.answer_sets.specs.Test.{answerSet}
 use Rattle.answer_sets.specs.State.{Completes, Narrows, undecided}
-use Rattle.answer_sets.specs.declared.State.{State}
+use Rattle.answer_sets.specs.declared.state.State.{State}
 use Rattle.answer_sets.proofs.Judged.{decides-answer-set}
 use Rattle.answer_sets.proofs.Support.{satisfied}
 use Rattle.answer_sets.proofs.HalfDecided.{decided-cases}

@@ -9,7 +9,7 @@ use Rattle.atoms.specs.Bounded.{allIn}
 use Rattle.answer_sets.specs.Lent.{lent, Lent}
 use Rattle.answer_sets.specs.Test.{answerSet}
 use Rattle.answer_sets.specs.State.{Completes}
-use Rattle.answer_sets.specs.declared.State.{State}
+use Rattle.answer_sets.specs.declared.state.State.{State}
 use Rattle.unit_search.specs.declared.Unit.{Unit}
 use Rattle.unit_search.specs.Listing.{isListed}
 

@@ -11,15 +11,15 @@ enum-told c = search needs
 enum-known-outcome : tie.Need-enum-known-outcome
 enum-known-outcome c = search needs
 
-answer-code-requires : tie.Need-answer-code-requires
-answer-code-requires c κs = search needs
+refusal-code-requires : tie.Need-refusal-code-requires
+refusal-code-requires c κs = search needs
 
 returns : tie.Need-returns
 returns c = search needs
 
 returns-2 : tie.Need-returns-2
-returns-2 c = c .answer-code .ensures ∙ ap outcomeCode (sym (c .before .before .outcome .given .1))
+returns-2 c = c .refusal-code .ensures ∙ ap outcomeCode (sym (c .before .before .outcome .given .1))
 
 pub outcome-code-spec : {M : Type 1} → statement M
 outcome-code-spec =
-    tie.close (tie.spec enum-told enum-known-outcome answer-code-requires returns returns-2)
+    tie.close (tie.spec enum-told enum-known-outcome refusal-code-requires returns returns-2)

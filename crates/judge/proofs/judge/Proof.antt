@@ -3,8 +3,8 @@ use mathlib.Core.Path.{sym, _∙_, subst}
 use mathlib.Core.Bool.{true, false}
 use denote.Ref.{now}
 use Rattle.plan.specs.Record.{Fitting}
-use Rattle.plan.specs.declared.reader.Reading.{Reading}
-use Rattle.plan.proofs.Limits.{record-fits}
+use Rattle.reading.specs.declared.reader.Reading.{Reading}
+use Rattle.reading.proofs.Limits.{record-fits}
 use Rattle.judge.proofs.Settled.{refused-judged, accepted-judged}
 use borrow.Author.Needs.{needs}
 use Rattle.judge.proofs.judge.Statement.{statement}

@@ -5,10 +5,10 @@ use Prim.Native.Nat.{ℕ}
 use denote.Ref.{now}
 use lib.ListN.{length}
 use Rattle.plan.specs.Record.{Fitting}
-use Rattle.plan.specs.Layout.{IsByte, All}
+use Rattle.reading.specs.Layout.{IsByte, All}
 use Rattle.plan.specs.declared.fault.Fault.the-variants.{TableShort}
-use Rattle.plan.specs.declared.reader.Reading.{Reading}
-use Rattle.plan.proofs.Limits.{record-fits, all-bytes}
+use Rattle.reading.specs.declared.reader.Reading.{Reading}
+use Rattle.reading.proofs.Limits.{record-fits, all-bytes}
 use Rattle.dependency_graph.specs.Check.{verdict}
 use Rattle.splitting.specs.UnitList.{Clean}
 use Rattle.unit_lists.specs.Answer.{Answer, planUnits, afterGraph, answer}

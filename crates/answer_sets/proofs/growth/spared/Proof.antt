@@ -3,7 +3,7 @@ use mathlib.Core.Path.{sym, subst}
 use Prim.Native.Nat.{ℕ}
 use Rattle.answer_sets.specs.State.{Narrows}
 use Rattle.answer_sets.specs.Growth.{NotAll}
-use Rattle.answer_sets.specs.declared.State.{State}
+use Rattle.answer_sets.specs.declared.state.State.{State}
 use Rattle.answer_sets.proofs.Narrowing.{all-clash, last-dropped}
 use borrow.Author.Needs.{needs}
 use Rattle.answer_sets.proofs.growth.spared.Statement.{statement}

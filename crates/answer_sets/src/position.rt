@@ -1,0 +1,53 @@
+// The answer-set test of one position, over lent rules and a word of their numbers; and the same for any lent words and any numbers.
+use crate::reduct::all_satisfied;
+use crate::reduct::kept_rules;
+use crate::smaller::some_smaller;
+ghost use mathlib.Core.Path.{_≡_};
+ghost use Prim.Native.Nat.{min};
+ghost use Rattle.answer_sets.specs.Lent.{lent, Lent, numbered};
+ghost use Rattle.answer_sets.specs.Test.{someSmaller, answerSet};
+
+// Whether the position is an answer set of the rules numbered in `which` with the facts added.
+pub fn is_answer_set(rules: &[u64], which: u64, facts: u64, position: u64) -> bool
+    requires { ⌜ Lent (now rules) which ⌝ }
+    ensures { λ r. ⌜ r ≡ answerSet (lent (now (rules .entry))) which facts position ⌝ }
+{
+    if !atoms::is_subset(facts, position) {
+        return false;
+    }
+    let kept = kept_rules(rules, which, position);
+    if !all_satisfied(rules, kept, position) {
+        return false;
+    }
+    !some_smaller(rules, kept, facts, position)
+}
+
+// The lesser of two numbers.
+fn lesser(a: usize, b: usize) -> usize
+    ensures { λ r. ⌜ r ≡ min a b ⌝ }
+{
+    if a < b { a } else { b }
+}
+
+// Of the numbers in a word those of the n rules lent, as far as their words are there.
+pub fn lent_numbers(rules: &[u64], n: usize, which: u64) -> u64
+    ensures { λ r. ⌜ (r ≡ numbered (now (rules .entry)) n which) × Lent (now (rules .entry)) r ⌝ }
+{
+    let there = lesser(n, rules.len() / 3);
+    atoms::cut(which, atoms::first(lesser(atoms::ATOMS, there)))
+}
+
+// The subset test over the n rules lent: whether some proper subset of the position has all the facts and satisfies
+// each rule so numbered. Bits with no rule are ignored.
+pub fn has_smaller(rules: &[u64], n: usize, kept: u64, facts: u64, position: u64) -> bool
+    ensures { λ r. ⌜ r ≡ someSmaller (lent (now (rules .entry))) (numbered (now (rules .entry)) n kept) facts position ⌝ }
+{
+    some_smaller(rules, lent_numbers(rules, n, kept), facts, position)
+}
+
+// The answer-set test over the n rules lent. Bits with no rule are ignored.
+pub fn judge_position(rules: &[u64], n: usize, which: u64, facts: u64, position: u64) -> bool
+    ensures { λ r. ⌜ r ≡ answerSet (lent (now (rules .entry))) (numbered (now (rules .entry)) n which) facts position ⌝ }
+{
+    is_answer_set(rules, lent_numbers(rules, n, which), facts, position)
+}

@@ -1,0 +1,51 @@
+-- `is_bad_edge` meets its contract, test by test; a repeat is the edge's atom in its row.
+use borrow.Author.Tests.{le-leb, lt-leb, eq-eqb, ne-eqb}
+use Rattle.reading.proofs.Edges.{has-by-subset}
+use Rattle.reading.specs.Commands.{badEdge}
+use borrow.Author.Needs.{needs}
+use Rattle.reading.proofs.edge.is_bad_edge.Statement.{statement}
+use Rattle.reading.proofs.edge.is_bad_edge.Tie as tie
+
+returns : tie.Need-returns
+unfolding badEdge
+returns c = simp (le-leb _ _ (c .if1 .taken))
+
+returns-2 : tie.Need-returns-2
+unfolding badEdge
+returns-2 c = simp (lt-leb _ _ (c .before .before .if1 .left), le-leb _ _ (c .if2 .taken))
+
+returns-3 : tie.Need-returns-3
+unfolding badEdge
+returns-3 c = simp (lt-leb _ _ (c .before .before .before .if1 .left), lt-leb _ _ (c .before .if2 .left), eq-eqb _ _ (c .if3 .taken))
+
+single-requires : tie.Need-single-requires
+single-requires c κs = search needs
+
+mul-is-subset : tie.Need-mul-is-subset
+mul-is-subset c = search needs
+
+array-read-is-subset : tie.Need-array-read-is-subset
+array-read-is-subset c = search needs
+
+is-subset-requires : tie.Need-is-subset-requires
+is-subset-requires c κs = search needs
+
+returns-4 : tie.Need-returns-4
+unfolding badEdge
+returns-4 c =
+    let new = c .before .before .before in
+    simp (lt-leb _ _ (new .before .before .before .if1 .left), lt-leb _ _ (new .before .if2 .left), ne-eqb _ _ (new .if3 .left))
+    (has-by-subset _ _ _ _ (c .before .single .ensures) (c .is-subset .ensures))
+
+pub is-bad-edge-spec : {M : Type 1} → statement M
+is-bad-edge-spec =
+    tie.close
+    (tie.spec
+    returns
+    returns-2
+    returns-3
+    single-requires
+    mul-is-subset
+    array-read-is-subset
+    is-subset-requires
+    returns-4)

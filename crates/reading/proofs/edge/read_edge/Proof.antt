@@ -1,0 +1,39 @@
+-- `read_edge` meets its contract: at each return the tests that led there say which row of the fault table fits.
+use mathlib.Core.Path.{sym, _∙_}
+use borrow.Author.Tests.{lt-ltb, le-ltb}
+use Rattle.reading.specs.Commands.{ofKind, carrying}
+use borrow.Author.Needs.{needs}
+use Rattle.reading.proofs.edge.read_edge.Statement.{statement}
+use Rattle.reading.proofs.edge.read_edge.Tie as tie
+
+returns : tie.Need-returns
+unfolding ofKind
+returns c = simp (lt-ltb _ _ (c .if1 .taken))
+
+shared-slice-read-u : tie.Need-shared-slice-read-u
+shared-slice-read-u c = search needs
+
+shared-slice-read-v : tie.Need-shared-slice-read-v
+shared-slice-read-v c = search needs
+
+is-bad-edge-requires : tie.Need-is-bad-edge-requires
+is-bad-edge-requires c κs = search needs
+
+returns-2 : tie.Need-returns-2
+unfolding ofKind
+returns-2 c = simp (le-ltb _ _ (c .before .before .before .before .if1 .left), sym (c .before .is-bad-edge .ensures) ∙ c .if2 .taken)
+
+returns-3 : tie.Need-returns-3
+unfolding ofKind carrying
+returns-3 c = simp (le-ltb _ _ (c .before .before .before .before .if1 .left), sym (c .before .is-bad-edge .ensures) ∙ c .if2 .left)
+
+pub read-edge-spec : {M : Type 1} → statement M
+read-edge-spec =
+    tie.close
+    (tie.spec
+    returns
+    shared-slice-read-u
+    shared-slice-read-v
+    is-bad-edge-requires
+    returns-2
+    returns-3)

@@ -1,0 +1,85 @@
+-- `read_rule` meets its contract: at each return the tests that led there say which row of the fault table fits.
+use mathlib.Core.Path.{sym, _∙_}
+use borrow.Author.Tests.{lt-ltb, le-ltb, le-leb, lt-leb}
+use Rattle.reading.specs.Commands.{ofKind, carrying}
+use borrow.Author.Needs.{needs}
+use Rattle.reading.proofs.rule.read_rule.Statement.{statement}
+use Rattle.reading.proofs.rule.read_rule.Tie as tie
+
+is-late-rule-requires : tie.Need-is-late-rule-requires
+is-late-rule-requires c κs = search needs
+
+returns : tie.Need-returns
+unfolding ofKind
+returns c = simp (sym (c .before .is-late-rule .ensures) ∙ c .if1 .taken)
+
+returns-2 : tie.Need-returns-2
+unfolding ofKind
+returns-2 c = simp (sym (c .before .before .is-late-rule .ensures) ∙ c .before .if1 .left, le-leb _ _ (c .if2 .taken))
+
+returns-3 : tie.Need-returns-3
+unfolding ofKind
+returns-3 c =
+    let room = c .before .before in
+    simp (sym (room .before .is-late-rule .ensures) ∙ room .if1 .left, lt-leb _ _ (c .before .if2 .left), lt-ltb _ _ (c .if3 .taken))
+
+read-word-requires : tie.Need-read-word-requires
+read-word-requires c κs = search needs
+
+read-word-requires-2 : tie.Need-read-word-requires-2
+read-word-requires-2 c κs = search needs
+
+add-read-word : tie.Need-add-read-word
+add-read-word c = search needs
+
+read-word-requires-3 : tie.Need-read-word-requires-3
+read-word-requires-3 c κs = search needs
+
+is-empty-rule-requires : tie.Need-is-empty-rule-requires
+is-empty-rule-requires c κs = search needs
+
+returns-4 : tie.Need-returns-4
+unfolding ofKind
+returns-4 c =
+    let words = c .before .before in
+    let whole = words .before .before .before in
+    simp (
+      sym (whole .before .before .before .is-late-rule .ensures) ∙ whole .before .before .if1 .left,
+      lt-leb _ _ (whole .before .if2 .left),
+      le-ltb _ _ (whole .if3 .left),
+      ← words .before .before .read-word .ensures,
+      ← words .before .read-word2 .ensures,
+      ← words .read-word3 .ensures,
+      sym (c .before .is-empty-rule .ensures) ∙ c .if4 .taken,
+    )
+
+returns-5 : tie.Need-returns-5
+unfolding ofKind carrying
+returns-5 c =
+    let words = c .before .before in
+    let whole = words .before .before .before in
+    simp (
+      sym (whole .before .before .before .is-late-rule .ensures) ∙ whole .before .before .if1 .left,
+      lt-leb _ _ (whole .before .if2 .left),
+      le-ltb _ _ (whole .if3 .left),
+      ← words .before .before .read-word .ensures,
+      ← words .before .read-word2 .ensures,
+      ← words .read-word3 .ensures,
+      sym (c .before .is-empty-rule .ensures) ∙ c .if4 .left,
+    )
+
+pub read-rule-spec : {M : Type 1} → statement M
+read-rule-spec =
+    tie.close
+    (tie.spec
+    is-late-rule-requires
+    returns
+    returns-2
+    returns-3
+    read-word-requires
+    read-word-requires-2
+    add-read-word
+    read-word-requires-3
+    is-empty-rule-requires
+    returns-4
+    returns-5)

@@ -1,0 +1,119 @@
+-- One command: its kind, its operands, and the rows of the fault table that it is held against.
+-- Document 01, "The plan" and "Faults, by where they are found", place "reading".
+use mathlib.Core.List.{List, [], _∷_}
+use mathlib.Core.Bool.{Bool, true, false, _||_, _&&_}
+use mathlib.Core.Option.{Option, some, none}
+use Prim.Native.Nat.{ℕ, _+_, _*_, _^_}
+use lib.ListN.{length, getD}
+use lib.Dec.{eqb, ltb, leb}
+use Rattle.atoms.specs.Word.{has}
+use Rattle.reading.specs.Words.{WORD_BYTES, wordAt}
+use Rattle.plan.specs.Limits.{MAX_RULES, MAX_UNITS, RULE_WORDS}
+use Rattle.plan.specs.declared.record.Plan.{Plan}
+use Rattle.reading.specs.declared.command.Command.{Command}
+use Rattle.reading.specs.declared.command.Command.the-variants.{Rule, Unit as UnitOf, Edge, End, Fault as Faulty}
+use Rattle.plan.specs.declared.fault.Fault.{Fault}
+use Rattle.plan.specs.declared.fault.Fault.the-variants.{Truncated, UnknownCommand, OutOfOrder, TooMany, EmptyRule, AbsentRule, BadEdge, TrailingBytes}
+
+-- column "command"
+pub data Kind : Type 0 where
+  rule unit edge end : Kind
+
+-- column "byte"
+abbrev pub byteOf : Kind → ℕ
+byteOf rule = 0x01
+byteOf unit = 0x02
+byteOf edge = 0x03
+byteOf end = 0x00
+
+-- "One byte names a command"
+unfoldable pub kindOf : ℕ → Option Kind
+kindOf b =
+    elim (eqb b (byteOf rule)) [
+      | true ↦ some rule
+      | false ↦
+          elim (eqb b (byteOf unit)) [
+            | true ↦ some unit
+            | false ↦
+                elim (eqb b (byteOf edge)) [
+                  | true ↦ some edge
+                  | false ↦ elim (eqb b (byteOf end)) [ true ↦ some end | false ↦ none ]
+                ]
+          ]
+    ]
+
+-- column "operands", in bytes
+abbrev pub operandBytes : Kind → ℕ
+operandBytes rule = RULE_WORDS * WORD_BYTES
+operandBytes unit = WORD_BYTES
+operandBytes edge = 2
+operandBytes end = 0
+
+-- "A command is one of four kinds carrying its operands"
+unfoldable pub carrying : Kind → List ℕ → Command
+carrying rule operands = Rule (wordAt 0 operands) (wordAt WORD_BYTES operands) (wordAt (2 * WORD_BYTES) operands)
+carrying unit operands = UnitOf (wordAt 0 operands)
+carrying edge operands = Edge (getD operands 0 0) (getD operands 1 0)
+carrying end operands = End
+
+-- "All RULEs come first, then UNITs, then EDGEs, then END": no RULE after a UNIT or an EDGE, no UNIT after an EDGE
+unfoldable pub lateRule : Plan → Bool
+lateRule p = ltb 0 (p .«unit_count») || ltb 0 (p .«edge_count»)
+
+unfoldable pub lateUnit : Plan → Bool
+lateUnit p = ltb 0 (p .«edge_count»)
+
+-- "RULE with three zero words"
+unfoldable pub emptyRule : ℕ → ℕ → ℕ → Bool
+emptyRule head positive negative = eqb head 0 && eqb positive 0 && eqb negative 0
+
+-- "UNIT names a rule that isn't there": a bit from the count of rules on
+unfoldable pub absentRule : Plan → ℕ → Bool
+absentRule p word = leb (2 ^ p .«rule_count») word
+
+-- "EDGE: no such unit, u = v, or a repeat"
+unfoldable pub badEdge : Plan → ℕ → ℕ → Bool
+badEdge p u v = leb (p .«unit_count») u || leb (p .«unit_count») v || eqb u v || has (getD (p .predecessors) u 0) v
+
+-- a row of the fault table: whether it fits, and its fault with the spot
+pub record Row : Type 0 where
+  pub fits : Bool
+  pub fault : Fault
+
+abbrev row : Bool → Fault → Row
+row b f = record { fits = b; fault = f }
+
+-- the rows that a command of each kind can meet, from top to bottom, once p is read and the command stands at `at`;
+-- a 241st EDGE names no unit, joins a unit to itself or is a repeat, so row 5 has RULE and UNIT alone
+abbrev pub rows : Plan → ℕ → Kind → List ℕ → List Row
+rows p at rule operands =
+    row (lateRule p) (OutOfOrder at)
+    ∷ row (leb MAX_RULES (p .«rule_count»)) (TooMany at)
+    ∷ row (ltb (length operands) (operandBytes rule)) (Truncated at)
+    ∷ row (emptyRule (wordAt 0 operands) (wordAt WORD_BYTES operands) (wordAt (2 * WORD_BYTES) operands)) (EmptyRule at)
+    ∷ []
+rows p at unit operands =
+    row (lateUnit p) (OutOfOrder at)
+    ∷ row (leb MAX_UNITS (p .«unit_count»)) (TooMany at)
+    ∷ row (ltb (length operands) (operandBytes unit)) (Truncated at)
+    ∷ row (absentRule p (wordAt 0 operands)) (AbsentRule at)
+    ∷ []
+rows p at edge operands =
+    row (ltb (length operands) (operandBytes edge)) (Truncated at)
+    ∷ row (badEdge p (getD operands 0 0) (getD operands 1 0)) (BadEdge at)
+    ∷ []
+rows p at end operands = row (ltb 0 (length operands)) (TrailingBytes (at + 1)) ∷ []
+
+-- "inside a place the first row that fits counts": its fault, or the command where no row fits
+abbrev pub firstFit : List Row → Command → Command
+firstFit [] command = command
+firstFit (r ∷ rs) command = elim (r .fits) [ true ↦ Faulty (r .fault) | false ↦ firstFit rs command ]
+
+-- "A command is one of four kinds carrying its operands, or the fault that stopped it"
+unfoldable pub ofKind : Plan → ℕ → Kind → List ℕ → Command
+ofKind p at kind operands = firstFit (rows p at kind operands) (carrying kind operands)
+
+-- the command at `at`, where `rest` is the plan from there: its first byte and "the bytes that follow it"
+unfoldable pub commandAt : Plan → ℕ → List ℕ → Command
+commandAt p at [] = Faulty (Truncated at)
+commandAt p at (b ∷ operands) = elim (kindOf b) [ none ↦ Faulty (UnknownCommand at) | some kind ↦ ofKind p at kind operands ]

@@ -1,0 +1,5 @@
+pub mod Words
+pub mod Commands
+pub mod Reading
+pub mod Progress
+pub mod Layout

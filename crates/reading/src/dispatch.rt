@@ -1,0 +1,40 @@
+// The command at a place: its byte tells its kind, and the bytes that follow it are handed to the reader of its operands.
+ghost use mathlib.Core.Path.{_≡_};
+ghost use lib.ListN.{drop};
+ghost use Rattle.plan.specs.Record.{Fitting};
+ghost use Rattle.reading.specs.Commands.{commandAt};
+use crate::command::Command;
+use crate::edge::read_edge;
+use crate::end::read_end;
+use crate::rule::read_rule;
+use crate::unit::read_unit;
+use plan::Fault;
+use plan::Plan;
+
+// Column "byte" of the command table.
+const RULE: u8 = 0x01;
+
+const UNIT: u8 = 0x02;
+
+const EDGE: u8 = 0x03;
+
+const END: u8 = 0x00;
+
+// The command at byte `at`, once the commands before it are read.
+pub fn read_command(plan: &[u8], at: usize, read: Plan) -> Command
+    requires { ⌜ Fitting read ⌝ }
+    ensures { λ r. ⌜ r ≡ commandAt read at (drop at (now (plan .entry))) ⌝ }
+{
+    if plan.len() <= at {
+        return Command::Fault(Fault::Truncated(at));
+    }
+    let code = plan[at];
+    let operands = &plan[at + 1..];
+    match code {
+        RULE => read_rule(operands, at, read),
+        UNIT => read_unit(operands, at, read),
+        EDGE => read_edge(operands, at, read),
+        END => read_end(operands, at, read),
+        _ => Command::Fault(Fault::UnknownCommand(at)),
+    }
+}

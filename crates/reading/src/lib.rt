@@ -1,0 +1,13 @@
+// Reading a plan: from its bytes to the record of its rules, units and edges, or the first fault.
+mod command;
+mod dispatch;
+mod edge;
+mod end;
+mod reader;
+mod rule;
+mod unit;
+mod words;
+
+pub use command::Command;
+pub use reader::Reading;
+pub use reader::read_plan;

@@ -1,0 +1,118 @@
+// Reading a plan from the left: RULEs, then UNITs, then EDGEs, then END.
+ghost use mathlib.Core.Path.{_≡_};
+ghost use Rattle.plan.specs.Record.{Fitting};
+ghost use Rattle.reading.specs.Progress.{placeAt, Reached, UNITS, EDGES, ENDING};
+ghost use Rattle.reading.specs.Reading.{reading};
+use crate::command::Command;
+use crate::dispatch::read_command;
+use crate::edge::EDGE_BYTES;
+use crate::rule::RULE_BYTES;
+use crate::unit::UNIT_BYTES;
+use plan::Outcome;
+use plan::Plan;
+use plan::empty_plan;
+use plan::with_edge;
+use plan::with_rule;
+use plan::with_unit;
+
+// What reading gives: the outcome and the record, which is empty on a refusal.
+pub struct Reading {
+    pub outcome: Outcome,
+    pub plan: Plan,
+}
+
+// How far reading has come: the record of what is taken, and the command at byte `at`, which is not.
+struct Progress {
+    plan: Plan,
+    at: usize,
+    command: Command,
+}
+
+// The place at byte `at` behind what is taken, with its command.
+fn place(bytes: &[u8], taken: Plan, at: usize) -> Progress
+    requires { ⌜ Fitting taken ⌝ }
+    ensures { λ r. ⌜ r ≡ placeAt (now (bytes .entry)) taken at ⌝ }
+{
+    let command = read_command(bytes, at, taken);
+    Progress {
+        plan: taken,
+        at,
+        command,
+    }
+}
+
+// The place behind all RULEs.
+fn read_rules(bytes: &[u8]) -> Progress
+    ensures { λ r. ⌜ Reached UNITS (now (bytes .entry)) r ⌝ }
+{
+    let mut progress = place(bytes, empty_plan(), 0);
+    loop {
+        let command = progress.command;
+        let Command::Rule {
+            head,
+            positive,
+            negative,
+        } = command
+        else {
+            return progress;
+        };
+        let taken = with_rule(progress.plan, head, positive, negative);
+        let at = progress.at;
+        progress = place(bytes, taken, at + RULE_BYTES);
+    }
+}
+
+// The place behind all UNITs.
+fn read_units(bytes: &[u8], from: Progress) -> Progress
+    requires { ⌜ Reached UNITS (now bytes) from ⌝ }
+    ensures { λ r. ⌜ Reached EDGES (now (bytes .entry)) r ⌝ }
+{
+    let mut progress = from;
+    loop {
+        let command = progress.command;
+        let Command::Unit(word) = command else {
+            return progress;
+        };
+        let taken = with_unit(progress.plan, word);
+        let at = progress.at;
+        progress = place(bytes, taken, at + UNIT_BYTES);
+    }
+}
+
+// The place behind all EDGEs.
+fn read_edges(bytes: &[u8], from: Progress) -> Progress
+    requires { ⌜ Reached EDGES (now bytes) from ⌝ }
+    ensures { λ r. ⌜ Reached ENDING (now (bytes .entry)) r ⌝ }
+{
+    let mut progress = from;
+    loop {
+        let command = progress.command;
+        let Command::Edge(u, v) = command else {
+            return progress;
+        };
+        let taken = with_edge(progress.plan, u, v);
+        let at = progress.at;
+        progress = place(bytes, taken, at + EDGE_BYTES);
+    }
+}
+
+// The record of the plan, or its first fault from the left.
+pub fn read_plan(plan: &[u8]) -> Reading
+    ensures { λ r. ⌜ r ≡ reading (now (plan .entry)) ⌝ }
+{
+    let rules = read_rules(plan);
+    let units = read_units(plan, rules);
+    let edges = read_edges(plan, units);
+    let command = edges.command;
+    let Command::Fault(fault) = command else {
+        let read = edges.plan;
+        return Reading {
+            outcome: Outcome::Accepted,
+            plan: read,
+        };
+    };
+    Reading {
+        outcome: Outcome::Refused(fault),
+        plan: empty_plan(),
+    }
+}

@@ -1,0 +1,65 @@
+// RULE: its operands, and the rows of the fault table that it is held against.
+ghost use mathlib.Core.Path.{_≡_};
+ghost use Rattle.reading.specs.Commands.{ofKind, rule, lateRule, emptyRule};
+use crate::command::Command;
+use crate::words::WORD_BYTES;
+use crate::words::read_word;
+use plan::Fault;
+use plan::MAX_RULES;
+use plan::Plan;
+use plan::RULE_WORDS;
+
+// Column "operands", in bytes, and with the command's byte.
+const RULE_OPERANDS: usize = RULE_WORDS * WORD_BYTES;
+
+pub const RULE_BYTES: usize = 1 + RULE_OPERANDS;
+
+// Whether a RULE would come out of group order.
+fn is_late_rule(read: Plan) -> bool
+    ensures { λ r. ⌜ r ≡ lateRule read ⌝ }
+{
+    if 0 < read.unit_count {
+        return true;
+    }
+    0 < read.edge_count
+}
+
+// Whether a rule of these words says nothing.
+fn is_empty_rule(head: u64, positive: u64, negative: u64) -> bool
+    ensures { λ r. ⌜ r ≡ emptyRule head positive negative ⌝ }
+{
+    if head != 0 {
+        return false;
+    }
+    if positive != 0 {
+        return false;
+    }
+    negative == 0
+}
+
+// The RULE with these operands, or the fault that stops it.
+pub fn read_rule(operands: &[u8], at: usize, read: Plan) -> Command
+    ensures { λ r. ⌜ r ≡ ofKind read at rule (now (operands .entry)) ⌝ }
+{
+    let rule_count = read.rule_count;
+    if is_late_rule(read) {
+        return Command::Fault(Fault::OutOfOrder(at));
+    }
+    if MAX_RULES <= rule_count {
+        return Command::Fault(Fault::TooMany(at));
+    }
+    if operands.len() < RULE_OPERANDS {
+        return Command::Fault(Fault::Truncated(at));
+    }
+    let head = read_word(operands, 0);
+    let positive = read_word(operands, WORD_BYTES);
+    let negative = read_word(operands, WORD_BYTES + WORD_BYTES);
+    if is_empty_rule(head, positive, negative) {
+        return Command::Fault(Fault::EmptyRule(at));
+    }
+    Command::Rule {
+        head,
+        positive,
+        negative,
+    }
+}
