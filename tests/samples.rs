@@ -43,6 +43,11 @@ samples!(
     "inner-list-wider",
     "plan-p",
     "plan-p-without-edge",
+    "several-in-no-unit",
+    "several-in-two-units",
+    "several-negative-unseen",
+    "several-on-cycles",
+    "several-positive-unseen",
 );
 
 /// The text gives the bytes, the bytes survive the way to text and back, and the lister agrees.

@@ -30,18 +30,9 @@ EDGES = b"".join(edge(u, v) for u in range(16) for v in range(16) if u != v)
 ALL_UNITS = unit() * 16
 
 PLANS = {
-    "end-alone": END,
-    "plan-p": PLAN_P,
-    "plan-p-without-edge": P_RULES + unit(1) + unit(2) + END,
     "rule-in-no-unit": rule(head=3) + END,
-    "circuit-7": rule(head=3) + rule(4, 1) + rule(8, 1) + rule(16, 12)
-        + unit(1) + unit(2) + unit(4) + unit(8) + edge(1, 0) + edge(2, 0) + edge(3, 1) + edge(3, 2) + END,
-    "circuit-8": rule(1) + rule(2) + rule(0, 3) + unit(1) + unit(2) + unit(4) + unit(4) + edge(2, 0) + edge(3, 1) + END,
-    "circuit-10": rule(3) + rule(0, 0, 1) + unit(1) + unit(2) + END,
-    "circuit-11": TWO_UNITS + edge(0, 1) + edge(1, 0) + END,
     "longest": b"".join(rule(1 << i) for i in range(64)) + unit(2**64 - 1) + unit() * 15 + EDGES + END,
 
-    "empty": b"",
     "no-end": FACT,
     "rule-without-operands": b"\x01",
     "second-rule-cut-short": FACT + FACT[:-1],
@@ -94,4 +85,4 @@ PLANS = {
 }
 
 for name, plan in PLANS.items():
-    (HERE / name).write_bytes(plan)
+    (HERE / f"{name}.plan").write_bytes(plan)
