@@ -8,7 +8,8 @@ use native.Mathlib.Decide.{ℕ-discrete}
 use Rattle.atoms.specs.Word.{Has, has, _∩_, _∪_, _∖_, atom, below}
 use Rattle.atoms.specs.Bounded.{Decides, allBelow, someBelow, allIn, wordBelow, unionIn}
 use Rattle.atoms.proofs.Tests.{decides, decided-true, false-of-not-true, not-both, test-cases, bool-ext, and-true, implies-true}
-use Rattle.atoms.proofs.Sets.{decides-has, has-cut, cut-left, cut-right, has-left, has-right, union-cases, has-without, without-left, without-right, has-atom, atom-only, has-none, has-below, below-lt}
+use Rattle.atoms.proofs.Sets.{decides-has, has-cut, cut-left, has-left, has-right, union-cases, has-without, without-left}
+use Rattle.atoms.proofs.Sets.{has-atom, atom-only, has-none, has-below}
 
 -- ---- each
 
@@ -100,9 +101,12 @@ all-in-none n p = all-in-intro n 0 p (λ i l h. absurd (has-none h))
 pub all-in-take : (n w : ℕ) (p : ℕ → Bool) (i : ℕ) → i < n → Has w i → allIn n w p ≡ (p i && allIn n (w ∖ atom i) p)
 all-in-take n w p i l h =
     bool-ext (allIn n w p) (p i && allIn n (w ∖ atom i) p)
-    (λ e. and-true (p i) (allIn n (w ∖ atom i) p) .1 (all-in-at n w p e i l h, all-in-intro n (w ∖ atom i) p (λ j k q. all-in-at n w p e j k (without-left w (atom i) q))))
+    (λ e. and-true (p i) (allIn n (w ∖ atom i) p) .1 (all-in-at n w p e i l h, left e))
     (λ e. let r = and-true (p i) (allIn n (w ∖ atom i) p) .0 e in all-in-intro n w p (λ j k q. go j k q (r .0) (r .1) (ℕ-discrete i j)))
   where
+    left : allIn n w p ≡ true → allIn n (w ∖ atom i) p ≡ true
+    left e = all-in-intro n (w ∖ atom i) p (λ j k q. all-in-at n w p e j k (without-left w (atom i) q))
+
     go : (j : ℕ) → j < n → Has w j → p i ≡ true → allIn n (w ∖ atom i) p ≡ true → Dec (i ≡ j) → p j ≡ true
     go j k q here rest (yes e) = ap p (sym e) ∙ here
     go j k q here rest (no e) =

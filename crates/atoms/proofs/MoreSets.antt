@@ -7,7 +7,8 @@ use lib.Dec.{eqb}
 use Rattle.atoms.specs.Word.{Has, _∩_, _∪_, _∖_, atom, below, apart, AtMostOne}
 use Rattle.atoms.specs.Bounded.{Decides, unionIn}
 use Rattle.atoms.proofs.Tests.{decides-iff, decides-equal}
-use Rattle.atoms.proofs.Sets.{decides-apart, has-cut, cut-left, has-left, has-right, union-cases, has-without, without-left, without-right, has-atom, atom-only, has-none, has-below, ext, empty}
+use Rattle.atoms.proofs.Sets.{decides-apart, has-cut, cut-left, has-left, has-right, union-cases, has-without, without-left}
+use Rattle.atoms.proofs.Sets.{without-right, has-atom, atom-only, has-none, has-below, ext, empty}
 use Rattle.atoms.proofs.Bounded.{union-has, union-at}
 
 pub union-none-left : (a : ℕ) → 0 ∪ a ≡ a

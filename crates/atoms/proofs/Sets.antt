@@ -12,9 +12,10 @@ use lib.Dec.{eqb}
 use lib.Pow.{pow-pos}
 use lib.Arith.{bin-ind}
 use borrow.Author.Tests.{eqb-true, eqb-false, eq-eqb}
-use Rattle.atoms.specs.Word.{digit, Has, has, _⊆_, subset, _⊂_, Apart, apart, _∩_, _∪_, _∖_, atom, below}
+use Rattle.atoms.specs.Word.{digit, Has, has, _⊆_, subset, _⊂_, Apart, apart, _∩_, _∪_, _∖_, atom, below, outside, ATOMS}
 use Rattle.atoms.specs.Bounded.{Decides}
-use Rattle.atoms.proofs.Digits.{digit-lt, digit-zero, digit-low, digit-next, and-at, or-at, sub-at, no-digit, same-digits, power-at, power-off, high-digit, shifted-digit, ones-at}
+use Rattle.atoms.proofs.Digits.{digit-lt, digit-zero, digit-low, digit-next, and-at, or-at, sub-at, same-digits}
+use Rattle.atoms.proofs.Digits.{power-at, power-off, high-digit, shifted-digit, ones-at}
 use Rattle.atoms.proofs.Tests.{decides, decides-iff, decides-equal, decided}
 
 -- ---- membership is decidable
@@ -104,6 +105,18 @@ has-lt w n {i} l p = go (decLt i n)
 pub below-lt : (n : ℕ) {i : ℕ} → Has (below n) i → i < n
 unfolding below
 below-lt n p = has-lt (below n) n (omega (arith, pow-pos n)) p
+
+pub has-outside : (w : ℕ) {i : ℕ} → i < ATOMS → ¬ Has w i → Has (outside w) i
+unfolding outside
+has-outside w {i} l n = has-without (below ATOMS) w (has-below ATOMS i l) n
+
+pub outside-lt : (w : ℕ) {i : ℕ} → Has (outside w) i → i < ATOMS
+unfolding outside
+outside-lt w h = below-lt ATOMS (without-left (below ATOMS) w h)
+
+pub outside-lacks : (w : ℕ) {i : ℕ} → Has (outside w) i → ¬ Has w i
+unfolding outside
+outside-lacks w h = without-right (below ATOMS) w h
 
 -- ---- equality and emptiness
 
