@@ -6,9 +6,8 @@ use Prim.Native.Nat.{ℕ, suc, _<_}
 use Rattle.atoms.specs.Word.{Has, has, _∩_, _∪_, _∖_, atom, below, Lowest}
 use Rattle.atoms.specs.Bounded.{unionIn, wordBelow, singleIf}
 use Rattle.atoms.proofs.Tests.{and-true, decided-true}
-use Rattle.atoms.proofs.Sets.{decides-has, cut-right, without-left, below-lt, ext}
-use Rattle.atoms.proofs.Bounded.{union-has, union-at, word-has, word-at}
-use Rattle.atoms.proofs.MoreSets.{union-none-left, union-none-right, union-assoc, union-in-none, union-in-cut, union-in-take}
+use Rattle.atoms.proofs.Sets.{decides-has, cut-right, without-left, below-lt, ext, union-none-left, union-none-right, union-assoc}
+use Rattle.atoms.proofs.Bounded.{union-has, union-at, word-has, word-at, union-in-none, union-in-cut, union-in-take}
 use Rattle.atoms.proofs.Singles.{single-if-has, single-if-at}
 
 -- ---- the union of the words f i, for the numbers i of `which` below n

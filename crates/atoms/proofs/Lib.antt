@@ -3,8 +3,8 @@ pub mod Tests
 pub mod Sets
 pub mod Counting
 pub mod Bounded
-pub mod MoreSets
 pub mod Singles
+pub mod MoreSets
 pub mod Collected
 pub mod Taking
 pub mod Gathering

@@ -1,12 +1,14 @@
--- One number and a word: the set of a number that passes a test, and the test of a number in a word.
-use mathlib.Core.Path.{_≡_, refl, sym, ap, _∙_}
+-- One number and a word: the set of a number that passes a test, the test of a number in a word, and words of at most one number.
+use mathlib.Core.Path.{_≡_, refl, sym, ap, _∙_, subst}
 use mathlib.Core.Bool.{Bool, true, false, not}
 use Prim.Native.Nat.{ℕ}
-use Rattle.atoms.specs.Word.{Has, has, atom, apart}
-use Rattle.atoms.specs.Bounded.{singleIf}
-use Rattle.atoms.proofs.Tests.{decides-same, decides-not, decided-false, decided-true, not-both}
-use Rattle.atoms.proofs.Sets.{decides-has, has-atom, atom-only, has-none}
-use Rattle.atoms.proofs.MoreSets.{decides-has-atom}
+use native.Mathlib.Decide.{ℕ-discrete}
+use lib.Dec.{eqb}
+use Rattle.atoms.specs.Word.{Has, has, _∖_, atom, apart, AtMostOne}
+use Rattle.atoms.specs.Bounded.{Decides, singleIf}
+use Rattle.atoms.proofs.Tests.{decides-same, decides-not, decides-iff, decides-equal, not-both}
+use Rattle.atoms.proofs.Sets.{decides-has, decides-has-atom, has-dec, has-atom, atom-only, has-none, has-without}
+use Rattle.atoms.proofs.Sets.{without-left, without-right, empty}
 
 -- ---- the set of the one number where a test holds
 
@@ -31,15 +33,11 @@ single-if-at false i h = absurd (has-none h)
 -- ---- a number is in a word exactly if its own set is not apart from the word
 
 pub not-apart-is-has : (w k : ℕ) → not (apart w (atom k)) ≡ has w k
-not-apart-is-has w k =
-    decides-same (decides-not (decides-has-atom w k)) (decides-has w k) (λ h. decides-has w k .yes (in-or-not h)) (λ h n. n h)
+not-apart-is-has w k = decides-same (decides-not (decides-has-atom w k)) (decides-has w k) (λ h. go h (has-dec w k)) (λ h n. n h)
   where
-    in-or-not : ¬ ¬ Has w k → has w k ≡ true
-    in-or-not h = go (has w k) refl
-      where
-        go : (b : Bool) → has w k ≡ b → b ≡ true
-        go true e = refl
-        go false e = absurd (h (decides-has w k .no e))
+    go : ¬ ¬ Has w k → Dec (Has w k) → Has w k
+    go h (yes p) = p
+    go h (no n) = absurd (h n)
 
 pub lacks-of-apart : (w k : ℕ) → apart w (atom k) ≡ true → has w k ≡ false
 lacks-of-apart w k e = sym (not-apart-is-has w k) ∙ ap not e
@@ -56,3 +54,26 @@ lacks-of-test w k p q e = sym (has-is-test w k p q) ∙ ap not e
 
 pub has-of-test : (w k : ℕ) {s : ℕ} {t : Bool} → s ≡ atom k → t ≡ apart w s → t ≡ false → has w k ≡ true
 has-of-test w k p q e = sym (has-is-test w k p q) ∙ ap not e
+
+-- ---- words of at most one atom
+
+pub at-most-none : (w : ℕ) → w ≡ 0 → AtMostOne w
+at-most-none w e = record { same = λ i j p q. absurd (has-none (subst (λ (x : ℕ). Has x i) e p)) }
+
+-- one that is left without any once an atom is taken away
+pub decides-at-most-one : (w r d : ℕ) → Has w r → d ≡ w ∖ atom r → Decides (AtMostOne w) (eqb d 0)
+decides-at-most-one w r d h e = decides-iff into from (decides-equal d 0)
+  where
+    is-r : d ≡ 0 → (i : ℕ) → Has w i → Dec (r ≡ i) → r ≡ i
+    is-r z i p (yes q) = q
+    is-r z i p (no n) = absurd (has-none (subst (λ (x : ℕ). Has x i) (sym e ∙ z) (has-without w (atom r) p (λ k. n (atom-only r k)))))
+
+    into : d ≡ 0 → AtMostOne w
+    into z = record { same = λ i j p q. sym (is-r z i p (ℕ-discrete r i)) ∙ is-r z j q (ℕ-discrete r j) }
+
+    from : AtMostOne w → d ≡ 0
+    from o =
+        e
+        ∙ empty (w ∖ atom r)
+        (λ i p.
+        without-right w (atom r) p (subst (λ (x : ℕ). Has (atom r) x) (o .same r i h (without-left w (atom r) p)) (has-atom r)))
