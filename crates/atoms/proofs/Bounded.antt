@@ -79,6 +79,10 @@ pub all-in-intro : (n w : ℕ) (p : ℕ → Bool) → ((i : ℕ) → i < n → H
 all-in-intro n w p f =
     all-intro n (λ j. not (has w j) || p j) (λ i l. implies-true (has w i) (p i) .1 (λ e. f i l (decides-has w i .yes e)))
 
+-- one of them fails
+pub all-in-fails : (n w : ℕ) (p : ℕ → Bool) (i : ℕ) → i < n → Has w i → p i ≡ false → allIn n w p ≡ false
+all-in-fails n w p i l h e = false-of-not-true (allIn n w p) (λ t. not-both (all-in-at n w p t i l h) e)
+
 pub decides-all-in : (n w : ℕ) (p : ℕ → Bool) {P : ℕ → Type 0} → ((i : ℕ) → i < n → Decides (P i) (p i))
     → Decides ((i : ℕ) → i < n → Has w i → P i) (allIn n w p)
 decides-all-in n w p d =

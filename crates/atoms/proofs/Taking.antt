@@ -2,17 +2,21 @@
 -- What a turn takes is in `which` (taken-lent), and the rest gets smaller (taken-less of Counting).
 use mathlib.Core.Path.{_≡_, refl, sym, subst}
 use mathlib.Core.Logic.{_⊎_, inl, inr}
-use Prim.Native.Nat.{ℕ}
+use Prim.Native.Nat.{ℕ, _^_, _<_}
 use native.Mathlib.Decide.{ℕ-discrete}
 use Rattle.atoms.specs.Word.{Has, _⊆_, _∖_, atom, Lowest}
 use Rattle.atoms.specs.Collected.{Collects}
-use Rattle.atoms.proofs.Sets.{has-dec, has-none, has-atom, has-without, without-left, without-right, atom-only, subset-refl}
+use Rattle.atoms.proofs.Sets.{has-dec, has-lt, has-none, has-atom, has-without, without-left, without-right, atom-only, subset-refl}
 use Rattle.atoms.proofs.Counting.{taken-within}
 
 -- ---- one number is taken
 
 pub taken-lent : {which rest i : ℕ} → rest ⊆ which → Lowest rest i → Has which i
 taken-lent {i = i} f low = f .each i (low .here)
+
+-- and below n where all numbers of `which` are
+pub taken-lt : (n : ℕ) {which rest i : ℕ} → which < 2 ^ n → rest ⊆ which → Lowest rest i → i < n
+taken-lt n {which} l f low = has-lt which n l (taken-lent f low)
 
 -- what was to come is to come still, or is the number taken
 pub taken-cases : {rest rest′ i j : ℕ} → rest′ ≡ rest ∖ atom i → Has rest j → Has rest′ j ⊎ (i ≡ j)
