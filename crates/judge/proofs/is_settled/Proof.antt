@@ -1,7 +1,6 @@
 -- The test over all rules of the record, whose words are all there.
 use mathlib.Core.Path.{ap, _∙_}
 use Prim.Native.Nat.{ℕ}
-use native.Mathlib.Omega.{arith}
 use Rattle.answer_sets.specs.Lent.{lent}
 use Rattle.answer_sets.specs.Test.{answerSet}
 use Rattle.judge.proofs.Settled.{whole-lent}
