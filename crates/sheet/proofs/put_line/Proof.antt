@@ -8,10 +8,10 @@ use Rattle.sheet.proofs.put_line.Statement.{statement}
 use Rattle.sheet.proofs.put_line.Tie as tie
 
 put-hexadecimal-requires : tie.Need-put-hexadecimal-requires
-put-hexadecimal-requires c κs = omega (arith, length-hexadecimal (c .before .before .args .word))
+put-hexadecimal-requires c κs = simp length-hexadecimal (omega arith)
 
 put-requires : tie.Need-put-requires
-put-requires c κs = omega (arith, length-hexadecimal (c .before .before .before .before .before .before .before .args .word))
+put-requires c κs = omega (arith, simp length-hexadecimal at (c .before .before .before .before .put-hexadecimal .ensures .behind))
 
 returns : tie.Need-returns
 unfolding lineEnd

@@ -8,9 +8,7 @@ use Rattle.sheet.proofs.write_refusal.Statement.{statement}
 use Rattle.sheet.proofs.write_refusal.Tie as tie
 
 returns : tie.Need-returns
-returns c =
-    let start = c .before .before .before .before in
-    too-short-keeps _ _ (omega (arith, length-refusalSheet (start .args .number) (start .args .spot)))
+returns c = too-short-keeps _ _ (simp length-refusalSheet (omega arith))
 
 returns-2 : tie.Need-returns-2
 unfolding refusedWord atWord lineEnd
@@ -21,8 +19,7 @@ returns-2 c =
     let number = word .before .before .before .before .before in
     let first = number .before .before .before .before in
     let test = first .before .before .before in
-    let start = test .before .before .before .before in
-    put-fills (omega (arith, test, length-refusalSheet (start .args .number) (start .args .spot)))
+    put-fills (simp length-refusalSheet (omega (arith, test)))
     (put-refusalSheet _ _ (first .put .ensures) (number .put-decimal .ensures) (word .put2 .ensures) (spot .put-decimal2 .ensures) (end .put3 .ensures))
 
 pub write-refusal-spec : {M : Type 1} → statement M

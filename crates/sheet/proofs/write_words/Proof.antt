@@ -8,10 +8,10 @@ use Rattle.sheet.proofs.write_words.Statement.{statement}
 use Rattle.sheet.proofs.write_words.Tie as tie
 
 returns : tie.Need-returns
-returns c = too-short-keeps _ _ (omega (arith, length-positionsSheet (c .before .before .before .before .args .words .now)))
+returns c = too-short-keeps _ _ (simp length-positionsSheet (omega arith))
 
 returns-2 : tie.Need-returns-2
-returns-2 c = too-short-keeps _ _ (omega (arith, length-positionsSheet (c .before .before .before .before .before .args .words .now)))
+returns-2 c = too-short-keeps _ _ (simp length-positionsSheet (omega arith))
 
 returns-3 : tie.Need-returns-3
 unfolding positionsWord lineEnd
@@ -21,8 +21,7 @@ returns-3 c =
     let at-count = at-end .before .before .before .before .before in
     let at-start = at-count .before .before .before .before in
     let test = at-start .before .before .before in
-    let words = test .before .before .before .before .before .args .words .now in
-    put-fills (omega (arith, test, length-positionsSheet words))
+    put-fills (simp length-positionsSheet (omega (arith, test)))
     (put-positionsSheet _ (at-start .put .ensures) (at-count .put-decimal .ensures) (at-end .put2 .ensures) (at-lines .put-lines .ensures))
 
 pub write-words-spec : {M : Type 1} → statement M
