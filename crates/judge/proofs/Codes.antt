@@ -8,8 +8,9 @@ use Rattle.plan.specs.Faults.{number, spot}
 use Rattle.plan.specs.Reading.{reading}
 use Rattle.plan.specs.declared.reader.Outcome.the-variants.{Refused as RefusedWith}
 use Rattle.plan.specs.declared.fault.Fault.{Fault}
-use Rattle.plan.specs.declared.fault.Fault.the-variants.{TableShort, Truncated, UnknownCommand, OutOfOrder, TooMany, EmptyRule}
-use Rattle.plan.specs.declared.fault.Fault.the-variants.{AbsentRule, BadEdge, TrailingBytes, RuleInNoUnit, HeadedRuleInSeveral, Cycle, NonmonotonicUnseen, MonotonicUnseen, LongList}
+use Rattle.plan.specs.declared.fault.Fault.the-variants.{TableShort, Truncated, UnknownCommand, OutOfOrder, TooMany, EmptyRule, AbsentRule}
+use Rattle.plan.specs.declared.fault.Fault.the-variants.{BadEdge, TrailingBytes, RuleInNoUnit, HeadedRuleInSeveral, Cycle}
+use Rattle.plan.specs.declared.fault.Fault.the-variants.{NonmonotonicUnseen, MonotonicUnseen, LongList}
 use Rattle.judge.specs.Answers.{judged, code}
 use Rattle.judge.proofs.Settled.{judged-refused}
 use Rattle.judge.proofs.Spots.{spot-within}
