@@ -45,6 +45,7 @@ loop-again c =
     let at = c .before .before .before .before .before .args in
     let head = c .before .before .before .before .loop in
     let test = c .before .before .before .loop-test .taken in
+    let other = c .before .if1 .left in
     ⊎-elim
     (λ w.
     subst₂ (λ (list : List ℕ) (carried : ℕ). Passing (now (at .list)) (at .count) (at .value) list carried (head .i + 1))
@@ -53,7 +54,7 @@ loop-again c =
     (λ w.
     subst₂ (λ (list : List ℕ) (carried : ℕ). Passing (now (at .list)) (at .count) (at .value) list carried (head .i + 1))
     (sym (w .1)) (sym (w .2))
-    (pass-above (now (at .list)) (at .count) (at .value) (omega arith) (head .list) (head .carried) (head .i) (head .inv) test (c .before .if1 .left) (w .0 .left)))
+    (pass-above (now (at .list)) (at .count) (at .value) (omega arith) (head .list) (head .carried) (head .i) (head .inv) test other (w .0 .left)))
     (c .if2 .came)
 
 same-length-2 : tie.Need-same-length-2 Inv-loop μ-loop

@@ -106,10 +106,11 @@ search-returns-2 t c =
     let c8 = c7 .before in
     let c14 = c8 .before .before .before .before .before .before in
     let at = c14 .args in
+    let no-clash = sym (c7 .are-apart .ensures) ∙ not-false (c7 .are-apart .result) (c6 .if1 .left) in
     search-narrowed (now (at .rules)) (now (at .table)) (now (at .counts)) (now (at .heads)) (at .unit) (now (at .list)) (at .count)
     (record { up = at .up; dropped = at .dropped }) (c8 .narrow .result)
     (c8 .narrow .ensures)
-    (search-leaf _ _ _ _ _ (now (at .list)) (at .count) (c8 .narrow .result) (sym (c7 .are-apart .ensures) ∙ not-false (c7 .are-apart .result) (c6 .if1 .left))
+    (search-leaf _ _ _ _ _ (now (at .list)) (at .count) (c8 .narrow .result) no-clash
     (sym (c5 .undecided .ensures) ∙ c4 .if2 .taken)
     (c .before .before .offer .ensures))
 
@@ -146,12 +147,13 @@ search-returns-3 t c =
     let c18 = c12 .before .before .before .before .before .before in
     let at = c18 .args in
     let n = c12 .narrow .result in
+    let lower = c .before .before .before .search in
     search-narrowed (now (at .rules)) (now (at .table)) (now (at .counts)) (now (at .heads)) (at .unit) (now (at .list)) (at .count)
     (record { up = at .up; dropped = at .dropped })
     (c12 .narrow .result)
     (c12 .narrow .ensures)
-    (search-over _ _ _ _ _ (now (at .list)) (at .count) n (c7 .choose .result) (c .before .before .before .search .last .1 .1 .1 .1 .1 .0) (c .before .before .before .search .result)
-    (rw (c5 .union .ensures, c6 .single .ensures) at (c .before .before .before .search .ensures))
+    (search-over _ _ _ _ _ (now (at .list)) (at .count) n (c7 .choose .result) (lower .last .1 .1 .1 .1 .1 .0) (lower .result)
+    (rw (c5 .union .ensures, c6 .single .ensures) at (lower .ensures))
     (c .if3 .taken))
 
 search-search-requires-2 : (t : ℕ) → search-lts.Need-search-requires-2 (calls t) (search-at t) search′.Post
