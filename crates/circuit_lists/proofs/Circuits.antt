@@ -20,7 +20,8 @@ use Rattle.dependency_graph.specs.Heads.{reachVia, reach, own, heads, inputHead
 use Rattle.dependency_graph.specs.Lowest.{lowest, lowestOf}
 use Rattle.dependency_graph.specs.Order.{ready, nextUnit, orderFrom, workingOrder}
 use Rattle.dependency_graph.specs.Slices.{unitsOf}
-use Rattle.dependency_graph.specs.Offenders.{unionBelow, twiceBelow, seen, unseenHeads, clashing, covered, unplaced, shared, cyclic, nonmonotonicUnseen, monotonicUnseen}
+use Rattle.dependency_graph.specs.Offenders.{unionBelow, twiceBelow, seen, unseenHeads, clashing, covered}
+use Rattle.dependency_graph.specs.Offenders.{unplaced, shared, cyclic, nonmonotonicUnseen, monotonicUnseen}
 use Rattle.dependency_graph.specs.Check.{row, dependenceRows, verdict}
 use Rattle.splitting.specs.UnitList.{withLast}
 use Rattle.unit_lists.specs.Lists.{isInput, inList, unitList, lastList}
@@ -42,6 +43,10 @@ edge u v = 3 ∷ u ∷ v ∷ []
 abbrev end : List ℕ
 end = 0 ∷ []
 
+-- the edges of circuit 7: unit 3 stands behind 1 and 2, and both behind 0
+abbrev diamond : List ℕ
+diamond = edge 1 0 ++ (edge 2 0 ++ (edge 3 1 ++ (edge 3 2 ++ end)))
+
 -- circuits 2 to 11, plan P, and P without its EDGE
 abbrev pub plans : List (List ℕ)
 plans =
@@ -50,7 +55,7 @@ plans =
     ∷ (rule 1 0 1 ++ (unit 1 ++ end))
     ∷ (rule 1 0 2 ++ (rule 2 0 1 ++ (unit 3 ++ end)))
     ∷ (rule 3 0 0 ++ (rule 1 2 0 ++ (rule 2 1 0 ++ (unit 7 ++ end))))
-    ∷ (rule 3 0 0 ++ (rule 4 1 0 ++ (rule 8 1 0 ++ (rule 16 12 0 ++ (unit 1 ++ (unit 2 ++ (unit 4 ++ (unit 8 ++ (edge 1 0 ++ (edge 2 0 ++ (edge 3 1 ++ (edge 3 2 ++ end))))))))))))
+    ∷ (rule 3 0 0 ++ (rule 4 1 0 ++ (rule 8 1 0 ++ (rule 16 12 0 ++ (unit 1 ++ (unit 2 ++ (unit 4 ++ (unit 8 ++ diamond))))))))
     ∷ (rule 1 0 0 ++ (rule 2 0 0 ++ (rule 0 3 0 ++ (unit 1 ++ (unit 2 ++ (unit 4 ++ (unit 4 ++ (edge 2 0 ++ (edge 3 1 ++ end)))))))))
     ∷ (rule 1 0 0 ++ (rule 2 0 0 ++ (rule 0 3 0 ++ (unit 1 ++ (unit 2 ++ (unit 4 ++ (unit 4 ++ (edge 2 0 ++ (edge 3 1 ++ (edge 2 1 ++ end))))))))))
     ∷ (rule 3 0 0 ++ (rule 0 0 1 ++ (unit 1 ++ (unit 2 ++ end))))
@@ -85,5 +90,9 @@ unfoldable pub shown : List ℕ → Outcome × List ℕ
 shown bytes = withLastList (reading bytes .plan) (afterReading (reading bytes .plan) [] (reading bytes .outcome) .outcome)
 
 pub circuits : map shown plans ≡ results
-unfolding shown withLastList reading walk commandAt ofKind kindOf carrying lateRule lateUnit emptyRule absentRule badEdge emptyPlan withRule withUnit withEdge number wordAt planUnits afterReading afterGraph workFrom lastList unitList inList isInput members allBelow someBelow wordBelow unionIn unionBelow twiceBelow heads inputHeads own reach reachVia withLast unitsOf lent answerSet someSmaller satisfiesAll satisfies body kept keptIf has subset apart _∩_ _∪_ _∖_ atom below verdict dependenceRows row unplaced shared cyclic nonmonotonicUnseen monotonicUnseen clashing covered seen unseenHeads lowestOf lowest workingOrder orderFrom nextUnit ready
+unfolding shown withLastList reading walk commandAt ofKind kindOf carrying lateRule lateUnit emptyRule absentRule badEdge emptyPlan withRule withUnit
+    withEdge number wordAt planUnits afterReading afterGraph workFrom lastList unitList inList isInput members allBelow someBelow wordBelow unionIn
+    unionBelow twiceBelow heads inputHeads own reach reachVia withLast unitsOf lent answerSet someSmaller satisfiesAll satisfies body kept keptIf has
+    subset apart _∩_ _∪_ _∖_ atom below verdict dependenceRows row unplaced shared cyclic nonmonotonicUnseen monotonicUnseen clashing covered
+    seen unseenHeads lowestOf lowest workingOrder orderFrom nextUnit ready
 circuits = refl

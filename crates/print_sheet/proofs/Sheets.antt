@@ -25,7 +25,7 @@ pub sheet-refused : (a : Answer) (f : Fault) → a .outcome ≡ Refused f → re
 unfolding sheetOf sheetFor
 sheet-refused a f e = sym (ap (λ (o : Outcome). sheetFor o (a .counts) (a .table)) e)
 
-pub sheet-listed : (a : Answer) → a .outcome ≡ Accepted → positionsSheet (take (getD (a .counts) 16 0) (drop 4096 (a .table))) ≡ sheetOf a
+sheet-listed : (a : Answer) → a .outcome ≡ Accepted → positionsSheet (take (getD (a .counts) 16 0) (drop 4096 (a .table))) ≡ sheetOf a
 unfolding sheetOf sheetFor
 sheet-listed a e = sym (ap (λ (o : Outcome). sheetFor o (a .counts) (a .table)) e)
 
@@ -41,12 +41,18 @@ accepted-long bytes table e = go (decLt (length table) 4352)
     go (no n) = omega arith
 
 -- the part of the table from 4,096 on
-pub part-is : (table : List ℕ) → take (length table - 4096) (drop 4096 table) ≡ drop 4096 table
+part-is : (table : List ℕ) → take (length table - 4096) (drop 4096 table) ≡ drop 4096 table
 part-is table = take-all (length table - 4096) (drop 4096 table) (omega (arith, length-drop 4096 table))
+
+-- the sheet of what an accepted plan gets
+pub sheet-of-part : (a : Answer) (counts table : List ℕ) → counts ≡ a .counts → table ≡ a .table → a .outcome ≡ Accepted
+    → positionsSheet (take (getD counts 16 0) (take (length table - 4096) (drop 4096 table))) ≡ sheetOf a
+sheet-of-part a counts table e f h = rw (part-is table, e, f) (sheet-listed a h)
 
 -- ---- no sheet is longer than SHEET_BYTES
 
-pub refused-at-most : (a : Answer) (number spot : ℕ) → number < 2 ^ 64 → spot < 2 ^ 64 → refusalSheet number spot ≡ sheetOf a → length (sheetOf a) ≤ SHEET_BYTES
+pub refused-at-most : (a : Answer) (number spot : ℕ) → number < 2 ^ 64 → spot < 2 ^ 64 → refusalSheet number spot ≡ sheetOf a
+    → length (sheetOf a) ≤ SHEET_BYTES
 refused-at-most a number spot h l e = omega (arith, ap length e, refusal-at-most number spot h l)
 
 pub listed-at-most : (bytes table : List ℕ) → answer bytes table .outcome ≡ Accepted → length (sheetOf (answer bytes table)) ≤ SHEET_BYTES
@@ -57,7 +63,7 @@ listed-at-most bytes table e =
     omega (arith, ap length (sheet-listed a e), positions-at-most words few)
 
 -- what is shown of a buffer of SHEET_BYTES or more is the sheet
-pub shown-is-sheet : (bytes table table′ sheet sheet′ : List ℕ) (r : Written) → Printed bytes table table′ sheet sheet′ r → SHEET_BYTES ≤ length sheet
-    → part r sheet′ ≡ sheetOf (answer bytes table)
+pub shown-is-sheet : (bytes table table′ sheet sheet′ : List ℕ) (r : Written) → Printed bytes table table′ sheet sheet′ r
+    → SHEET_BYTES ≤ length sheet → part r sheet′ ≡ sheetOf (answer bytes table)
 shown-is-sheet bytes table table′ sheet sheet′ r p long =
     ap₂ part (p .written-is) (p .sheet-is) ∙ part-filled (sheetOf (answer bytes table)) sheet (omega (arith, p .at-most))

@@ -59,7 +59,8 @@ refusal-at-most number spot h l =
     let few-more : length (decimal spot) ≤ 20 = decimal-at-most spot 20 (lit< tt) (lt-trans l (lit< tt)) in
     omega (arith, length-refusalSheet number spot)
 
-pub put-positionLine : (w : ℕ) {at mid next : ℕ} {s t u : List ℕ} → Put (hexadecimal w) at s t mid → Put lineEnd mid t u next → Put (positionLine w) at s u next
+pub put-positionLine : (w : ℕ) {at mid next : ℕ} {s t u : List ℕ} → Put (hexadecimal w) at s t mid → Put lineEnd mid t u next
+    → Put (positionLine w) at s u next
 unfolding positionLine
 put-positionLine w p q = put-append p q
 

@@ -33,7 +33,8 @@ pub put-next : (bytes : List ℕ) (i : ℕ) {at : ℕ} {s t : List ℕ} → i < 
 put-next bytes i {at} {t = t} h p = rw (← add-assoc, add-one i, take-suc bytes i 0 h) (put-append p (put-byte (getD bytes i 0) (at + i) t))
 
 -- all the bytes are written, from 0 on
-pub put-fills : {bytes s t : List ℕ} {next : ℕ} → length bytes ≤ length s → Put bytes 0 s t next → (Bytes next ≡ answer bytes s) × (t ≡ filled bytes s)
+pub put-fills : {bytes s t : List ℕ} {next : ℕ} → length bytes ≤ length s → Put bytes 0 s t next
+    → (Bytes next ≡ answer bytes s) × (t ≡ filled bytes s)
 unfolding answer filled
 put-fills {bytes} {s} h p =
     rw (p .behind, p .holds, zero-add, answer, filled, le-leb (length bytes) (length s) h)

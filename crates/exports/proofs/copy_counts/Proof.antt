@@ -15,23 +15,8 @@ abbrev μ-loop : tie.MeasureT-loop
 loop-holds : tie.Need-loop-holds Inv-loop μ-loop
 loop-holds c = copying-start (search needs)
 
-mul-counts : tie.Need-mul-counts Inv-loop μ-loop
-mul-counts c = search needs
-
-array-read-counts : tie.Need-array-read-counts Inv-loop μ-loop
-array-read-counts c = search needs
-
-mul-counts-2 : tie.Need-mul-counts-2 Inv-loop μ-loop
-mul-counts-2 c = search needs
-
 slice-write-counts : tie.Need-slice-write-counts Inv-loop μ-loop
 slice-write-counts c = ltb-true _ _ (c .if1 .taken)
-
-add-i : tie.Need-add-i Inv-loop μ-loop
-add-i c = search needs
-
-loop-less : tie.Need-loop-less Inv-loop μ-loop
-loop-less c = search needs
 
 loop-again : tie.Need-loop-again Inv-loop μ-loop
 loop-again c = copying-more (c .before .before .loop .inv) (c .before .loop-test .taken) (ltb-true _ _ (c .if1 .taken))
@@ -55,12 +40,12 @@ copy-counts-spec =
     Inv-loop
     μ-loop
     loop-holds
-    mul-counts
-    array-read-counts
-    mul-counts-2
+    (λ c. search needs)
+    (λ c. search needs)
+    (λ c. search needs)
     slice-write-counts
-    add-i
-    loop-less
+    (λ c. search needs)
+    (λ c. search needs)
     loop-again
     same-length
     returns

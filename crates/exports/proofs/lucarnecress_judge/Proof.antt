@@ -5,14 +5,8 @@ use Rattle.judge.specs.Answers.{code}
 use Rattle.exports.proofs.lucarnecress_judge.Statement.{statement}
 use Rattle.exports.proofs.lucarnecress_judge.Tie as tie
 
-judge-requires : tie.Need-judge-requires
-judge-requires c κs = search needs
-
-answer-code-requires : tie.Need-answer-code-requires
-answer-code-requires c κs = search needs
-
 returns : tie.Need-returns
 returns c = c .answer-code .ensures ∙ ap code (c .before .judge .ensures .is)
 
 pub lucarnecress-judge-spec : {M : Type 1} → statement M
-lucarnecress-judge-spec = tie.close (tie.spec judge-requires answer-code-requires returns)
+lucarnecress-judge-spec = tie.close (tie.spec (λ c κs. search needs) (λ c κs. search needs) returns)

@@ -5,21 +5,9 @@ use Rattle.exports.specs.Handed.{outcomeCode}
 use Rattle.exports.proofs.outcome_code.Statement.{statement}
 use Rattle.exports.proofs.outcome_code.Tie as tie
 
-enum-told : tie.Need-enum-told
-enum-told c = search needs
-
-enum-known-outcome : tie.Need-enum-known-outcome
-enum-known-outcome c = search needs
-
-refusal-code-requires : tie.Need-refusal-code-requires
-refusal-code-requires c κs = search needs
-
-returns : tie.Need-returns
-returns c = search needs
-
 returns-2 : tie.Need-returns-2
 returns-2 c = c .refusal-code .ensures ∙ ap outcomeCode (sym (c .before .before .outcome .given .1))
 
 pub outcome-code-spec : {M : Type 1} → statement M
 outcome-code-spec =
-    tie.close (tie.spec enum-told enum-known-outcome refusal-code-requires returns returns-2)
+    tie.close (tie.spec (λ c. search needs) (λ c. search needs) (λ c κs. search needs) (λ c. search needs) returns-2)

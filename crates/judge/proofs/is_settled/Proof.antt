@@ -1,19 +1,12 @@
 -- The test over all rules of the record, whose words are all there.
 use mathlib.Core.Path.{ap, _∙_}
 use Prim.Native.Nat.{ℕ}
-use native.Mathlib.Omega.{arith}
 use Rattle.answer_sets.specs.Lent.{lent}
 use Rattle.answer_sets.specs.Test.{answerSet}
 use Rattle.judge.proofs.Settled.{whole-lent}
 use borrow.Author.Needs.{needs}
 use Rattle.judge.proofs.is_settled.Statement.{statement}
 use Rattle.judge.proofs.is_settled.Tie as tie
-
-first-requires : tie.Need-first-requires
-first-requires c κs = search needs
-
-slice-aggregate-is-answer-set : tie.Need-slice-aggregate-is-answer-set
-slice-aggregate-is-answer-set c = search needs
 
 is-answer-set-requires : tie.Need-is-answer-set-requires
 is-answer-set-requires c κs =
@@ -27,4 +20,4 @@ returns c =
 pub is-settled-spec : {M : Type 1} → statement M
 is-settled-spec =
     tie.close
-    (tie.spec first-requires slice-aggregate-is-answer-set is-answer-set-requires returns)
+    (tie.spec (λ c κs. search needs) (λ c. search needs) is-answer-set-requires returns)

@@ -10,17 +10,8 @@ use borrow.Author.Needs.{needs}
 use Rattle.judge.proofs.judge.Statement.{statement}
 use Rattle.judge.proofs.judge.Tie as tie
 
-read-plan-requires : tie.Need-read-plan-requires
-read-plan-requires c κs = search needs
-
-enum-known-outcome : tie.Need-enum-known-outcome
-enum-known-outcome c = search needs
-
 returns : tie.Need-returns
 returns c = refused-judged _ _ _ (c .before .before .before .read-plan .ensures) _ (c .before .outcome .given .1)
-
-enum-told : tie.Need-enum-told
-enum-told c = search needs
 
 is-settled-requires : tie.Need-is-settled-requires
 is-settled-requires c κs =
@@ -28,19 +19,23 @@ is-settled-requires c κs =
     subst (λ (r : Reading). Fitting (r .plan)) (sym (at .read-plan .ensures)) (record-fits (now (at .before .before .args .plan)))
 
 returns-2 : tie.Need-returns-2
-returns-2 c = accepted-judged _ _ _ (c .before .before .before .before .before .read-plan .ensures) true (c .before .before .before .enum-told .given .1) (sym (c .if1 .taken) ∙ c .before .is-settled .ensures)
+returns-2 c =
+    let told = c .before .before .before in
+    accepted-judged _ _ _ (told .before .before .read-plan .ensures) true (told .enum-told .given .1) (sym (c .if1 .taken) ∙ c .before .is-settled .ensures)
 
 returns-3 : tie.Need-returns-3
-returns-3 c = accepted-judged _ _ _ (c .before .before .before .before .before .read-plan .ensures) false (c .before .before .before .enum-told .given .1) (sym (c .if1 .left) ∙ c .before .is-settled .ensures)
+returns-3 c =
+    let told = c .before .before .before in
+    accepted-judged _ _ _ (told .before .before .read-plan .ensures) false (told .enum-told .given .1) (sym (c .if1 .left) ∙ c .before .is-settled .ensures)
 
 pub judge-spec : {M : Type 1} → statement M
 judge-spec =
     tie.close
     (tie.spec
-    read-plan-requires
-    enum-known-outcome
+    (λ c κs. search needs)
+    (λ c. search needs)
     returns
-    enum-told
+    (λ c. search needs)
     is-settled-requires
     returns-2
     returns-3)

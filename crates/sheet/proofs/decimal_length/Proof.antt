@@ -4,11 +4,8 @@ use Rattle.sheet.proofs.Digits.{decimal-places}
 use Rattle.sheet.proofs.decimal_length.Statement.{statement}
 use Rattle.sheet.proofs.decimal_length.Tie as tie
 
-decimal-requires : tie.Need-decimal-requires
-decimal-requires c κs = search needs
-
 returns : tie.Need-returns
 returns c = decimal-places _ _ (c .before .before .fits .n .fits) (c .decimal .ensures .1 .0)
 
 pub decimal-length-spec : {M : Type 1} → statement M
-decimal-length-spec = tie.close (tie.spec decimal-requires returns)
+decimal-length-spec = tie.close (tie.spec (λ c κs. search needs) returns)

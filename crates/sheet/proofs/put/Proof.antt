@@ -26,21 +26,6 @@ abbrev μ-loop : tie.MeasureT-loop
 loop-holds : tie.Need-loop-holds Inv-loop μ-loop
 loop-holds c = record { within = search needs; same = refl; first = rw add-zero (put-nothing _ _) }
 
-shared-slice-read-sheet : tie.Need-shared-slice-read-sheet Inv-loop μ-loop
-shared-slice-read-sheet c = search needs
-
-add-sheet : tie.Need-add-sheet Inv-loop μ-loop
-add-sheet c = omega arith
-
-slice-write-sheet : tie.Need-slice-write-sheet Inv-loop μ-loop
-slice-write-sheet c = omega arith
-
-add-i : tie.Need-add-i Inv-loop μ-loop
-add-i c = omega arith
-
-loop-less : tie.Need-loop-less Inv-loop μ-loop
-loop-less c = omega arith
-
 loop-again : tie.Need-loop-again Inv-loop μ-loop
 loop-again c =
     let inv = c .before .before .loop .inv in
@@ -49,12 +34,6 @@ loop-again c =
       same = simp length-set (inv .same);
       first = put-next _ _ (c .before .loop-test .taken) (inv .first);
     }
-
-add-result : tie.Need-add-result Inv-loop μ-loop
-add-result c = omega arith
-
-same-length : tie.Need-same-length Inv-loop μ-loop
-same-length c = search needs
 
 returns : tie.Need-returns Inv-loop μ-loop
 returns c = rw (take-all _ _ (c .loop-test .left)) at (c .before .loop .inv .first)
@@ -66,12 +45,12 @@ put-spec =
     Inv-loop
     μ-loop
     loop-holds
-    shared-slice-read-sheet
-    add-sheet
-    slice-write-sheet
-    add-i
-    loop-less
+    (λ c. search needs)
+    (λ c. omega arith)
+    (λ c. omega arith)
+    (λ c. omega arith)
+    (λ c. omega arith)
     loop-again
-    add-result
-    same-length
+    (λ c. omega arith)
+    (λ c. search needs)
     returns)

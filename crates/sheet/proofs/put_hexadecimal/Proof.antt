@@ -7,23 +7,11 @@ use Rattle.sheet.proofs.Digits.{hexadecimal-made}
 use Rattle.sheet.proofs.put_hexadecimal.Statement.{statement}
 use Rattle.sheet.proofs.put_hexadecimal.Tie as tie
 
-hex-requires : tie.Need-hex-requires
-hex-requires c κs = search needs
-
-array-share-prefix-text : tie.Need-array-share-prefix-text
-array-share-prefix-text c = search needs
-
-slice-aggregate-put : tie.Need-slice-aggregate-put
-slice-aggregate-put c = search needs
-
 put-requires : tie.Need-put-requires
 put-requires c κs =
     let start = c .before .before .before .before .before in
     let made = c .before .before .hex .ensures in
     omega (arith, ap length (hexadecimal-made (start .args .word) _ _ (start .fits .word .fits) (made .1 .0) (made .1 .1)))
-
-same-length : tie.Need-same-length
-same-length c = search needs
 
 returns : tie.Need-returns
 returns c =
@@ -35,9 +23,9 @@ pub put-hexadecimal-spec : {M : Type 1} → statement M
 put-hexadecimal-spec =
     tie.close
     (tie.spec
-    hex-requires
-    array-share-prefix-text
-    slice-aggregate-put
+    (λ c κs. search needs)
+    (λ c. search needs)
+    (λ c. search needs)
     put-requires
-    same-length
+    (λ c. search needs)
     returns)

@@ -8,16 +8,10 @@ use Rattle.sheet.proofs.put_line.Statement.{statement}
 use Rattle.sheet.proofs.put_line.Tie as tie
 
 put-hexadecimal-requires : tie.Need-put-hexadecimal-requires
-put-hexadecimal-requires c κs = omega (arith, length-hexadecimal (c .before .before .args .word))
-
-slice-aggregate-put : tie.Need-slice-aggregate-put
-slice-aggregate-put c = search needs
+put-hexadecimal-requires c κs = simp length-hexadecimal (omega arith)
 
 put-requires : tie.Need-put-requires
-put-requires c κs = omega (arith, length-hexadecimal (c .before .before .before .before .before .before .before .args .word))
-
-same-length : tie.Need-same-length
-same-length c = search needs
+put-requires c κs = omega (arith, simp length-hexadecimal at (c .before .before .before .before .put-hexadecimal .ensures .behind))
 
 returns : tie.Need-returns
 unfolding lineEnd
@@ -26,4 +20,4 @@ returns c = put-positionLine _ (c .before .before .before .before .before .befor
 pub put-line-spec : {M : Type 1} → statement M
 put-line-spec =
     tie.close
-    (tie.spec put-hexadecimal-requires slice-aggregate-put put-requires same-length returns)
+    (tie.spec put-hexadecimal-requires (λ c. search needs) put-requires (λ c. search needs) returns)

@@ -21,15 +21,6 @@ part-of-short : (w : Written) (sheet : List ℕ) → w ≡ TooShort → [] ≡ p
 unfolding part
 part-of-short w sheet e = sym (ap (λ (x : Written). part x sheet) e)
 
-enum-known-written : tie.Need-enum-known-written
-enum-known-written c = search needs
-
-enum-told : tie.Need-enum-told
-enum-told c = search needs
-
-slice-aggregate-result : tie.Need-slice-aggregate-result
-slice-aggregate-result c = search needs
-
 returns : tie.Need-returns
 returns c = part-of-short _ (now (c .before .before .before .args .sheet)) (c .before .enum-told .given .1)
 
@@ -51,9 +42,9 @@ pub written-part-spec : {M : Type 1} → statement M
 written-part-spec =
     tie.close
     (tie.spec
-    enum-known-written
-    enum-told
-    slice-aggregate-result
+    (λ c. search needs)
+    (λ c. search needs)
+    (λ c. search needs)
     returns
     returns-2
     slice-aggregate-result-2

@@ -1,5 +1,5 @@
 -- The invariant: the next round's answer is known. The measure is how many atoms are not founded yet.
-use mathlib.Core.Path.{_≡_, sym}
+use mathlib.Core.Path.{sym}
 use Prim.Native.Nat.{_-_, _^_, _<_}
 use native.Mathlib.Omega.{arith}
 use lib.Count.{ones}
@@ -29,7 +29,8 @@ found-round-requires-2 c κs = c .before .before .before .before .pre
 loop-less : tie.Need-loop-less Inv-loop μ-loop
 loop-less c =
     let old = c .before .before .loop in
-    omega (arith, count-proper (old .found) (old .next) (old .inv .1 .grows) (λ e. c .before .loop-test .taken (sym e)), counts-small (old .next) (old .inv .2) .0)
+    let more = count-proper (old .found) (old .next) (old .inv .1 .grows) (λ e. c .before .loop-test .taken (sym e)) in
+    omega (arith, counts-small (old .next) (old .inv .2) .0)
 
 loop-again : tie.Need-loop-again Inv-loop μ-loop
 loop-again c =

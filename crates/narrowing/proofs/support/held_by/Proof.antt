@@ -11,12 +11,14 @@ use borrow.Author.Needs.{needs}
 use Rattle.narrowing.proofs.support.held_by.Statement.{statement}
 use Rattle.narrowing.proofs.support.held_by.Tie as tie
 
+abbrev start : tie.After-union3 → tie.Start
+start c = c .before .before .before .before .before .before .before .before .before .before .before .before
+
 -- what is dropped: the negative atoms and the other head atoms
 down : (c : tie.After-union3)
     → c .before .before .before .union .result
-    ≡ negative (now (c .before .before .before .before .before .before .before .before .before .before .before .before .args .rules))
-    (c .before .before .before .before .before .before .before .before .before .before .before .before .args .rule)
-    ∪ (lent (now (c .before .before .before .before .before .before .before .before .before .before .before .before .args .rules)) .head (c .before .before .before .before .before .before .before .before .before .before .before .before .args .rule) ∖ atom (c .before .before .before .before .before .before .lowest .result))
+    ≡ negative (now (start c .args .rules)) (start c .args .rule)
+    ∪ (lent (now (start c .args .rules)) .head (start c .args .rule) ∖ atom (c .before .before .before .before .before .before .lowest .result))
 down c =
     let c4 = c .before .before .before .before in
     let c5 = c4 .before in
@@ -26,46 +28,12 @@ down c =
     ∙ ap₂ _∪_ (c4 .negative-body .ensures)
     (c5 .drop .ensures ∙ ap (λ (w : ℕ). w ∖ atom (c6 .lowest .result)) (c7 .head .ensures))
 
-supportable-requires : tie.Need-supportable-requires
-supportable-requires c κs = search needs
-
-cut-requires : tie.Need-cut-requires
-cut-requires c κs = search needs
-
-returns : tie.Need-returns
-returns c = search needs
-
-head-requires : tie.Need-head-requires
-head-requires c κs = search needs
-
-lowest-requires : tie.Need-lowest-requires
-lowest-requires c κs = search needs
-
-drop-requires : tie.Need-drop-requires
-drop-requires c κs = search needs
-
-negative-body-requires : tie.Need-negative-body-requires
-negative-body-requires c κs = search needs
-
-union-requires : tie.Need-union-requires
-union-requires c κs = search needs
-
-positive-body-requires : tie.Need-positive-body-requires
-positive-body-requires c κs = search needs
-
-union-requires-2 : tie.Need-union-requires-2
-union-requires-2 c κs = search needs
-
-union-requires-3 : tie.Need-union-requires-3
-union-requires-3 c κs = search needs
-
 returns-2 : tie.Need-returns-2
 returns-2 c =
     let c6 = c .before .before .before .before .before .before in
     let c9 = c6 .before .before .before in
     let c10 = c9 .before in
-    let c12 = c10 .before .before in
-    let at = c12 .args in
+    let at = start c .args in
     let word = c10 .supportable in
     let low = c6 .lowest in
     subst₂ (λ (u d : ℕ). Narrows (HoldsSole (now (at .rules)) (at .rule) (at .s) (at .sole)) (at .t) (record { up = u; dropped = d }))
@@ -78,15 +46,15 @@ pub held-by-spec : {M : Type 1} → statement M
 held-by-spec =
     tie.close
     (tie.spec
-    supportable-requires
-    cut-requires
-    returns
-    head-requires
-    lowest-requires
-    drop-requires
-    negative-body-requires
-    union-requires
-    positive-body-requires
-    union-requires-2
-    union-requires-3
+    (λ c κs. search needs)
+    (λ c κs. search needs)
+    (λ c. search needs)
+    (λ c κs. search needs)
+    (λ c κs. search needs)
+    (λ c κs. search needs)
+    (λ c κs. search needs)
+    (λ c κs. search needs)
+    (λ c κs. search needs)
+    (λ c κs. search needs)
+    (λ c κs. search needs)
     returns-2)

@@ -10,49 +10,26 @@ use borrow.Author.Needs.{needs}
 use Rattle.narrowing.proofs.support.support_pass.Statement.{statement}
 use Rattle.narrowing.proofs.support.support_pass.Tie as tie
 
+abbrev start : tie.After-without2 → tie.Start
+start c = c .before .before .before .before .before .before .before .before
+
 -- what no rule may support is dropped
 unsupported : (c : tie.After-without2)
-    → Narrows
-    (Settled (now (c .before .before .before .before .before .before .before .before .args .rules)) (c .before .before .before .before .before .before .before .before .args .which) (c .before .before .before .before .before .before .before .before .args .inputs)) (c .before .before .before .before .before .before .before .before .args .s)
-    (record { up = c .before .before .before .before .before .before .before .before .args .s .up; dropped = c .before .before .union2 .result })
+    → Narrows (Settled (now (start c .args .rules)) (start c .args .which) (start c .args .inputs)) (start c .args .s)
+    (record { up = start c .args .s .up; dropped = c .before .before .union2 .result })
 unsupported c =
     let c4 = c .before .before .before .before in
     let c5 = c4 .before in
     let c6 = c5 .before in
-    let c8 = c6 .before .before in
-    let at = c8 .args in
+    let at = start c .args in
     subst (λ (w : ℕ). Narrows (Settled (now (at .rules)) (at .which) (at .inputs)) (at .s) (record { up = at .s .up; dropped = w }))
     (sym (c .before .before .union2 .ensures))
-    (unsupported-narrows (now (at .rules)) (at .s) (at .which) (at .inputs) (c8 .fits .which .fits) (c6 .tally-support .result)
+    (unsupported-narrows (now (at .rules)) (at .s) (at .which) (at .inputs) (start c .fits .which .fits) (c6 .tally-support .result)
     (c6 .tally-support .ensures) (c .before .before .before .without .result)
     (c .before .before .before .without .ensures ∙ ap₂ _∖_ (c5 .first .ensures) (c4 .union .ensures)))
 
-tally-support-requires : tie.Need-tally-support-requires
-tally-support-requires c κs = search needs
-
-first-requires : tie.Need-first-requires
-first-requires c κs = search needs
-
-union-requires : tie.Need-union-requires
-union-requires c κs = search needs
-
-without-requires : tie.Need-without-requires
-without-requires c κs = search needs
-
-union-requires-2 : tie.Need-union-requires-2
-union-requires-2 c κs = search needs
-
-union-requires-3 : tie.Need-union-requires-3
-union-requires-3 c κs = search needs
-
-without-requires-2 : tie.Need-without-requires-2
-without-requires-2 c κs = search needs
-
 returns : tie.Need-returns
 returns c = unsupported (c .before)
-
-held-by-all-requires : tie.Need-held-by-all-requires
-held-by-all-requires c κs = search needs
 
 returns-2 : tie.Need-returns-2
 returns-2 c =
@@ -68,13 +45,13 @@ pub support-pass-spec : {M : Type 1} → statement M
 support-pass-spec =
     tie.close
     (tie.spec
-    tally-support-requires
-    first-requires
-    union-requires
-    without-requires
-    union-requires-2
-    union-requires-3
-    without-requires-2
+    (λ c κs. search needs)
+    (λ c κs. search needs)
+    (λ c κs. search needs)
+    (λ c κs. search needs)
+    (λ c κs. search needs)
+    (λ c κs. search needs)
+    (λ c κs. search needs)
     returns
-    held-by-all-requires
+    (λ c κs. search needs)
     returns-2)
