@@ -1,4 +1,4 @@
--- An answer set of the whole program is settled in every unit: a smaller model of one unit's rules would be filled up, by what M has
+-- An answer set of the whole program is local in every unit: a smaller model of one unit's rules would be filled up, by what M has
 -- outside the heads of the unit, to a smaller model of the whole.
 use mathlib.Core.Path.{_≡_, subst}
 use mathlib.Core.Logic.{_⊎_, inl, inr}
@@ -15,7 +15,7 @@ use Rattle.dependency_graph.specs.Heads.{own, heads, inputHeads}
 use Rattle.dependency_graph.proofs.Heads.{own-has, heads-cases, input-given}
 use Rattle.dependency_graph.proofs.Seen.{Founded, AllFounded, founded-subset, Covers, held-heads, own-unique, headed-covers, body-up, body-down}
 use Rattle.splitting.proofs.Cuts.{numbers, has-number, number-held, cut-mono}
-use Rattle.splitting.proofs.Local.{Settled, input-in-heads}
+use Rattle.splitting.proofs.Local.{AllLocal, input-in-heads}
 
 -- the unit of a rule with a head atom a is the one that has a as its own
 own-holds : (S : Units) → Passes S → (w r a : ℕ) → w < S .units → r < S .rules → Has (S .program .head r) a
@@ -139,8 +139,8 @@ module _ (S : Units) (pass : Passes S) (looks : LooksOnly S) (M : ℕ)
         all : M ⊆ filled
         all = least (S .program) (below (S .rules)) (S .given) M s filled filled-within filled-model
 
-  pub whole-settled : Settled S M
-  whole-settled = record {
+  pub whole-locals : AllLocal S M
+  whole-locals = record {
     given-up = s .model .facts-up;
     founded = whole-founded;
     each = λ w l.

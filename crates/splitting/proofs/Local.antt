@@ -1,4 +1,4 @@
--- Lists by what holds unit by unit: a position is in the list of u exactly if it is settled locally in u and in every unit that u
+-- Lists by what holds unit by unit: a position is in the list of u exactly if it is local in u and in every unit that u
 -- reaches. Going down a path cuts the position; going up is the induction along the edges.
 use mathlib.Core.Path.{sym, subst}
 use Prim.Native.Nat.{ℕ, _<_}
@@ -20,8 +20,8 @@ use Rattle.splitting.proofs.Form.{Member, listed-member}
 abbrev pub Local : Units → ℕ → ℕ → Type 0
 Local S w M = AnswerSet (S .program) (S .unit w ∩ below (S .rules)) (M ∩ inputHeads S w) (M ∩ heads S w)
 
--- M has the given atoms, only atoms that can be up, and is settled in every unit
-pub record Settled (S : Units) (M : ℕ) : Type 0 where
+-- M has the given atoms, only atoms that can be up, and is local in every unit
+pub record AllLocal (S : Units) (M : ℕ) : Type 0 where
   pub given-up : S .given ⊆ M
   pub founded : AllFounded S M
   pub each : (w : ℕ) → w < S .units → Local S w M

@@ -1,5 +1,5 @@
 -- The list of a unit that has every unit under it is the set of answer sets of the whole program: both say that a position is
--- settled in every unit.
+-- local in every unit.
 use mathlib.Core.Path.{sym, subst}
 use mathlib.Core.Logic.{_↔_, _⊎_, inl, inr}
 use Prim.Native.Nat.{ℕ, _<_}
@@ -14,7 +14,7 @@ use Rattle.dependency_graph.proofs.Seen.{Founded, AllFounded}
 use Rattle.splitting.specs.UnitList.{Listed}
 use Rattle.splitting.proofs.Cuts.{cut-whole}
 use Rattle.splitting.proofs.Form.{listed-member}
-use Rattle.splitting.proofs.Local.{Settled, listed-locals, locals-listed}
+use Rattle.splitting.proofs.Local.{AllLocal, listed-locals, locals-listed}
 use Rattle.splitting.proofs.Whole.{whole}
 
 -- the heads of a unit can be up
@@ -38,8 +38,8 @@ module _ (S : Units) (pass : Passes S) (free : GivenFree S) (u : ℕ) (l : u < S
           let x = pass .a .placed (t .0) (t .1) in
           heads-under S a (top (x .0) (x .1 .is-unit)) (own-has S (x .0) (t .0) a (x .1) (t .2))
 
-  listed-settled : (M : ℕ) → Listed S u M → Settled S M
-  listed-settled M h =
+  listed-all-local : (M : ℕ) → Listed S u M → AllLocal S M
+  listed-all-local M h =
       let m = listed-member S pass free u l M .0 h in
       let c : Listed S u (M ∩ heads S u) = subst (λ (x : ℕ). Listed S u x) (sym (cut-whole M (heads S u) (m .within))) h in
       record {
@@ -48,11 +48,11 @@ module _ (S : Units) (pass : Passes S) (free : GivenFree S) (u : ℕ) (l : u < S
         each = λ w k. listed-locals S pass free M u l c (top w k);
       }
 
-  settled-listed : (M : ℕ) → Settled S M → Listed S u M
-  settled-listed M s =
+  all-local-listed : (M : ℕ) → AllLocal S M → Listed S u M
+  all-local-listed M s =
       subst (λ (x : ℕ). Listed S u x) (cut-whole M (heads S u) (founded-heads M (s .founded)))
       (locals-listed S pass free M (s .given-up) u l (λ w p. s .each w (under-unit S l p)))
 
   pub top-list : LooksOnly S → (M : ℕ) → Listed S u M ↔ AnswerSet (S .program) (below (S .rules)) (S .given) M
   top-list looks M =
-      (λ h. whole S pass looks M .1 (listed-settled M h), λ s. settled-listed M (whole S pass looks M .0 s))
+      (λ h. whole S pass looks M .1 (listed-all-local M h), λ s. all-local-listed M (whole S pass looks M .0 s))

@@ -1,4 +1,4 @@
--- The whole program unit by unit: M is an answer set exactly if it is settled in every unit. A rule is satisfied through a unit that
+-- The whole program unit by unit: M is an answer set exactly if it is local in every unit. A rule is satisfied through a unit that
 -- covers it; a smaller model of the whole is cut to each unit in turn, along the edges, and has all that M has there.
 use mathlib.Core.Logic.{_↔_, _⊎_, inl, inr}
 use Prim.Native.Nat.{ℕ, _<_}
@@ -14,10 +14,10 @@ use Rattle.dependency_graph.proofs.Heads.{heads-input, input-cases}
 use Rattle.dependency_graph.proofs.Along.{along-edges}
 use Rattle.dependency_graph.proofs.Seen.{Founded, founded-subset, Covers, held-heads, covered, body-up, body-down}
 use Rattle.splitting.proofs.Cuts.{numbers, has-number, number-held, cut-below, cut-mono}
-use Rattle.splitting.proofs.Local.{Settled}
-use Rattle.splitting.proofs.Filled.{whole-settled}
+use Rattle.splitting.proofs.Local.{AllLocal}
+use Rattle.splitting.proofs.Filled.{whole-locals}
 
-module _ (S : Units) (pass : Passes S) (looks : LooksOnly S) (M : ℕ) (s : Settled S M) where
+module _ (S : Units) (pass : Passes S) (looks : LooksOnly S) (M : ℕ) (s : AllLocal S M) where
   -- each rule is satisfied through a unit that covers it
   whole-model : ReductModel (S .program) (below (S .rules)) (S .given) M M
   whole-model = record {
@@ -87,9 +87,9 @@ module _ (S : Units) (pass : Passes S) (looks : LooksOnly S) (M : ℕ) (s : Sett
             smaller-heads (x .0) (x .1 .is-unit) .each a
             (has-cut M (heads S (x .0)) p (held-heads S (x .0) (t .0) a (x .1) (t .2)))
 
-  pub settled-whole : AnswerSet (S .program) (below (S .rules)) (S .given) M
-  settled-whole = of-least (S .program) (below (S .rules)) (S .given) M whole-model whole-least
+  pub locals-whole : AnswerSet (S .program) (below (S .rules)) (S .given) M
+  locals-whole = of-least (S .program) (below (S .rules)) (S .given) M whole-model whole-least
 
 pub whole : (S : Units) → Passes S → LooksOnly S → (M : ℕ)
-    → AnswerSet (S .program) (below (S .rules)) (S .given) M ↔ Settled S M
-whole S pass looks M = (whole-settled S pass looks M, settled-whole S pass looks M)
+    → AnswerSet (S .program) (below (S .rules)) (S .given) M ↔ AllLocal S M
+whole S pass looks M = (whole-locals S pass looks M, locals-whole S pass looks M)
