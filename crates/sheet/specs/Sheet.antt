@@ -1,5 +1,5 @@
 -- The bytes of a sheet. Document 01, "The sheet it prints".
-use Prim.Native.Nat.{ℕ, zero, suc, _/_}
+use Prim.Native.Nat.{ℕ, zero, suc, _+_, _/_}
 use mathlib.Core.Bool.{true, false}
 use mathlib.Core.List.{List, [], _∷_, _++_}
 use lib.Dec.{ltb}
@@ -35,9 +35,13 @@ places n = placesWithin (suc n) n
 unfoldable pub decimal : ℕ → List ℕ
 decimal n = digits 10 (places n) n
 
+-- "sixteen .. hexadecimal digits": of a word of 64 bits, four bits each
+abbrev pub HEX_DIGITS : ℕ
+HEX_DIGITS = 64 / 4
+
 -- "sixteen lower-case hexadecimal digits", the highest first
 unfoldable pub hexadecimal : ℕ → List ℕ
-hexadecimal w = digits 16 16 w
+hexadecimal w = digits 16 HEX_DIGITS w
 
 -- a position's line: "sixteen lower-case hexadecimal digits", and the line's end
 unfoldable pub positionLine : ℕ → List ℕ
@@ -45,7 +49,7 @@ positionLine w = hexadecimal w ++ lineEnd
 
 -- its length
 abbrev pub lineLength : ℕ
-lineLength = 17
+lineLength = HEX_DIGITS + 1
 
 -- "one line per position"
 unfoldable pub positionLines : List ℕ → List ℕ

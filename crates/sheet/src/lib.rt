@@ -11,11 +11,17 @@ pub enum Written {
     TooShort,
 }
 
-// Bytes of a position's line: sixteen digits and the line end.
-const LINE: usize = 17;
+// Hexadecimal digits of a position: 64 bits, four to a digit.
+const HEX_DIGITS: usize = 64 / 4;
+
+// Decimal digits of the greatest number.
+const MAX_DECIMAL: usize = 20;
+
+// Bytes of a position's line: its digits and the line end.
+pub const LINE: usize = HEX_DIGITS + 1;
 
 // Bytes of the first line beside the count: its word, the space and the line end.
-const POSITIONS_FRAME: usize = 11;
+pub const POSITIONS_FRAME: usize = 11;
 
 // Bytes of a refusal beside its two numbers.
 const REFUSAL_FRAME: usize = 13;
@@ -83,7 +89,7 @@ fn write_words(words: &[u64], sheet: &mut [u8]) -> Written
 fn decimal_length(n: u64) -> usize
     ensures { λ r. ⌜ (r ≡ length (decimal n)) × (r ≤ 20) ⌝ }
 {
-    let mut text = [0u8; 20];
+    let mut text = [0u8; MAX_DECIMAL];
     io::decimal(n, &mut text)
 }
 
@@ -115,8 +121,8 @@ fn put_hexadecimal(word: u64, at: usize, sheet: &mut [u8]) -> usize
     requires { ⌜ at + length (hexadecimal word) ≤ length (now sheet) ⌝ }
     ensures { λ r. ⌜ Put (hexadecimal word) at (now (sheet .entry)) (now (sheet .exit)) r ⌝ }
 {
-    let mut text = [0u8; 16];
-    let digits = io::hex(word, 16, &mut text);
+    let mut text = [0u8; HEX_DIGITS];
+    let digits = io::hex(word, HEX_DIGITS, &mut text);
     put(&text[..digits], at, sheet)
 }
 
@@ -125,7 +131,7 @@ fn put_decimal(n: u64, at: usize, sheet: &mut [u8]) -> usize
     requires { ⌜ at + length (decimal n) ≤ length (now sheet) ⌝ }
     ensures { λ r. ⌜ Put (decimal n) at (now (sheet .entry)) (now (sheet .exit)) r ⌝ }
 {
-    let mut text = [0u8; 20];
+    let mut text = [0u8; MAX_DECIMAL];
     let digits = io::decimal(n, &mut text);
     put(&text[..digits], at, sheet)
 }
