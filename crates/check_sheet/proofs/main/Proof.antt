@@ -3,8 +3,8 @@ use borrow.Author.Needs.{needs}
 use Rattle.sheet.specs.Sheet.{lineEnd, positionsWord, refusedWord, atWord, placesWithin, places, decimal, hexadecimal}
 use Rattle.sheet.specs.Sheet.{positionLine, positionLines, positionsSheet, refusalSheet}
 use Rattle.sheet.specs.Lent.{filled}
-use Rattle.sheet_shown.proofs.main.Statement.{statement}
-use Rattle.sheet_shown.proofs.main.Tie as tie
+use Rattle.check_sheet.proofs.main.Statement.{statement}
+use Rattle.check_sheet.proofs.main.Tie as tie
 
 expect-requires : tie.Need-expect-requires
 unfolding lineEnd positionsWord placesWithin places decimal hexadecimal positionLine positionLines positionsSheet filled
