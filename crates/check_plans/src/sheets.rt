@@ -1,14 +1,14 @@
 // A plan of data/ and its sheet, as settle prints it.
 use libc::STDOUT_FILENO;
-use print_sheet::SHEET_BYTES;
-use print_sheet::shown_sheet;
+use plan_sheet::SHEET_BYTES;
+use plan_sheet::plan_sheet;
 use unit_lists::TABLE_WORDS;
 
 // Writes the sheet of a plan.
 fn write_sheet(plan: &[u8]) {
     let mut table = [0u64; TABLE_WORDS];
     let mut sheet = [0u8; SHEET_BYTES];
-    io::write_all(STDOUT_FILENO, shown_sheet(plan, &mut table, &mut sheet));
+    io::write_all(STDOUT_FILENO, plan_sheet(plan, &mut table, &mut sheet));
 }
 
 // Writes a plan's name and its sheet.

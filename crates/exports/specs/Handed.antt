@@ -11,7 +11,7 @@ use Rattle.unit_lists.specs.Answer.{answer}
 use Rattle.sheet.specs.Lent.{answer as written, filled}
 use Rattle.sheet.specs.declared.Written.{Written}
 use Rattle.sheet.specs.declared.Written.the-variants.{Bytes, TooShort}
-use Rattle.print_sheet.specs.Sheets.{sheetOf, SHEET_BYTES}
+use Rattle.plan_sheet.specs.Sheets.{sheetOf, SHEET_BYTES}
 
 -- the outcome of a listing as one number
 abbrev pub outcomeCode : Outcome → ℕ

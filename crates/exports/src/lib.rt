@@ -2,7 +2,7 @@
 use judge::answer_code;
 use plan::Outcome;
 use plan::refusal_code;
-use print_sheet::print_sheet;
+use plan_sheet::write_plan_sheet;
 use sheet::Written;
 use unit_lists::COUNTS;
 use unit_lists::TABLE_WORDS;
@@ -58,7 +58,7 @@ pub extern "C" fn lucarnecress_sheet(plan: &[u8], sheet: &mut [u8]) -> u64
     ensures { λ r. ⌜ SheetHanded (now (plan .entry)) (now (sheet .entry)) (now (sheet .exit)) r ⌝ }
 {
     let mut table = [0u64; TABLE_WORDS];
-    match print_sheet(plan, &mut table, sheet) {
+    match write_plan_sheet(plan, &mut table, sheet) {
         Written::Bytes(length) => length as u64,
         Written::TooShort => 0,
     }

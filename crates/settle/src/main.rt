@@ -1,8 +1,8 @@
 // settle: reads a plan from standard input and writes its sheet.
 use libc::STDIN_FILENO;
 use libc::STDOUT_FILENO;
-use print_sheet::SHEET_BYTES;
-use print_sheet::shown_sheet;
+use plan_sheet::SHEET_BYTES;
+use plan_sheet::plan_sheet;
 use unit_lists::TABLE_WORDS;
 
 fn main() {
@@ -13,6 +13,6 @@ fn main() {
     let mut sheet = [0u8; SHEET_BYTES];
     io::write_all(
         STDOUT_FILENO,
-        shown_sheet(&plan[0..n], &mut table, &mut sheet),
+        plan_sheet(&plan[0..n], &mut table, &mut sheet),
     );
 }

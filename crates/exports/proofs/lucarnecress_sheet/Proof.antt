@@ -1,4 +1,4 @@
--- The sheet is the one that `print_sheet` promises for a table of zeros.
+-- The sheet is the one that `write_plan_sheet` promises for a table of zeros.
 use mathlib.Core.Path.{ap, sym, _∙_}
 use borrow.Author.Needs.{needs}
 use Rattle.exports.specs.Handed.{writtenBytes, planSheet}
@@ -8,7 +8,7 @@ use Rattle.exports.proofs.lucarnecress_sheet.Tie as tie
 returns : tie.Need-returns
 unfolding planSheet
 returns c =
-    let printed = c .before .before .before .before .before .before .print-sheet .ensures in
+    let printed = c .before .before .before .before .before .before .write-plan-sheet .ensures in
     record {
       length-is = ap writtenBytes (sym (c .before .length .given .1) ∙ printed .written-is);
       sheet-is = printed .sheet-is;
@@ -18,7 +18,7 @@ returns c =
 returns-2 : tie.Need-returns-2
 unfolding planSheet
 returns-2 c =
-    let printed = c .before .before .before .before .before .print-sheet .ensures in
+    let printed = c .before .before .before .before .before .write-plan-sheet .ensures in
     record {
       length-is = ap writtenBytes (sym (c .enum-told .given .1) ∙ printed .written-is);
       sheet-is = printed .sheet-is;

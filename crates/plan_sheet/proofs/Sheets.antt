@@ -19,7 +19,7 @@ use Rattle.sheet.proofs.Writing.{part-filled}
 use Rattle.unit_lists.specs.Answer.{Answer, answer}
 use Rattle.unit_lists.proofs.Handing.{short-answer}
 use Rattle.unit_lists.proofs.LastCount.{last-count-at-most}
-use Rattle.print_sheet.specs.Sheets.{sheetFor, sheetOf, SHEET_BYTES, Printed}
+use Rattle.plan_sheet.specs.Sheets.{sheetFor, sheetOf, SHEET_BYTES, Printed}
 
 pub sheet-refused : (a : Answer) (f : Fault) → a .outcome ≡ Refused f → refusalSheet (number f) (spot f) ≡ sheetOf a
 unfolding sheetOf sheetFor

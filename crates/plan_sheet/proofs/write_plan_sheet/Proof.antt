@@ -7,11 +7,11 @@ use lib.ListN.{length}
 use Rattle.sheet.specs.Sheet.{refusalSheet}
 use Rattle.plan.specs.declared.fault.Outcome.the-variants.{Accepted}
 use Rattle.unit_lists.specs.Answer.{Answer, answer}
-use Rattle.print_sheet.specs.Sheets.{sheetOf}
-use Rattle.print_sheet.proofs.Sheets.{sheet-refused, sheet-of-part, accepted-long, refused-at-most, listed-at-most}
+use Rattle.plan_sheet.specs.Sheets.{sheetOf}
+use Rattle.plan_sheet.proofs.Sheets.{sheet-refused, sheet-of-part, accepted-long, refused-at-most, listed-at-most}
 use borrow.Author.Needs.{needs}
-use Rattle.print_sheet.proofs.print_sheet.Statement.{statement}
-use Rattle.print_sheet.proofs.print_sheet.Tie as tie
+use Rattle.plan_sheet.proofs.write_plan_sheet.Statement.{statement}
+use Rattle.plan_sheet.proofs.write_plan_sheet.Tie as tie
 
 abbrev start : tie.After-list-positions → tie.Start
 start c = c .before .before .before .before .before
@@ -66,8 +66,8 @@ returns-2 c =
       at-most = listed-at-most _ _ (accepted told);
     }
 
-pub print-sheet-spec : {M : Type 1} → statement M
-print-sheet-spec =
+pub write-plan-sheet-spec : {M : Type 1} → statement M
+write-plan-sheet-spec =
     tie.close
     (tie.spec
     (λ c κs. search needs)

@@ -13,13 +13,13 @@ ghost use Prim.Native.Nat.{_≤_};
 ghost use mathlib.Core.Path.{_≡_};
 ghost use lib.ListN.{length};
 ghost use Rattle.unit_lists.specs.Answer.{answer};
-ghost use Rattle.print_sheet.specs.Sheets.{sheetOf, SHEET_BYTES, Printed};
+ghost use Rattle.plan_sheet.specs.Sheets.{sheetOf, SHEET_BYTES, Printed};
 
 // The length of the longest sheet, with 256 positions: 14 bytes and 256 lines of 17. The contract says that none is longer.
 pub const SHEET_BYTES: usize = 4366;
 
 // Lists the plan in the lent table and writes its sheet into the lent buffer.
-pub fn print_sheet(plan: &[u8], table: &mut [u64], sheet: &mut [u8]) -> Written
+pub fn write_plan_sheet(plan: &[u8], table: &mut [u64], sheet: &mut [u8]) -> Written
     ensures { λ r. ⌜ Printed (now (plan .entry)) (now (table .entry)) (now (table .exit)) (now (sheet .entry)) (now (sheet .exit)) r ⌝ }
 {
     let listing = list_positions(plan, table);
@@ -32,11 +32,11 @@ pub fn print_sheet(plan: &[u8], table: &mut [u64], sheet: &mut [u8]) -> Written
 }
 
 // Prints the plan's sheet and hands it back: the part of the lent buffer that it fills.
-pub fn shown_sheet<'a>(plan: &[u8], table: &mut [u64], sheet: &'a mut [u8]) -> &'a [u8]
+pub fn plan_sheet<'a>(plan: &[u8], table: &mut [u64], sheet: &'a mut [u8]) -> &'a [u8]
     requires { ⌜ SHEET_BYTES ≤ length (now sheet) ⌝ }
     ensures { λ r. ⌜ now r ≡ sheetOf (answer (now (plan .entry)) (now (table .entry))) ⌝ }
     ensures { λ _. ⌜ now (table .exit) ≡ answer (now (plan .entry)) (now (table .entry)) .table ⌝ }
 {
-    let written = print_sheet(plan, table, sheet);
+    let written = write_plan_sheet(plan, table, sheet);
     written_part(sheet, written)
 }

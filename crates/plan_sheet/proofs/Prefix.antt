@@ -11,7 +11,7 @@ use Rattle.plan.specs.declared.fault.Fault.the-variants.{TableShort}
 use Rattle.reading.specs.declared.reader.Reading.{Reading}
 use Rattle.unit_lists.specs.Table.{TABLE_WORDS}
 use Rattle.unit_lists.specs.Answer.{Answer, refuse, afterReading, answer}
-use Rattle.print_sheet.specs.Sheets.{sheetOf}
+use Rattle.plan_sheet.specs.Sheets.{sheetOf}
 
 -- the whole answer, table and all
 pub answer-prefix : (n : ℕ) (bytes table : List ℕ) → DECIDING_BYTES ≤ n → answer (take n bytes) table ≡ answer bytes table
