@@ -5,9 +5,12 @@ use Prim.Native.Nat.{ℕ, suc, _+_, _≤_, _<_}
 use native.Mathlib.Omega.{arith}
 use native.Mathlib.Numerals.{add-one}
 use Rattle.atoms.specs.Word.{_∩_, _∪_}
-use Rattle.atoms.specs.Bounded.{wordBelow, singleIf}
+use Rattle.atoms.specs.Bounded.{wordBelow, unionIn, singleIf}
+use Rattle.atoms.proofs.Sets.{ext}
+use Rattle.atoms.proofs.Bounded.{word-has, word-at}
 use Rattle.atoms.proofs.Gathering.{word-suc}
 use Rattle.dependency_graph.specs.Offenders.{unionBelow, twiceBelow}
+use Rattle.dependency_graph.proofs.Offenders.{union-below-suc}
 
 -- of n numbers the first i are done, and w is what they make
 pub record Built (F : ℕ → ℕ) (n i w : ℕ) : Type 0 where
@@ -34,17 +37,22 @@ pub word-more : (p : ℕ → Bool) {n i w x w′ : ℕ} → Built (λ k. wordBel
 word-more p {n} {i} {x = x} b l d e =
     built-more l (e ∙ ap (λ (y : ℕ). y ∪ x) (b .is) ∙ ap (λ (y : ℕ). wordBelow i p ∪ y) d ∙ word-suc i p)
 
+pub word-same : (n : ℕ) (p q : ℕ → Bool) → ((i : ℕ) → i < n → p i ≡ q i) → wordBelow n p ≡ wordBelow n q
+word-same n p q e =
+    ext (wordBelow n p) (wordBelow n q)
+    (λ a h. let s = word-at n p a h in word-has n q a (s .0) (sym (e a (s .0)) ∙ s .1))
+    (λ a h. let s = word-at n q a h in word-has n p a (s .0) (e a (s .0) ∙ s .1))
+
 -- ---- the union of the words f i
 
 pub union-start : (f : ℕ → ℕ) {n : ℕ} → Built (λ k. unionBelow k f) n 0 0
-unfolding unionBelow
+unfolding unionIn
 union-start f = built-start refl
 
 pub union-more : (f : ℕ → ℕ) {n i w x w′ : ℕ} → Built (λ k. unionBelow k f) n i w → i < n → x ≡ f i → w′ ≡ w ∪ x
     → Built (λ k. unionBelow k f) n (i + 1) w′
-unfolding unionBelow
 union-more f {n} {i} {x = x} b l d e =
-    built-more l (e ∙ ap (λ (y : ℕ). y ∪ x) (b .is) ∙ ap (λ (y : ℕ). unionBelow i f ∪ y) d)
+    built-more l (e ∙ ap (λ (y : ℕ). y ∪ x) (b .is) ∙ ap (λ (y : ℕ). unionBelow i f ∪ y) d ∙ sym (union-below-suc i f))
 
 -- ---- what is in more than one of them
 

@@ -3,10 +3,10 @@ pub mod Along
 pub mod Under
 pub mod Seen
 pub mod Order
+pub mod Offenders
+pub mod Rows
+pub mod Verdicts
 pub mod Filled
 pub mod Built
 pub mod PlanUnits
-pub mod Offenders
-pub mod Verdicts
-pub mod Rows
 pub mod Circuits

@@ -44,9 +44,8 @@ pub record MonotonicUnseen (S : Units) (r : ℕ) : Type 0 where
   pub nowhere : (u : ℕ) → Holds S u r → ¬ ((s : ℕ) → s < S .rules → Monotonic S r s → Sees S u s)
 
 -- the atoms of the words f i for the numbers i below n
-unfoldable pub unionBelow : ℕ → (ℕ → ℕ) → ℕ
-unionBelow zero f = 0
-unionBelow (suc n) f = unionBelow n f ∪ f n
+abbrev pub unionBelow : ℕ → (ℕ → ℕ) → ℕ
+unionBelow n f = unionIn n (below n) f
 
 -- the atoms of more than one of the words f i for the numbers i below n
 unfoldable pub twiceBelow : ℕ → (ℕ → ℕ) → ℕ

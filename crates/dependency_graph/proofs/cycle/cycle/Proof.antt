@@ -4,7 +4,7 @@ use Prim.Native.Nat.{ℕ}
 use Rattle.atoms.specs.Word.{has}
 use Rattle.dependency_graph.specs.PlanUnits.{unitsOf}
 use Rattle.dependency_graph.specs.Offenders.{cycle}
-use Rattle.dependency_graph.proofs.Rows.{word-same}
+use Rattle.dependency_graph.proofs.Built.{word-same}
 use borrow.Author.Needs.{needs}
 use Rattle.dependency_graph.proofs.cycle.cycle.Statement.{statement}
 use Rattle.dependency_graph.proofs.cycle.cycle.Tie as tie
