@@ -13,7 +13,8 @@ use Rattle.plan.specs.declared.fault.Outcome.the-variants.{Accepted, Refused}
 use Rattle.dependency_graph.specs.Heads.{through, reachVia, reach}
 use Rattle.dependency_graph.specs.Order.{ready, nextUnit, orderFrom, workingOrder}
 use Rattle.dependency_graph.specs.PlanUnits.{unitsOf}
-use Rattle.dependency_graph.specs.Offenders.{twiceBelow, seen, unseenHeads, nonmonotonicUnseenIn, monotonicSeenIn, ruleInNoUnit, headedRuleInSeveral, cycle, nonmonotonicUnseen, monotonicUnseen}
+use Rattle.dependency_graph.specs.Offenders.{twiceBelow, seen, unseenHeads, nonmonotonicUnseenIn, monotonicSeenIn}
+use Rattle.dependency_graph.specs.Offenders.{ruleInNoUnit, headedRuleInSeveral, cycle, nonmonotonicUnseen, monotonicUnseen}
 use Rattle.dependency_graph.specs.Check.{row, verdict}
 
 -- a small plan: rules and their count, units and their count, edges
@@ -63,7 +64,9 @@ verdicts =
     ∷ []
 
 pub circuits : map (λ p. verdict (unitsOf p)) graphs ≡ verdicts
-unfolding verdict row ruleInNoUnit headedRuleInSeveral cycle nonmonotonicUnseen monotonicUnseen nonmonotonicUnseenIn monotonicSeenIn seen unseenHeads twiceBelow unionIn wordBelow lowestOf lowest reach reachVia through unitsOf lent has apart _∩_ _∪_ _∖_ atom below
+unfolding verdict row ruleInNoUnit headedRuleInSeveral cycle nonmonotonicUnseen monotonicUnseen
+    nonmonotonicUnseenIn monotonicSeenIn seen unseenHeads twiceBelow unionIn wordBelow
+    lowestOf lowest reach reachVia through unitsOf lent has apart _∩_ _∪_ _∖_ atom below
 circuits = refl
 
 -- a low unit that waits for a high one is worked after it

@@ -1,5 +1,5 @@
 -- The word of a row collects the rules or units that break its condition, so the condition holds exactly if the word is empty.
-use mathlib.Core.Path.{_≡_, refl, ap, _∙_, subst}
+use mathlib.Core.Path.{_≡_, ap, subst}
 use mathlib.Core.Logic.{_↔_, _⊎_, inl, inr}
 use Prim.Native.Nat.{ℕ, zero, suc, _<_}
 use native.Mathlib.Omega.{arith}
@@ -169,7 +169,9 @@ module _ (S : Units) where
           (headed r o, (o .second, o .first, omega arith, o .in-first .is-unit, o .in-second .holds, o .in-first .holds))
 
   pub b-iff : (headedRuleInSeveral S ≡ 0) ↔ ConditionB S
-  b-iff = empty-iff collects-headed-rule-in-several holds (λ c r o. o .two (c .one r (o .atom) (o .first) (o .second) (o .headed) (o .in-first) (o .in-second)))
+  b-iff =
+      empty-iff collects-headed-rule-in-several holds
+      (λ c r o. o .two (c .one r (o .atom) (o .first) (o .second) (o .headed) (o .in-first) (o .in-second)))
     where
       holds : ((r : ℕ) → ¬ HeadedRuleInSeveral S r) → ConditionB S
       holds n = record { one = λ r a u v h p q. go r a u v h p q (ℕ-discrete u v) }

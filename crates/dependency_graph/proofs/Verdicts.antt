@@ -1,5 +1,5 @@
 -- The verdict passes exactly the graphs that pass, and a refusal names the first row that fits and its lowest rule or unit.
-use mathlib.Core.Path.{_≡_, sym, ap, _∙_, subst}
+use mathlib.Core.Path.{_≡_, sym, ap, _∙_}
 use mathlib.Core.Logic.{_↔_}
 use Prim.Native.Nat.{ℕ, _≤_, _<_}
 use native.Mathlib.Omega.{arith}

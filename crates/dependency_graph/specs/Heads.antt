@@ -1,5 +1,5 @@
 -- Reach and head atoms, as words (document 01, Terms and Unit lists).
-use mathlib.Core.Bool.{Bool, true, false}
+use mathlib.Core.Bool.{true, false}
 use Prim.Native.Nat.{ℕ, zero, suc}
 use Rattle.atoms.specs.Word.{has, _∩_, _∪_, below}
 use Rattle.atoms.specs.Bounded.{unionIn}

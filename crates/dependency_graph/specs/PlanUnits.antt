@@ -2,8 +2,8 @@
 use mathlib.Core.Path.{_≡_}
 use Prim.Native.Nat.{ℕ, _<_}
 use lib.ListN.{getD}
-use Rattle.plan.specs.declared.record.Plan.{Plan}
 use Rattle.answer_sets.specs.Lent.{lent, looks}
+use Rattle.plan.specs.declared.record.Plan.{Plan}
 use Rattle.dependency_graph.specs.declared.head_atoms.HeadAtoms.{HeadAtoms}
 use Rattle.dependency_graph.specs.Units.{Units}
 use Rattle.dependency_graph.specs.Heads.{heads, inputHeads}

@@ -1,8 +1,8 @@
 -- The rows in turn: a row found, or passed with its word empty (Rows).
 use mathlib.Core.Path.{_∙_}
+use borrow.Author.Needs.{needs}
 use Rattle.dependency_graph.specs.Check.{verdict}
 use Rattle.dependency_graph.proofs.Rows.{row-found, row-passed}
-use borrow.Author.Needs.{needs}
 use Rattle.dependency_graph.proofs.check.check_graph.Statement.{statement}
 use Rattle.dependency_graph.proofs.check.check_graph.Tie as tie
 
@@ -14,41 +14,55 @@ returns c =
 returns-2 : tie.Need-returns-2
 unfolding verdict
 returns-2 c =
+    let past-1 = c .before .before .before in
     row-found _ _ (c .before .before .headed-rule-in-several .ensures) (c .before .if2 .taken) (c .lowest2 .ensures)
-    ∙ row-passed _ _ (c .before .before .before .before .rule-in-no-unit .ensures) (c .before .before .before .if1 .left)
+    ∙ row-passed _ _ (past-1 .before .rule-in-no-unit .ensures) (past-1 .if1 .left)
 
 returns-3 : tie.Need-returns-3
 unfolding verdict
 returns-3 c =
+    let past-2 = c .before .before .before in
+    let past-1 = past-2 .before .before in
     row-found _ _ (c .before .before .cycle .ensures) (c .before .if3 .taken) (c .lowest3 .ensures)
-    ∙ row-passed _ _ (c .before .before .before .before .headed-rule-in-several .ensures) (c .before .before .before .if2 .left)
-    ∙ row-passed _ _ (c .before .before .before .before .before .before .rule-in-no-unit .ensures) (c .before .before .before .before .before .if1 .left)
+    ∙ row-passed _ _ (past-2 .before .headed-rule-in-several .ensures) (past-2 .if2 .left)
+    ∙ row-passed _ _ (past-1 .before .rule-in-no-unit .ensures) (past-1 .if1 .left)
 
 returns-4 : tie.Need-returns-4
 unfolding verdict
 returns-4 c =
+    let past-3 = c .before .before .before in
+    let past-2 = past-3 .before .before in
+    let past-1 = past-2 .before .before in
     row-found _ _ (c .before .before .nonmonotonic-unseen .ensures) (c .before .if4 .taken) (c .lowest4 .ensures)
-    ∙ row-passed _ _ (c .before .before .before .before .cycle .ensures) (c .before .before .before .if3 .left)
-    ∙ row-passed _ _ (c .before .before .before .before .before .before .headed-rule-in-several .ensures) (c .before .before .before .before .before .if2 .left)
-    ∙ row-passed _ _ (c .before .before .before .before .before .before .before .before .rule-in-no-unit .ensures) (c .before .before .before .before .before .before .before .if1 .left)
+    ∙ row-passed _ _ (past-3 .before .cycle .ensures) (past-3 .if3 .left)
+    ∙ row-passed _ _ (past-2 .before .headed-rule-in-several .ensures) (past-2 .if2 .left)
+    ∙ row-passed _ _ (past-1 .before .rule-in-no-unit .ensures) (past-1 .if1 .left)
 
 returns-5 : tie.Need-returns-5
 unfolding verdict
 returns-5 c =
+    let past-4 = c .before .before .before in
+    let past-3 = past-4 .before .before in
+    let past-2 = past-3 .before .before in
+    let past-1 = past-2 .before .before in
     row-found _ _ (c .before .before .monotonic-unseen .ensures) (c .before .if5 .taken) (c .lowest5 .ensures)
-    ∙ row-passed _ _ (c .before .before .before .before .nonmonotonic-unseen .ensures) (c .before .before .before .if4 .left)
-    ∙ row-passed _ _ (c .before .before .before .before .before .before .cycle .ensures) (c .before .before .before .before .before .if3 .left)
-    ∙ row-passed _ _ (c .before .before .before .before .before .before .before .before .headed-rule-in-several .ensures) (c .before .before .before .before .before .before .before .if2 .left)
-    ∙ row-passed _ _ (c .before .before .before .before .before .before .before .before .before .before .rule-in-no-unit .ensures) (c .before .before .before .before .before .before .before .before .before .if1 .left)
+    ∙ row-passed _ _ (past-4 .before .nonmonotonic-unseen .ensures) (past-4 .if4 .left)
+    ∙ row-passed _ _ (past-3 .before .cycle .ensures) (past-3 .if3 .left)
+    ∙ row-passed _ _ (past-2 .before .headed-rule-in-several .ensures) (past-2 .if2 .left)
+    ∙ row-passed _ _ (past-1 .before .rule-in-no-unit .ensures) (past-1 .if1 .left)
 
 returns-6 : tie.Need-returns-6
 unfolding verdict
 returns-6 c =
+    let past-4 = c .before .before in
+    let past-3 = past-4 .before .before in
+    let past-2 = past-3 .before .before in
+    let past-1 = past-2 .before .before in
     row-passed _ _ (c .before .monotonic-unseen .ensures) (c .if5 .left)
-    ∙ row-passed _ _ (c .before .before .before .nonmonotonic-unseen .ensures) (c .before .before .if4 .left)
-    ∙ row-passed _ _ (c .before .before .before .before .before .cycle .ensures) (c .before .before .before .before .if3 .left)
-    ∙ row-passed _ _ (c .before .before .before .before .before .before .before .headed-rule-in-several .ensures) (c .before .before .before .before .before .before .if2 .left)
-    ∙ row-passed _ _ (c .before .before .before .before .before .before .before .before .before .rule-in-no-unit .ensures) (c .before .before .before .before .before .before .before .before .if1 .left)
+    ∙ row-passed _ _ (past-4 .before .nonmonotonic-unseen .ensures) (past-4 .if4 .left)
+    ∙ row-passed _ _ (past-3 .before .cycle .ensures) (past-3 .if3 .left)
+    ∙ row-passed _ _ (past-2 .before .headed-rule-in-several .ensures) (past-2 .if2 .left)
+    ∙ row-passed _ _ (past-1 .before .rule-in-no-unit .ensures) (past-1 .if1 .left)
 
 pub check-graph-spec : {M : Type 1} → statement M
 check-graph-spec =

@@ -1,12 +1,11 @@
 -- The word is built number by number (Built).
 use Prim.Native.Nat.{_-_}
-use native.Mathlib.Omega.{arith}
 use lib.ListN.{getD}
+use borrow.Author.Needs.{needs}
 use Rattle.atoms.specs.Word.{has}
 use Rattle.atoms.specs.Bounded.{wordBelow}
 use Rattle.atoms.proofs.Singles.{has-is-test}
 use Rattle.dependency_graph.proofs.Built.{Built, built-end, word-start, word-more}
-use borrow.Author.Needs.{needs}
 use Rattle.dependency_graph.proofs.cycle.own_members.Statement.{statement}
 use Rattle.dependency_graph.proofs.cycle.own_members.Tie as tie
 
@@ -23,7 +22,8 @@ loop-holds c =
 
 loop-again : tie.Need-loop-again Inv-loop μ-loop
 loop-again c =
-    word-more _ (c .before .before .before .before .before .before .loop .inv) (c .before .before .before .before .before .loop-test .taken)
+    let turn = c .before .before .before .before .before in
+    word-more _ (turn .before .loop .inv) (turn .loop-test .taken)
     (rw (has-is-test _ _ (c .before .before .before .single .ensures) (c .before .before .are-apart .ensures)) at (c .before .single-if .ensures))
     (c .union .ensures)
 

@@ -1,12 +1,12 @@
 -- The rules of which the test holds are picked one by one (Gathering).
 use native.Mathlib.Omega.{arith}
 use lib.Count.{ones}
+use borrow.Author.Needs.{needs}
 use Rattle.atoms.specs.Word.{apart, _∪_}
 use Rattle.atoms.proofs.Counting.{taken-less}
 use Rattle.atoms.proofs.Gathering.{Picks, picks-start, picks-lt, picks-next, picks-end}
 use Rattle.dependency_graph.specs.PlanUnits.{unitsOf}
 use Rattle.dependency_graph.specs.Offenders.{monotonicSeenIn}
-use borrow.Author.Needs.{needs}
 use Rattle.dependency_graph.proofs.dependences.monotonic_seen_in.Statement.{statement}
 use Rattle.dependency_graph.proofs.dependences.monotonic_seen_in.Tie as tie
 
@@ -17,6 +17,10 @@ Inv-loop u plan unseen found₀ rest₀ found rest =
 
 abbrev μ-loop : tie.MeasureT-loop
 μ-loop u plan unseen found₀ rest₀ found rest = ones rest
+
+-- the point of a turn at which a rule is taken
+abbrev taken : tie.After-drop Inv-loop μ-loop → tie.After-lowest Inv-loop μ-loop
+taken c = c .before .before .before .before .before .before .before .before .before .before .before .before .before
 
 loop-holds : tie.Need-loop-holds Inv-loop μ-loop
 unfolding unitsOf
@@ -31,17 +35,21 @@ positive-body-requires c κs =
 head-requires : tie.Need-head-requires Inv-loop μ-loop
 unfolding unitsOf
 head-requires c κs =
-    omega (arith, picks-lt (c .before .before .before .before .before .before .before .before .before .loop .inv) (c .before .before .before .before .before .before .before .lowest .ensures .0))
+    let taken = c .before .before .before .before .before .before .before in
+    omega (arith, picks-lt (taken .before .before .loop .inv) (taken .lowest .ensures .0))
 
 loop-less : tie.Need-loop-less Inv-loop μ-loop
 loop-less c =
-    taken-less (c .before .before .before .before .before .before .before .before .before .before .before .before .before .lowest .ensures .0) (c .drop .ensures)
+    taken-less (taken c .lowest .ensures .0) (c .drop .ensures)
 
 loop-again : tie.Need-loop-again Inv-loop μ-loop
 unfolding unitsOf
 loop-again c =
-    picks-next (c .before .before .before .before .before .before .before .before .before .before .before .before .before .before .before .loop .inv) (c .before .before .before .before .before .before .before .before .before .before .before .before .before .lowest .ensures .0) (c .drop .ensures)
-    (rw (c .before .before .before .before .union .ensures, c .before .before .before .before .before .before .before .before .before .positive-body .ensures, c .before .before .before .before .before .head .ensures) at (c .before .before .before .are-apart .ensures)) (c .before .before .single-if .ensures) (c .before .union2 .ensures)
+    let needed = c .before .before .before .before in
+    let positive = needed .before .before .before .before .before in
+    picks-next (taken c .before .before .loop .inv) (taken c .lowest .ensures .0) (c .drop .ensures)
+    (rw (needed .union .ensures, positive .positive-body .ensures, needed .before .head .ensures) at (c .before .before .before .are-apart .ensures))
+    (c .before .before .single-if .ensures) (c .before .union2 .ensures)
 
 returns : tie.Need-returns Inv-loop μ-loop
 unfolding monotonicSeenIn

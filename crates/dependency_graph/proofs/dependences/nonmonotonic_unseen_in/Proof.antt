@@ -3,12 +3,12 @@ use mathlib.Core.Path.{ap}
 use mathlib.Core.Bool.{not}
 use native.Mathlib.Omega.{arith}
 use lib.Count.{ones}
+use borrow.Author.Needs.{needs}
 use Rattle.atoms.specs.Word.{apart}
 use Rattle.atoms.proofs.Counting.{taken-less}
 use Rattle.atoms.proofs.Gathering.{Picks, picks-start, picks-lt, picks-next, picks-end}
 use Rattle.dependency_graph.specs.PlanUnits.{unitsOf}
 use Rattle.dependency_graph.specs.Offenders.{nonmonotonicUnseenIn}
-use borrow.Author.Needs.{needs}
 use Rattle.dependency_graph.proofs.dependences.nonmonotonic_unseen_in.Statement.{statement}
 use Rattle.dependency_graph.proofs.dependences.nonmonotonic_unseen_in.Tie as tie
 
@@ -18,6 +18,10 @@ Inv-loop u plan unseen found₀ rest₀ found rest =
 
 abbrev μ-loop : tie.MeasureT-loop
 μ-loop u plan unseen found₀ rest₀ found rest = ones rest
+
+-- the point of a turn at which a rule is taken
+abbrev taken : tie.After-drop Inv-loop μ-loop → tie.After-lowest Inv-loop μ-loop
+taken c = c .before .before .before .before .before .before .before .before
 
 loop-holds : tie.Need-loop-holds Inv-loop μ-loop
 unfolding unitsOf
@@ -31,13 +35,14 @@ looks-requires c κs =
 
 loop-less : tie.Need-loop-less Inv-loop μ-loop
 loop-less c =
-    taken-less (c .before .before .before .before .before .before .before .before .lowest .ensures .0) (c .drop .ensures)
+    taken-less (taken c .lowest .ensures .0) (c .drop .ensures)
 
 loop-again : tie.Need-loop-again Inv-loop μ-loop
 unfolding unitsOf
 loop-again c =
-    picks-next (c .before .before .before .before .before .before .before .before .before .before .loop .inv) (c .before .before .before .before .before .before .before .before .lowest .ensures .0) (c .drop .ensures)
-    (ap not (rw (c .before .before .before .before .looks .ensures) at (c .before .before .before .are-apart .ensures))) (c .before .before .single-if .ensures) (c .before .union .ensures)
+    picks-next (taken c .before .before .loop .inv) (taken c .lowest .ensures .0) (c .drop .ensures)
+    (ap not (rw (c .before .before .before .before .looks .ensures) at (c .before .before .before .are-apart .ensures)))
+    (c .before .before .single-if .ensures) (c .before .union .ensures)
 
 returns : tie.Need-returns Inv-loop μ-loop
 unfolding nonmonotonicUnseenIn

@@ -1,10 +1,10 @@
 -- The table is filled from the front (Filled).
 use Prim.Native.Nat.{_-_}
 use native.Mathlib.Omega.{arith}
+use borrow.Author.Needs.{needs}
 use Rattle.dependency_graph.specs.Heads.{own}
 use Rattle.dependency_graph.specs.PlanUnits.{unitsOf}
 use Rattle.dependency_graph.proofs.Filled.{Filling, filling-start, filling-more, filling-end}
-use borrow.Author.Needs.{needs}
 use Rattle.dependency_graph.proofs.head_atoms.fill_own.Statement.{statement}
 use Rattle.dependency_graph.proofs.head_atoms.fill_own.Tie as tie
 

@@ -2,9 +2,9 @@
 use Prim.Native.Nat.{_-_}
 use native.Mathlib.Omega.{arith}
 use lib.ListN.{getD}
+use borrow.Author.Needs.{needs}
 use Rattle.atoms.specs.Bounded.{unionIn}
 use Rattle.dependency_graph.proofs.Filled.{Filling, filling-start, filling-more, filling-end}
-use borrow.Author.Needs.{needs}
 use Rattle.dependency_graph.proofs.head_atoms.fill_unions.Statement.{statement}
 use Rattle.dependency_graph.proofs.head_atoms.fill_unions.Tie as tie
 

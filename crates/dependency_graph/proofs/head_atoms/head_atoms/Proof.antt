@@ -1,6 +1,6 @@
 -- Hp(u) is the union of H(v) over the direct predecessors (PlanUnits).
-use Rattle.dependency_graph.proofs.PlanUnits.{inputs-filled}
 use borrow.Author.Needs.{needs}
+use Rattle.dependency_graph.proofs.PlanUnits.{inputs-filled}
 use Rattle.dependency_graph.proofs.head_atoms.head_atoms.Statement.{statement}
 use Rattle.dependency_graph.proofs.head_atoms.head_atoms.Tie as tie
 

@@ -1,14 +1,11 @@
 -- The word is built rule by rule (Built).
+use mathlib.Core.Bool.{not}
 use Prim.Native.Nat.{_-_}
-use native.Mathlib.Omega.{arith}
-use mathlib.Core.Path.{ap, _∙_}
-use mathlib.Core.Bool.{Bool, not}
-use Prim.Native.Nat.{ℕ}
 use lib.Dec.{eqb}
-use Rattle.atoms.specs.Bounded.{wordBelow, singleIf}
+use borrow.Author.Needs.{needs}
+use Rattle.atoms.specs.Bounded.{wordBelow}
 use Rattle.dependency_graph.specs.PlanUnits.{unitsOf}
 use Rattle.dependency_graph.proofs.Built.{Built, built-end, word-start, word-more}
-use borrow.Author.Needs.{needs}
 use Rattle.dependency_graph.proofs.placement.headed_rules.Statement.{statement}
 use Rattle.dependency_graph.proofs.placement.headed_rules.Tie as tie
 
@@ -26,7 +23,9 @@ loop-holds c =
 loop-again : tie.Need-loop-again Inv-loop μ-loop
 unfolding unitsOf
 loop-again c =
-    word-more _ (c .before .before .before .before .before .before .before .loop .inv) (c .before .before .before .before .before .before .loop-test .taken) (rw (c .before .before .head .ensures) at (c .before .single-if .ensures)) (c .union .ensures)
+    let turn = c .before .before .before .before .before .before in
+    word-more _ (turn .before .loop .inv) (turn .loop-test .taken)
+    (rw (c .before .before .head .ensures) at (c .before .single-if .ensures)) (c .union .ensures)
 
 returns : tie.Need-returns Inv-loop μ-loop
 unfolding unitsOf

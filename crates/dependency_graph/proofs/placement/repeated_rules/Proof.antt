@@ -1,12 +1,11 @@
 -- What is in one unit and what is in two, unit by unit (Built).
-use Prim.Native.Nat.{_-_}
-use native.Mathlib.Omega.{arith}
 use mathlib.Core.Path.{refl}
+use Prim.Native.Nat.{_-_}
 use lib.ListN.{getD}
+use borrow.Author.Needs.{needs}
 use Rattle.dependency_graph.specs.PlanUnits.{unitsOf}
 use Rattle.dependency_graph.specs.Offenders.{unionBelow, twiceBelow}
 use Rattle.dependency_graph.proofs.Built.{Built, built-end, union-start, union-more, twice-start, twice-more}
-use borrow.Author.Needs.{needs}
 use Rattle.dependency_graph.proofs.placement.repeated_rules.Statement.{statement}
 use Rattle.dependency_graph.proofs.placement.repeated_rules.Tie as tie
 
@@ -24,10 +23,10 @@ loop-holds c =
 
 loop-again : tie.Need-loop-again Inv-loop μ-loop
 loop-again c =
-    let inv = c .before .before .before .before .before .before .loop .inv in
-    let turn = c .before .before .before .before .before .loop-test .taken in (
-      union-more _ (inv .0) turn refl (c .union2 .ensures),
-      twice-more _ (inv .0) (inv .1) turn (c .before .before .before .cut .ensures) (c .before .before .union .ensures),
+    let turn = c .before .before .before .before .before in
+    let inv = turn .before .loop .inv in (
+      union-more _ (inv .0) (turn .loop-test .taken) refl (c .union2 .ensures),
+      twice-more _ (inv .0) (inv .1) (turn .loop-test .taken) (c .before .before .before .cut .ensures) (c .before .before .union .ensures),
     )
 
 returns : tie.Need-returns Inv-loop μ-loop

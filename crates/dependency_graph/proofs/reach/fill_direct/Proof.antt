@@ -1,10 +1,10 @@
 -- The table is filled from the front with paths of one edge (Filled).
 use Prim.Native.Nat.{_-_}
 use native.Mathlib.Omega.{arith}
+use borrow.Author.Needs.{needs}
 use Rattle.dependency_graph.specs.Heads.{reachVia}
 use Rattle.dependency_graph.specs.PlanUnits.{unitsOf}
 use Rattle.dependency_graph.proofs.Filled.{Filling, filling-start, filling-more, filling-end}
-use borrow.Author.Needs.{needs}
 use Rattle.dependency_graph.proofs.reach.fill_direct.Statement.{statement}
 use Rattle.dependency_graph.proofs.reach.fill_direct.Tie as tie
 
@@ -22,7 +22,8 @@ loop-holds c =
 loop-again : tie.Need-loop-again Inv-loop μ-loop
 unfolding reachVia unitsOf
 loop-again c =
-    filling-more (c .before .before .before .loop .inv) (c .before .before .loop-test .taken) (rw (c .before .before .before .before .first .ensures) at (c .cut .ensures))
+    filling-more (c .before .before .before .loop .inv) (c .before .before .loop-test .taken)
+    (rw (c .before .before .before .before .first .ensures) at (c .cut .ensures))
 
 same-length : tie.Need-same-length Inv-loop μ-loop
 same-length c =

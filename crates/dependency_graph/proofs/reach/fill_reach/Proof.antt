@@ -2,12 +2,12 @@
 use mathlib.Core.Path.{_≡_, ap, _∙_}
 use Prim.Native.Nat.{ℕ, _-_, _≤_}
 use native.Mathlib.Omega.{arith}
+use borrow.Author.Needs.{needs}
 use Rattle.dependency_graph.specs.Heads.{reachVia, reach}
 use Rattle.dependency_graph.specs.PlanUnits.{unitsOf}
 use Rattle.dependency_graph.specs.Filled.{Filled}
 use Rattle.dependency_graph.proofs.Heads.{via-next}
 use Rattle.dependency_graph.proofs.Filled.{filled-itself, filled-same, filled-again}
-use borrow.Author.Needs.{needs}
 use Rattle.dependency_graph.proofs.reach.fill_reach.Statement.{statement}
 use Rattle.dependency_graph.proofs.reach.fill_reach.Tie as tie
 

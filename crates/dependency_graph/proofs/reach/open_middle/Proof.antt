@@ -2,9 +2,9 @@
 use Prim.Native.Nat.{_-_}
 use native.Mathlib.Omega.{arith}
 use lib.ListN.{getD}
+use borrow.Author.Needs.{needs}
 use Rattle.dependency_graph.specs.Heads.{through}
 use Rattle.dependency_graph.proofs.Filled.{Filling, filling-start, unreached, filling-more, filling-end}
-use borrow.Author.Needs.{needs}
 use Rattle.dependency_graph.proofs.reach.open_middle.Statement.{statement}
 use Rattle.dependency_graph.proofs.reach.open_middle.Tie as tie
 

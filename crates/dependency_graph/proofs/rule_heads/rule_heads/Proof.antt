@@ -1,10 +1,10 @@
 -- Head atoms gathered rule by rule (Gathering).
 use native.Mathlib.Omega.{arith}
 use lib.Count.{ones}
+use borrow.Author.Needs.{needs}
 use Rattle.atoms.proofs.Counting.{taken-less}
 use Rattle.atoms.proofs.Gathering.{Gathers, gathers-start, gathers-lt, gathers-next, gathers-end}
 use Rattle.dependency_graph.specs.PlanUnits.{unitsOf}
-use borrow.Author.Needs.{needs}
 use Rattle.dependency_graph.proofs.rule_heads.rule_heads.Statement.{statement}
 use Rattle.dependency_graph.proofs.rule_heads.rule_heads.Tie as tie
 
@@ -14,6 +14,10 @@ Inv-loop which plan all₀ rest₀ all rest =
 
 abbrev μ-loop : tie.MeasureT-loop
 μ-loop which plan all₀ rest₀ all rest = ones rest
+
+-- the point of a turn at which a rule is taken
+abbrev taken : tie.After-drop Inv-loop μ-loop → tie.After-lowest Inv-loop μ-loop
+taken c = c .before .before .before .before .before .before
 
 loop-holds : tie.Need-loop-holds Inv-loop μ-loop
 unfolding unitsOf
@@ -27,12 +31,13 @@ head-requires c κs =
 
 loop-less : tie.Need-loop-less Inv-loop μ-loop
 loop-less c =
-    taken-less (c .before .before .before .before .before .before .lowest .ensures .0) (c .drop .ensures)
+    taken-less (taken c .lowest .ensures .0) (c .drop .ensures)
 
 loop-again : tie.Need-loop-again Inv-loop μ-loop
 unfolding unitsOf
 loop-again c =
-    gathers-next (c .before .before .before .before .before .before .before .before .loop .inv) (c .before .before .before .before .before .before .lowest .ensures .0) (c .drop .ensures) (c .before .before .head .ensures) (c .before .union .ensures)
+    gathers-next (taken c .before .before .loop .inv) (taken c .lowest .ensures .0) (c .drop .ensures)
+    (c .before .before .head .ensures) (c .before .union .ensures)
 
 returns : tie.Need-returns Inv-loop μ-loop
 returns c =

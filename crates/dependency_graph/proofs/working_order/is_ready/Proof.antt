@@ -1,10 +1,10 @@
 -- The test of u is membership; the predecessors' word is cut to the units there are.
 use mathlib.Core.Path.{_∙_}
 use borrow.Author.Tests.{not-true, not-false}
+use borrow.Author.Needs.{needs}
 use Rattle.atoms.proofs.Singles.{lacks-of-test, has-of-test}
 use Rattle.dependency_graph.specs.PlanUnits.{unitsOf}
 use Rattle.dependency_graph.proofs.Order.{done-not-ready, ready-of-waiting}
-use borrow.Author.Needs.{needs}
 use Rattle.dependency_graph.proofs.working_order.is_ready.Statement.{statement}
 use Rattle.dependency_graph.proofs.working_order.is_ready.Tie as tie
 
@@ -15,9 +15,10 @@ returns c =
 returns-2 : tie.Need-returns-2
 unfolding unitsOf
 returns-2 c =
-    (rw (rw (c .before .before .first .ensures) at (c .before .cut .ensures)) at (c .is-subset .ensures))
+    let waits = c .before .before .before .before in
+    (rw (c .before .cut .ensures, c .before .before .first .ensures) at (c .is-subset .ensures))
     ∙ ready-of-waiting _ _ _
-    (lacks-of-test _ _ (c .before .before .before .before .before .before .single .ensures) (c .before .before .before .before .before .are-apart .ensures) (not-false _ (c .before .before .before .before .if1 .left)))
+    (lacks-of-test _ _ (waits .before .before .single .ensures) (waits .before .are-apart .ensures) (not-false _ (waits .if1 .left)))
 
 pub is-ready-spec : {M : Type 1} → statement M
 is-ready-spec =

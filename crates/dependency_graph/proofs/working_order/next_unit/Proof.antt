@@ -4,10 +4,10 @@ use mathlib.Core.Bool.{false}
 use Prim.Native.Nat.{ℕ, _-_, _≤_, _<_}
 use native.Mathlib.Omega.{arith}
 use borrow.Author.Count.{below-more}
+use borrow.Author.Needs.{needs}
 use Rattle.dependency_graph.specs.Order.{ready}
 use Rattle.dependency_graph.specs.PlanUnits.{unitsOf}
 use Rattle.dependency_graph.proofs.Order.{next-found, next-missing}
-use borrow.Author.Needs.{needs}
 use Rattle.dependency_graph.proofs.working_order.next_unit.Statement.{statement}
 use Rattle.dependency_graph.proofs.working_order.next_unit.Tie as tie
 
