@@ -8,8 +8,7 @@ use Rattle.dependency_graph.proofs.check.check_graph.Tie as tie
 
 returns : tie.Need-returns
 unfolding verdict
-returns c =
-    row-found _ _ (c .before .before .rule-in-no-unit .ensures) (c .before .if1 .taken) (c .lowest .ensures)
+returns c = row-found _ _ (c .before .before .rule-in-no-unit .ensures) (c .before .if1 .taken) (c .lowest .ensures)
 
 returns-2 : tie.Need-returns-2
 unfolding verdict

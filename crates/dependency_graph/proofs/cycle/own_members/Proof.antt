@@ -10,15 +10,13 @@ use Rattle.dependency_graph.proofs.cycle.own_members.Statement.{stateme
 use Rattle.dependency_graph.proofs.cycle.own_members.Tie as tie
 
 abbrev Inv-loop : tie.InvT-loop
-Inv-loop words n found₀ i₀ found i =
-    Built (λ k. wordBelow k (λ j. has (getD words j 0) j)) n i found
+Inv-loop words n found₀ i₀ found i = Built (λ k. wordBelow k (λ j. has (getD words j 0) j)) n i found
 
 abbrev μ-loop : tie.MeasureT-loop
 μ-loop words n found₀ i₀ found i = n - i
 
 loop-holds : tie.Need-loop-holds Inv-loop μ-loop
-loop-holds c =
-    word-start _
+loop-holds c = word-start _
 
 loop-again : tie.Need-loop-again Inv-loop μ-loop
 loop-again c =
@@ -28,8 +26,7 @@ loop-again c =
     (c .union .ensures)
 
 returns : tie.Need-returns Inv-loop μ-loop
-returns c =
-    built-end (c .before .loop .inv) (c .loop-test .left)
+returns c = built-end (c .before .loop .inv) (c .loop-test .left)
 
 pub own-members-spec : {M : Type 1} → statement M
 own-members-spec =

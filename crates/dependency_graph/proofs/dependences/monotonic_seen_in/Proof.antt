@@ -24,8 +24,7 @@ taken c = c .before .before .before .before .before .before .before .before .bef
 
 loop-holds : tie.Need-loop-holds Inv-loop μ-loop
 unfolding unitsOf
-loop-holds c =
-    picks-start (c .before .first .ensures) (c .cut .ensures)
+loop-holds c = picks-start (c .before .first .ensures) (c .cut .ensures)
 
 positive-body-requires : tie.Need-positive-body-requires Inv-loop μ-loop
 unfolding unitsOf
@@ -39,8 +38,7 @@ head-requires c κs =
     omega (arith, picks-lt (taken .before .before .loop .inv) (taken .lowest .ensures .0))
 
 loop-less : tie.Need-loop-less Inv-loop μ-loop
-loop-less c =
-    taken-less (taken c .lowest .ensures .0) (c .drop .ensures)
+loop-less c = taken-less (taken c .lowest .ensures .0) (c .drop .ensures)
 
 loop-again : tie.Need-loop-again Inv-loop μ-loop
 unfolding unitsOf
@@ -53,8 +51,7 @@ loop-again c =
 
 returns : tie.Need-returns Inv-loop μ-loop
 unfolding monotonicSeenIn
-returns c =
-    rw (c .before .before .before .before .before .unseen-heads .ensures) at (picks-end (c .before .loop .inv) (c .loop-test .left))
+returns c = rw (c .before .before .before .before .before .unseen-heads .ensures) at (picks-end (c .before .loop .inv) (c .loop-test .left))
 
 pub monotonic-seen-in-spec : {M : Type 1} → statement M
 monotonic-seen-in-spec =

@@ -8,15 +8,13 @@ use Rattle.dependency_graph.proofs.dependences.monotonic_unseen.Stateme
 use Rattle.dependency_graph.proofs.dependences.monotonic_unseen.Tie as tie
 
 abbrev Inv-loop : tie.InvT-loop
-Inv-loop plan seen₀ u₀ seen u =
-    Built (λ k. unionBelow k (monotonicSeenIn (unitsOf plan))) (plan .«unit_count») u seen
+Inv-loop plan seen₀ u₀ seen u = Built (λ k. unionBelow k (monotonicSeenIn (unitsOf plan))) (plan .«unit_count») u seen
 
 abbrev μ-loop : tie.MeasureT-loop
 μ-loop plan seen₀ u₀ seen u = plan .«unit_count» - u
 
 loop-holds : tie.Need-loop-holds Inv-loop μ-loop
-loop-holds c =
-    union-start _
+loop-holds c = union-start _
 
 loop-again : tie.Need-loop-again Inv-loop μ-loop
 loop-again c =

@@ -8,15 +8,13 @@ use Rattle.dependency_graph.proofs.dependences.nonmonotonic_unseen.Stat
 use Rattle.dependency_graph.proofs.dependences.nonmonotonic_unseen.Tie as tie
 
 abbrev Inv-loop : tie.InvT-loop
-Inv-loop plan found₀ u₀ found u =
-    Built (λ k. unionBelow k (nonmonotonicUnseenIn (unitsOf plan))) (plan .«unit_count») u found
+Inv-loop plan found₀ u₀ found u = Built (λ k. unionBelow k (nonmonotonicUnseenIn (unitsOf plan))) (plan .«unit_count») u found
 
 abbrev μ-loop : tie.MeasureT-loop
 μ-loop plan found₀ u₀ found u = plan .«unit_count» - u
 
 loop-holds : tie.Need-loop-holds Inv-loop μ-loop
-loop-holds c =
-    union-start _
+loop-holds c = union-start _
 
 loop-again : tie.Need-loop-again Inv-loop μ-loop
 loop-again c =
@@ -24,8 +22,7 @@ loop-again c =
 
 returns : tie.Need-returns Inv-loop μ-loop
 unfolding nonmonotonicUnseen unitsOf
-returns c =
-    built-end (c .before .before .loop .inv) (c .if1 .left)
+returns c = built-end (c .before .before .loop .inv) (c .if1 .left)
 
 pub nonmonotonic-unseen-spec : {M : Type 1} → statement M
 nonmonotonic-unseen-spec =

@@ -25,17 +25,14 @@ taken c = c .before .before .before .before .before .before .before .before
 
 loop-holds : tie.Need-loop-holds Inv-loop μ-loop
 unfolding unitsOf
-loop-holds c =
-    picks-start (c .before .first .ensures) (c .cut .ensures)
+loop-holds c = picks-start (c .before .first .ensures) (c .cut .ensures)
 
 looks-requires : tie.Need-looks-requires Inv-loop μ-loop
 unfolding unitsOf
-looks-requires c κs =
-    omega (arith, picks-lt (c .before .before .before .before .before .loop .inv) (c .before .before .before .lowest .ensures .0))
+looks-requires c κs = omega (arith, picks-lt (c .before .before .before .before .before .loop .inv) (c .before .before .before .lowest .ensures .0))
 
 loop-less : tie.Need-loop-less Inv-loop μ-loop
-loop-less c =
-    taken-less (taken c .lowest .ensures .0) (c .drop .ensures)
+loop-less c = taken-less (taken c .lowest .ensures .0) (c .drop .ensures)
 
 loop-again : tie.Need-loop-again Inv-loop μ-loop
 unfolding unitsOf
@@ -46,8 +43,7 @@ loop-again c =
 
 returns : tie.Need-returns Inv-loop μ-loop
 unfolding nonmonotonicUnseenIn
-returns c =
-    rw (c .before .before .before .before .before .unseen-heads .ensures) at (picks-end (c .before .loop .inv) (c .loop-test .left))
+returns c = rw (c .before .before .before .before .before .unseen-heads .ensures) at (picks-end (c .before .loop .inv) (c .loop-test .left))
 
 pub nonmonotonic-unseen-in-spec : {M : Type 1} → statement M
 nonmonotonic-unseen-in-spec =

@@ -16,20 +16,16 @@ abbrev μ-loop : tie.MeasureT-loop
 μ-loop words which unit-count table₀ u₀ table u = unit-count - u
 
 loop-holds : tie.Need-loop-holds Inv-loop μ-loop
-loop-holds c =
-    filling-start (omega arith)
+loop-holds c = filling-start (omega arith)
 
 loop-again : tie.Need-loop-again Inv-loop μ-loop
-loop-again c =
-    filling-more (c .before .before .before .loop .inv) (c .before .before .loop-test .taken) (c .union-of .ensures)
+loop-again c = filling-more (c .before .before .before .loop .inv) (c .before .before .loop-test .taken) (c .union-of .ensures)
 
 same-length : tie.Need-same-length Inv-loop μ-loop
-same-length c =
-    c .before .loop .inv .so-far .same-length
+same-length c = c .before .loop .inv .so-far .same-length
 
 returns : tie.Need-returns Inv-loop μ-loop
-returns c =
-    filling-end (c .before .loop .inv) (c .loop-test .left)
+returns c = filling-end (c .before .loop .inv) (c .loop-test .left)
 
 pub fill-unions-spec : {M : Type 1} → statement M
 fill-unions-spec =

@@ -6,8 +6,7 @@ use Rattle.dependency_graph.proofs.placement.headed_rule_in_several.Tie
 
 returns : tie.Need-returns
 unfolding headedRuleInSeveral
-returns c =
-    rw (c .before .before .headed-rules .ensures, c .before .repeated-rules .ensures) at (c .cut .ensures)
+returns c = rw (c .before .before .headed-rules .ensures, c .before .repeated-rules .ensures) at (c .cut .ensures)
 
 pub headed-rule-in-several-spec : {M : Type 1} → statement M
 headed-rule-in-several-spec =

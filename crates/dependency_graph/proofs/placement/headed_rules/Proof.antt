@@ -10,15 +10,13 @@ use Rattle.dependency_graph.proofs.placement.headed_rules.Statement.{st
 use Rattle.dependency_graph.proofs.placement.headed_rules.Tie as tie
 
 abbrev Inv-loop : tie.InvT-loop
-Inv-loop plan found₀ r₀ found r =
-    Built (λ k. wordBelow k (λ s. not (eqb (unitsOf plan .program .head s) 0))) (plan .«rule_count») r found
+Inv-loop plan found₀ r₀ found r = Built (λ k. wordBelow k (λ s. not (eqb (unitsOf plan .program .head s) 0))) (plan .«rule_count») r found
 
 abbrev μ-loop : tie.MeasureT-loop
 μ-loop plan found₀ r₀ found r = plan .«rule_count» - r
 
 loop-holds : tie.Need-loop-holds Inv-loop μ-loop
-loop-holds c =
-    word-start _
+loop-holds c = word-start _
 
 loop-again : tie.Need-loop-again Inv-loop μ-loop
 unfolding unitsOf
@@ -29,8 +27,7 @@ loop-again c =
 
 returns : tie.Need-returns Inv-loop μ-loop
 unfolding unitsOf
-returns c =
-    built-end (c .before .loop .inv) (c .loop-test .left)
+returns c = built-end (c .before .loop .inv) (c .loop-test .left)
 
 pub headed-rules-spec : {M : Type 1} → statement M
 headed-rules-spec =

@@ -18,8 +18,7 @@ abbrev μ-loop : tie.MeasureT-loop
 μ-loop plan once₀ twice₀ u₀ once twice u = plan .«unit_count» - u
 
 loop-holds : tie.Need-loop-holds Inv-loop μ-loop
-loop-holds c =
-    (union-start _, twice-start _)
+loop-holds c = (union-start _, twice-start _)
 
 loop-again : tie.Need-loop-again Inv-loop μ-loop
 loop-again c =
@@ -31,8 +30,7 @@ loop-again c =
 
 returns : tie.Need-returns Inv-loop μ-loop
 unfolding unitsOf
-returns c =
-    built-end (c .before .loop .inv .1) (c .loop-test .left)
+returns c = built-end (c .before .loop .inv .1) (c .loop-test .left)
 
 pub repeated-rules-spec : {M : Type 1} → statement M
 repeated-rules-spec =

@@ -7,8 +7,7 @@ use Rattle.dependency_graph.proofs.placement.rule_in_no_unit.Tie as tie
 
 returns : tie.Need-returns
 unfolding ruleInNoUnit unitsOf
-returns c =
-    rw (c .before .before .union-of .ensures, c .before .before .before .first .ensures, c .before .first2 .ensures) at (c .without .ensures)
+returns c = rw (c .before .before .union-of .ensures, c .before .before .before .first .ensures, c .before .first2 .ensures) at (c .without .ensures)
 
 pub rule-in-no-unit-spec : {M : Type 1} → statement M
 rule-in-no-unit-spec =

@@ -9,15 +9,13 @@ use Rattle.dependency_graph.proofs.reach.fill_direct.Statement.{stateme
 use Rattle.dependency_graph.proofs.reach.fill_direct.Tie as tie
 
 abbrev Inv-loop : tie.InvT-loop
-Inv-loop table₀ plan all u₀ table u =
-    Filling (plan .«unit_count») u (reachVia (unitsOf plan) 0) table₀ table
+Inv-loop table₀ plan all u₀ table u = Filling (plan .«unit_count») u (reachVia (unitsOf plan) 0) table₀ table
 
 abbrev μ-loop : tie.MeasureT-loop
 μ-loop table₀ plan all u₀ table u = plan .«unit_count» - u
 
 loop-holds : tie.Need-loop-holds Inv-loop μ-loop
-loop-holds c =
-    filling-start (omega arith)
+loop-holds c = filling-start (omega arith)
 
 loop-again : tie.Need-loop-again Inv-loop μ-loop
 unfolding reachVia unitsOf
@@ -26,12 +24,10 @@ loop-again c =
     (rw (c .before .before .before .before .first .ensures) at (c .cut .ensures))
 
 same-length : tie.Need-same-length Inv-loop μ-loop
-same-length c =
-    c .before .loop .inv .so-far .same-length
+same-length c = c .before .loop .inv .so-far .same-length
 
 returns : tie.Need-returns Inv-loop μ-loop
-returns c =
-    filling-end (c .before .loop .inv) (c .loop-test .left)
+returns c = filling-end (c .before .loop .inv) (c .loop-test .left)
 
 pub fill-direct-spec : {M : Type 1} → statement M
 fill-direct-spec =

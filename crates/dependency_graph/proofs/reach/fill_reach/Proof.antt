@@ -12,15 +12,13 @@ use Rattle.dependency_graph.proofs.reach.fill_reach.Statement.{statemen
 use Rattle.dependency_graph.proofs.reach.fill_reach.Tie as tie
 
 abbrev Inv-loop : tie.InvT-loop
-Inv-loop plan table₀ k₀ table k =
-    Filled (plan .«unit_count») (reachVia (unitsOf plan) k) table₀ table × (k ≤ plan .«unit_count»)
+Inv-loop plan table₀ k₀ table k = Filled (plan .«unit_count») (reachVia (unitsOf plan) k) table₀ table × (k ≤ plan .«unit_count»)
 
 abbrev μ-loop : tie.MeasureT-loop
 μ-loop plan table₀ k₀ table k = plan .«unit_count» - k
 
 loop-holds : tie.Need-loop-holds Inv-loop μ-loop
-loop-holds c =
-    (filled-itself (c .before .before .fill-direct .ensures), omega arith)
+loop-holds c = (filled-itself (c .before .before .fill-direct .ensures), omega arith)
 
 loop-again : tie.Need-loop-again Inv-loop μ-loop
 loop-again c =
@@ -31,8 +29,7 @@ loop-again c =
     )
 
 same-length : tie.Need-same-length Inv-loop μ-loop
-same-length c =
-    c .before .before .loop .inv .0 .same-length ∙ c .before .before .before .before .before .fill-direct .ensures .same-length
+same-length c = c .before .before .loop .inv .0 .same-length ∙ c .before .before .before .before .before .fill-direct .ensures .same-length
 
 returns : tie.Need-returns Inv-loop μ-loop
 unfolding reach unitsOf

@@ -9,15 +9,13 @@ use Rattle.dependency_graph.proofs.reach.open_middle.Statement.{stateme
 use Rattle.dependency_graph.proofs.reach.open_middle.Tie as tie
 
 abbrev Inv-loop : tie.InvT-loop
-Inv-loop unit-count k table₀ middle u₀ table u =
-    Filling unit-count u (λ i. through (getD table₀ i 0) k (getD table₀ k 0)) table₀ table
+Inv-loop unit-count k table₀ middle u₀ table u = Filling unit-count u (λ i. through (getD table₀ i 0) k (getD table₀ k 0)) table₀ table
 
 abbrev μ-loop : tie.MeasureT-loop
 μ-loop unit-count k table₀ middle u₀ table u = unit-count - u
 
 loop-holds : tie.Need-loop-holds Inv-loop μ-loop
-loop-holds c =
-    filling-start (omega arith)
+loop-holds c = filling-start (omega arith)
 
 loop-again : tie.Need-loop-again Inv-loop μ-loop
 loop-again c =
@@ -25,12 +23,10 @@ loop-again c =
     filling-more inv (c .before .before .loop-test .taken) (rw (unreached inv) at (c .through .ensures))
 
 same-length : tie.Need-same-length Inv-loop μ-loop
-same-length c =
-    c .before .loop .inv .so-far .same-length
+same-length c = c .before .loop .inv .so-far .same-length
 
 returns : tie.Need-returns Inv-loop μ-loop
-returns c =
-    filling-end (c .before .loop .inv) (c .loop-test .left)
+returns c = filling-end (c .before .loop .inv) (c .loop-test .left)
 
 pub open-middle-spec : {M : Type 1} → statement M
 open-middle-spec =

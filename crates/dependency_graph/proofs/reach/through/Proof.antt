@@ -7,8 +7,7 @@ use Rattle.dependency_graph.proofs.reach.through.Statement.{statement}
 use Rattle.dependency_graph.proofs.reach.through.Tie as tie
 
 returns : tie.Need-returns
-returns c =
-    through-miss _ _ _ (lacks-of-test _ _ (c .before .before .single .ensures) (c .before .are-apart .ensures) (c .if1 .taken))
+returns c = through-miss _ _ _ (lacks-of-test _ _ (c .before .before .single .ensures) (c .before .are-apart .ensures) (c .if1 .taken))
 
 returns-2 : tie.Need-returns-2
 returns-2 c =

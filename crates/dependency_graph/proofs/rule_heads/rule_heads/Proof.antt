@@ -9,8 +9,7 @@ use Rattle.dependency_graph.proofs.rule_heads.rule_heads.Statement.{sta
 use Rattle.dependency_graph.proofs.rule_heads.rule_heads.Tie as tie
 
 abbrev Inv-loop : tie.InvT-loop
-Inv-loop which plan all₀ rest₀ all rest =
-    Gathers (unitsOf plan .rules) (λ r. unitsOf plan .program .head r) which all rest
+Inv-loop which plan all₀ rest₀ all rest = Gathers (unitsOf plan .rules) (λ r. unitsOf plan .program .head r) which all rest
 
 abbrev μ-loop : tie.MeasureT-loop
 μ-loop which plan all₀ rest₀ all rest = ones rest
@@ -21,17 +20,14 @@ taken c = c .before .before .before .before .before .before
 
 loop-holds : tie.Need-loop-holds Inv-loop μ-loop
 unfolding unitsOf
-loop-holds c =
-    gathers-start (c .before .first .ensures) (c .cut .ensures)
+loop-holds c = gathers-start (c .before .first .ensures) (c .cut .ensures)
 
 head-requires : tie.Need-head-requires Inv-loop μ-loop
 unfolding unitsOf
-head-requires c κs =
-    omega (arith, gathers-lt (c .before .before .before .before .before .loop .inv) (c .before .before .before .lowest .ensures .0))
+head-requires c κs = omega (arith, gathers-lt (c .before .before .before .before .before .loop .inv) (c .before .before .before .lowest .ensures .0))
 
 loop-less : tie.Need-loop-less Inv-loop μ-loop
-loop-less c =
-    taken-less (taken c .lowest .ensures .0) (c .drop .ensures)
+loop-less c = taken-less (taken c .lowest .ensures .0) (c .drop .ensures)
 
 loop-again : tie.Need-loop-again Inv-loop μ-loop
 unfolding unitsOf
@@ -40,8 +36,7 @@ loop-again c =
     (c .before .before .head .ensures) (c .before .union .ensures)
 
 returns : tie.Need-returns Inv-loop μ-loop
-returns c =
-    gathers-end (c .before .loop .inv) (c .loop-test .left)
+returns c = gathers-end (c .before .loop .inv) (c .loop-test .left)
 
 pub rule-heads-spec : {M : Type 1} → statement M
 rule-heads-spec =

@@ -9,8 +9,7 @@ use Rattle.dependency_graph.proofs.working_order.is_ready.Statement.{st
 use Rattle.dependency_graph.proofs.working_order.is_ready.Tie as tie
 
 returns : tie.Need-returns
-returns c =
-    done-not-ready _ _ _ (has-of-test _ _ (c .before .before .single .ensures) (c .before .are-apart .ensures) (not-true _ (c .if1 .taken)))
+returns c = done-not-ready _ _ _ (has-of-test _ _ (c .before .before .single .ensures) (c .before .are-apart .ensures) (not-true _ (c .if1 .taken)))
 
 returns-2 : tie.Need-returns-2
 unfolding unitsOf
