@@ -3,16 +3,19 @@
 use mathlib.Core.Path.{_≡_, refl, subst}
 use mathlib.Core.Bool.{Bool, true, false}
 use mathlib.Core.Logic.{_⊎_, inl, inr}
-use Prim.Native.Nat.{ℕ, zero, suc, _<_}
+use mathlib.Core.List.{List}
+use Prim.Native.Nat.{ℕ, zero, suc, _+_, _<_}
 use native.Mathlib.Omega.{arith}
 use native.Mathlib.Decide.{ℕ-discrete}
-use Rattle.atoms.specs.Word.{Has, has, _∪_, below}
-use Rattle.atoms.specs.Bounded.{unionIn}
-use Rattle.atoms.proofs.Sets.{decides-has, has-cut, cut-left, cut-right, has-left, has-right, union-cases, has-below, below-lt, subset-lt}
-use Rattle.atoms.proofs.Bounded.{union-has, union-at}
+use native.Mathlib.Numerals.{add-one}
+use lib.ListN.{getD}
+use Rattle.atoms.specs.Word.{Has, has, _∩_, _∪_, below}
+use Rattle.atoms.specs.Collected.{Collects}
+use Rattle.atoms.proofs.Sets.{decides-has, subset-lt}
+use Rattle.atoms.proofs.Collected.{collects-iff, collects-has, collects-below, collects-cut, collects-union, collects-union-in}
 use Rattle.dependency_graph.specs.Units.{Units, Holds, Edge, Path, one, more}
 use Rattle.dependency_graph.specs.Graph.{Acyclic}
-use Rattle.dependency_graph.specs.Heads.{reachVia, reach, own, heads, inputHeads}
+use Rattle.dependency_graph.specs.Heads.{through, reachVia, reach, own, heads, inputHeads}
 
 -- ---- paths
 
@@ -28,57 +31,62 @@ pub path-append : (S : Units) {u v w : ℕ} → Path S u v → Path S v w → Pa
 path-append S (one e) q = more e q
 path-append S (more e p) q = more e (path-append S p q)
 
+-- the units that the code finds by an edge
+pub collects-direct : (S : Units) (u : ℕ) → u < S .units → Collects (Edge S u) (S .predecessors u ∩ below (S .units))
+collects-direct S u l =
+    collects-iff (λ v k. record { is-unit = l; is-predecessor = k .1; edge = k .0 }) (λ v e. (e .edge, e .is-predecessor))
+    (collects-cut (collects-has (S .predecessors u)) (collects-below (S .units)))
+
+-- ---- one middle unit more
+
+pub through-miss : (w k m : ℕ) → has w k ≡ false → w ≡ through w k m
+unfolding through
+through-miss w k m e = rw (e, through)
+
+pub through-hit : (w k m : ℕ) → has w k ≡ true → w ∪ m ≡ through w k m
+unfolding through
+through-hit w k m e = rw (e, through)
+
+collects-through : (w k m : ℕ) → Collects (λ v. Has w v ⊎ (Has w k × Has m v)) (through w k m)
+unfolding through
+collects-through w k m = go (has w k) refl
+  where
+    with-middle : Has w k → (v : ℕ) → Has w v ⊎ Has m v → Has w v ⊎ (Has w k × Has m v)
+    with-middle h v (inl p) = inl p
+    with-middle h v (inr p) = inr (h, p)
+
+    without : (v : ℕ) → Has w v ⊎ (Has w k × Has m v) → Has w v ⊎ Has m v
+    without v (inl p) = inl p
+    without v (inr p) = inr (p .1)
+
+    missed : ¬ Has w k → (v : ℕ) → Has w v ⊎ (Has w k × Has m v) → Has w v
+    missed n v (inl p) = p
+    missed n v (inr p) = absurd (n (p .0))
+
+    go : (b : Bool) → has w k ≡ b → Collects (λ v. Has w v ⊎ (Has w k × Has m v)) (elim b [ true ↦ w ∪ m | false ↦ w ])
+    go true e = collects-iff (with-middle (decides-has w k .yes e)) without (collects-union (collects-has w) (collects-has m))
+    go false e = collects-iff (λ v p. inl p) (missed (decides-has w k .no e)) (collects-has w)
+
+-- in a table of what the units reach
+pub via-next : (S : Units) (n k : ℕ) (table : List ℕ) → k < n → ((u : ℕ) → u < n → getD table u 0 ≡ reachVia S k u) → (u : ℕ) → u < n
+    → through (getD table u 0) k (getD table k 0) ≡ reachVia S (k + 1) u
+unfolding reachVia
+via-next S n k table l f u h = rw (f u h, f k l, add-one)
+
 -- ---- reach over middle units below k
 
-via-edge : (S : Units) (u v : ℕ) → Edge S u v → Has (reachVia S 0 u) v
+collects-via : (S : Units) (k u : ℕ)
+    → Collects (λ v. Has (reachVia S k u) v ⊎ (Has (reachVia S k u) k × Has (reachVia S k k) v)) (reachVia S (suc k) u)
 unfolding reachVia
-via-edge S u v e = has-cut (S .predecessors u) (below (S .units)) (e .edge) (has-below (S .units) v (e .is-predecessor))
+collects-via S k u = collects-through (reachVia S k u) k (reachVia S k k)
 
-edge-via : (S : Units) (u v : ℕ) → u < S .units → Has (reachVia S 0 u) v → Edge S u v
+collects-via-zero : (S : Units) (u : ℕ) → u < S .units → Collects (Edge S u) (reachVia S 0 u)
 unfolding reachVia
-edge-via S u v l h = record {
-  is-unit = l;
-  is-predecessor = below-lt (S .units) (cut-right (S .predecessors u) (below (S .units)) h);
-  edge = cut-left (S .predecessors u) (below (S .units)) h;
-}
-
-via-suc : (S : Units) (k u v : ℕ) → Has (reachVia S k u) v → Has (reachVia S (suc k) u) v
-unfolding reachVia
-via-suc S k u v h = go (has (reachVia S k u) k)
-  where
-    go : (b : Bool)
-        → Has (elim b [ true ↦ reachVia S k u ∪ reachVia S k k | false ↦ reachVia S k u ]) v
-    go true = has-left (reachVia S k u) (reachVia S k k) h
-    go false = h
-
-via-middle : (S : Units) (k u v : ℕ) → Has (reachVia S k u) k → Has (reachVia S k k) v → Has (reachVia S (suc k) u) v
-unfolding reachVia
-via-middle S k u v m h = go (has (reachVia S k u) k) refl
-  where
-    go : (b : Bool) → has (reachVia S k u) k ≡ b
-        → Has (elim b [ true ↦ reachVia S k u ∪ reachVia S k k | false ↦ reachVia S k u ]) v
-    go true e = has-right (reachVia S k u) (reachVia S k k) h
-    go false e = absurd (decides-has (reachVia S k u) k .no e m)
-
-via-cases : (S : Units) (k u v : ℕ) → Has (reachVia S (suc k) u) v
-    → Has (reachVia S k u) v ⊎ (Has (reachVia S k u) k × Has (reachVia S k k) v)
-unfolding reachVia
-via-cases S k u v h = go (has (reachVia S k u) k) refl h
-  where
-    met : Has (reachVia S k u) k → Has (reachVia S k u) v ⊎ Has (reachVia S k k) v
-        → Has (reachVia S k u) v ⊎ (Has (reachVia S k u) k × Has (reachVia S k k) v)
-    met m (inl p) = inl p
-    met m (inr p) = inr (m, p)
-
-    go : (b : Bool) → has (reachVia S k u) k ≡ b
-        → Has (elim b [ true ↦ reachVia S k u ∪ reachVia S k k | false ↦ reachVia S k u ]) v
-        → Has (reachVia S k u) v ⊎ (Has (reachVia S k u) k × Has (reachVia S k k) v)
-    go true e p = met (decides-has (reachVia S k u) k .yes e) (union-cases (reachVia S k u) (reachVia S k k) p)
-    go false e p = inl p
+collects-via-zero S u l = collects-direct S u l
 
 via-path : (S : Units) (k u v : ℕ) → u < S .units → Has (reachVia S k u) v → Path S u v
-via-path S zero u v l h = one (edge-via S u v l h)
-via-path S (suc k) u v l h = go (via-path S k u) (via-path S k k) (via-cases S k u v h)
+via-path S zero u v l h = one (collects-via-zero S u l .each v h)
+via-path S (suc k) u v l h = go (via-path S k u) (via-path S k k) (collects-via S k u .each v h)
   where
     go : ((w : ℕ) → u < S .units → Has (reachVia S k u) w → Path S u w)
         → ((w : ℕ) → k < S .units → Has (reachVia S k k) w → Path S k w)
@@ -88,14 +96,14 @@ via-path S (suc k) u v l h = go (via-path S k u) (via-path S k k) (via-cases S k
 
 -- the middle unit is met whether or not it was met before
 via-to : (S : Units) (k u : ℕ) → Has (reachVia S (suc k) u) k → Has (reachVia S k u) k
-via-to S k u h = go (via-cases S k u k h)
+via-to S k u h = go (collects-via S k u .each k h)
   where
     go : Has (reachVia S k u) k ⊎ (Has (reachVia S k u) k × Has (reachVia S k k) k) → Has (reachVia S k u) k
     go (inl p) = p
     go (inr p) = p .0
 
 via-from : (S : Units) (k v : ℕ) → Has (reachVia S (suc k) k) v → Has (reachVia S k k) v
-via-from S k v h = go (via-cases S k k v h)
+via-from S k v h = go (collects-via S k k .each v h)
   where
     go : Has (reachVia S k k) v ⊎ (Has (reachVia S k k) k × Has (reachVia S k k) v) → Has (reachVia S k k) v
     go (inl p) = p
@@ -105,23 +113,25 @@ via-trans : (S : Units) (k u m v : ℕ) → m < k → Has (reachVia S k u) m →
     → Has (reachVia S k u) v
 via-trans S zero u m v l p q = absurd (omega arith)
 via-trans S (suc k) u m v l p q =
-    go (λ x y z n. via-trans S k x y z n) (ℕ-discrete m k) (via-cases S k u m p) (via-cases S k m v q)
+    go (λ x y z n. via-trans S k x y z n) (ℕ-discrete m k) (collects-via S k u .each m p) (collects-via S k m .each v q)
   where
     go : ((x y z : ℕ) → y < k → Has (reachVia S k x) y → Has (reachVia S k y) z → Has (reachVia S k x) z)
         → Dec (m ≡ k) → Has (reachVia S k u) m ⊎ (Has (reachVia S k u) k × Has (reachVia S k k) m)
         → Has (reachVia S k m) v ⊎ (Has (reachVia S k m) k × Has (reachVia S k k) v)
         → Has (reachVia S (suc k) u) v
     go ih (yes e) a b =
-        via-middle S k u v (via-to S k u (subst (λ (x : ℕ). Has (reachVia S (suc k) u) x) e p))
-        (via-from S k v (subst (λ (x : ℕ). Has (reachVia S (suc k) x) v) e q))
-    go ih (no e) (inl a) (inl b) = via-suc S k u v (ih u m v (omega arith) a b)
-    go ih (no e) (inl a) (inr b) = via-middle S k u v (ih u m k (omega arith) a (b .0)) (b .1)
-    go ih (no e) (inr a) (inl b) = via-middle S k u v (a .0) (ih k m v (omega arith) (a .1) b)
-    go ih (no e) (inr a) (inr b) = via-middle S k u v (a .0) (b .1)
+        collects-via S k u .all v (inr (
+          via-to S k u (subst (λ (x : ℕ). Has (reachVia S (suc k) u) x) e p),
+          via-from S k v (subst (λ (x : ℕ). Has (reachVia S (suc k) x) v) e q),
+        ))
+    go ih (no e) (inl a) (inl b) = collects-via S k u .all v (inl (ih u m v (omega arith) a b))
+    go ih (no e) (inl a) (inr b) = collects-via S k u .all v (inr (ih u m k (omega arith) a (b .0), b .1))
+    go ih (no e) (inr a) (inl b) = collects-via S k u .all v (inr (a .0, ih k m v (omega arith) (a .1) b))
+    go ih (no e) (inr a) (inr b) = collects-via S k u .all v (inr (a .0, b .1))
 
 via-all : (S : Units) (k u v : ℕ) → Edge S u v → Has (reachVia S k u) v
-via-all S zero u v e = via-edge S u v e
-via-all S (suc k) u v e = via-suc S k u v (via-all S k u v e)
+via-all S zero u v e = collects-via-zero S u (e .is-unit) .all v e
+via-all S (suc k) u v e = collects-via S k u .all v (inl (via-all S k u v e))
 
 -- ---- reach
 
@@ -150,75 +160,62 @@ edge-rank S a u v e = subset-lt {a = reach S v} {b = reach S u} (record {
 
 -- ---- head atoms
 
+collects-own : (S : Units) (u : ℕ) → u < S .units → Collects (λ a. (r : ℕ) × Holds S u r × Has (S .program .head r) a) (own S u)
+unfolding own
+collects-own S u l =
+    collects-iff (λ a k. (k .0, record { is-unit = l; is-rule = k .1; holds = k .2 }, k .3))
+    (λ a k. (k .0, k .1 .is-rule, k .1 .holds, k .2))
+    (collects-union-in (S .rules) (S .unit u) (S .program .head) (λ r k. collects-has (S .program .head r)))
+
 pub own-has : (S : Units) (u r a : ℕ) → Holds S u r → Has (S .program .head r) a → Has (own S u) a
-unfolding own
-own-has S u r a h k = union-has (S .rules) (S .unit u) (λ s. S .program .head s) r a (h .is-rule) (h .holds) k
+own-has S u r a h k = collects-own S u (h .is-unit) .all a (r, h, k)
 
-pub own-at : (S : Units) (u a : ℕ) → u < S .units → Has (own S u) a
-    → (r : ℕ) × Holds S u r × Has (S .program .head r) a
-unfolding own
-own-at S u a l h =
-    let s = union-at (S .rules) (S .unit u) (λ r. S .program .head r) a h in
-    (s .0, record { is-unit = l; is-rule = s .1; holds = s .2 }, s .3)
+pub own-at : (S : Units) (u a : ℕ) → u < S .units → Has (own S u) a → (r : ℕ) × Holds S u r × Has (S .program .head r) a
+own-at S u a l h = collects-own S u l .each a h
 
-module _ (S : Units) (u a : ℕ) where
-  -- the three parts of H(u)
-  heads-parts : Has (heads S u) a
-      → Has (S .given) a ⊎ (Has (own S u) a ⊎ ((w : ℕ) × (w < S .units) × Has (reach S u) w × Has (own S w) a))
-  unfolding heads
-  heads-parts h = go (union-cases (S .given) (own S u ∪ unionIn (S .units) (reach S u) (λ v. own S v)) h)
-    where
-      part : Has (own S u) a ⊎ Has (unionIn (S .units) (reach S u) (λ v. own S v)) a
-          → Has (S .given) a ⊎ (Has (own S u) a ⊎ ((w : ℕ) × (w < S .units) × Has (reach S u) w × Has (own S w) a))
-      part (inl p) = inr (inl p)
-      part (inr p) = inr (inr (union-at (S .units) (reach S u) (λ v. own S v) a p))
+-- the three parts of H(u)
+pub collects-heads : (S : Units) (u : ℕ)
+    → Collects (λ a. Has (S .given) a ⊎ (Has (own S u) a ⊎ ((w : ℕ) × (w < S .units) × Has (reach S u) w × Has (own S w) a))) (heads S u)
+unfolding heads
+collects-heads S u =
+    collects-union (collects-has (S .given))
+    (collects-union (collects-has (own S u)) (collects-union-in (S .units) (reach S u) (own S) (λ w l. collects-has (own S w))))
 
-      go : Has (S .given) a ⊎ Has (own S u ∪ unionIn (S .units) (reach S u) (λ v. own S v)) a
-          → Has (S .given) a ⊎ (Has (own S u) a ⊎ ((w : ℕ) × (w < S .units) × Has (reach S u) w × Has (own S w) a))
-      go (inl p) = inl p
-      go (inr p) = part (union-cases (own S u) (unionIn (S .units) (reach S u) (λ v. own S v)) p)
+pub heads-given : (S : Units) (u a : ℕ) → Has (S .given) a → Has (heads S u) a
+heads-given S u a h = collects-heads S u .all a (inl h)
 
-  pub heads-given : Has (S .given) a → Has (heads S u) a
-  unfolding heads
-  heads-given h = has-left (S .given) (own S u ∪ unionIn (S .units) (reach S u) (λ v. own S v)) h
-
-  pub heads-own : Has (own S u) a → Has (heads S u) a
-  unfolding heads
-  heads-own h =
-      has-right (S .given) (own S u ∪ unionIn (S .units) (reach S u) (λ v. own S v))
-      (has-left (own S u) (unionIn (S .units) (reach S u) (λ v. own S v)) h)
-
-  pub input-given : Has (S .given) a → Has (inputHeads S u) a
-  unfolding inputHeads
-  input-given h = has-left (S .given) (unionIn (S .units) (S .predecessors u) (λ v. heads S v)) h
+pub heads-own : (S : Units) (u a : ℕ) → Has (own S u) a → Has (heads S u) a
+heads-own S u a h = collects-heads S u .all a (inr (inl h))
 
 pub heads-reach : (S : Units) (u w a : ℕ) → w < S .units → Has (reach S u) w → Has (own S w) a → Has (heads S u) a
-unfolding heads
-heads-reach S u w a l p h =
-    has-right (S .given) (own S u ∪ unionIn (S .units) (reach S u) (λ v. own S v))
-    (has-right (own S u) (unionIn (S .units) (reach S u) (λ v. own S v)) (union-has (S .units) (reach S u) (λ v. own S v) w a l p h))
+heads-reach S u w a l p h = collects-heads S u .all a (inr (inr (w, l, p, h)))
+
+-- the two parts of Hp(u)
+collects-inputs : (S : Units) (u : ℕ)
+    → Collects (λ a. Has (S .given) a ⊎ ((v : ℕ) × (v < S .units) × Has (S .predecessors u) v × Has (heads S v) a)) (inputHeads S u)
+unfolding inputHeads
+collects-inputs S u =
+    collects-union (collects-has (S .given))
+    (collects-union-in (S .units) (S .predecessors u) (heads S) (λ v l. collects-has (heads S v)))
+
+pub input-given : (S : Units) (u a : ℕ) → Has (S .given) a → Has (inputHeads S u) a
+input-given S u a h = collects-inputs S u .all a (inl h)
 
 pub input-edge : (S : Units) (u v a : ℕ) → Edge S u v → Has (heads S v) a → Has (inputHeads S u) a
-unfolding inputHeads
-input-edge S u v a e h =
-    has-right (S .given) (unionIn (S .units) (S .predecessors u) (λ w. heads S w))
-    (union-has (S .units) (S .predecessors u) (λ w. heads S w) v a (e .is-predecessor) (e .edge) h)
+input-edge S u v a e h = collects-inputs S u .all a (inr (v, e .is-predecessor, e .edge, h))
 
 pub input-cases : (S : Units) (u a : ℕ) → u < S .units → Has (inputHeads S u) a
     → Has (S .given) a ⊎ ((v : ℕ) × Edge S u v × Has (heads S v) a)
-unfolding inputHeads
-input-cases S u a l h = go (union-cases (S .given) (unionIn (S .units) (S .predecessors u) (λ v. heads S v)) h)
+input-cases S u a l h = go (collects-inputs S u .each a h)
   where
-    go : Has (S .given) a ⊎ Has (unionIn (S .units) (S .predecessors u) (λ v. heads S v)) a
+    go : Has (S .given) a ⊎ ((v : ℕ) × (v < S .units) × Has (S .predecessors u) v × Has (heads S v) a)
         → Has (S .given) a ⊎ ((v : ℕ) × Edge S u v × Has (heads S v) a)
     go (inl p) = inl p
-    go (inr p) =
-        let s = union-at (S .units) (S .predecessors u) (λ v. heads S v) a p in
-        inr (s .0, record { is-unit = l; is-predecessor = s .1; edge = s .2 }, s .3)
+    go (inr p) = inr (p .0, record { is-unit = l; is-predecessor = p .1; edge = p .2 }, p .3)
 
 -- what an edge's unit has is had above it
 pub heads-edge : (S : Units) (u v a : ℕ) → Edge S u v → Has (heads S v) a → Has (heads S u) a
-heads-edge S u v a e h = go (heads-parts S v a h)
+heads-edge S u v a e h = go (collects-heads S v .each a h)
   where
     go : Has (S .given) a ⊎ (Has (own S v) a ⊎ ((w : ℕ) × (w < S .units) × Has (reach S v) w × Has (own S w) a))
         → Has (heads S u) a
@@ -235,7 +232,7 @@ heads-input S u a l h = go (input-cases S u a l h)
 
 -- H(u) is the own head atoms and Hp(u): a path is its first edge and what follows
 pub heads-cases : (S : Units) (u a : ℕ) → u < S .units → Has (heads S u) a → Has (own S u) a ⊎ Has (inputHeads S u) a
-heads-cases S u a l h = go (heads-parts S u a h)
+heads-cases S u a l h = go (collects-heads S u .each a h)
   where
     first : (w : ℕ) → Has (own S w) a → Path S u w → Has (inputHeads S u) a
     first w k (one e) = input-edge S u w a e (heads-own S w a k)

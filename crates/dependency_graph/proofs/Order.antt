@@ -1,7 +1,7 @@
 -- The working order: the next unit is the lowest that is ready; on an acyclic graph some unit is ready as long as one is not
 -- done, since a unit of the least rank that is not done is; so every unit is worked, once, after its predecessors.
 use mathlib.Core.Path.{_≡_, refl, sym, subst}
-use mathlib.Core.Bool.{Bool, true, false, not}
+use mathlib.Core.Bool.{Bool, true, false, _&&_}
 use mathlib.Core.Logic.{_⊎_, inl, inr}
 use mathlib.Core.List.{List, [], _∷_, _++_, List·Memᴰ, List·Memᴰ·head, List·Memᴰ·tail, List·Memᴰ·not-nil, List·Memᴰ·cases-cons}
 use Prim.Native.Nat.{ℕ, zero, suc, _+_, _≤_, _<_}
@@ -10,66 +10,64 @@ use native.Mathlib.Decide.{ℕ-discrete}
 use lib.Count.{ones, ones-le}
 use lib.Dec.{ltb}
 use borrow.Author.Tests.{ltb-true, ltb-false}
-use Rattle.atoms.specs.Word.{Has, has, _∩_, _∪_, _∖_, atom, below}
+use Rattle.atoms.specs.Word.{Has, has, _∩_, _∪_, _∖_, atom, below, subset}
 use Rattle.atoms.specs.Bounded.{Decides}
+use Rattle.atoms.specs.Collected.{Collects}
 use Rattle.atoms.proofs.Tests.{decides-iff, decides-and, decides-not, decided}
-use Rattle.atoms.proofs.Sets.{decides-has, decides-subset, has-dec, has-cut, cut-left, cut-right, has-left, has-right, union-cases, has-without, without-left, without-right, has-atom, atom-only, has-none, has-below, below-lt, lt-of-has, some-atom}
+use Rattle.atoms.proofs.Sets.{decides-has, decides-subset, has-dec, has-left, has-right, union-cases, has-atom, atom-only, has-none, lt-of-has}
 use Rattle.atoms.proofs.Counting.{count-lt}
+use Rattle.atoms.proofs.Collected.{collects-none, collects-some, collects-has, collects-below, collects-without}
+use Rattle.atoms.proofs.Collected.{lowest-le, lowest-here, lowest-least, lowest-is, lowest-none}
 use Rattle.dependency_graph.specs.Units.{Units, Edge}
 use Rattle.dependency_graph.specs.Graph.{Acyclic}
 use Rattle.dependency_graph.specs.Heads.{reach}
-use Rattle.dependency_graph.specs.Lowest.{lowest}
 use Rattle.dependency_graph.specs.Order.{Ready, ready, nextUnit, orderFrom, workingOrder, InOrder, all-done, next}
-use Rattle.dependency_graph.proofs.Heads.{edge-rank}
-use Rattle.dependency_graph.proofs.Lowest.{lowest-le, lowest-here, lowest-least}
+use Rattle.dependency_graph.proofs.Heads.{collects-direct, edge-rank}
 
 -- ---- ready units
 
 pub decides-ready : (S : Units) (done u : ℕ) → u < S .units → Decides (Ready S done u) (ready S done u)
 unfolding ready
 decides-ready S done u l =
-    decides-iff
-    (λ h. record { waits = h .0; predecessors-done = λ v e. h .1 .each v (has-cut (S .predecessors u) (below (S .units)) (e .edge) (has-below (S .units) v (e .is-predecessor))) })
-    (λ h. (
-      h .waits,
-      record {
-        each = λ v p. h .predecessors-done v (record {
-          is-unit = l;
-          is-predecessor = below-lt (S .units) (cut-right (S .predecessors u) (below (S .units)) p);
-          edge = cut-left (S .predecessors u) (below (S .units)) p;
-        });
-      },
-    ))
+    decides-iff (λ h. record { waits = h .0; predecessors-done = λ v e. h .1 .each v (collects-direct S u l .all v e) })
+    (λ h. (h .waits, record { each = λ v p. h .predecessors-done v (collects-direct S u l .each v p) }))
     (decides-and (decides-not (decides-has done u)) (decides-subset (S .predecessors u ∩ below (S .units)) done))
+
+-- the two parts of the test
+pub done-not-ready : (S : Units) (done u : ℕ) → has done u ≡ true → false ≡ ready S done u
+unfolding ready
+done-not-ready S done u e = rw (e, _&&_)
+
+pub ready-of-waiting : (S : Units) (done u : ℕ) → has done u ≡ false → subset (S .predecessors u ∩ below (S .units)) done ≡ ready S done u
+unfolding ready
+ready-of-waiting S done u e = rw (e, _&&_)
+
+-- the search for the unit that is worked next: no unit passed is ready
+pub next-found : (S : Units) (done u : ℕ) → u < S .units → ready S done u ≡ true → ((j : ℕ) → j < u → ready S done j ≡ false)
+    → u ≡ nextUnit S done
+unfolding nextUnit
+next-found S done u l e f = sym (lowest-is (S .units) (ready S done) u l e f)
+
+pub next-missing : (S : Units) (done u : ℕ) → S .units ≤ u → ((j : ℕ) → j < u → ready S done j ≡ false) → S .units ≡ nextUnit S done
+unfolding nextUnit
+next-missing S done u l f = sym (lowest-none (S .units) (ready S done) (λ j k. f j (omega arith)))
 
 -- a unit that is not done and not ready has a predecessor that is not done
 waiting-predecessor : (S : Units) (done u : ℕ) → u < S .units → ¬ Has done u → ¬ Ready S done u
     → (v : ℕ) × Edge S u v × ¬ Has done v
-waiting-predecessor S done u l h n = go (some-atom ((S .predecessors u ∩ below (S .units)) ∖ done) some)
+waiting-predecessor S done u l h n = go (ℕ-discrete ((S .predecessors u ∩ below (S .units)) ∖ done) 0)
   where
-    direct : ℕ
-    direct = S .predecessors u ∩ below (S .units)
+    wait : Collects (λ v. Edge S u v × ¬ Has done v) ((S .predecessors u ∩ below (S .units)) ∖ done)
+    wait = collects-without (collects-direct S u l) (collects-has done)
 
-    edge-of : (v : ℕ) → Has (S .predecessors u ∩ below (S .units)) v → Edge S u v
-    edge-of v p = record {
-      is-unit = l;
-      is-predecessor = below-lt (S .units) (cut-right (S .predecessors u) (below (S .units)) p);
-      edge = cut-left (S .predecessors u) (below (S .units)) p;
-    }
+    in-done : ((v : ℕ) → ¬ (Edge S u v × ¬ Has done v)) → (v : ℕ) → Edge S u v → Dec (Has done v) → Has done v
+    in-done f v e (yes p) = p
+    in-done f v e (no p) = absurd (f v (e, p))
 
-    some : ¬ ((S .predecessors u ∩ below (S .units)) ∖ done ≡ 0)
-    some e = n (record { waits = h; predecessors-done = λ v k. in-done v k (has-dec done v) })
-      where
-        in-done : (v : ℕ) → Edge S u v → Dec (Has done v) → Has done v
-        in-done v k (yes p) = p
-        in-done v k (no p) =
-            absurd (has-none {i = v} (subst (λ (w : ℕ). Has w v) e
-            (has-without (S .predecessors u ∩ below (S .units)) done
-            (has-cut (S .predecessors u) (below (S .units)) (k .edge) (has-below (S .units) v (k .is-predecessor))) p)))
-
-    go : (v : ℕ) × Has ((S .predecessors u ∩ below (S .units)) ∖ done) v → (v : ℕ) × Edge S u v × ¬ Has done v
-    go s =
-        (s .0, edge-of (s .0) (without-left (S .predecessors u ∩ below (S .units)) done (s .1)), without-right (S .predecessors u ∩ below (S .units)) done (s .1))
+    go : Dec ((S .predecessors u ∩ below (S .units)) ∖ done ≡ 0) → (v : ℕ) × Edge S u v × ¬ Has done v
+    go (yes z) =
+        absurd (n (record { waits = h; predecessors-done = λ v e. in-done (collects-none wait .0 z) v e (has-dec done v) }))
+    go (no z) = let s = collects-some wait z in (s .0, s .1 .0, s .1 .1)
 
 -- below a unit that is not done some unit is ready
 some-ready : (S : Units) → Acyclic S → (done k u : ℕ) → reach S u < k → u < S .units → ¬ Has done u
@@ -115,12 +113,16 @@ next-none S a done l u k = go (has-dec done u)
 abbrev waiting : Units → ℕ → ℕ
 waiting S done = ones (below (S .units) ∖ done)
 
+collects-waiting : (S : Units) (done : ℕ) → Collects (λ u. (u < S .units) × ¬ Has done u) (below (S .units) ∖ done)
+collects-waiting S done = collects-without (collects-below (S .units)) (collects-has done)
+
 fewer-wait : (S : Units) (done u : ℕ) → u < S .units → ¬ Has done u → waiting S (done ∪ atom u) < waiting S done
 fewer-wait S done u l h =
+    let old = collects-waiting S done in
+    let new = collects-waiting S (done ∪ atom u) in
     count-lt u (below (S .units) ∖ (done ∪ atom u)) (below (S .units) ∖ done)
-    (record { each = λ i p. has-without (below (S .units)) done (without-left (below (S .units)) (done ∪ atom u) p) (λ q. without-right (below (S .units)) (done ∪ atom u) p (has-left done (atom u) q)) })
-    (has-without (below (S .units)) done (has-below (S .units) u l) h)
-    (λ p. without-right (below (S .units)) (done ∪ atom u) p (has-right done (atom u) (has-atom u)))
+    (record { each = λ i p. let k = new .each i p in old .all i (k .0, λ q. k .1 (has-left done (atom u) q)) })
+    (old .all u (l, h)) (λ p. new .each u p .1 (has-right done (atom u) (has-atom u)))
 
 none-waits : (S : Units) (done : ℕ) → waiting S done ≤ 0 → (u : ℕ) → u < S .units → Has done u
 none-waits S done w u l = go (has-dec done u)
@@ -146,8 +148,7 @@ order-from S a (suc most) done w = go (ltb (nextUnit S done) (S .units)) refl (o
 
 waiting-most : (S : Units) → waiting S 0 ≤ S .units
 waiting-most S =
-    ones-le (S .units) (below (S .units) ∖ 0)
-    (lt-of-has (below (S .units) ∖ 0) (S .units) (λ i p. below-lt (S .units) (without-left (below (S .units)) 0 p)))
+    ones-le (S .units) (below (S .units) ∖ 0) (lt-of-has (below (S .units) ∖ 0) (S .units) (λ i p. collects-waiting S 0 .each i p .0))
 
 -- on an acyclic graph the working order works every unit, once, after its predecessors, the lowest that is ready first
 pub order-right : (S : Units) → Acyclic S → InOrder S 0 (workingOrder S)

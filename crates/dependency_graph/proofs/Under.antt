@@ -1,13 +1,10 @@
 -- The head atoms of a unit by the units under it: the unit itself and those that it reaches.
 use mathlib.Core.Logic.{_⊎_, inl, inr}
 use Prim.Native.Nat.{ℕ, _<_}
-use Rattle.atoms.specs.Word.{Has, _∪_}
-use Rattle.atoms.specs.Bounded.{unionIn}
-use Rattle.atoms.proofs.Sets.{union-cases}
-use Rattle.atoms.proofs.Bounded.{union-at}
+use Rattle.atoms.specs.Word.{Has}
 use Rattle.dependency_graph.specs.Units.{Units, Edge, Path, one, more}
 use Rattle.dependency_graph.specs.Heads.{reach, own, heads}
-use Rattle.dependency_graph.proofs.Heads.{path-end, heads-own, heads-edge, reach-path}
+use Rattle.dependency_graph.proofs.Heads.{collects-heads, path-end, heads-own, heads-edge, reach-path}
 
 -- w is u or a unit that u reaches
 pub data Under (S : Units) : ℕ → ℕ → Type 0 where
@@ -33,18 +30,10 @@ heads-under S {u} {w} a (down p) h = heads-path S a p (heads-own S w a h)
 -- "the head atoms of u and of all units it reaches", and the given ones
 pub heads-source : (S : Units) (u a : ℕ) → u < S .units → Has (heads S u) a
     → Has (S .given) a ⊎ ((w : ℕ) × Under S u w × Has (own S w) a)
-unfolding heads
-heads-source S u a l h = outer (union-cases (S .given) (own S u ∪ far) h)
+heads-source S u a l h = go (collects-heads S u .each a h)
   where
-    far : ℕ
-    far = unionIn (S .units) (reach S u) (λ v. own S v)
-
-    inner : Has (own S u) a ⊎ Has far a → (w : ℕ) × Under S u w × Has (own S w) a
-    inner (inl p) = (u, here, p)
-    inner (inr p) =
-        let t = union-at (S .units) (reach S u) (λ v. own S v) a p in
-        (t .0, down (reach-path S u (t .0) l (t .2)), t .3)
-
-    outer : Has (S .given) a ⊎ Has (own S u ∪ far) a → Has (S .given) a ⊎ ((w : ℕ) × Under S u w × Has (own S w) a)
-    outer (inl g) = inl g
-    outer (inr p) = inr (inner (union-cases (own S u) far p))
+    go : Has (S .given) a ⊎ (Has (own S u) a ⊎ ((w : ℕ) × (w < S .units) × Has (reach S u) w × Has (own S w) a))
+        → Has (S .given) a ⊎ ((w : ℕ) × Under S u w × Has (own S w) a)
+    go (inl g) = inl g
+    go (inr (inl p)) = inr (u, here, p)
+    go (inr (inr t)) = inr (t .0, down (reach-path S u (t .0) l (t .2)), t .3)

@@ -1,148 +1,145 @@
 -- The verdict passes exactly the graphs that pass, and a refusal names the first row that fits and its lowest rule or unit.
-use mathlib.Core.Path.{_≡_, sym, ap, _∙_, subst}
+use mathlib.Core.Path.{_≡_, sym, ap, _∙_}
 use mathlib.Core.Logic.{_↔_}
 use Prim.Native.Nat.{ℕ, _≤_, _<_}
 use native.Mathlib.Omega.{arith}
-use native.Mathlib.Decide.{ℕ-discrete, decLt}
-use borrow.Author.Tests.{eq-eqb, ne-eqb}
-use Rattle.atoms.specs.Word.{Has}
-use Rattle.atoms.proofs.Sets.{some-atom, has-none}
-use Rattle.dependency_graph.specs.declared.Verdict.{Verdict}
-use Rattle.dependency_graph.specs.declared.Verdict.the-variants.{Passes as GraphPasses, Unplaced as RuleUnplaced, Shared as RuleShared, Cyclic as UnitCyclic, NonmonotonicUnseen as RuleClashing, MonotonicUnseen as RuleUncovered}
-use Rattle.dependency_graph.specs.Units.{Units, Path}
+use native.Mathlib.Decide.{ℕ-discrete}
+use Rattle.atoms.specs.Word.{ATOMS}
+use Rattle.atoms.specs.Collected.{Collects, lowestOf, Least}
+use Rattle.atoms.proofs.Sets.{some-atom}
+use Rattle.atoms.proofs.Collected.{collects-none, collects-least, least-same, lowest-of-lowest}
+use Rattle.plan.specs.declared.fault.Fault.{Fault}
+use Rattle.plan.specs.declared.fault.Outcome.{Outcome}
+use Rattle.plan.specs.declared.fault.Outcome.the-variants.{Accepted, Refused}
+use Rattle.dependency_graph.specs.Units.{Units}
 use Rattle.dependency_graph.specs.Graph.{Passes}
-use Rattle.dependency_graph.specs.Lowest.{lowestOf, Least}
-use Rattle.dependency_graph.specs.Check.{row, dependenceRows, verdict, Right, passes, row-10, row-11, row-12, row-13, row-14}
+use Rattle.dependency_graph.specs.Offenders.{RuleInNoUnit, HeadedRuleInSeveral, Cycle, NonmonotonicUnseen, MonotonicUnseen}
+use Rattle.dependency_graph.specs.Check.{row, verdict, Right, passes, row-10, row-11, row-12, row-13, row-14}
 use Rattle.dependency_graph.proofs.Heads.{path-start}
-use Rattle.dependency_graph.proofs.Lowest.{lowest-of-lowest}
-use Rattle.dependency_graph.proofs.Offenders.{unplaced-at, unplaced-has, a-of-empty, empty-of-a, shared-at, shared-has, b-of-empty, empty-of-b, cyclic-at, cyclic-has, acyclic-of-empty, empty-of-acyclic, nonmonotonic-at, nonmonotonic-has, c-of-empty, empty-of-c, monotonic-at, monotonic-has, d-of-empty, empty-of-d}
+use Rattle.dependency_graph.proofs.Rows.{row-misses, row-fits}
+use Rattle.dependency_graph.proofs.Offenders.{collects-rule-in-no-unit, collects-headed-rule-in-several, collects-cycle}
+use Rattle.dependency_graph.proofs.Offenders.{collects-nonmonotonic-unseen, collects-monotonic-unseen}
+use Rattle.dependency_graph.proofs.Offenders.{a-iff, b-iff, acyclic-iff, c-iff, d-iff}
 
 -- ---- one row
 
-pub row-misses : (w : ℕ) (f : ℕ → Verdict) (v : Verdict) → w ≡ 0 → row w f v ≡ v
-unfolding row
-row-misses w f v e = rw (eq-eqb w 0 e, row)
+never : (f : Fault) → Refused f ≡ Accepted → ⊥
+never f e = let z : _≡_ {A = ℕ} 0 1 = cc in omega arith
 
-pub row-fits : (w : ℕ) (f : ℕ → Verdict) (v : Verdict) → ¬ (w ≡ 0) → row w f v ≡ f (lowestOf w)
-unfolding row
-row-fits w f v n = rw (ne-eqb w 0 n, row)
-
--- a row whose fault is no pass passes only where it misses
-row-passes : (w : ℕ) (f : ℕ → Verdict) (v : Verdict) → ((r : ℕ) → ¬ (f r ≡ GraphPasses)) → row w f v ≡ GraphPasses
-    → (w ≡ 0) × (v ≡ GraphPasses)
-row-passes w f v n e = go (ℕ-discrete w 0)
+-- a row passes only where it misses
+row-passes : (w : ℕ) (f : ℕ → Fault) (v : Outcome) → row w f v ≡ Accepted → (w ≡ 0) × (v ≡ Accepted)
+row-passes w f v e = go (ℕ-discrete w 0)
   where
-    go : Dec (w ≡ 0) → (w ≡ 0) × (v ≡ GraphPasses)
+    go : Dec (w ≡ 0) → (w ≡ 0) × (v ≡ Accepted)
     go (yes k) = (k, sym (row-misses w f v k) ∙ e)
-    go (no k) = absurd (n (lowestOf w) (sym (row-fits w f v k) ∙ e))
+    go (no k) = absurd (never (f (lowestOf w)) (sym (row-fits w f v k) ∙ e))
+
+-- the lowest number of a word is the least with what the word collects
+least-of : {K : ℕ → Type 0} {w : ℕ} → Collects K w → ((r : ℕ) → K r → r < ATOMS) → ¬ (w ≡ 0) → Least K (lowestOf w)
+least-of {w = w} c small n =
+    let s = some-atom w n in collects-least c (lowest-of-lowest w (s .0) (s .1) (small (s .0) (c .each (s .0) (s .1))))
 
 -- a row is right where its fault is, and where it misses the rows below are
-row-right : (S : Units) (w : ℕ) (f : ℕ → Verdict) (v : Verdict) → (¬ (w ≡ 0) → Right S (f (lowestOf w)))
-    → (w ≡ 0 → Right S v) → Right S (row w f v)
-row-right S w f v hit miss = go (ℕ-discrete w 0)
+row-right : (S : Units) {K : ℕ → Type 0} {w : ℕ} (f : ℕ → Fault) (v : Outcome) → Collects K w → ((r : ℕ) → K r → r < ATOMS)
+    → (Least K (lowestOf w) → Right S (Refused (f (lowestOf w)))) → (w ≡ 0 → Right S v) → Right S (row w f v)
+row-right S {w = w} f v c small hit miss = go (ℕ-discrete w 0)
   where
     go : Dec (w ≡ 0) → Right S (row w f v)
-    go (yes e) = subst (λ (x : Verdict). Right S x) (sym (row-misses w f v e)) (miss e)
-    go (no n) = subst (λ (x : Verdict). Right S x) (sym (row-fits w f v n)) (hit n)
+    go (yes e) = rw (row-misses w f v e) (miss e)
+    go (no n) = rw (row-fits w f v n) (hit (least-of c small n))
 
--- the lowest number of a word that holds exactly the numbers of which P does
-least-of : (w : ℕ) (P : ℕ → Type 0) → ((r : ℕ) → Has w r → P r) → ((r : ℕ) → P r → Has w r) → ((r : ℕ) → P r → r < 64)
-    → ¬ (w ≡ 0) → Least P (lowestOf w)
-least-of w P f g b n =
-    let s = some-atom w n in
-    let l = lowest-of-lowest w (s .0) (s .1) (b (s .0) (f (s .0) (s .1))) in
-    record { here = f (lowestOf w) (l .here); least = λ q k p. l .least q k (g q p) }
-
-least-same : (P : ℕ → Type 0) (q r : ℕ) → Least P q → Least P r → q ≡ r
-least-same P q r a b = go (decLt q r) (decLt r q)
-  where
-    go : Dec (q < r) → Dec (r < q) → q ≡ r
-    go (yes k) d = absurd (b .least q k (a .here))
-    go (no k) (yes l) = absurd (a .least r l (b .here))
-    go (no k) (no l) = omega arith
-
--- a row fits where there is an offender, and names the lowest
-row-names : (w : ℕ) (P : ℕ → Type 0) (f : ℕ → Verdict) (v : Verdict) (r : ℕ) → ((q : ℕ) → Has w q → P q) → ((q : ℕ) → P q → Has w q)
-    → ((q : ℕ) → P q → q < 64) → Least P r → row w f v ≡ f r
-row-names w P f v r at has bound l =
-    let some : ¬ (w ≡ 0) = λ e. has-none (subst (λ (x : ℕ). Has x r) e (has r (l .here))) in
-    row-fits w f v some ∙ ap f (least-same P (lowestOf w) r (least-of w P at has bound some) l)
+-- a row fits where there is an offender, and names the least
+row-names : {K : ℕ → Type 0} {w r : ℕ} (f : ℕ → Fault) (v : Outcome) → Collects K w → ((q : ℕ) → K q → q < ATOMS) → Least K r
+    → row w f v ≡ Refused (f r)
+row-names {w = w} {r = r} f v c small l =
+    let some : ¬ (w ≡ 0) = λ e. collects-none c .0 e r (l .here) in
+    row-fits w f v some ∙ ap (λ (q : ℕ). Refused (f q)) (least-same (least-of c small some) l)
 
 -- ---- the rows in turn
 
 module _ (S : Units) where
-  pub verdict-of-passes : Passes S → verdict S ≡ GraphPasses
-  unfolding verdict dependenceRows
+  pub verdict-of-passes : Passes S → verdict S ≡ Accepted
+  unfolding verdict
   verdict-of-passes p =
-      row-misses _ _ _ (empty-of-a S (p .a))
-      ∙ row-misses _ _ _ (empty-of-b S (p .b))
-      ∙ row-misses _ _ _ (empty-of-acyclic S (p .acyclic))
-      ∙ row-misses _ _ _ (empty-of-c S (p .c))
-      ∙ row-misses _ _ _ (empty-of-d S (p .d))
+      row-misses _ _ _ (a-iff S .1 (p .a))
+      ∙ row-misses _ _ _ (b-iff S .1 (p .b))
+      ∙ row-misses _ _ _ (acyclic-iff S .1 (p .acyclic))
+      ∙ row-misses _ _ _ (c-iff S .1 (p .c))
+      ∙ row-misses _ _ _ (d-iff S .1 (p .d))
 
-  pub passes-of-verdict : verdict S ≡ GraphPasses → Passes S
-  unfolding verdict dependenceRows
+  pub passes-of-verdict : verdict S ≡ Accepted → Passes S
+  unfolding verdict
   passes-of-verdict e =
-      let a = row-passes _ _ _ (λ r k. let z : _≡_ {A = ℕ} 0 1 = cc in omega arith) e in
-      let b = row-passes _ _ _ (λ r k. let z : _≡_ {A = ℕ} 0 1 = cc in omega arith) (a .1) in
-      let y = row-passes _ _ _ (λ r k. let z : _≡_ {A = ℕ} 0 1 = cc in omega arith) (b .1) in
-      let c = row-passes _ _ _ (λ r k. let z : _≡_ {A = ℕ} 0 1 = cc in omega arith) (y .1) in
-      let d = row-passes _ _ _ (λ r k. let z : _≡_ {A = ℕ} 0 1 = cc in omega arith) (c .1) in
+      let a = row-passes _ _ _ e in
+      let b = row-passes _ _ _ (a .1) in
+      let y = row-passes _ _ _ (b .1) in
+      let c = row-passes _ _ _ (y .1) in
+      let d = row-passes _ _ _ (c .1) in
       record {
-        a = a-of-empty S (a .0);
-        b = b-of-empty S (b .0);
-        acyclic = acyclic-of-empty S (y .0);
-        c = c-of-empty S (c .0);
-        d = d-of-empty S (d .0);
+        a = a-iff S .0 (a .0);
+        b = b-iff S .0 (b .0);
+        acyclic = acyclic-iff S .0 (y .0);
+        c = c-iff S .0 (c .0);
+        d = d-iff S .0 (d .0);
       }
 
   -- the verdict is a pass exactly if all conditions hold
-  pub passes-iff : (verdict S ≡ GraphPasses) ↔ Passes S
+  pub passes-iff : (verdict S ≡ Accepted) ↔ Passes S
   passes-iff = (passes-of-verdict, verdict-of-passes)
 
+module _ (S : Units) (rules-fit : S .rules ≤ ATOMS) (units-fit : S .units ≤ ATOMS) where
+  small-rule-in-no-unit : (r : ℕ) → RuleInNoUnit S r → r < ATOMS
+  small-rule-in-no-unit r o = omega (arith, o .is-rule)
+
+  small-headed-rule-in-several : (r : ℕ) → HeadedRuleInSeveral S r → r < ATOMS
+  small-headed-rule-in-several r o = omega (arith, o .in-first .is-rule)
+
+  small-cycle : (u : ℕ) → Cycle S u → u < ATOMS
+  small-cycle u o = omega (arith, path-start S (o .returns))
+
+  small-nonmonotonic-unseen : (r : ℕ) → NonmonotonicUnseen S r → r < ATOMS
+  small-nonmonotonic-unseen r o = omega (arith, o .held .is-rule)
+
+  small-monotonic-unseen : (r : ℕ) → MonotonicUnseen S r → r < ATOMS
+  small-monotonic-unseen r o = omega (arith, o .is-rule)
+
   -- a verdict names the first row that fits and its lowest offender
-  pub verdict-right : S .rules ≤ 64 → S .units ≤ 64 → Right S (verdict S)
-  unfolding verdict dependenceRows
-  verdict-right k l =
-      row-right S _ _ _
-      (λ n. row-10 (least-of _ _ (unplaced-at S) (unplaced-has S) (λ r o. omega (arith, o .is-rule)) n))
-      (λ a. row-right S _ _ _
-      (λ n. row-11 (a-of-empty S a) (least-of _ _ (shared-at S) (shared-has S) (λ r o. omega (arith, o .in-first .is-rule)) n))
-      (λ b. row-right S _ _ _
-      (λ n. row-12 (a-of-empty S a) (b-of-empty S b) (least-of _ (λ u. Path S u u) (cyclic-at S) (cyclic-has S) (λ u p. omega (arith, path-start S p)) n))
-      (λ y. row-right S _ _ _
-      (λ n. row-13 (a-of-empty S a) (b-of-empty S b) (acyclic-of-empty S y) (least-of _ _ (nonmonotonic-at S) (nonmonotonic-has S) (λ r o. omega (arith, o .held .is-rule)) n))
-      (λ c. row-right S _ _ _
-      (λ n. row-14 (a-of-empty S a) (b-of-empty S b) (acyclic-of-empty S y) (c-of-empty S c) (least-of _ _ (monotonic-at S) (monotonic-has S) (λ r o. omega (arith, o .is-rule)) n))
+  pub verdict-right : Right S (verdict S)
+  unfolding verdict
+  verdict-right =
+      row-right S _ _ (collects-rule-in-no-unit S) small-rule-in-no-unit row-10
+      (λ a. row-right S _ _ (collects-headed-rule-in-several S) small-headed-rule-in-several (row-11 (a-iff S .0 a))
+      (λ b. row-right S _ _ (collects-cycle S) small-cycle (row-12 (a-iff S .0 a) (b-iff S .0 b))
+      (λ y. row-right S _ _ (collects-nonmonotonic-unseen S) small-nonmonotonic-unseen (row-13 (a-iff S .0 a) (b-iff S .0 b) (acyclic-iff S .0 y))
+      (λ c. row-right S _ _ (collects-monotonic-unseen S) small-monotonic-unseen (row-14 (a-iff S .0 a) (b-iff S .0 b) (acyclic-iff S .0 y) (c-iff S .0 c))
       (λ d. passes (record {
-        a = a-of-empty S a;
-        b = b-of-empty S b;
-        acyclic = acyclic-of-empty S y;
-        c = c-of-empty S c;
-        d = d-of-empty S d;
+        a = a-iff S .0 a;
+        b = b-iff S .0 b;
+        acyclic = acyclic-iff S .0 y;
+        c = c-iff S .0 c;
+        d = d-iff S .0 d;
       }))))))
 
   -- and only one verdict does
-  pub verdict-only : S .rules ≤ 64 → S .units ≤ 64 → (v : Verdict) → Right S v → verdict S ≡ v
-  unfolding verdict dependenceRows
-  verdict-only k l v (passes p) = verdict-of-passes p
-  verdict-only k l v (row-10 {r} least) =
-      row-names _ _ RuleUnplaced _ r (unplaced-at S) (unplaced-has S) (λ q o. omega (arith, o .is-rule)) least
-  verdict-only k l v (row-11 {r} a least) =
-      row-misses _ _ _ (empty-of-a S a)
-      ∙ row-names _ _ RuleShared _ r (shared-at S) (shared-has S) (λ q o. omega (arith, o .in-first .is-rule)) least
-  verdict-only k l v (row-12 {u} a b least) =
-      row-misses _ _ _ (empty-of-a S a)
-      ∙ row-misses _ _ _ (empty-of-b S b)
-      ∙ row-names _ (λ v. Path S v v) UnitCyclic _ u (cyclic-at S) (cyclic-has S) (λ q p. omega (arith, path-start S p)) least
-  verdict-only k l v (row-13 {r} a b y least) =
-      row-misses _ _ _ (empty-of-a S a)
-      ∙ row-misses _ _ _ (empty-of-b S b)
-      ∙ row-misses _ _ _ (empty-of-acyclic S y)
-      ∙ row-names _ _ RuleClashing _ r (nonmonotonic-at S) (nonmonotonic-has S) (λ q o. omega (arith, o .held .is-rule)) least
-  verdict-only k l v (row-14 {r} a b y c least) =
-      row-misses _ _ _ (empty-of-a S a)
-      ∙ row-misses _ _ _ (empty-of-b S b)
-      ∙ row-misses _ _ _ (empty-of-acyclic S y)
-      ∙ row-misses _ _ _ (empty-of-c S c)
-      ∙ row-names _ _ RuleUncovered _ r (monotonic-at S) (monotonic-has S) (λ q o. omega (arith, o .is-rule)) least
+  pub verdict-only : (v : Outcome) → Right S v → verdict S ≡ v
+  unfolding verdict
+  verdict-only v (passes p) = verdict-of-passes S p
+  verdict-only v (row-10 least) = row-names Fault.RuleInNoUnit _ (collects-rule-in-no-unit S) small-rule-in-no-unit least
+  verdict-only v (row-11 a least) =
+      row-misses _ _ _ (a-iff S .1 a)
+      ∙ row-names Fault.HeadedRuleInSeveral _ (collects-headed-rule-in-several S) small-headed-rule-in-several least
+  verdict-only v (row-12 a b least) =
+      row-misses _ _ _ (a-iff S .1 a)
+      ∙ row-misses _ _ _ (b-iff S .1 b)
+      ∙ row-names Fault.Cycle _ (collects-cycle S) small-cycle least
+  verdict-only v (row-13 a b y least) =
+      row-misses _ _ _ (a-iff S .1 a)
+      ∙ row-misses _ _ _ (b-iff S .1 b)
+      ∙ row-misses _ _ _ (acyclic-iff S .1 y)
+      ∙ row-names Fault.NonmonotonicUnseen _ (collects-nonmonotonic-unseen S) small-nonmonotonic-unseen least
+  verdict-only v (row-14 a b y c least) =
+      row-misses _ _ _ (a-iff S .1 a)
+      ∙ row-misses _ _ _ (b-iff S .1 b)
+      ∙ row-misses _ _ _ (acyclic-iff S .1 y)
+      ∙ row-misses _ _ _ (c-iff S .1 c)
+      ∙ row-names Fault.MonotonicUnseen _ (collects-monotonic-unseen S) small-monotonic-unseen least

@@ -2,7 +2,7 @@
 use mathlib.Core.Path.{_≡_}
 use mathlib.Core.Logic.{_⊎_}
 use Prim.Native.Nat.{ℕ, _<_}
-use Rattle.atoms.specs.Word.{Has, Apart}
+use Rattle.atoms.specs.Word.{Has}
 use Rattle.dependency_graph.specs.Units.{Units, Holds, Edge, Path}
 
 -- the two words share an atom

@@ -1,10 +1,10 @@
--- The table is filled from the front (Filling); words not yet reached are as they came.
+-- The table is filled from the front; words not yet reached are as they came (Filled).
 use Prim.Native.Nat.{_-_}
 use native.Mathlib.Omega.{arith}
 use lib.ListN.{getD}
 use borrow.Author.Needs.{needs}
 use Rattle.atoms.specs.Word.{_∪_}
-use Rattle.dependency_graph.proofs.Filling.{Filling, filling-start, unreached, filling-more, filling-end}
+use Rattle.dependency_graph.proofs.Filled.{Filling, filling-start, unreached, filling-more, filling-end}
 use Rattle.dependency_graph.proofs.head_atoms.add_words.Statement.{statement}
 use Rattle.dependency_graph.proofs.head_atoms.add_words.Tie as tie
 
@@ -17,37 +17,9 @@ abbrev μ-loop : tie.MeasureT-loop
 loop-holds : tie.Need-loop-holds Inv-loop μ-loop
 loop-holds c = filling-start (omega arith)
 
-mul-union : tie.Need-mul-union Inv-loop μ-loop
-mul-union c = search needs
-
-shared-slice-read-union : tie.Need-shared-slice-read-union Inv-loop μ-loop
-shared-slice-read-union c = search needs
-
-mul-union-2 : tie.Need-mul-union-2 Inv-loop μ-loop
-mul-union-2 c = search needs
-
-slice-read-union : tie.Need-slice-read-union Inv-loop μ-loop
-slice-read-union c = search needs
-
-union-requires : tie.Need-union-requires Inv-loop μ-loop
-union-requires c κs = search needs
-
-mul-table : tie.Need-mul-table Inv-loop μ-loop
-mul-table c = search needs
-
-slice-write-table : tie.Need-slice-write-table Inv-loop μ-loop
-slice-write-table c = search needs
-
-add-u : tie.Need-add-u Inv-loop μ-loop
-add-u c = search needs
-
-loop-less : tie.Need-loop-less Inv-loop μ-loop
-loop-less c = search needs
-
 loop-again : tie.Need-loop-again Inv-loop μ-loop
 loop-again c =
-    let c4 = c .before .before .before .before in
-    let inv = c4 .loop .inv in
+    let inv = c .before .before .before .before .loop .inv in
     filling-more inv (c .before .before .before .loop-test .taken) (rw (unreached inv) at (c .union .ensures))
 
 same-length : tie.Need-same-length Inv-loop μ-loop
@@ -63,15 +35,15 @@ add-words-spec =
     Inv-loop
     μ-loop
     loop-holds
-    mul-union
-    shared-slice-read-union
-    mul-union-2
-    slice-read-union
-    union-requires
-    mul-table
-    slice-write-table
-    add-u
-    loop-less
+    (λ c. search needs)
+    (λ c. search needs)
+    (λ c. search needs)
+    (λ c. search needs)
+    (λ c κs. search needs)
+    (λ c. search needs)
+    (λ c. search needs)
+    (λ c. search needs)
+    (λ c. search needs)
     loop-again
     same-length
     returns)
