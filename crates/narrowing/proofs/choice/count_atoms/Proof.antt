@@ -33,9 +33,6 @@ mul-places c = omega (arith, in-range (c .before))
 slice-write-places : tie.Need-slice-write-places Inv-loop μ-loop
 slice-write-places c = in-range (c .before)
 
-cut-requires : tie.Need-cut-requires Inv-loop μ-loop
-cut-requires c κs = search needs
-
 add-i : tie.Need-add-i Inv-loop μ-loop
 add-i c = omega (arith, in-range (c .before .before))
 
@@ -70,7 +67,7 @@ count-atoms-spec =
     slice-read-here
     mul-places
     slice-write-places
-    cut-requires
+    (λ c κs. search needs)
     add-i
     loop-less
     loop-again

@@ -26,9 +26,6 @@ open-atoms-requires c κs =
     c .before .before .before .before .before .before .pre .each (c .before .lowest .result)
     (c .before .before .before .loop .inv .0 .each (c .before .lowest .result) (c .before .lowest .ensures .0 .here))
 
-count-atoms-requires : tie.Need-count-atoms-requires Inv-loop μ-loop
-count-atoms-requires c κs = search needs
-
 drop-requires : tie.Need-drop-requires Inv-loop μ-loop
 drop-requires c κs = c .before .before .before .before .before .lowest .ensures .1
 
@@ -57,7 +54,7 @@ count-rules-spec =
     loop-holds
     lowest-requires
     open-atoms-requires
-    count-atoms-requires
+    (λ c κs. search needs)
     drop-requires
     loop-less
     loop-again

@@ -20,9 +20,6 @@ loop-holds c = (record { within = subset-refl; some = c .before .pre }, omega ar
 sub-i : tie.Need-sub-i Inv-loop μ-loop
 sub-i c = omega (arith, c .loop-test .taken)
 
-mul-prefer : tie.Need-mul-prefer Inv-loop μ-loop
-mul-prefer c = search needs
-
 shared-slice-read-prefer : tie.Need-shared-slice-read-prefer Inv-loop μ-loop
 shared-slice-read-prefer c = omega (arith, c .before .before .loop .inv .1, c .before .loop-test .taken)
 
@@ -53,7 +50,7 @@ most-spec =
     μ-loop
     loop-holds
     sub-i
-    mul-prefer
+    (λ c. search needs)
     shared-slice-read-prefer
     prefer-requires
     loop-less

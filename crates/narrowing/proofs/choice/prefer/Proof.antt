@@ -7,9 +7,6 @@ use borrow.Author.Needs.{needs}
 use Rattle.narrowing.proofs.choice.prefer.Statement.{statement}
 use Rattle.narrowing.proofs.choice.prefer.Tie as tie
 
-cut-requires : tie.Need-cut-requires
-cut-requires c κs = search needs
-
 returns : tie.Need-returns
 returns c = record { within = subset-refl; some = c .before .before .pre }
 
@@ -22,4 +19,4 @@ returns-2 c =
     }
 
 pub prefer-spec : {M : Type 1} → statement M
-prefer-spec = tie.close (tie.spec cut-requires returns returns-2)
+prefer-spec = tie.close (tie.spec (λ c κs. search needs) returns returns-2)

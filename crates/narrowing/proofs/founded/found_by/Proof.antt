@@ -11,12 +11,6 @@ use borrow.Author.Needs.{needs}
 use Rattle.narrowing.proofs.founded.found_by.Statement.{statement}
 use Rattle.narrowing.proofs.founded.found_by.Tie as tie
 
-positive-body-requires : tie.Need-positive-body-requires
-positive-body-requires c κs = search needs
-
-is-subset-requires : tie.Need-is-subset-requires
-is-subset-requires c κs = search needs
-
 returns : tie.Need-returns
 returns c =
     let c4 = c .before .before .before .before in
@@ -25,21 +19,6 @@ returns c =
     closes-skip (now (at .rules)) (at .dropped) (at .rule) (at .found)
     (decides-subset (lent (now (at .rules)) .positive (at .rule)) (at .found) .no
     (ap (λ (w : ℕ). subset w (at .found)) (sym (c .before .before .positive-body .ensures)) ∙ sym (test .ensures) ∙ not-true (test .result) (c .if1 .taken)))
-
-negative-body-requires : tie.Need-negative-body-requires
-negative-body-requires c κs = search needs
-
-union-requires : tie.Need-union-requires
-union-requires c κs = search needs
-
-head-requires : tie.Need-head-requires
-head-requires c κs = search needs
-
-without-requires : tie.Need-without-requires
-without-requires c κs = search needs
-
-union-requires-2 : tie.Need-union-requires-2
-union-requires-2 c κs = search needs
 
 returns-2 : tie.Need-returns-2
 returns-2 c =
@@ -56,12 +35,12 @@ pub found-by-spec : {M : Type 1} → statement M
 found-by-spec =
     tie.close
     (tie.spec
-    positive-body-requires
-    is-subset-requires
+    (λ c κs. search needs)
+    (λ c κs. search needs)
     returns
-    negative-body-requires
-    union-requires
-    head-requires
-    without-requires
-    union-requires-2
+    (λ c κs. search needs)
+    (λ c κs. search needs)
+    (λ c κs. search needs)
+    (λ c κs. search needs)
+    (λ c κs. search needs)
     returns-2)

@@ -10,21 +10,6 @@ use borrow.Author.Needs.{needs}
 use Rattle.narrowing.proofs.founded.founded_pass.Statement.{statement}
 use Rattle.narrowing.proofs.founded.founded_pass.Tie as tie
 
-without-requires : tie.Need-without-requires
-without-requires c κs = search needs
-
-founded-atoms-requires : tie.Need-founded-atoms-requires
-founded-atoms-requires c κs = search needs
-
-first-requires : tie.Need-first-requires
-first-requires c κs = search needs
-
-without-requires-2 : tie.Need-without-requires-2
-without-requires-2 c κs = search needs
-
-union-requires : tie.Need-union-requires
-union-requires c κs = search needs
-
 returns : tie.Need-returns
 returns c =
     let at = c .before .before .before .before .before .before .args in
@@ -39,9 +24,9 @@ pub founded-pass-spec : {M : Type 1} → statement M
 founded-pass-spec =
     tie.close
     (tie.spec
-    without-requires
-    founded-atoms-requires
-    first-requires
-    without-requires-2
-    union-requires
+    (λ c κs. search needs)
+    (λ c κs. search needs)
+    (λ c κs. search needs)
+    (λ c κs. search needs)
+    (λ c κs. search needs)
     returns)

@@ -8,24 +8,6 @@ use borrow.Author.Needs.{needs}
 use Rattle.narrowing.proofs.live.live_if.Statement.{statement}
 use Rattle.narrowing.proofs.live.live_if.Tie as tie
 
-body-known-requires : tie.Need-body-known-requires
-body-known-requires c κs = search needs
-
-enum-told : tie.Need-enum-told
-enum-told c = search needs
-
-enum-told-2 : tie.Need-enum-told-2
-enum-told-2 c = search needs
-
-drop-requires : tie.Need-drop-requires
-drop-requires c κs = search needs
-
-enum-told-3 : tie.Need-enum-told-3
-enum-told-3 c = search needs
-
-returns : tie.Need-returns
-returns c = search needs
-
 returns-2 : tie.Need-returns-2
 returns-2 c =
     let at = c .before .before .before .before .before .args in
@@ -33,18 +15,15 @@ returns-2 c =
     (live-without (now (at .rules)) (at .s) (at .word) (at .rule)
     (sym (c .before .before .before .body-known .ensures) ∙ c .before .enum-told2 .given .1))
 
-returns-3 : tie.Need-returns-3
-returns-3 c = search needs
-
 pub live-if-spec : {M : Type 1} → statement M
 live-if-spec =
     tie.close
     (tie.spec
-    body-known-requires
-    enum-told
-    enum-told-2
-    drop-requires
-    enum-told-3
-    returns
+    (λ c κs. search needs)
+    (λ c. search needs)
+    (λ c. search needs)
+    (λ c κs. search needs)
+    (λ c. search needs)
+    (λ c. search needs)
     returns-2
-    returns-3)
+    (λ c. search needs))

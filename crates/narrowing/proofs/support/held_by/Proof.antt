@@ -26,39 +26,6 @@ down c =
     ∙ ap₂ _∪_ (c4 .negative-body .ensures)
     (c5 .drop .ensures ∙ ap (λ (w : ℕ). w ∖ atom (c6 .lowest .result)) (c7 .head .ensures))
 
-supportable-requires : tie.Need-supportable-requires
-supportable-requires c κs = search needs
-
-cut-requires : tie.Need-cut-requires
-cut-requires c κs = search needs
-
-returns : tie.Need-returns
-returns c = search needs
-
-head-requires : tie.Need-head-requires
-head-requires c κs = search needs
-
-lowest-requires : tie.Need-lowest-requires
-lowest-requires c κs = search needs
-
-drop-requires : tie.Need-drop-requires
-drop-requires c κs = search needs
-
-negative-body-requires : tie.Need-negative-body-requires
-negative-body-requires c κs = search needs
-
-union-requires : tie.Need-union-requires
-union-requires c κs = search needs
-
-positive-body-requires : tie.Need-positive-body-requires
-positive-body-requires c κs = search needs
-
-union-requires-2 : tie.Need-union-requires-2
-union-requires-2 c κs = search needs
-
-union-requires-3 : tie.Need-union-requires-3
-union-requires-3 c κs = search needs
-
 returns-2 : tie.Need-returns-2
 returns-2 c =
     let c6 = c .before .before .before .before .before .before in
@@ -78,15 +45,15 @@ pub held-by-spec : {M : Type 1} → statement M
 held-by-spec =
     tie.close
     (tie.spec
-    supportable-requires
-    cut-requires
-    returns
-    head-requires
-    lowest-requires
-    drop-requires
-    negative-body-requires
-    union-requires
-    positive-body-requires
-    union-requires-2
-    union-requires-3
+    (λ c κs. search needs)
+    (λ c κs. search needs)
+    (λ c. search needs)
+    (λ c κs. search needs)
+    (λ c κs. search needs)
+    (λ c κs. search needs)
+    (λ c κs. search needs)
+    (λ c κs. search needs)
+    (λ c κs. search needs)
+    (λ c κs. search needs)
+    (λ c κs. search needs)
     returns-2)

@@ -27,32 +27,8 @@ unsupported c =
     (c6 .tally-support .ensures) (c .before .before .before .without .result)
     (c .before .before .before .without .ensures ∙ ap₂ _∖_ (c5 .first .ensures) (c4 .union .ensures)))
 
-tally-support-requires : tie.Need-tally-support-requires
-tally-support-requires c κs = search needs
-
-first-requires : tie.Need-first-requires
-first-requires c κs = search needs
-
-union-requires : tie.Need-union-requires
-union-requires c κs = search needs
-
-without-requires : tie.Need-without-requires
-without-requires c κs = search needs
-
-union-requires-2 : tie.Need-union-requires-2
-union-requires-2 c κs = search needs
-
-union-requires-3 : tie.Need-union-requires-3
-union-requires-3 c κs = search needs
-
-without-requires-2 : tie.Need-without-requires-2
-without-requires-2 c κs = search needs
-
 returns : tie.Need-returns
 returns c = unsupported (c .before)
-
-held-by-all-requires : tie.Need-held-by-all-requires
-held-by-all-requires c κs = search needs
 
 returns-2 : tie.Need-returns-2
 returns-2 c =
@@ -68,13 +44,13 @@ pub support-pass-spec : {M : Type 1} → statement M
 support-pass-spec =
     tie.close
     (tie.spec
-    tally-support-requires
-    first-requires
-    union-requires
-    without-requires
-    union-requires-2
-    union-requires-3
-    without-requires-2
+    (λ c κs. search needs)
+    (λ c κs. search needs)
+    (λ c κs. search needs)
+    (λ c κs. search needs)
+    (λ c κs. search needs)
+    (λ c κs. search needs)
+    (λ c κs. search needs)
     returns
-    held-by-all-requires
+    (λ c κs. search needs)
     returns-2)

@@ -36,37 +36,10 @@ up-is c =
     let c8 = c6 .before .before in
     c .cut .ensures ∙ ap (λ (w : ℕ). w ∩ c8 .args .s .up) (c6 .head .ensures)
 
-head-requires : tie.Need-head-requires
-head-requires c κs = search needs
-
-positive-body-requires : tie.Need-positive-body-requires
-positive-body-requires c κs = search needs
-
-negative-body-requires : tie.Need-negative-body-requires
-negative-body-requires c κs = search needs
-
-union-requires : tie.Need-union-requires
-union-requires c κs = search needs
-
-without-requires : tie.Need-without-requires
-without-requires c κs = search needs
-
-without-requires-2 : tie.Need-without-requires-2
-without-requires-2 c κs = search needs
-
-cut-requires : tie.Need-cut-requires
-cut-requires c κs = search needs
-
 returns : tie.Need-returns
 returns c =
     let at = c .before .before .before .before .before .before .before .before .before .args in
     none-up (now (at .rules)) (at .rule) (at .s) _ _ (left-is (c .before .before)) (up-is (c .before)) (c .if1 .taken)
-
-at-most-one-requires : tie.Need-at-most-one-requires
-at-most-one-requires c κs = search needs
-
-cut-requires-2 : tie.Need-cut-requires-2
-cut-requires-2 c κs = search needs
 
 returns-2 : tie.Need-returns-2
 returns-2 c =
@@ -89,15 +62,15 @@ pub supportable-spec : {M : Type 1} → statement M
 supportable-spec =
     tie.close
     (tie.spec
-    head-requires
-    positive-body-requires
-    negative-body-requires
-    union-requires
-    without-requires
-    without-requires-2
-    cut-requires
+    (λ c κs. search needs)
+    (λ c κs. search needs)
+    (λ c κs. search needs)
+    (λ c κs. search needs)
+    (λ c κs. search needs)
+    (λ c κs. search needs)
+    (λ c κs. search needs)
     returns
-    at-most-one-requires
-    cut-requires-2
+    (λ c κs. search needs)
+    (λ c κs. search needs)
     returns-2
     returns-3)

@@ -31,15 +31,6 @@ supportable-requires c κs =
     c .before .before .before .before .pre .each (c .lowest .result)
     (c .before .before .loop .inv .0 .each (c .lowest .result) (c .lowest .ensures .0 .here))
 
-union-requires : tie.Need-union-requires Inv-loop μ-loop
-union-requires c κs = search needs
-
-cut-requires : tie.Need-cut-requires Inv-loop μ-loop
-cut-requires c κs = search needs
-
-union-requires-2 : tie.Need-union-requires-2 Inv-loop μ-loop
-union-requires-2 c κs = search needs
-
 drop-requires : tie.Need-drop-requires Inv-loop μ-loop
 drop-requires c κs = c .before .before .before .before .lowest .ensures .1
 
@@ -81,9 +72,9 @@ tally-support-spec =
     loop-holds
     lowest-requires
     supportable-requires
-    union-requires
-    cut-requires
-    union-requires-2
+    (λ c κs. search needs)
+    (λ c κs. search needs)
+    (λ c κs. search needs)
     drop-requires
     loop-less
     loop-again
