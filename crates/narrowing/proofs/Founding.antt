@@ -4,7 +4,8 @@ use mathlib.Core.Logic.{_⊎_, inl, inr}
 use mathlib.Core.List.{List}
 use Prim.Native.Nat.{ℕ, _^_, _<_}
 use Rattle.atoms.specs.Word.{Has, _⊆_, Apart, _∩_, _∪_, _∖_, atom, below}
-use Rattle.atoms.proofs.Sets.{subset-refl, subset-trans, subset-antisym, subset-of-eq, has-cut, cut-left, cut-right, has-left, has-right, union-cases, has-without, without-right}
+use Rattle.atoms.proofs.Sets.{subset-refl, subset-trans, subset-antisym, subset-of-eq, has-cut, cut-left, cut-right}
+use Rattle.atoms.proofs.Sets.{has-left, has-right, union-cases, has-without, without-right}
 use Rattle.answer_sets.specs.Program.{Body}
 use Rattle.answer_sets.specs.AnswerSet.{ReductModel}
 use Rattle.answer_sets.specs.Lent.{lent, negative}

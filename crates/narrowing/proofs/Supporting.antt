@@ -8,7 +8,8 @@ use native.Mathlib.Decide.{ℕ-discrete}
 use Rattle.atoms.specs.Word.{Has, has, _⊆_, _⊂_, _∩_, _∪_, _∖_, atom, AtMostOne}
 use Rattle.atoms.specs.Bounded.{someBelow}
 use Rattle.atoms.proofs.Tests.{test-cases, and-true, not-is-true, not-both, decided, decided-true, decided-false, false-of-not-true}
-use Rattle.atoms.proofs.Sets.{decides-has, decides-apart, has-lt, has-cut, cut-left, cut-right, has-left, has-right, union-cases, has-without, without-left, without-right, has-atom, atom-only, has-none}
+use Rattle.atoms.proofs.Sets.{decides-has, decides-apart, has-lt, has-cut, cut-left, cut-right, has-left, has-right, union-cases}
+use Rattle.atoms.proofs.Sets.{has-without, without-left, without-right, has-atom, atom-only, has-none}
 use Rattle.atoms.proofs.Bounded.{some-at, some-intro}
 use Rattle.answer_sets.specs.Program.{Program, Body, Satisfies}
 use Rattle.answer_sets.specs.AnswerSet.{Kept, AnswerSet}

@@ -16,9 +16,10 @@ returns c =
     let c4 = c .before .before .before .before in
     let at = c4 .args in
     let test = c .before .is-subset in
+    let failed = sym (test .ensures) ∙ not-true (test .result) (c .if1 .taken) in
     closes-skip (now (at .rules)) (at .dropped) (at .rule) (at .found)
     (decides-subset (lent (now (at .rules)) .positive (at .rule)) (at .found) .no
-    (ap (λ (w : ℕ). subset w (at .found)) (sym (c .before .before .positive-body .ensures)) ∙ sym (test .ensures) ∙ not-true (test .result) (c .if1 .taken)))
+    (ap (λ (w : ℕ). subset w (at .found)) (sym (c .before .before .positive-body .ensures)) ∙ failed))
 
 returns-2 : tie.Need-returns-2
 returns-2 c =

@@ -29,7 +29,8 @@ found-round-requires-2 c κs = c .before .before .before .before .pre
 loop-less : tie.Need-loop-less Inv-loop μ-loop
 loop-less c =
     let old = c .before .before .loop in
-    omega (arith, count-proper (old .found) (old .next) (old .inv .1 .grows) (λ e. c .before .loop-test .taken (sym e)), counts-small (old .next) (old .inv .2) .0)
+    let more = count-proper (old .found) (old .next) (old .inv .1 .grows) (λ e. c .before .loop-test .taken (sym e)) in
+    omega (arith, counts-small (old .next) (old .inv .2) .0)
 
 loop-again : tie.Need-loop-again Inv-loop μ-loop
 loop-again c =

@@ -11,12 +11,14 @@ use borrow.Author.Needs.{needs}
 use Rattle.narrowing.proofs.support.held_by.Statement.{statement}
 use Rattle.narrowing.proofs.support.held_by.Tie as tie
 
+abbrev start : tie.After-union3 → tie.Start
+start c = c .before .before .before .before .before .before .before .before .before .before .before .before
+
 -- what is dropped: the negative atoms and the other head atoms
 down : (c : tie.After-union3)
     → c .before .before .before .union .result
-    ≡ negative (now (c .before .before .before .before .before .before .before .before .before .before .before .before .args .rules))
-    (c .before .before .before .before .before .before .before .before .before .before .before .before .args .rule)
-    ∪ (lent (now (c .before .before .before .before .before .before .before .before .before .before .before .before .args .rules)) .head (c .before .before .before .before .before .before .before .before .before .before .before .before .args .rule) ∖ atom (c .before .before .before .before .before .before .lowest .result))
+    ≡ negative (now (start c .args .rules)) (start c .args .rule)
+    ∪ (lent (now (start c .args .rules)) .head (start c .args .rule) ∖ atom (c .before .before .before .before .before .before .lowest .result))
 down c =
     let c4 = c .before .before .before .before in
     let c5 = c4 .before in
@@ -31,8 +33,7 @@ returns-2 c =
     let c6 = c .before .before .before .before .before .before in
     let c9 = c6 .before .before .before in
     let c10 = c9 .before in
-    let c12 = c10 .before .before in
-    let at = c12 .args in
+    let at = start c .args in
     let word = c10 .supportable in
     let low = c6 .lowest in
     subst₂ (λ (u d : ℕ). Narrows (HoldsSole (now (at .rules)) (at .rule) (at .s) (at .sole)) (at .t) (record { up = u; dropped = d }))

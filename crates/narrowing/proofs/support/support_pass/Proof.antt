@@ -10,20 +10,21 @@ use borrow.Author.Needs.{needs}
 use Rattle.narrowing.proofs.support.support_pass.Statement.{statement}
 use Rattle.narrowing.proofs.support.support_pass.Tie as tie
 
+abbrev start : tie.After-without2 → tie.Start
+start c = c .before .before .before .before .before .before .before .before
+
 -- what no rule may support is dropped
 unsupported : (c : tie.After-without2)
-    → Narrows
-    (Settled (now (c .before .before .before .before .before .before .before .before .args .rules)) (c .before .before .before .before .before .before .before .before .args .which) (c .before .before .before .before .before .before .before .before .args .inputs)) (c .before .before .before .before .before .before .before .before .args .s)
-    (record { up = c .before .before .before .before .before .before .before .before .args .s .up; dropped = c .before .before .union2 .result })
+    → Narrows (Settled (now (start c .args .rules)) (start c .args .which) (start c .args .inputs)) (start c .args .s)
+    (record { up = start c .args .s .up; dropped = c .before .before .union2 .result })
 unsupported c =
     let c4 = c .before .before .before .before in
     let c5 = c4 .before in
     let c6 = c5 .before in
-    let c8 = c6 .before .before in
-    let at = c8 .args in
+    let at = start c .args in
     subst (λ (w : ℕ). Narrows (Settled (now (at .rules)) (at .which) (at .inputs)) (at .s) (record { up = at .s .up; dropped = w }))
     (sym (c .before .before .union2 .ensures))
-    (unsupported-narrows (now (at .rules)) (at .s) (at .which) (at .inputs) (c8 .fits .which .fits) (c6 .tally-support .result)
+    (unsupported-narrows (now (at .rules)) (at .s) (at .which) (at .inputs) (start c .fits .which .fits) (c6 .tally-support .result)
     (c6 .tally-support .ensures) (c .before .before .before .without .result)
     (c .before .before .before .without .ensures ∙ ap₂ _∖_ (c5 .first .ensures) (c4 .union .ensures)))
 

@@ -11,30 +11,29 @@ use borrow.Author.Needs.{needs}
 use Rattle.narrowing.proofs.support.supportable.Statement.{statement}
 use Rattle.narrowing.proofs.support.supportable.Tie as tie
 
+abbrev start : tie.After-without2 → tie.Start
+start c = c .before .before .before .before .before .before .before
+
 -- the words that the code computes, told from the rule's own
 left-is : (c : tie.After-without2)
     → c .without2 .result
-    ≡ lent (now (c .before .before .before .before .before .before .before .args .rules)) .head
-    (c .before .before .before .before .before .before .before .args .rule)
-    ∖ (lent (now (c .before .before .before .before .before .before .before .args .rules)) .positive (c .before .before .before .before .before .before .before .args .rule) ∪ negative (now (c .before .before .before .before .before .before .before .args .rules)) (c .before .before .before .before .before .before .before .args .rule))
-    ∖ c .before .before .before .before .before .before .before .args .s .dropped
+    ≡ lent (now (start c .args .rules)) .head (start c .args .rule)
+    ∖ (lent (now (start c .args .rules)) .positive (start c .args .rule) ∪ negative (now (start c .args .rules)) (start c .args .rule))
+    ∖ start c .args .s .dropped
 left-is c =
     let c4 = c .before .before .before .before in
     let c5 = c4 .before in
-    let c7 = c5 .before .before in
     c .without2 .ensures
-    ∙ ap (λ (w : ℕ). w ∖ c7 .args .s .dropped)
+    ∙ ap (λ (w : ℕ). w ∖ start c .args .s .dropped)
     (c .before .without .ensures
     ∙ ap₂ _∖_ (c5 .head .ensures)
     (c .before .before .union .ensures ∙ ap₂ _∪_ (c4 .positive-body .ensures) (c .before .before .before .negative-body .ensures)))
 
 up-is : (c : tie.After-cut)
-    → c .cut .result ≡ lent (now (c .before .before .before .before .before .before .before .before .args .rules)) .head
-    (c .before .before .before .before .before .before .before .before .args .rule) ∩ c .before .before .before .before .before .before .before .before .args .s .up
+    → c .cut .result ≡ lent (now (start (c .before) .args .rules)) .head (start (c .before) .args .rule) ∩ start (c .before) .args .s .up
 up-is c =
     let c6 = c .before .before .before .before .before .before in
-    let c8 = c6 .before .before in
-    c .cut .ensures ∙ ap (λ (w : ℕ). w ∩ c8 .args .s .up) (c6 .head .ensures)
+    c .cut .ensures ∙ ap (λ (w : ℕ). w ∩ start (c .before) .args .s .up) (c6 .head .ensures)
 
 returns : tie.Need-returns
 returns c =

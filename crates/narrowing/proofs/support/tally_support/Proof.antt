@@ -46,14 +46,16 @@ loop-again c =
     let at = c9 .args in
     let old = c7 .loop in
     let low = c5 .lowest in
-    let word = c4 .supportable in (
+    let word = c4 .supportable in
+    let once = c .before .before .before .union in
+    let twice = c .before .union2 in (
       taken-within (old .inv .0) (low .ensures .0) (c .drop .ensures),
-      subst (λ (rest : ℕ). Tallied (now (at .rules)) (at .which ∖ rest) (at .s) (record { once = c .before .before .before .union .result; twice = c .before .union2 .result }))
+      subst (λ (rest : ℕ). Tallied (now (at .rules)) (at .which ∖ rest) (at .s) (record { once = once .result; twice = twice .result }))
           (sym (c .drop .ensures))
           (subst₂
           (λ (once twice : ℕ). Tallied (now (at .rules)) (at .which ∖ (old .rest ∖ atom (low .result))) (at .s) (record { once = once; twice = twice }))
-          (sym (c .before .before .before .union .ensures))
-          (sym (c .before .union2 .ensures ∙ ap (λ (w : ℕ). old .found .twice ∪ w) (c .before .before .cut .ensures)))
+          (sym (once .ensures))
+          (sym (twice .ensures ∙ ap (λ (w : ℕ). old .found .twice ∪ w) (c .before .before .cut .ensures)))
           (tally-next (now (at .rules)) (at .s) (at .which) (old .rest) (low .result) (old .found .once) (old .found .twice) (word .result)
           (old .inv .1) (word .ensures))),
     )
