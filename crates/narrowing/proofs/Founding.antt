@@ -1,12 +1,11 @@
 -- Founded atoms: a round that adds nothing shows the word closed, and an answer set lies within a closed word that has its inputs.
-use mathlib.Core.Path.{_≡_, refl, sym, subst, _∙_}
+use mathlib.Core.Path.{_≡_, sym, subst, _∙_}
 use mathlib.Core.Logic.{_⊎_, inl, inr}
 use mathlib.Core.List.{List}
-use Prim.Native.Nat.{ℕ, _^_, _<_}
-use Rattle.atoms.specs.Word.{Has, _⊆_, Apart, _∩_, _∪_, _∖_, atom, below}
+use Prim.Native.Nat.{ℕ}
+use Rattle.atoms.specs.Word.{Has, _⊆_, _∩_, _∪_, _∖_, atom, below}
 use Rattle.atoms.proofs.Sets.{subset-refl, subset-trans, subset-antisym, subset-of-eq, has-cut, cut-left, cut-right}
 use Rattle.atoms.proofs.Sets.{has-left, has-right, union-cases, has-without, without-right}
-use Rattle.answer_sets.specs.Program.{Body}
 use Rattle.answer_sets.specs.AnswerSet.{ReductModel}
 use Rattle.answer_sets.specs.Lent.{lent, negative}
 use Rattle.answer_sets.specs.State.{Completes, Narrows}

@@ -1,13 +1,13 @@
 -- Support: each atom of an answer set that is no fact has a rule that supports it, and what is known tells which rules may.
-use mathlib.Core.Path.{_≡_, refl, sym, subst, _∙_}
+use mathlib.Core.Path.{_≡_, sym, subst, _∙_}
 use mathlib.Core.Bool.{Bool, true, false, not, _&&_}
 use mathlib.Core.Logic.{_⊎_, inl, inr}
 use mathlib.Core.List.{List}
 use Prim.Native.Nat.{ℕ, _^_, _<_}
 use native.Mathlib.Decide.{ℕ-discrete}
-use Rattle.atoms.specs.Word.{Has, has, _⊆_, _⊂_, _∩_, _∪_, _∖_, atom, AtMostOne}
+use Rattle.atoms.specs.Word.{Has, has, _⊂_, _∩_, _∪_, _∖_, atom, AtMostOne}
 use Rattle.atoms.specs.Bounded.{someBelow}
-use Rattle.atoms.proofs.Tests.{test-cases, and-true, not-is-true, not-both, decided, decided-true, decided-false, false-of-not-true}
+use Rattle.atoms.proofs.Tests.{test-cases, and-true, not-is-true, not-both, decided, decided-true, decided-false}
 use Rattle.atoms.proofs.Sets.{decides-has, decides-apart, has-lt, has-cut, cut-left, cut-right, has-left, has-right, union-cases}
 use Rattle.atoms.proofs.Sets.{has-without, without-left, without-right, has-atom, atom-only, has-none}
 use Rattle.atoms.proofs.Bounded.{some-at, some-intro}

@@ -1,5 +1,5 @@
 -- Some atoms are in both, or all of the word are left.
-use mathlib.Core.Path.{sym, subst}
+use mathlib.Core.Path.{subst}
 use Prim.Native.Nat.{ℕ}
 use Rattle.atoms.specs.Word.{Has}
 use Rattle.atoms.proofs.Sets.{subset-refl, cut-left}

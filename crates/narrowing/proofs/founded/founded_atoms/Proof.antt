@@ -1,5 +1,5 @@
 -- The invariant: the next round's answer is known. The measure is how many atoms are not founded yet.
-use mathlib.Core.Path.{_≡_, sym}
+use mathlib.Core.Path.{sym}
 use Prim.Native.Nat.{_-_, _^_, _<_}
 use native.Mathlib.Omega.{arith}
 use lib.Count.{ones}
