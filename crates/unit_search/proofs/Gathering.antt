@@ -1,16 +1,16 @@
 -- What an insertion adds to a rising list, and how the answers of two searches go together.
-use mathlib.Core.Path.{_≡_, refl, sym, ap, ap₂, _∙_, subst}
-use mathlib.Core.Bool.{Bool, true, false}
-use mathlib.Core.List.{List, [], _∷_, _++_, List·Memᴰ, List·Memᴰ·head, List·Memᴰ·tail, List·Memᴰ·not-nil, List·Memᴰ·cases-cons, List·Memᴰ·eq-of-singleton}
+use mathlib.Core.Path.{_≡_, sym, ap, _∙_, subst}
+use mathlib.Core.List.{List, [], _∷_, _++_}
+use mathlib.Core.List.{List·Memᴰ, List·Memᴰ·head, List·Memᴰ·tail, List·Memᴰ·not-nil, List·Memᴰ·cases-cons, List·Memᴰ·eq-of-singleton}
 use mathlib.Core.Logic.{_⊎_, inl, inr}
 use Prim.Native.Nat.{ℕ, zero, suc, min, _+_, _-_, _≤_, _<_}
 use native.Mathlib.Omega.{arith}
 use native.Mathlib.Decide.{ℕ-discrete, decLt}
-use lib.ListN.{length, take, drop, replicate, length-append, length-take, length-drop, length-replicate}
+use lib.ListN.{length, take, drop, replicate, length-append, length-take, length-drop}
 use lib.Seq.{drop-drop, take-at, drop-at}
-use Rattle.atoms.specs.Rising.{Above, above-nil, above-cons, Rising, rising-nil, rising-cons}
+use Rattle.atoms.specs.Rising.{above-nil, Rising, rising-nil, rising-cons}
 use Rattle.atoms.proofs.Rising.{above-at, above-intro}
-use Rattle.unit_search.specs.Listing.{insertInto, Inserted, room, no-room, Ordered, Overfull, Gathered, fits, over, Grown}
+use Rattle.unit_search.specs.Listing.{insertInto, Inserted, room, no-room, Ordered, Gathered, fits, over, Grown}
 use Rattle.unit_search.proofs.Insertion.{insert-below, insert-same, insert-above}
 
 -- the three ways in which a value meets a member

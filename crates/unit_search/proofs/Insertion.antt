@@ -1,18 +1,15 @@
 -- Insertion: the code's loop follows `insertInto`, which keeps a rising list rising and adds one member.
-use mathlib.Core.Path.{_≡_, refl, sym, ap, ap₂, _∙_, subst}
+use mathlib.Core.Path.{_≡_, refl, sym, ap, ap₂, _∙_}
 use mathlib.Core.Bool.{Bool, true, false}
-use mathlib.Core.List.{List, [], _∷_, _++_, append-assoc, List·Memᴰ, List·Memᴰ·head, List·Memᴰ·tail, List·Memᴰ·not-nil, List·Memᴰ·cases-cons, List·Memᴰ·eq-of-singleton}
-use mathlib.Core.Logic.{_⊎_, inl, inr}
-use Prim.Native.Nat.{ℕ, zero, suc, _+_, _-_, _≤_, _<_}
+use mathlib.Core.List.{List, [], _∷_, _++_, append-assoc}
+use Prim.Native.Nat.{ℕ, suc, _+_, _-_, _≤_, _<_}
 use native.Mathlib.Omega.{arith}
 use native.Mathlib.Numerals.{add-one}
-use lib.Dec.{eqb, ltb}
+use lib.Dec.{eqb}
 use native.Mathlib.Nat.{add-zero}
 use lib.ListN.{length, take, drop, getD, set, take-append-drop, drop-of-length-le, length-append, length-take, length-drop, length-set}
 use lib.Seq.{take-suc, drop-cons, drop-drop, drop-set-lt, drop-append-le, take-suc-set, set-split, getD-take, getD-drop, length-take-le}
-use borrow.Author.Tests.{ltb-true, ltb-false, eqb-true, eqb-false, lt-ltb, le-ltb, eq-eqb, ne-eqb}
-use Rattle.atoms.specs.Rising.{Above, above-nil, above-cons, Rising, rising-nil, rising-cons}
-use Rattle.atoms.proofs.Rising.{above-at, above-intro}
+use borrow.Author.Tests.{lt-ltb, le-ltb, eq-eqb, ne-eqb}
 use Rattle.unit_search.specs.Listing.{insertInto, Inserted, room, no-room}
 
 -- ---- the three cases
@@ -20,12 +17,12 @@ use Rattle.unit_search.specs.Listing.{insertInto, Inserted, room, no-roo
 pub insert-below : (v x : ℕ) (xs : List ℕ) → v < x → insertInto v (x ∷ xs) ≡ v ∷ insertInto x xs
 unfolding insertInto
 insert-below v x xs l =
-    ap (λ (b : Bool). elim b [ true ↦ v ∷ insertInto x xs | false ↦ elim (eqb v x) [ true ↦ x ∷ xs | false ↦ x ∷ insertInto v xs ] ]) (lt-ltb v x l)
+    rw (insertInto, lt-ltb v x l)
 
 not-below : (v x : ℕ) (xs : List ℕ) → x ≤ v → insertInto v (x ∷ xs) ≡ elim (eqb v x) [ true ↦ x ∷ xs | false ↦ x ∷ insertInto v xs ]
 unfolding insertInto
 not-below v x xs l =
-    ap (λ (b : Bool). elim b [ true ↦ v ∷ insertInto x xs | false ↦ elim (eqb v x) [ true ↦ x ∷ xs | false ↦ x ∷ insertInto v xs ] ]) (le-ltb v x l)
+    rw (insertInto, le-ltb v x l)
 
 pub insert-same : (v x : ℕ) (xs : List ℕ) → v ≡ x → insertInto v (x ∷ xs) ≡ x ∷ xs
 insert-same v x xs e =

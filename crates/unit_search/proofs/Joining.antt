@@ -1,16 +1,17 @@
 -- The join pass: a position that joins a list and completes the state is one of the list's agreeing entries, cut to the head atoms.
-use mathlib.Core.Path.{_≡_, refl, sym, ap, _∙_, subst}
-use mathlib.Core.Bool.{Bool, true, false, not, _&&_, _||_, false≢true}
+use mathlib.Core.Path.{_≡_, refl, sym, subst}
+use mathlib.Core.Bool.{true, false, _&&_, false≢true}
 use mathlib.Core.Logic.{_⊎_, inl, inr}
 use mathlib.Core.List.{List}
-use Prim.Native.Nat.{ℕ, _+_, _*_, _^_, _≤_, _<_}
+use Prim.Native.Nat.{ℕ, _+_, _*_, _<_}
 use native.Mathlib.Omega.{arith}
 use native.Mathlib.Decide.{ℕ-discrete}
 use lib.Dec.{eqb}
-use lib.ListN.{length, getD}
+use lib.ListN.{getD}
 use borrow.Author.Tests.{eqb-true}
-use Rattle.atoms.specs.Word.{Has, _⊆_, subset, Apart, apart, _∩_, _∪_, _∖_, atom}
-use Rattle.atoms.proofs.Sets.{decides-subset, decides-apart, has-cut, cut-left, cut-right, has-left, has-right, union-cases, has-without, without-left, without-right, has-lt, has-dec, subset-refl, subset-trans, subset-le, ext}
+use Rattle.atoms.specs.Word.{Has, _⊆_, subset, _∩_, _∪_, _∖_, atom}
+use Rattle.atoms.proofs.Sets.{decides-subset, has-cut, cut-left, cut-right, has-left, has-right, union-cases}
+use Rattle.atoms.proofs.Sets.{without-left, without-right, has-lt, subset-le, ext}
 use Rattle.atoms.proofs.Bounded.{some-at, all-in-at, all-in-intro, all-in-none, all-in-take}
 use Rattle.atoms.specs.Bounded.{Decides}
 use Rattle.atoms.proofs.Tests.{decides}

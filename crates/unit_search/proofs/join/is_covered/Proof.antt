@@ -36,9 +36,6 @@ mul-is-subset c = omega (arith, inside c)
 shared-slice-read-is-subset : tie.Need-shared-slice-read-is-subset Inv-loop μ-loop
 shared-slice-read-is-subset c = omega (arith, inside (c .before), c .before .before .before .before .before .pre .0)
 
-is-subset-requires : tie.Need-is-subset-requires Inv-loop μ-loop
-is-subset-requires c κs = search needs
-
 returns : tie.Need-returns Inv-loop μ-loop
 returns c =
     let at = c .before .before .before .before .before .before .before .args in
@@ -79,7 +76,7 @@ is-covered-spec =
     lowest-requires
     mul-is-subset
     shared-slice-read-is-subset
-    is-subset-requires
+    (λ c κs. search needs)
     returns
     drop-requires
     loop-less

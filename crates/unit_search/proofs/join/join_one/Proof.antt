@@ -11,30 +11,18 @@ use borrow.Author.Needs.{needs}
 use Rattle.unit_search.proofs.join.join_one.Statement.{statement}
 use Rattle.unit_search.proofs.join.join_one.Tie as tie
 
+abbrev start : tie.After-agreeing-entries → tie.Start
+start c = c .before .before .before .before
+
 -- the entries that agree with the state on the head atoms
 spanned : (c : tie.After-agreeing-entries)
-    → SpansAll (now (c .before .before .before .before .args .words)) (c .before .before .before .before .args .base) (c .before .before .before .before .args .count) (c .before .before .before .before .args .s .up ∩ c .before .before .before .before .args .heads)
-    (c .before .before .before .before .args .s .up ∩ c .before .before .before .before .args .heads ∪ c .before .before .before .before .args .s .dropped) (c .agreeing-entries .result)
+    → SpansAll (now (start c .args .words)) (start c .args .base) (start c .args .count) (start c .args .s .up ∩ start c .args .heads)
+    (start c .args .s .up ∩ start c .args .heads ∪ start c .args .s .dropped) (c .agreeing-entries .result)
 spanned c =
-    let at = c .before .before .before .before .args in
+    let at = start c .args in
     let up = c .before .before .cut .ensures in
     subst₂ (λ (u d : ℕ). SpansAll (now (at .words)) (at .base) (at .count) u d (c .agreeing-entries .result)) up
     (c .before .union .ensures ∙ ap (λ (w : ℕ). w ∪ at .s .dropped) up) (c .agreeing-entries .ensures)
-
-cut-requires : tie.Need-cut-requires
-cut-requires c κs = search needs
-
-union-requires : tie.Need-union-requires
-union-requires c κs = search needs
-
-agreeing-entries-requires : tie.Need-agreeing-entries-requires
-agreeing-entries-requires c κs = search needs
-
-is-subset-requires : tie.Need-is-subset-requires
-is-subset-requires c κs = search needs
-
-clash-requires : tie.Need-clash-requires
-clash-requires c κs = search needs
 
 returns : tie.Need-returns
 returns c =
@@ -43,15 +31,6 @@ returns c =
     subst (Narrows (JoinsOne (now (at .words)) (at .base) (at .count) (at .heads)) (at .s)) (sym (c .clash .ensures))
     (join-clash (now (at .words)) (at .base) (at .count) (at .heads) (at .s) (c3 .agreeing-entries .result) (spanned c3)
     (sym (c .before .before .is-subset .ensures) ∙ not-true (c .before .before .is-subset .result) (c .before .if1 .taken)))
-
-union-requires-2 : tie.Need-union-requires-2
-union-requires-2 c κs = search needs
-
-without-requires : tie.Need-without-requires
-without-requires c κs = search needs
-
-union-requires-3 : tie.Need-union-requires-3
-union-requires-3 c κs = search needs
 
 returns-2 : tie.Need-returns-2
 returns-2 c =
@@ -65,13 +44,13 @@ pub join-one-spec : {M : Type 1} → statement M
 join-one-spec =
     tie.close
     (tie.spec
-    cut-requires
-    union-requires
-    agreeing-entries-requires
-    is-subset-requires
-    clash-requires
+    (λ c κs. search needs)
+    (λ c κs. search needs)
+    (λ c κs. search needs)
+    (λ c κs. search needs)
+    (λ c κs. search needs)
     returns
-    union-requires-2
-    without-requires
-    union-requires-3
+    (λ c κs. search needs)
+    (λ c κs. search needs)
+    (λ c κs. search needs)
     returns-2)

@@ -49,24 +49,26 @@ mul-cut c = omega (arith, inside (c .before))
 shared-slice-read-cut : tie.Need-shared-slice-read-cut Inv-loop μ-loop
 shared-slice-read-cut c = omega (arith, inside (c .before .before), c .before .before .before .before .before .before .before .before .pre)
 
-cut-requires : tie.Need-cut-requires Inv-loop μ-loop
-cut-requires c κs = search needs
-
 contains-requires : tie.Need-contains-requires Inv-loop μ-loop
 contains-requires c κs =
     let c9 = c .before .before .before .before .before .before .before .before .before in
     omega (arith, inside (c .before .before .before), c9 .pre, c9 .pre .small (c .before .before .before .lowest .result) (inside (c .before .before .before)))
 
+abbrev start : tie.After-contains Inv-loop μ-loop → tie.Start Inv-loop μ-loop
+start c = c .before .before .before .before .before .before .before .before .before .before
+
+abbrev joined : tie.After-contains Inv-loop μ-loop → ℕ
+joined c = c .before .before .before .before .lowest .result
+
 -- the answer is the definition's test
 listed : (c : tie.After-contains Inv-loop μ-loop)
     → c .contains .result
-    ≡ isListed (now (c .before .before .before .before .before .before .before .before .before .before .args .table))
-    (256 * c .before .before .before .before .lowest .result)
-    (getD (now (c .before .before .before .before .before .before .before .before .before .before .args .counts)) (c .before .before .before .before .lowest .result) 0) (c .before .before .before .before .before .before .before .before .before .before .args .position ∩ getD (now (c .before .before .before .before .before .before .before .before .before .before .args .heads)) (c .before .before .before .before .lowest .result) 0)
+    ≡ isListed (now (start c .args .table)) (256 * joined c) (getD (now (start c .args .counts)) (joined c) 0)
+    (start c .args .position ∩ getD (now (start c .args .heads)) (joined c) 0)
 listed c =
-    let at = c .before .before .before .before .before .before .before .before .before .before .args in
-    let v = c .before .before .before .before .lowest .result in
-    c .contains .ensures ∙ ap (λ (w : ℕ). isListed (now (at .table)) (256 * v) (getD (now (at .counts)) v 0) w) (c .before .cut .ensures)
+    let at = start c .args in
+    c .contains .ensures
+    ∙ ap (λ (w : ℕ). isListed (now (at .table)) (256 * joined c) (getD (now (at .counts)) (joined c) 0) w) (c .before .cut .ensures)
 
 returns : tie.Need-returns Inv-loop μ-loop
 returns c =
@@ -126,7 +128,7 @@ joins-spec =
     shared-slice-read-contains
     mul-cut
     shared-slice-read-cut
-    cut-requires
+    (λ c κs. search needs)
     contains-requires
     returns
     drop-requires

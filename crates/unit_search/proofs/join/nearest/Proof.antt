@@ -24,12 +24,6 @@ started c {i} h =
 inside : (c : tie.After-cut Inv-loop μ-loop) → {i : ℕ} → Has (c .cut .result) i → i < 16
 inside c h = below-lt 16 (cut-right (c .before .before .before .args .predecessors) (below 16) (started c h))
 
-first-requires : tie.Need-first-requires Inv-loop μ-loop
-first-requires c κs = search needs
-
-cut-requires : tie.Need-cut-requires Inv-loop μ-loop
-cut-requires c κs = search needs
-
 loop-holds : tie.Need-loop-holds Inv-loop μ-loop
 loop-holds c = (subset-refl, subset-refl)
 
@@ -71,8 +65,8 @@ nearest-spec =
     (tie.spec
     Inv-loop
     μ-loop
-    first-requires
-    cut-requires
+    (λ c κs. search needs)
+    (λ c κs. search needs)
     loop-holds
     lowest-requires
     without-covered-requires

@@ -7,19 +7,10 @@ use borrow.Author.Needs.{needs}
 use Rattle.unit_search.proofs.join.take_in.Statement.{statement}
 use Rattle.unit_search.proofs.join.take_in.Tie as tie
 
-cut-requires : tie.Need-cut-requires
-cut-requires c κs = search needs
-
 returns : tie.Need-returns
 returns c =
     let at = c .before .before .args in
     passes-by (at .found) (at .up) (at .decided) (at .entry) (λ e. c .if1 .taken (c .before .cut .ensures ∙ e))
-
-cut-requires-2 : tie.Need-cut-requires-2
-cut-requires-2 c κs = search needs
-
-union-requires : tie.Need-union-requires
-union-requires c κs = search needs
 
 returns-2 : tie.Need-returns-2
 returns-2 c =
@@ -28,4 +19,4 @@ returns-2 c =
     (sym (c .before .cut2 .ensures)) (sym (c .union .ensures)) (taken-in (at .found) (at .up) (at .decided) (at .entry))
 
 pub take-in-spec : {M : Type 1} → statement M
-take-in-spec = tie.close (tie.spec cut-requires returns cut-requires-2 union-requires returns-2)
+take-in-spec = tie.close (tie.spec (λ c κs. search needs) returns (λ c κs. search needs) (λ c κs. search needs) returns-2)

@@ -7,15 +7,6 @@ use borrow.Author.Needs.{needs}
 use Rattle.unit_search.proofs.join.without_covered.Statement.{statement}
 use Rattle.unit_search.proofs.join.without_covered.Tie as tie
 
-drop-requires : tie.Need-drop-requires
-drop-requires c κs = search needs
-
-mul-is-covered : tie.Need-mul-is-covered
-mul-is-covered c = search needs
-
-shared-slice-read-is-covered : tie.Need-shared-slice-read-is-covered
-shared-slice-read-is-covered c = search needs
-
 is-covered-requires : tie.Need-is-covered-requires
 is-covered-requires c κs =
     let pre = c .before .before .before .pre in
@@ -27,16 +18,13 @@ returns c =
     let at = c .before .before .before .before .before .args in
     record { each = λ i h. without-left (at .units) (atom (at .v)) (subst (λ (w : ℕ). Has w i) (c .before .before .before .drop .ensures) h) }
 
-returns-2 : tie.Need-returns-2
-returns-2 c = search needs
-
 pub without-covered-spec : {M : Type 1} → statement M
 without-covered-spec =
     tie.close
     (tie.spec
-    drop-requires
-    mul-is-covered
-    shared-slice-read-is-covered
+    (λ c κs. search needs)
+    (λ c. search needs)
+    (λ c. search needs)
     is-covered-requires
     returns
-    returns-2)
+    (λ c. search needs))

@@ -22,17 +22,13 @@ passed : (c : tie.After-loop Inv-loop μ-loop)
     → Passing (now (c .before .before .args .list)) (c .before .before .args .count) (c .before .before .args .value) (c .before .loop .list)
     (c .before .loop .carried) (c .before .before .args .count)
 passed c =
-    let e : c .before .loop .i ≡ c .before .before .args .count = omega arith in
-    subst (λ (i : ℕ). Passing (now (c .before .before .args .list)) (c .before .before .args .count) (c .before .before .args .value) (c .before .loop .list) (c .before .loop .carried) i) e (c .before .loop .inv)
+    let at = c .before .before .args in
+    let head = c .before .loop in
+    let e : head .i ≡ at .count = omega arith in
+    subst (λ (i : ℕ). Passing (now (at .list)) (at .count) (at .value) (head .list) (head .carried) i) e (head .inv)
 
 loop-holds : tie.Need-loop-holds Inv-loop μ-loop
 loop-holds c = passing-start (now (c .args .list)) (c .args .count) (c .args .value)
-
-mul-here : tie.Need-mul-here Inv-loop μ-loop
-mul-here c = omega arith
-
-slice-read-here : tie.Need-slice-read-here Inv-loop μ-loop
-slice-read-here c = omega arith
 
 same-length : tie.Need-same-length Inv-loop μ-loop
 same-length c = c .before .before .before .loop .inv .same-long
@@ -44,35 +40,21 @@ returns c =
     (c .before .before .before .loop .carried) (c .before .before .before .loop .i) (c .before .before .before .loop .inv)
     (c .before .before .loop-test .taken) (c .before .before .before .before .pre .0) (c .if1 .taken)
 
-mul-list : tie.Need-mul-list Inv-loop μ-loop
-mul-list c = omega arith
-
-slice-write-list : tie.Need-slice-write-list Inv-loop μ-loop
-slice-write-list c = omega arith
-
-add-i : tie.Need-add-i Inv-loop μ-loop
-add-i c = omega arith
-
-loop-less : tie.Need-loop-less Inv-loop μ-loop
-loop-less c = omega arith
-
 loop-again : tie.Need-loop-again Inv-loop μ-loop
 loop-again c =
-    let c4 = c .before .before .before .before in
-    let c5 = c4 .before in
+    let at = c .before .before .before .before .before .args in
+    let head = c .before .before .before .before .loop in
+    let test = c .before .before .before .loop-test .taken in
     ⊎-elim
     (λ w.
-    subst₂ (λ (list : List ℕ) (carried : ℕ). Passing (now (c5 .args .list)) (c5 .args .count) (c5 .args .value) list carried (c4 .loop .i + 1))
+    subst₂ (λ (list : List ℕ) (carried : ℕ). Passing (now (at .list)) (at .count) (at .value) list carried (head .i + 1))
     (sym (w .1)) (sym (w .2))
-    (pass-below (now (c5 .args .list)) (c5 .args .count) (c5 .args .value) (omega arith) (c4 .loop .list) (c4 .loop .carried) (c4 .loop .i) (c4 .loop .inv) (c .before .before .before .loop-test .taken) (w .0 .taken)))
+    (pass-below (now (at .list)) (at .count) (at .value) (omega arith) (head .list) (head .carried) (head .i) (head .inv) test (w .0 .taken)))
     (λ w.
-    subst₂ (λ (list : List ℕ) (carried : ℕ). Passing (now (c5 .args .list)) (c5 .args .count) (c5 .args .value) list carried (c4 .loop .i + 1))
+    subst₂ (λ (list : List ℕ) (carried : ℕ). Passing (now (at .list)) (at .count) (at .value) list carried (head .i + 1))
     (sym (w .1)) (sym (w .2))
-    (pass-above (now (c5 .args .list)) (c5 .args .count) (c5 .args .value) (omega arith) (c4 .loop .list) (c4 .loop .carried) (c4 .loop .i) (c4 .loop .inv) (c .before .before .before .loop-test .taken) (c .before .if1 .left) (w .0 .left)))
+    (pass-above (now (at .list)) (at .count) (at .value) (omega arith) (head .list) (head .carried) (head .i) (head .inv) test (c .before .if1 .left) (w .0 .left)))
     (c .if2 .came)
-
-add-result : tie.Need-add-result Inv-loop μ-loop
-add-result c = search needs
 
 same-length-2 : tie.Need-same-length-2 Inv-loop μ-loop
 same-length-2 c = c .before .before .loop .inv .same-long
@@ -83,17 +65,10 @@ returns-2 c =
     (c .before .before .before .pre .1) (c .before .before .before .pre .0) (c .before .before .loop .list) (c .before .before .loop .carried)
     (passed (c .before)) (c .if3 .taken)
 
-mul-list-2 : tie.Need-mul-list-2 Inv-loop μ-loop
-mul-list-2 c = omega arith
-
-slice-write-list-2 : tie.Need-slice-write-list-2 Inv-loop μ-loop
-slice-write-list-2 c = omega arith
-
-add-result-2 : tie.Need-add-result-2 Inv-loop μ-loop
-add-result-2 c = omega arith
-
 same-length-3 : tie.Need-same-length-3 Inv-loop μ-loop
-same-length-3 c = length-set (c .before .before .loop .list) (c .before .before .before .args .count) (c .before .before .loop .carried) ∙ c .before .before .loop .inv .same-long
+same-length-3 c =
+    let head = c .before .before .loop in
+    length-set (head .list) (c .before .before .before .args .count) (head .carried) ∙ head .inv .same-long
 
 returns-3 : tie.Need-returns-3 Inv-loop μ-loop
 returns-3 c =
@@ -108,20 +83,20 @@ insert-spec =
     Inv-loop
     μ-loop
     loop-holds
-    mul-here
-    slice-read-here
+    (λ c. omega arith)
+    (λ c. omega arith)
     same-length
     returns
-    mul-list
-    slice-write-list
-    add-i
-    loop-less
+    (λ c. omega arith)
+    (λ c. omega arith)
+    (λ c. omega arith)
+    (λ c. omega arith)
     loop-again
-    add-result
+    (λ c. search needs)
     same-length-2
     returns-2
-    mul-list-2
-    slice-write-list-2
-    add-result-2
+    (λ c. omega arith)
+    (λ c. omega arith)
+    (λ c. omega arith)
     same-length-3
     returns-3)

@@ -1,6 +1,6 @@
 -- The measure is the count of undecided atoms. Each return says what its step of the search adds to the list.
-use mathlib.Core.Path.{_≡_, ap, sym, subst, _∙_}
-use Prim.Native.Nat.{_≤_}
+use mathlib.Core.Path.{ap, sym, subst, _∙_}
+use Prim.Native.Nat.{_≤_, ℕ, _<_}
 use native.Mathlib.Nat.{lt-of-lt-of-le}
 use denote.Ref.{now}
 use borrow.Author.Tests.{not-true, not-false}
@@ -8,14 +8,11 @@ use Rattle.atoms.specs.Word.{Has, _∪_}
 use Rattle.atoms.proofs.Counting.{count-le}
 use Rattle.answer_sets.proofs.HalfDecided.{undecided-shrinks}
 use Rattle.answer_sets.proofs.Between.{raise-falls, lower-falls}
-use Rattle.unit_search.specs.Listing.{Gathered, Grown}
-use Rattle.unit_search.specs.Job.{Wanted}
 use Rattle.unit_search.proofs.Gathering.{gathered-ordered}
 use Rattle.unit_search.proofs.Searching.{search-narrowed, search-clash, search-leaf, search-over, search-both}
 use Rattle.answer_sets.specs.State.{undecided}
 use lib.Count.{ones}
 use borrow.Author.Needs.{needs}
-use Prim.Native.Nat.{ℕ, _<_}
 use borrow.Fn.Kinds.{In}
 use borrow.Fn.PlainCycle.{Measures, is, falls, and}
 use Rattle.unit_search.proofs.search.search.Reads as search′
@@ -60,26 +57,28 @@ calls t = (
   search′.Post,
 )
 
+-- what the passes leave undecided
+abbrev left : (t : ℕ) → search-lts.After-choose (calls t) (search-at t) search′.Post → ℕ
+left t c = undecided (c .before .before .before .before .before .narrow .result .up) (c .before .before .before .before .before .narrow .result .dropped)
+
 -- the atom that is tried is undecided
 chosen : (t : ℕ) (c : search-lts.After-choose (calls t) (search-at t) search′.Post)
-    → Has (undecided (c .before .before .before .before .before .narrow .result .up) (c .before .before .before .before .before .narrow .result .dropped)) (c .choose .result)
-chosen t c = subst (λ (w : ℕ). Has w (c .choose .result)) (c .before .before .undecided .ensures) (c .choose .ensures .0)
+    → Has (left t c) (c .choose .result)
+chosen t c = rw (c .before .before .undecided .ensures) at (c .choose .ensures .0)
 
 -- the passes leave no more undecided
 no-more : (t : ℕ) (c : search-lts.After-choose (calls t) (search-at t) search′.Post)
-    → ones (undecided (c .before .before .before .before .before .narrow .result .up) (c .before .before .before .before .before .narrow .result .dropped)) ≤ t
+    → ones (left t c) ≤ t
 no-more t c =
     let c5 = c .before .before .before .before .before in
     let c11 = c5 .before .before .before .before .before .before in
-    subst (λ (n : ℕ). ones (undecided (c5 .narrow .result .up) (c5 .narrow .result .dropped)) ≤ n) (c11 .pre .0)
-    (count-le (undecided (c5 .narrow .result .up) (c5 .narrow .result .dropped)) (undecided (c11 .args .up) (c11 .args .dropped))
-    (undecided-shrinks (c11 .args .up) (c11 .args .dropped) (c5 .narrow .result .up) (c5 .narrow .result .dropped) (c5 .narrow .ensures .up-grows) (c5 .narrow .ensures .dropped-grows)))
+    let n = c5 .narrow in
+    subst (λ (m : ℕ). ones (left t c) ≤ m) (c11 .pre .0)
+    (count-le (left t c) (undecided (c11 .args .up) (c11 .args .dropped))
+    (undecided-shrinks _ _ (n .result .up) (n .result .dropped) (n .ensures .up-grows) (n .ensures .dropped-grows)))
 
 search-narrow-requires : (t : ℕ) → search-lts.Need-narrow-requires (calls t) (search-at t) search′.Post
 search-narrow-requires t c κs = c .before .before .before .before .before .pre .1 .0
-
-search-are-apart-requires : (t : ℕ) → search-lts.Need-are-apart-requires (calls t) (search-at t) search′.Post
-search-are-apart-requires t c κs = search needs
 
 search-returns : (t : ℕ) → search-lts.Need-returns (calls t) (search-at t) search′.Post
 search-returns t c =
@@ -87,11 +86,8 @@ search-returns t c =
     let at = c8 .args in
     search-narrowed (now (at .rules)) (now (at .table)) (now (at .counts)) (now (at .heads)) (at .unit) (now (at .list)) (at .count)
     (record { up = at .up; dropped = at .dropped }) (c .before .before .narrow .result) (c .before .before .narrow .ensures)
-    (search-clash (now (at .rules)) (now (at .table)) (now (at .counts)) (now (at .heads)) (at .unit) (now (at .list)) (at .count) (c .before .before .narrow .result) (c8 .pre .1 .1)
+    (search-clash _ _ _ _ _ _ _ (c .before .before .narrow .result) (c8 .pre .1 .1)
     (sym (c .before .are-apart .ensures) ∙ not-true (c .before .are-apart .result) (c .if1 .taken)))
-
-search-undecided-requires : (t : ℕ) → search-lts.Need-undecided-requires (calls t) (search-at t) search′.Post
-search-undecided-requires t c κs = search needs
 
 search-offer-requires : (t : ℕ) → search-lts.Need-offer-requires (calls t) (search-at t) search′.Post
 search-offer-requires t c κs =
@@ -113,7 +109,7 @@ search-returns-2 t c =
     search-narrowed (now (at .rules)) (now (at .table)) (now (at .counts)) (now (at .heads)) (at .unit) (now (at .list)) (at .count)
     (record { up = at .up; dropped = at .dropped }) (c8 .narrow .result)
     (c8 .narrow .ensures)
-    (search-leaf (now (at .rules)) (now (at .table)) (now (at .counts)) (now (at .heads)) (at .unit) (now (at .list)) (at .count) (c8 .narrow .result) (sym (c7 .are-apart .ensures) ∙ not-false (c7 .are-apart .result) (c6 .if1 .left))
+    (search-leaf _ _ _ _ _ (now (at .list)) (at .count) (c8 .narrow .result) (sym (c7 .are-apart .ensures) ∙ not-false (c7 .are-apart .result) (c6 .if1 .left))
     (sym (c5 .undecided .ensures) ∙ c4 .if2 .taken)
     (c .before .before .offer .ensures))
 
@@ -124,9 +120,6 @@ search-choose-requires t c κs =
 
 search-single-requires : (t : ℕ) → search-lts.Need-single-requires (calls t) (search-at t) search′.Post
 search-single-requires t c κs = c .choose .ensures .1
-
-search-union-requires : (t : ℕ) → search-lts.Need-union-requires (calls t) (search-at t) search′.Post
-search-union-requires t c κs = search needs
 
 search-search-requires : (t : ℕ) → search-lts.Need-search-requires (calls t) (search-at t) search′.Post
 search-search-requires t c κs =
@@ -157,13 +150,9 @@ search-returns-3 t c =
     (record { up = at .up; dropped = at .dropped })
     (c12 .narrow .result)
     (c12 .narrow .ensures)
-    (search-over (now (at .rules)) (now (at .table)) (now (at .counts)) (now (at .heads)) (at .unit) (now (at .list)) (at .count) n (c7 .choose .result) (c .before .before .before .search .last .1 .1 .1 .1 .1 .0) (c .before .before .before .search .result)
-    (subst (λ (w : ℕ). Gathered (Grown (now (at .list)) (at .count) (Wanted (now (at .rules)) (now (at .table)) (now (at .counts)) (now (at .heads)) (at .unit) (record { up = n .up; dropped = w }))) (c .before .before .before .search .last .1 .1 .1 .1 .1 .0) (c .before .before .before .search .result))
-    (c5 .union .ensures ∙ ap (λ (w : ℕ). n .dropped ∪ w) (c6 .single .ensures)) (c .before .before .before .search .ensures))
+    (search-over _ _ _ _ _ (now (at .list)) (at .count) n (c7 .choose .result) (c .before .before .before .search .last .1 .1 .1 .1 .1 .0) (c .before .before .before .search .result)
+    (rw (c5 .union .ensures, c6 .single .ensures) at (c .before .before .before .search .ensures))
     (c .if3 .taken))
-
-search-union-requires-2 : (t : ℕ) → search-lts.Need-union-requires-2 (calls t) (search-at t) search′.Post
-search-union-requires-2 t c κs = search needs
 
 search-search-requires-2 : (t : ℕ) → search-lts.Need-search-requires-2 (calls t) (search-at t) search′.Post
 search-search-requires-2 t c κs =
@@ -202,31 +191,29 @@ search-returns-4 t c =
     search-narrowed (now (at .rules)) (now (at .table)) (now (at .counts)) (now (at .heads)) (at .unit) (now (at .list)) (at .count)
     (record { up = at .up; dropped = at .dropped })
     (c17 .narrow .result) (c17 .narrow .ensures)
-    (search-both (now (at .rules)) (now (at .table)) (now (at .counts)) (now (at .heads)) (at .unit) (now (at .list)) (at .count) n (c12 .choose .result) (c8 .search .last .1 .1 .1 .1 .1 .0) (c8 .search .result)
-    (subst (λ (w : ℕ). Gathered (Grown (now (at .list)) (at .count) (Wanted (now (at .rules)) (now (at .table)) (now (at .counts)) (now (at .heads)) (at .unit) (record { up = n .up; dropped = w }))) (c8 .search .last .1 .1 .1 .1 .1 .0) (c8 .search .result))
-    (c10 .union .ensures ∙ ap (λ (w : ℕ). n .dropped ∪ w) (c11 .single .ensures)) (c8 .search .ensures))
+    (search-both _ _ _ _ _ (now (at .list)) (at .count) n (c12 .choose .result) (c8 .search .last .1 .1 .1 .1 .1 .0) (c8 .search .result)
+    (rw (c10 .union .ensures, c11 .single .ensures) at (c8 .search .ensures))
     (c5 .if3 .left)
-    (subst (λ (w : ℕ). Gathered (Grown (c8 .search .last .1 .1 .1 .1 .1 .0) (c8 .search .result) (Wanted (now (at .rules)) (now (at .table)) (now (at .counts)) (now (at .heads)) (at .unit) (record { up = w; dropped = n .dropped }))) (c .before .before .search2 .last .1 .1 .1 .1 .1 .0) (c .before .before .search2 .result))
-    (c4 .union2 .ensures ∙ ap (λ (w : ℕ). n .up ∪ w) (c11 .single .ensures)) (c .before .before .search2 .ensures)))
+    (rw (c4 .union2 .ensures, c11 .single .ensures) at (c .before .before .search2 .ensures)))
 
 pub +search-spec : {M : Type 1} → statement M
 +search-spec = close μ-search λ t. search-lts.spec (calls t)
     (search-at t)
     search′.Post
     (search-narrow-requires t)
-    (search-are-apart-requires t)
+    (λ c κs. search needs)
     (search-returns t)
-    (search-undecided-requires t)
+    (λ c κs. search needs)
     (search-offer-requires t)
     (search-same-length t)
     (search-returns-2 t)
     (search-choose-requires t)
     (search-single-requires t)
-    (search-union-requires t)
+    (λ c κs. search needs)
     (search-search-requires t)
     (search-same-length-2 t)
     (search-returns-3 t)
-    (search-union-requires-2 t)
+    (λ c κs. search needs)
     (search-search-requires-2 t)
     (search-same-length-3 t)
     (search-returns-4 t)

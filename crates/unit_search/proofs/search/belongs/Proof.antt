@@ -10,20 +10,11 @@ use borrow.Author.Needs.{needs}
 use Rattle.unit_search.proofs.search.belongs.Statement.{statement}
 use Rattle.unit_search.proofs.search.belongs.Tie as tie
 
-joins-requires : tie.Need-joins-requires
-joins-requires c κs = search needs
-
 returns : tie.Need-returns
 returns c =
     let at = c .before .before .before .before .before .before .args in
     not-joined (now (at .rules)) (now (at .table)) (now (at .counts)) (now (at .heads)) (at .unit) (at .position)
     (sym (c .before .joins .ensures) ∙ not-true (c .before .joins .result) (c .if1 .taken))
-
-cut-requires : tie.Need-cut-requires
-cut-requires c κs = search needs
-
-is-answer-set-requires : tie.Need-is-answer-set-requires
-is-answer-set-requires c κs = search needs
 
 returns-2 : tie.Need-returns-2
 returns-2 c =
@@ -35,4 +26,4 @@ returns-2 c =
 
 pub belongs-spec : {M : Type 1} → statement M
 belongs-spec =
-    tie.close (tie.spec joins-requires returns cut-requires is-answer-set-requires returns-2)
+    tie.close (tie.spec (λ c κs. search needs) returns (λ c κs. search needs) (λ c κs. search needs) returns-2)

@@ -14,12 +14,6 @@ join-all-requires : tie.Need-join-all-requires
 join-all-requires c κs =
     let pre = c .before .before .before .before .pre in joinable-some (pre .near) (pre .joinable)
 
-grow-requires : tie.Need-grow-requires
-grow-requires c κs = search needs
-
-live-rules-requires : tie.Need-live-rules-requires
-live-rules-requires c κs = search needs
-
 -- rule numbers are bits of a word
 fits : (c : tie.After-join-all) → c .before .before .before .before .before .args .unit .rules < 2 ^ 64
 fits c = omega arith
@@ -51,8 +45,8 @@ narrow-spec =
     tie.close
     (tie.spec
     join-all-requires
-    grow-requires
-    live-rules-requires
+    (λ c κs. search needs)
+    (λ c κs. search needs)
     support-pass-requires
     founded-pass-requires
     returns)

@@ -1,16 +1,10 @@
 -- The position is added where it belongs to the list.
-use mathlib.Core.Path.{subst}
 use denote.Ref.{now}
 use borrow.Author.Tests.{not-true, not-false}
-use Rattle.atoms.specs.Bounded.{Decides}
-use Rattle.unit_search.specs.Job.{Belongs}
 use Rattle.unit_search.proofs.Searching.{offer-none, offer-one}
 use borrow.Author.Needs.{needs}
 use Rattle.unit_search.proofs.search.offer.Statement.{statement}
 use Rattle.unit_search.proofs.search.offer.Tie as tie
-
-belongs-requires : tie.Need-belongs-requires
-belongs-requires c κs = search needs
 
 returns : tie.Need-returns
 returns c =
@@ -18,13 +12,7 @@ returns c =
     let at = c7 .args in
     offer-none (now (at .rules)) (now (at .table)) (now (at .counts)) (now (at .heads)) (at .unit) (now (at .list)) (at .count) (at .position)
     (c7 .pre .1)
-    (subst (Decides (Belongs (now (at .rules)) (now (at .table)) (now (at .counts)) (now (at .heads)) (at .unit) (at .position))) (not-true (c .before .belongs .result) (c .if1 .taken)) (c .before .belongs .ensures))
-
-insert-requires : tie.Need-insert-requires
-insert-requires c κs = search needs
-
-same-length : tie.Need-same-length
-same-length c = search needs
+    (rw (not-true (c .before .belongs .result) (c .if1 .taken)) at (c .before .belongs .ensures))
 
 returns-2 : tie.Need-returns-2
 returns-2 c =
@@ -38,4 +26,4 @@ returns-2 c =
     (c5 .belongs .ensures .yes (not-false (c5 .belongs .result) (c4 .if1 .left))) (c .before .before .insert .ensures)
 
 pub offer-spec : {M : Type 1} → statement M
-offer-spec = tie.close (tie.spec belongs-requires returns insert-requires same-length returns-2)
+offer-spec = tie.close (tie.spec (λ c κs. search needs) returns (λ c κs. search needs) (λ c. search needs) returns-2)
