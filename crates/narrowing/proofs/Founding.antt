@@ -11,7 +11,7 @@ use Rattle.answer_sets.specs.Lent.{lent, negative}
 use Rattle.answer_sets.specs.State.{Completes, Narrows}
 use Rattle.answer_sets.specs.declared.state.State.{State}
 use Rattle.answer_sets.proofs.Support.{least}
-use Rattle.answer_sets.proofs.Narrowing.{down-narrows}
+use Rattle.answer_sets.proofs.Narrows.{down-narrows}
 use Rattle.narrowing.specs.Settled.{Settled}
 use Rattle.narrowing.specs.Founded.{Closed, ClosedAll, Closes, Founded}
 use Rattle.narrowing.proofs.Supporting.{negative-down}

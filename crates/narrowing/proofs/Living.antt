@@ -11,7 +11,7 @@ use Rattle.answer_sets.specs.State.{Completes, Narrows, bodyKnown}
 use Rattle.answer_sets.specs.declared.state.State.{State}
 use Rattle.answer_sets.specs.declared.state.Truth.the-variants.{Fails}
 use Rattle.answer_sets.proofs.HalfDecided.{known-fails}
-use Rattle.answer_sets.proofs.Narrowing.{narrows-when}
+use Rattle.answer_sets.proofs.Narrows.{narrows-when}
 use Rattle.narrowing.specs.Settled.{Settled, Live}
 
 module _ (rules : List ℕ) (s : State) where

@@ -9,7 +9,7 @@ use Rattle.atoms.proofs.Sets.{has-cut, cut-left, cut-right, has-left, has-right
 use Rattle.answer_sets.specs.Lent.{lent, negative}
 use Rattle.answer_sets.specs.State.{Completes, Narrows}
 use Rattle.answer_sets.specs.declared.state.State.{State}
-use Rattle.answer_sets.proofs.Narrowing.{narrows-trans, narrows-when, up-narrows, down-narrows, completes-back}
+use Rattle.answer_sets.proofs.Narrows.{narrows-trans, narrows-when, up-narrows, down-narrows, completes-back}
 use Rattle.narrowing.specs.Settled.{Settled}
 use Rattle.narrowing.specs.Support.{Supports, MaySupport, Collects, Tallied, HoldsSole, HoldsSoles}
 use Rattle.narrowing.specs.declared.support.Supporters.{Supporters}

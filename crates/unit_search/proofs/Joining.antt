@@ -17,7 +17,7 @@ use Rattle.atoms.specs.Bounded.{Decides}
 use Rattle.atoms.proofs.Tests.{decides}
 use Rattle.answer_sets.specs.State.{Completes, Narrows, clashed}
 use Rattle.answer_sets.specs.declared.state.State.{State}
-use Rattle.answer_sets.proofs.Narrowing.{clash-narrows}
+use Rattle.answer_sets.proofs.Narrows.{clash-narrows}
 use Rattle.narrowing.proofs.Taking.{none-done, all-done, done-cases}
 use Rattle.unit_search.specs.Listing.{isListed}
 use Rattle.unit_search.specs.Job.{joins, Joinable}

@@ -17,7 +17,7 @@ use Rattle.answer_sets.specs.declared.state.State.{State}
 use Rattle.answer_sets.proofs.Judged.{decides-answer-set}
 use Rattle.answer_sets.proofs.Support.{satisfied}
 use Rattle.answer_sets.proofs.HalfDecided.{decided-cases}
-use Rattle.answer_sets.proofs.Narrowing.{narrows-trans, narrows-for, completes-back, overlap-none, with-up, with-dropped, without-up, without-dropped}
+use Rattle.answer_sets.proofs.Narrows.{narrows-trans, narrows-for, completes-back, overlap-none, with-up, with-dropped, without-up, without-dropped}
 use Rattle.narrowing.specs.Settled.{Settled, Live}
 use Rattle.narrowing.proofs.Living.{narrows-live}
 use Rattle.unit_search.specs.Listing.{Ordered, Inserted, Gathered, Grown}

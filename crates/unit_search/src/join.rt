@@ -2,7 +2,7 @@
 use crate::LIST_WORDS;
 use crate::listing::contains;
 use answer_sets::State;
-use answer_sets::growth::clash;
+use answer_sets::rule_pass::clash;
 ghost use mathlib.Core.Path.{_≡_};
 ghost use Prim.Native.Nat.{_+_, _^_, _≤_, _<_};
 ghost use lib.ListN.{length};

@@ -5,9 +5,9 @@ use crate::join::join_all;
 use crate::join::joins;
 use crate::listing::insert;
 use answer_sets::State;
-use answer_sets::growth::grow;
 use answer_sets::is_answer_set;
 use answer_sets::known::undecided;
+use answer_sets::rule_pass::rule_pass;
 use narrowing::choice::choose;
 use narrowing::founded::founded_pass;
 use narrowing::live::live_rules;
@@ -53,7 +53,7 @@ fn narrow(
     ensures { λ t. ⌜ Narrows (Belongs (now (rules .entry)) (now (table .entry)) (now (counts .entry)) (now (heads .entry)) unit) s t ⌝ }
 {
     let joined = join_all(table, counts, heads, unit.nearest, s);
-    let grown = grow(rules, unit.rules, joined);
+    let grown = rule_pass(rules, unit.rules, joined);
     let live = live_rules(rules, unit.rules, grown);
     let supported = support_pass(rules, live, unit.inputs, grown);
     founded_pass(rules, live, unit.inputs, supported)

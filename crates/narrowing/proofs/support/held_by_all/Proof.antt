@@ -6,7 +6,7 @@ use lib.Count.{ones}
 use Rattle.atoms.proofs.Sets.{subset-refl}
 use Rattle.atoms.proofs.Counting.{taken-less, taken-within}
 use Rattle.answer_sets.specs.State.{Narrows}
-use Rattle.answer_sets.proofs.Narrowing.{narrows-refl, narrows-trans, narrows-for}
+use Rattle.answer_sets.proofs.Narrows.{narrows-refl, narrows-trans, narrows-for}
 use Rattle.narrowing.specs.Support.{HoldsSoles}
 use Rattle.narrowing.proofs.support.held_by_all.Statement.{statement}
 use Rattle.narrowing.proofs.support.held_by_all.Tie as tie

@@ -7,7 +7,7 @@ use Rattle.atoms.specs.Word.{_⊆_}
 use Rattle.atoms.proofs.Sets.{subset-refl}
 use Rattle.atoms.proofs.Counting.{taken-less, taken-within}
 use Rattle.answer_sets.specs.State.{Narrows}
-use Rattle.answer_sets.proofs.Narrowing.{narrows-refl, narrows-trans, narrows-for}
+use Rattle.answer_sets.proofs.Narrows.{narrows-refl, narrows-trans, narrows-for}
 use Rattle.unit_search.specs.Agreeing.{JoinsAll}
 use Rattle.unit_search.proofs.Joining.{joined-lt, joins-one}
 use Rattle.unit_search.proofs.join.join_all.Statement.{statement}

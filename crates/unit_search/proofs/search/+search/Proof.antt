@@ -127,10 +127,8 @@ search-search-requires t c κs =
     let c14 = c8 .before .before .before .before .before .before in
     let at = c14 .args in
     let n = c8 .narrow .result in
-    let low = c .before .before .before .choose .result in
-    let lower = c .before .union .ensures ∙ ap (λ (w : ℕ). n .dropped ∪ w) (c .before .before .single .ensures) in (
-      subst (λ (w : ℕ). ones (undecided (n .up) w) < t) (sym lower)
-          (lt-of-lt-of-le (lower-falls (n .up) (n .dropped) low (chosen t (c .before .before .before))) (no-more t (c .before .before .before))),
+    let chose = c .before .before .before in (
+      lower-falls _ _ (c .before .before .single .ensures) (chosen t chose) (no-more t chose) (c .before .union .ensures),
       (c14 .pre .1 .0, c14 .pre .1 .1),
     )
 
@@ -162,12 +160,8 @@ search-search-requires-2 t c κs =
     let c14 = c9 .before .before .before .before .before in
     let c20 = c14 .before .before .before .before .before .before in
     let at = c20 .args in
-    let n = c14 .narrow .result in
-    let low = c9 .choose .result in
-    let upper = c .before .union2 .ensures ∙ ap (λ (w : ℕ). n .up ∪ w)
-    (c8 .single .ensures) in (
-      subst (λ (w : ℕ). ones (undecided w (n .dropped)) < t) (sym upper)
-          (lt-of-lt-of-le (raise-falls (n .up) (n .dropped) low (chosen t c9)) (no-more t c9)),
+    let n = c14 .narrow .result in (
+      raise-falls _ _ (c8 .single .ensures) (chosen t c9) (no-more t c9) (c .before .union2 .ensures),
       (c20 .pre .1 .0, gathered-ordered (c .before .before .if3 .left) (c5 .search .ensures)),
     )
 

@@ -22,7 +22,7 @@ fits c = omega arith
 lent-too : (c : tie.After-live-rules) → Lent (now (c .before .before .before .before .before .before .before .args .rules)) (c .live-rules .result)
 lent-too c =
     let c7 = c .before .before .before .before .before .before .before in
-    live-lent (now (c7 .args .rules)) (c .before .grow .result) (c7 .pre .rules-lent) (c .live-rules .ensures)
+    live-lent (now (c7 .args .rules)) (c .before .rule-pass .result) (c7 .pre .rules-lent) (c .live-rules .ensures)
 
 support-pass-requires : tie.Need-support-pass-requires
 support-pass-requires c κs = lent-too c
@@ -36,7 +36,7 @@ returns c =
     let c9 = c4 .before .before .before .before .before in
     let at = c9 .args in
     passes-narrow (now (at .rules)) (now (at .table)) (now (at .counts)) (now (at .heads)) (at .unit) (fits c4) (c9 .pre .near)
-    (c .before .before .live-rules .result) (c4 .join-all .ensures) (c .before .before .before .grow .ensures)
+    (c .before .before .live-rules .result) (c4 .join-all .ensures) (c .before .before .before .rule-pass .ensures)
     (c .before .before .live-rules .ensures)
     (c .before .support-pass .ensures) (c .founded-pass .ensures)
 

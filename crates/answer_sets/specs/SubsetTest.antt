@@ -1,24 +1,14 @@
--- What the rule pass and the subset test are between: the statements of their inner functions.
+-- Inner: the statements of the subset test's functions.
 use mathlib.Core.Path.{_≡_}
 use mathlib.Core.List.{List}
 use Prim.Native.Nat.{ℕ, _<_}
-use Rattle.atoms.specs.Word.{Has, _⊆_, _⊂_}
+use Rattle.atoms.specs.Word.{ATOMS, Has, _⊆_, _⊂_}
 use Rattle.answer_sets.specs.Program.{Program, Satisfies, SatisfiesAll}
 use Rattle.answer_sets.specs.Lent.{lent, negative}
 use Rattle.answer_sets.specs.State.{Completes}
 use Rattle.answer_sets.specs.declared.state.State.{State}
 use Rattle.answer_sets.specs.declared.reduct.Found.{Found}
 use Rattle.answer_sets.specs.declared.reduct.Found.the-variants.{Rule, Nothing}
-
--- the position has not every atom of the word
-pub record NotAll (word N : ℕ) : Type 0 where
-  pub lacks : ¬ (word ⊆ N)
-
--- the position has an atom of the head
-pub record HeadUp (head N : ℕ) : Type 0 where
-  pub atom : ℕ
-  pub in-head : Has head atom
-  pub is-up : Has N atom
 
 -- some completion of the state is a proper subset of M and satisfies each rule of the word
 pub record Between (P : Program) (which M : ℕ) (s : State) : Type 0 where
@@ -29,7 +19,7 @@ pub record Between (P : Program) (which M : ℕ) (s : State) : Type 0 where
 
 -- every atom outside the position is dropped, so that completions lie within it
 pub record Confines (M dropped : ℕ) : Type 0 where
-  pub outside : (i : ℕ) → i < 64 → ¬ Has M i → Has dropped i
+  pub outside : (i : ℕ) → i < ATOMS → ¬ Has M i → Has dropped i
 
 -- a rule of the word that the position does not satisfy, or it satisfies them all
 abbrev pub Unsatisfied : Program → ℕ → ℕ → Found → Type 0
@@ -45,4 +35,4 @@ pub data InRule (rules : List ℕ) (r i : ℕ) : Type 0 where
 -- w holds atoms of `free`, and none only where no atom of rule r is in `free`
 pub record Candidates (rules : List ℕ) (r free w : ℕ) : Type 0 where
   pub within : w ⊆ free
-  pub none-left : w ≡ 0 → (i : ℕ) → InRule rules r i → (i < 64) × ¬ Has free i
+  pub none-left : w ≡ 0 → (i : ℕ) → InRule rules r i → (i < ATOMS) × ¬ Has free i

@@ -9,7 +9,7 @@ ghost use mathlib.Core.Path.{_≡_};
 ghost use Rattle.answer_sets.specs.Program.{Satisfies, SatisfiesAll};
 ghost use Rattle.answer_sets.specs.Lent.{lent, IsLent, Lent};
 ghost use Rattle.answer_sets.specs.State.{Narrows, clashed};
-ghost use Rattle.answer_sets.specs.Growth.{HeadUp, NotAll};
+ghost use Rattle.answer_sets.specs.RulePass.{HeadUp, NotAll};
 
 // A state that nothing completes: an atom is both up and dropped.
 pub fn clash(s: State) -> State
@@ -75,7 +75,7 @@ fn denied(rules: &[u64], rule: usize, s: State) -> State
 }
 
 // The state after one rule: where its body holds and no head atom is up, one has to go up.
-fn grow_by(rules: &[u64], rule: usize, s: State) -> State
+fn rule_step(rules: &[u64], rule: usize, s: State) -> State
     requires { ⌜ IsLent (now rules) rule ⌝ }
     ensures { λ t. ⌜ Narrows (Satisfies (lent (now (rules .entry))) rule) s t ⌝ }
 {
@@ -92,7 +92,7 @@ fn grow_by(rules: &[u64], rule: usize, s: State) -> State
 }
 
 // The state after one round over the rules of the word.
-pub fn grow(rules: &[u64], which: u64, s: State) -> State
+pub fn rule_pass(rules: &[u64], which: u64, s: State) -> State
     requires { ⌜ Lent (now rules) which ⌝ }
     ensures { λ t. ⌜ Narrows (SatisfiesAll (lent (now (rules .entry))) which) s t ⌝ }
 {
@@ -100,7 +100,7 @@ pub fn grow(rules: &[u64], which: u64, s: State) -> State
     let mut t = s;
     while rest != 0 {
         let rule = atoms::lowest(rest);
-        t = grow_by(rules, rule, t);
+        t = rule_step(rules, rule, t);
         rest = atoms::drop(rest, rule);
     }
     t
