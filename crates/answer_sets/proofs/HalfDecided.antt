@@ -1,53 +1,48 @@
 -- What is known of a body at a half-decided position is so at each of its completions.
-use mathlib.Core.Path.{_≡_, refl, sym, ap, ap₂, _∙_, subst}
-use mathlib.Core.Bool.{Bool, true, false, not, _&&_, _||_, true≢false, false≢true}
+use mathlib.Core.Path.{_≡_, refl}
+use mathlib.Core.Bool.{Bool, true, false, not, _&&_, _||_}
 use mathlib.Core.Logic.{_⊎_, inl, inr}
 use mathlib.Core.List.{List}
 use Prim.Native.Nat.{ℕ, _<_}
 use native.Mathlib.Omega.{arith}
 use borrow.Author.Tests.{not-true, not-false}
 use Rattle.atoms.specs.Word.{ATOMS, Has, _⊆_, subset, Apart, apart, _∖_, outside}
-use Rattle.atoms.specs.Bounded.{Decides}
-use Rattle.atoms.proofs.Tests.{and-true, or-true, not-is-true, not-both, decided-true, test-cases}
-use Rattle.atoms.proofs.Sets.{decides-subset, decides-apart, without-left, without-right, has-without, has-outside, outside-lt, outside-lacks, has-dec, subset-trans}
-use Rattle.answer_sets.specs.Program.{Program, Body}
+use Rattle.atoms.proofs.Tests.{and-true, or-true, not-is-true, decided-true}
+use Rattle.atoms.proofs.Sets.{decides-subset, decides-apart, without-left, without-right, has-without, has-outside, outside-lt}
+use Rattle.atoms.proofs.Sets.{outside-lacks, has-dec, subset-trans}
+use Rattle.answer_sets.specs.Program.{Body}
 use Rattle.answer_sets.specs.Lent.{lent, negative}
-use Rattle.answer_sets.specs.State.{Completes, undecided, known, bodyKnown}
-use Rattle.answer_sets.specs.declared.state.Truth.{Truth}
+use Rattle.answer_sets.specs.State.{undecided, known, bodyKnown}
 use Rattle.answer_sets.specs.declared.state.Truth.the-variants.{Holds, Fails, Open}
-use Rattle.answer_sets.specs.declared.state.State.{State}
 
 -- ---- the tests of the code, in its order: what was read, and each answer
 
-module _ (rules : List ℕ) (r up dropped : ℕ) {p n d : ℕ} {apart-down : Bool} (reads-p : p ≡ lent rules .positive r)
-    (reads-n : n ≡ negative rules r) (down : d ≡ dropped ∖ up) (a : apart-down ≡ apart p d) where
-  pub positive-fails : not apart-down ≡ true → Fails ≡ bodyKnown rules r up dropped
+module _ (rules : List ℕ) (r up dropped : ℕ) {p n d : ℕ} {a : Bool} (rp : p ≡ lent rules .positive r) (rn : n ≡ negative rules r)
+    (rd : d ≡ dropped ∖ up) (ea : a ≡ apart p d) where
+  pub positive-fails : not a ≡ true → Fails ≡ bodyKnown rules r up dropped
   unfolding bodyKnown
-  positive-fails e = simp (← reads-p, ← down, ← a, not-true apart-down e)
+  positive-fails ta = simp (← rp, ← rd, ← ea, not-true a ta)
 
-  module _ {apart-up : Bool} (e : not apart-down ≡ false) (b : apart-up ≡ apart n up) where
-    pub negative-fails : not apart-up ≡ true → Fails ≡ bodyKnown rules r up dropped
+  module _ {b : Bool} (ta : not a ≡ false) (eb : b ≡ apart n up) where
+    pub negative-fails : not b ≡ true → Fails ≡ bodyKnown rules r up dropped
     unfolding bodyKnown
-    negative-fails f = simp (← reads-p, ← reads-n, ← down, ← a, not-false apart-down e, ← b, not-true apart-up f)
+    negative-fails tb = simp (← rp, ← rn, ← rd, ← ea, not-false a ta, ← eb, not-true b tb)
 
-    module _ {all-up : Bool} (f : not apart-up ≡ false) (s : all-up ≡ subset p up) where
-      pub positive-open : not all-up ≡ true → Open ≡ bodyKnown rules r up dropped
+    module _ {s : Bool} (tb : not b ≡ false) (es : s ≡ subset p up) where
+      pub positive-open : not s ≡ true → Open ≡ bodyKnown rules r up dropped
       unfolding bodyKnown
-      positive-open g =
-          simp (← reads-p, ← reads-n, ← down, ← a, not-false apart-down e, ← b, not-false apart-up f, ← s, not-true all-up g)
+      positive-open ts = simp (← rp, ← rn, ← rd, ← ea, not-false a ta, ← eb, not-false b tb, ← es, not-true s ts)
 
-      module _ {all-down : Bool} (g : not all-up ≡ false) (u : all-down ≡ subset n d) where
-        pub negative-open : not all-down ≡ true → Open ≡ bodyKnown rules r up dropped
+      module _ {u : Bool} (ts : not s ≡ false) (eu : u ≡ subset n d) where
+        pub negative-open : not u ≡ true → Open ≡ bodyKnown rules r up dropped
         unfolding bodyKnown
-        negative-open h =
-            simp
-            (← reads-p, ← reads-n, ← down, ← a, not-false apart-down e, ← b, not-false apart-up f, ← s, not-false all-up g, ← u, not-true all-down h)
+        negative-open tu =
+            simp (← rp, ← rn, ← rd, ← ea, not-false a ta, ← eb, not-false b tb, ← es, not-false s ts, ← eu, not-true u tu)
 
-        pub both-hold : not all-down ≡ false → Holds ≡ bodyKnown rules r up dropped
+        pub both-hold : not u ≡ false → Holds ≡ bodyKnown rules r up dropped
         unfolding bodyKnown
-        both-hold h =
-            simp
-            (← reads-p, ← reads-n, ← down, ← a, not-false apart-down e, ← b, not-false apart-up f, ← s, not-false all-up g, ← u, not-false all-down h)
+        both-hold tu =
+            simp (← rp, ← rn, ← rd, ← ea, not-false a ta, ← eb, not-false b tb, ← es, not-false s ts, ← eu, not-false u tu)
 
 -- ---- what the answers mean
 

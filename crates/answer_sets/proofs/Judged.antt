@@ -1,12 +1,12 @@
 -- The computing twins decide what they are twins of. Rule numbers are bits of a word, so `which` is below 2 ^ 64.
-use mathlib.Core.Path.{_≡_, refl, sym, _∙_}
-use mathlib.Core.Bool.{Bool, true, false, not, _&&_, _||_}
+use mathlib.Core.Path.{_≡_, refl}
+use mathlib.Core.Bool.{Bool, true, false, not, _&&_}
 use Prim.Native.Nat.{ℕ, _^_, _<_}
 use Rattle.atoms.specs.Word.{ATOMS, Has, has, _⊆_, _⊂_, subset, apart, _∖_, atom, Lowest}
 use Rattle.atoms.specs.Collected.{Collects}
-use Rattle.atoms.specs.Bounded.{Decides, allIn, someBelow, wordBelow}
-use Rattle.atoms.proofs.Tests.{decides, decides-iff, decides-and, decides-not, decides-implies, decided-true, and-true, not-both}
-use Rattle.atoms.proofs.Sets.{ext, decides-has, decides-subset, decides-apart, has-lt, lt-of-has, subset-lt, subset-of-eq, subset-le, apart-of-cut, cut-of-apart, shared-atom}
+use Rattle.atoms.specs.Bounded.{Decides}
+use Rattle.atoms.proofs.Tests.{decides-iff, decides-and, decides-not, decides-implies, decided-true, and-true, not-both}
+use Rattle.atoms.proofs.Sets.{ext, decides-has, decides-subset, decides-apart, has-lt, lt-of-has, subset-lt, subset-le, apart-of-cut, shared-atom}
 use Rattle.atoms.proofs.Bounded.{decides-all-in, decides-some, word-has, word-at}
 use Rattle.atoms.proofs.Taking.{Sifts, sifts-keep, sifts-drop}
 use native.Mathlib.Omega.{arith}

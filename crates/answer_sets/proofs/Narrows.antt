@@ -1,5 +1,4 @@
 -- Narrowing passes: they compose, and what keeps every position of interest.
-use mathlib.Core.Path.{_≡_, sym, subst}
 use mathlib.Core.Logic.{_⊎_, inl, inr}
 use Prim.Native.Nat.{ℕ}
 use Rattle.atoms.specs.Word.{Has, _⊆_, Apart, _∪_, atom}

@@ -2,8 +2,7 @@
 use mathlib.Core.Bool.{Bool, true, false, _&&_, _||_, not}
 use mathlib.Core.List.{List}
 use Prim.Native.Nat.{ℕ}
-use Rattle.atoms.specs.Word.{Has, _⊆_, subset, Apart, apart, _∪_, _∖_, atom, outside}
-use Rattle.answer_sets.specs.Program.{Program}
+use Rattle.atoms.specs.Word.{_⊆_, subset, Apart, apart, _∪_, _∖_, atom, outside}
 use Rattle.answer_sets.specs.Lent.{lent, negative}
 use Rattle.answer_sets.specs.declared.state.Truth.{Truth}
 use Rattle.answer_sets.specs.declared.state.Truth.the-variants.{Holds, Fails, Open}

@@ -1,7 +1,6 @@
 -- The loop takes the rules of the word: each that is done is satisfied. The measure is how many are left.
 use mathlib.Core.Path.{sym, _∙_}
 use lib.Count.{ones}
-use denote.Ref.{now}
 use borrow.Author.Tests.{not-true, not-false}
 use Rattle.atoms.proofs.Counting.{taken-less}
 use Rattle.atoms.proofs.Taking.{Taking, taking-start, taking-next, taking-end, taken-lent}

@@ -1,5 +1,5 @@
 -- The measure is the count of undecided atoms. Each return says of the completions what its step of the subset test shows.
-use mathlib.Core.Path.{_≡_, ap, sym, _∙_}
+use mathlib.Core.Path.{ap, sym, _∙_}
 use Prim.Native.Nat.{ℕ, _<_, _≤_}
 use native.Mathlib.Omega.{arith}
 use lib.Count.{ones}
@@ -8,12 +8,12 @@ use borrow.Author.Needs.{needs}
 use borrow.Author.Tests.{not-false}
 use borrow.Fn.Kinds.{In}
 use borrow.Fn.PlainCycle.{Measures, is, falls, and}
-use Rattle.atoms.specs.Word.{Has, Apart, _∪_, atom}
+use Rattle.atoms.specs.Word.{Has, Apart}
 use Rattle.atoms.proofs.Sets.{decides-apart, has-left}
 use Rattle.answer_sets.specs.Program.{Satisfies}
-use Rattle.answer_sets.specs.Lent.{lent, Lent}
+use Rattle.answer_sets.specs.Lent.{lent}
 use Rattle.answer_sets.specs.State.{undecided}
-use Rattle.answer_sets.specs.SubsetTest.{Confines, Unsatisfied}
+use Rattle.answer_sets.specs.SubsetTest.{Confines}
 use Rattle.answer_sets.proofs.Between.{confines-more, between-narrow, between-clash, between-model, between-stuck, branch-yes, branch-no}
 use Rattle.answer_sets.proofs.Between.{pass-falls, raise-falls, lower-falls}
 use Rattle.answer_sets.proofs.smaller.some_between.Reads as some-between
@@ -176,9 +176,11 @@ module _ (t : ℕ) where
 
   up-found : some-between-lts.Need-returns-5 (calls t) (some-between-at t) some-between.Post
   up-found c =
-      let single = c .before .before .before in
+      let up = c .before in
+      let single = up .before .before in
       between-narrow (passed (unchanged (single .before)) .rule-pass .ensures)
-      (branch-yes (single .before .lowest .result) (c .before .before .union .ensures) (single .single .ensures) (c .before .some-between2 .ensures) (c .if4 .taken))
+      (branch-yes (single .before .lowest .result) (up .before .union .ensures) (single .single .ensures) (up .some-between2 .ensures)
+      (c .if4 .taken))
 
   dropped-requires : some-between-lts.Need-some-between-requires-3 (calls t) (some-between-at t) some-between.Post
   dropped-requires c κs =
@@ -197,8 +199,8 @@ module _ (t : ℕ) where
       let up = c .before .before .before in
       let single = up .before .before in
       between-narrow (passed (unchanged (single .before)) .rule-pass .ensures)
-      (branch-no (single .before .lowest .result) (up .before .union .ensures) (c .before .union2 .ensures) (single .single .ensures) (up .some-between2 .ensures)
-      (c .before .before .if4 .left) (c .some-between3 .ensures))
+      (branch-no (single .before .lowest .result) (up .before .union .ensures) (c .before .union2 .ensures) (single .single .ensures)
+      (up .some-between2 .ensures) (c .before .before .if4 .left) (c .some-between3 .ensures))
 
 pub +some-between-spec : {M : Type 1} → statement M
 +some-between-spec = close μ-some-between λ t. some-between-lts.spec (calls t)
