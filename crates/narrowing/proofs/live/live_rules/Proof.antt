@@ -5,8 +5,8 @@ use Rattle.atoms.specs.Word.{_⊆_}
 use lib.Count.{ones}
 use Rattle.atoms.proofs.Sets.{subset-refl}
 use Rattle.atoms.proofs.Counting.{taken-less, taken-within}
-use Rattle.narrowing.specs.Settled.{Live}
-use Rattle.narrowing.proofs.Living.{live-all, live-trans}
+use Rattle.narrowing.specs.Live.{Live}
+use Rattle.narrowing.proofs.LiveRules.{live-all, live-trans}
 use Rattle.narrowing.proofs.live.live_rules.Statement.{statement}
 use Rattle.narrowing.proofs.live.live_rules.Tie as tie
 

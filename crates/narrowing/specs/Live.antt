@@ -1,16 +1,11 @@
--- What the passes over rules look for, and which rules they may leave out.
+-- Which rules the passes may leave out.
 use mathlib.Core.List.{List}
 use Prim.Native.Nat.{ℕ}
-use Rattle.atoms.specs.Word.{Has, _⊆_, _∩_}
+use Rattle.atoms.specs.Word.{Has, _⊆_}
 use Rattle.answer_sets.specs.Program.{Body}
-use Rattle.answer_sets.specs.AnswerSet.{AnswerSet}
 use Rattle.answer_sets.specs.Lent.{lent}
 use Rattle.answer_sets.specs.State.{Completes}
 use Rattle.answer_sets.specs.declared.state.State.{State}
-
--- M is an answer set of the numbered rules, with those of its atoms that are inputs as facts
-pub record Settled (rules : List ℕ) (which inputs M : ℕ) : Type 0 where
-  pub answer : AnswerSet (lent rules) which (M ∩ inputs) M
 
 -- numbered rules, and among them each whose body holds at some completion
 pub record Live (rules : List ℕ) (which : ℕ) (s : State) (live : ℕ) : Type 0 where

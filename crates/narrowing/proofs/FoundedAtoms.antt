@@ -3,19 +3,19 @@ use mathlib.Core.Path.{_≡_, sym, subst, _∙_}
 use mathlib.Core.Logic.{_⊎_, inl, inr}
 use mathlib.Core.List.{List}
 use Prim.Native.Nat.{ℕ}
-use Rattle.atoms.specs.Word.{Has, _⊆_, _∩_, _∪_, _∖_, atom, below}
+use Rattle.atoms.specs.Word.{Has, _⊆_, _∩_, _∪_, _∖_, atom, outside}
 use Rattle.atoms.proofs.Sets.{subset-refl, subset-trans, subset-antisym, subset-of-eq, has-cut, cut-left, cut-right}
-use Rattle.atoms.proofs.Sets.{has-left, has-right, union-cases, has-without, without-right}
+use Rattle.atoms.proofs.Sets.{has-left, has-right, union-cases, has-without, outside-lacks}
 use Rattle.answer_sets.specs.AnswerSet.{ReductModel}
 use Rattle.answer_sets.specs.Lent.{lent, negative}
 use Rattle.answer_sets.specs.State.{Completes, Narrows}
 use Rattle.answer_sets.specs.declared.state.State.{State}
 use Rattle.answer_sets.proofs.Support.{least}
 use Rattle.answer_sets.proofs.Narrows.{down-narrows}
-use Rattle.narrowing.specs.Settled.{Settled}
+use Rattle.narrowing.specs.Inputs.{AnswersInputs}
 use Rattle.narrowing.specs.Founded.{Closed, ClosedAll, Closes, Founded}
-use Rattle.narrowing.proofs.Supporting.{negative-down}
-use Rattle.narrowing.proofs.Taking.{none-done, done-cases}
+use Rattle.narrowing.proofs.Supports.{negative-down}
+use Rattle.atoms.proofs.Taking.{none-done, done-cases}
 
 module _ (rules : List ℕ) (dropped : ℕ) where
   -- ---- one rule
@@ -70,7 +70,7 @@ module _ (rules : List ℕ) (dropped : ℕ) where
 module _ (rules : List ℕ) (which inputs : ℕ) (s : State) (start found : ℕ) (start-is : start ≡ inputs ∖ s .dropped)
     (f : Founded rules which (s .dropped) start found) where
   -- M cut to the founded atoms has M's inputs and satisfies the kept rules, so it is M
-  within-founded : (M : ℕ) → Settled rules which inputs M → Completes s M → M ⊆ found
+  within-founded : (M : ℕ) → AnswersInputs rules which inputs M → Completes s M → M ⊆ found
   within-founded M a c = subset-trans (least (lent rules) which (M ∩ inputs) M (a .answer) (M ∩ found) inside model) into
     where
       inside : M ∩ found ⊆ M
@@ -99,10 +99,10 @@ module _ (rules : List ℕ) (which inputs : ℕ) (s : State) (start found : ℕ)
         };
       }
 
-  pub founded-narrows : (w : ℕ) → w ≡ below 64 ∖ found
-      → Narrows (Settled rules which inputs) s (record { up = s .up; dropped = s .dropped ∪ w })
+  pub founded-narrows : (w : ℕ) → w ≡ outside found
+      → Narrows (AnswersInputs rules which inputs) s (record { up = s .up; dropped = s .dropped ∪ w })
   founded-narrows w e =
       down-narrows s w
       (λ M a c. record {
-        none = λ i h m. without-right (below 64) found (subst (λ (x : ℕ). Has x i) e h) (within-founded M a c .each i m);
+        none = λ i h m. outside-lacks found (subst (λ (x : ℕ). Has x i) e h) (within-founded M a c .each i m);
       })

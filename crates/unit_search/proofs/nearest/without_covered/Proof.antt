@@ -4,14 +4,15 @@ use Prim.Native.Nat.{ℕ, _^_, _<_}
 use Rattle.atoms.specs.Word.{Has, atom}
 use Rattle.atoms.proofs.Sets.{without-left, without-fits}
 use borrow.Author.Needs.{needs}
-use Rattle.unit_search.proofs.join.without_covered.Statement.{statement}
-use Rattle.unit_search.proofs.join.without_covered.Tie as tie
+use Rattle.plan.specs.Limits.{MAX_UNITS}
+use Rattle.unit_search.proofs.nearest.without_covered.Statement.{statement}
+use Rattle.unit_search.proofs.nearest.without_covered.Tie as tie
 
 is-covered-requires : tie.Need-is-covered-requires
 is-covered-requires c κs =
     let pre = c .before .before .before .pre in
     let at = c .before .before .before .args in
-    (pre .0, subst (λ (w : ℕ). w < 2 ^ 16) (sym (c .before .drop .ensures)) (without-fits (at .units) (atom (at .v)) 16 (pre .1)))
+    (pre .0, subst (λ (w : ℕ). w < 2 ^ MAX_UNITS) (sym (c .before .drop .ensures)) (without-fits (at .units) (atom (at .v)) MAX_UNITS (pre .1)))
 
 returns : tie.Need-returns
 returns c =

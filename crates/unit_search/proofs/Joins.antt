@@ -15,14 +15,16 @@ use Rattle.atoms.proofs.Sets.{without-left, without-right, has-lt, subset-le, e
 use Rattle.atoms.proofs.Bounded.{some-at, all-in-at, all-in-intro, all-in-none, all-in-take}
 use Rattle.atoms.specs.Bounded.{Decides}
 use Rattle.atoms.proofs.Tests.{decides}
+use Rattle.plan.specs.Limits.{MAX_UNITS, LIST_WORDS}
 use Rattle.answer_sets.specs.State.{Completes, Narrows, clashed}
 use Rattle.answer_sets.specs.declared.state.State.{State}
 use Rattle.answer_sets.proofs.Narrows.{clash-narrows}
-use Rattle.narrowing.proofs.Taking.{none-done, all-done, done-cases}
+use Rattle.atoms.proofs.Taking.{none-done, all-done, done-cases}
 use Rattle.unit_search.specs.Listing.{isListed}
 use Rattle.unit_search.specs.Job.{joins, Joinable}
-use Rattle.unit_search.specs.Agreeing.{Agrees, Spans, TakenIn, SpansAll, JoinsOne, JoinsAll, Covered}
-use Rattle.unit_search.specs.declared.join.Agreement.{Agreement}
+use Rattle.unit_search.specs.JoinPass.{Agrees, Spans, TakenIn, SpansAll, JoinsOne, JoinsAll}
+use Rattle.unit_search.specs.Nearest.{Covered}
+use Rattle.unit_search.specs.declared.join_pass.Agreement.{Agreement}
 
 -- ---- one entry
 
@@ -119,26 +121,26 @@ module _ (words : List ℕ) (base count heads : ℕ) (s : State) (r : Agreement)
 pub joins-none : (table counts heads : List ℕ) (M : ℕ) → joins table counts heads 0 M ≡ true
 unfolding joins
 joins-none table counts heads M =
-    all-in-none 16 (λ v. isListed table (256 * v) (getD counts v 0) (M ∩ getD heads v 0))
+    all-in-none MAX_UNITS (λ v. isListed table (LIST_WORDS * v) (getD counts v 0) (M ∩ getD heads v 0))
 
-pub joins-take : (table counts heads : List ℕ) (w M v : ℕ) → v < 16 → Has w v
+pub joins-take : (table counts heads : List ℕ) (w M v : ℕ) → v < MAX_UNITS → Has w v
     → joins table counts heads w M
-    ≡ (isListed table (256 * v) (getD counts v 0) (M ∩ getD heads v 0) && joins table counts heads (w ∖ atom v) M)
+    ≡ (isListed table (LIST_WORDS * v) (getD counts v 0) (M ∩ getD heads v 0) && joins table counts heads (w ∖ atom v) M)
 unfolding joins
 joins-take table counts heads w M v l h =
-    all-in-take 16 w (λ u. isListed table (256 * u) (getD counts u 0) (M ∩ getD heads u 0)) v l h
+    all-in-take MAX_UNITS w (λ u. isListed table (LIST_WORDS * u) (getD counts u 0) (M ∩ getD heads u 0)) v l h
 
-pub joins-one : (table counts heads : List ℕ) (predecessors M v : ℕ) → v < 16 → Has predecessors v
-    → JoinsAll table counts heads predecessors M → JoinsOne table (256 * v) (getD counts v 0) (getD heads v 0) M
+pub joins-one : (table counts heads : List ℕ) (predecessors M v : ℕ) → v < MAX_UNITS → Has predecessors v
+    → JoinsAll table counts heads predecessors M → JoinsOne table (LIST_WORDS * v) (getD counts v 0) (getD heads v 0) M
 unfolding joins
 joins-one table counts heads predecessors M v l h j = record {
-  listed = all-in-at 16 predecessors (λ u. isListed table (256 * u) (getD counts u 0) (M ∩ getD heads u 0)) (j .joined) v l h;
+  listed = all-in-at MAX_UNITS predecessors (λ u. isListed table (LIST_WORDS * u) (getD counts u 0) (M ∩ getD heads u 0)) (j .joined) v l h;
 }
 
 -- a predecessor that is still to be joined is below 16, and its list is in the table
 pub joined-lt : {table counts heads : List ℕ} {predecessors rest v : ℕ} → Joinable table counts heads predecessors
-    → rest ⊆ predecessors → Has rest v → v < 16
-joined-lt {predecessors = predecessors} {v = v} j f h = has-lt predecessors 16 (j .few) (f .each v h)
+    → rest ⊆ predecessors → Has rest v → v < MAX_UNITS
+joined-lt {predecessors = predecessors} {v = v} j f h = has-lt predecessors MAX_UNITS (j .few) (f .each v h)
 
 -- ---- the nearest predecessors
 
@@ -147,9 +149,9 @@ pub joins-some : (table counts heads : List ℕ) (predecessors near M : ℕ) →
     → JoinsAll table counts heads predecessors M → JoinsAll table counts heads near M
 unfolding joins
 joins-some table counts heads predecessors near M f j = record {
-  joined = all-in-intro 16 near (λ v. isListed table (256 * v) (getD counts v 0) (M ∩ getD heads v 0))
+  joined = all-in-intro MAX_UNITS near (λ v. isListed table (LIST_WORDS * v) (getD counts v 0) (M ∩ getD heads v 0))
       (λ v l h.
-      all-in-at 16 predecessors (λ u. isListed table (256 * u) (getD counts u 0) (M ∩ getD heads u 0)) (j .joined) v l (f .each v h));
+      all-in-at MAX_UNITS predecessors (λ u. isListed table (LIST_WORDS * u) (getD counts u 0) (M ∩ getD heads u 0)) (j .joined) v l (f .each v h));
 }
 
 pub joinable-some : {table counts heads : List ℕ} {predecessors near : ℕ} → near ⊆ predecessors

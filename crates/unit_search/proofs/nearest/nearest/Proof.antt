@@ -6,8 +6,9 @@ use Rattle.atoms.specs.Word.{Has, _⊆_, _∩_, below}
 use Rattle.atoms.proofs.Sets.{subset-refl, subset-trans, cut-left, cut-right, below-lt, lt-of-has}
 use Rattle.atoms.proofs.Counting.{taken-less, taken-within}
 use borrow.Author.Needs.{needs}
-use Rattle.unit_search.proofs.join.nearest.Statement.{statement}
-use Rattle.unit_search.proofs.join.nearest.Tie as tie
+use Rattle.plan.specs.Limits.{MAX_UNITS}
+use Rattle.unit_search.proofs.nearest.nearest.Statement.{statement}
+use Rattle.unit_search.proofs.nearest.nearest.Tie as tie
 
 abbrev Inv-loop : tie.InvT-loop
 Inv-loop heads predecessors near₀ rest₀ near rest = (rest ⊆ near₀) × (near ⊆ near₀)
@@ -16,13 +17,14 @@ abbrev μ-loop : tie.MeasureT-loop
 μ-loop heads predecessors near₀ rest₀ near rest = ones rest
 
 -- the loop starts with the predecessors below 16
-started : (c : tie.After-cut Inv-loop μ-loop) → {i : ℕ} → Has (c .cut .result) i → Has (c .before .before .before .args .predecessors ∩ below 16) i
+started : (c : tie.After-cut Inv-loop μ-loop) → {i : ℕ} → Has (c .cut .result) i
+    → Has (c .before .before .before .args .predecessors ∩ below MAX_UNITS) i
 started c {i} h =
     subst (λ (w : ℕ). Has w i)
     (c .cut .ensures ∙ ap (λ (w : ℕ). c .before .before .before .args .predecessors ∩ w) (c .before .first .ensures)) h
 
-inside : (c : tie.After-cut Inv-loop μ-loop) → {i : ℕ} → Has (c .cut .result) i → i < 16
-inside c h = below-lt 16 (cut-right (c .before .before .before .args .predecessors) (below 16) (started c h))
+inside : (c : tie.After-cut Inv-loop μ-loop) → {i : ℕ} → Has (c .cut .result) i → i < MAX_UNITS
+inside c h = below-lt MAX_UNITS (cut-right (c .before .before .before .args .predecessors) (below MAX_UNITS) (started c h))
 
 loop-holds : tie.Need-loop-holds Inv-loop μ-loop
 loop-holds c = (subset-refl, subset-refl)
@@ -35,7 +37,7 @@ without-covered-requires c κs =
     let old = c .before .before .loop in
     let start = c .before .before .before in (
       start .before .before .before .pre,
-      lt-of-has (old .near) 16 (λ i h. inside start (old .inv .1 .each i h)),
+      lt-of-has (old .near) MAX_UNITS (λ i h. inside start (old .inv .1 .each i h)),
       inside start (old .inv .0 .each (c .lowest .result) (c .lowest .ensures .0 .here)),
     )
 
@@ -56,7 +58,7 @@ returns : tie.Need-returns Inv-loop μ-loop
 returns c =
     let start = c .before .before in
     record {
-      each = λ i h. cut-left (start .before .before .before .args .predecessors) (below 16) (started start (c .before .loop .inv .1 .each i h));
+      each = λ i h. cut-left (start .before .before .before .args .predecessors) (below MAX_UNITS) (started start (c .before .loop .inv .1 .each i h));
     }
 
 pub nearest-spec : {M : Type 1} → statement M

@@ -4,17 +4,18 @@ use mathlib.Core.Logic.{_⊎_, inl, inr}
 use mathlib.Core.List.{List}
 use Prim.Native.Nat.{ℕ, _^_, _<_}
 use native.Mathlib.Decide.{ℕ-discrete}
-use Rattle.atoms.specs.Word.{Has, _⊆_, Apart, _∩_, _∪_, _∖_, atom, below}
-use Rattle.atoms.proofs.Sets.{has-cut, cut-left, cut-right, has-left, has-right, union-cases, without-left, without-right, has-atom}
+use Rattle.atoms.specs.Word.{ATOMS, Has, _⊆_, Apart, _∩_, _∪_, _∖_, atom, outside}
+use Rattle.atoms.proofs.Sets.{has-cut, cut-left, cut-right, has-left, has-right, union-cases, without-left, without-right, outside-lacks, has-atom}
 use Rattle.answer_sets.specs.Lent.{lent, negative}
 use Rattle.answer_sets.specs.State.{Completes, Narrows}
 use Rattle.answer_sets.specs.declared.state.State.{State}
 use Rattle.answer_sets.proofs.Narrows.{narrows-trans, narrows-when, up-narrows, down-narrows, completes-back}
-use Rattle.narrowing.specs.Settled.{Settled}
-use Rattle.narrowing.specs.Support.{Supports, MaySupport, Collects, Tallied, HoldsSole, HoldsSoles}
+use Rattle.narrowing.specs.Inputs.{AnswersInputs}
+use Rattle.narrowing.specs.Support.{Supports, MaySupport, Tallied, HoldsSole, HoldsSoles}
+use Rattle.atoms.specs.Collected.{Collects}
 use Rattle.narrowing.specs.declared.support.Supporters.{Supporters}
-use Rattle.narrowing.proofs.Supporting.{supporter, may-support, negative-down}
-use Rattle.narrowing.proofs.Taking.{none-done, all-done, done-cases}
+use Rattle.narrowing.proofs.Supports.{supporter, may-support, negative-down}
+use Rattle.atoms.proofs.Taking.{none-done, all-done, done-cases}
 
 module _ (rules : List ℕ) (s : State) where
   -- ---- the count
@@ -80,24 +81,24 @@ module _ (rules : List ℕ) (s : State) where
 
   -- ---- the pass
 
-  module _ (which inputs : ℕ) (fits : which < 2 ^ 64) (found : Supporters) (t : Tallied rules which s found) where
+  module _ (which inputs : ℕ) (fits : which < 2 ^ ATOMS) (found : Supporters) (t : Tallied rules which s found) where
     -- the rule that supports an atom which is no input
-    found-supporter : (M a : ℕ) → Settled rules which inputs M → Has M a → ¬ Has inputs a
+    found-supporter : (M a : ℕ) → AnswersInputs rules which inputs M → Has M a → ¬ Has inputs a
         → (r : ℕ) × Has which r × Supports (lent rules) r M a
     found-supporter M a p h n =
         supporter (lent rules) which (M ∩ inputs) M a fits (p .answer) h (λ q. n (cut-right M inputs q))
 
-    pub unsupported-narrows : (w : ℕ) → w ≡ below 64 ∖ (inputs ∪ found .once)
-        → Narrows (Settled rules which inputs) s (record { up = s .up; dropped = s .dropped ∪ w })
+    pub unsupported-narrows : (w : ℕ) → w ≡ outside (inputs ∪ found .once)
+        → Narrows (AnswersInputs rules which inputs) s (record { up = s .up; dropped = s .dropped ∪ w })
     unsupported-narrows w e = down-narrows s w (λ M p c. record { none = λ i h m. go M p c i m (subst (λ (x : ℕ). Has x i) e h) })
       where
-        go : (M : ℕ) → Settled rules which inputs M → Completes s M → (i : ℕ) → Has M i → Has (below 64 ∖ (inputs ∪ found .once)) i → ⊥
+        go : (M : ℕ) → AnswersInputs rules which inputs M → Completes s M → (i : ℕ) → Has M i → Has (outside (inputs ∪ found .once)) i → ⊥
         go M p c i m h =
-            let n = without-right (below 64) (inputs ∪ found .once) h in
+            let n = outside-lacks (inputs ∪ found .once) h in
             let q = found-supporter M i p m (λ k. n (has-left inputs (found .once) k)) in
             n (has-right inputs (found .once) (t .one (q .0) i (q .1) (may-support rules (q .0) M i s (q .2) m c)))
 
-    pub soles-held : (sole : ℕ) → sole ≡ s .up ∖ (inputs ∪ found .twice) → (M : ℕ) → Settled rules which inputs M → Completes s M
+    pub soles-held : (sole : ℕ) → sole ≡ s .up ∖ (inputs ∪ found .twice) → (M : ℕ) → AnswersInputs rules which inputs M → Completes s M
         → HoldsSoles rules which s sole M
     soles-held sole e M p c = record { each = λ r h. record { supports = λ a l m. go r h a m (subst (λ (x : ℕ). Has x a) e l) } }
       where
@@ -118,6 +119,6 @@ module _ (rules : List ℕ) (s : State) where
 
     -- first what no rule may support is dropped, then the sole supporters tell more
     pub soles-narrow : (sole : ℕ) → sole ≡ s .up ∖ (inputs ∪ found .twice) → {u v : State}
-        → Narrows (Settled rules which inputs) s u → Narrows (HoldsSoles rules which s sole) u v
-        → Narrows (Settled rules which inputs) s v
+        → Narrows (AnswersInputs rules which inputs) s u → Narrows (HoldsSoles rules which s sole) u v
+        → Narrows (AnswersInputs rules which inputs) s v
     soles-narrow sole e n m = narrows-trans n (narrows-when (λ M p c. soles-held sole e M p (completes-back n c)) m)

@@ -1,13 +1,13 @@
--- What the join pass knows of the entries of a predecessor's list.
+-- Inner: what the join pass knows of the entries of a predecessor's list.
 use mathlib.Core.Path.{_≡_}
 use mathlib.Core.Bool.{true}
 use mathlib.Core.List.{List}
 use Prim.Native.Nat.{ℕ, _+_, _<_}
 use lib.ListN.{getD}
-use Rattle.atoms.specs.Word.{Has, _⊆_, _∩_}
+use Rattle.atoms.specs.Word.{_⊆_, _∩_}
 use Rattle.unit_search.specs.Listing.{isListed}
 use Rattle.unit_search.specs.Job.{joins}
-use Rattle.unit_search.specs.declared.join.Agreement.{Agreement}
+use Rattle.unit_search.specs.declared.join_pass.Agreement.{Agreement}
 
 -- of the decided atoms the entry has just those that are up
 pub record Agrees (up decided entry : ℕ) : Type 0 where
@@ -34,9 +34,3 @@ pub record JoinsOne (words : List ℕ) (base count heads M : ℕ) : Type 0 where
 -- it is in each direct predecessor's list
 pub record JoinsAll (table counts heads : List ℕ) (predecessors M : ℕ) : Type 0 where
   pub joined : joins table counts heads predecessors M ≡ true
-
--- all atoms of the word are among the head atoms of one of the units
-pub record Covered (heads : List ℕ) (units word : ℕ) : Type 0 where
-  pub by : ℕ
-  pub unit : Has units by
-  pub within : word ⊆ getD heads by 0

@@ -1,4 +1,4 @@
--- Rules whose body fails at every completion may be left out: what is settled for all rules is settled for the live ones.
+-- Rules whose body fails at every completion may be left out: an answer set for all rules is one for the live ones.
 use mathlib.Core.Path.{_≡_, sym, subst}
 use mathlib.Core.List.{List}
 use Prim.Native.Nat.{ℕ}
@@ -12,7 +12,8 @@ use Rattle.answer_sets.specs.declared.state.State.{State}
 use Rattle.answer_sets.specs.declared.state.Truth.the-variants.{Fails}
 use Rattle.answer_sets.proofs.HalfDecided.{known-fails}
 use Rattle.answer_sets.proofs.Narrows.{narrows-when}
-use Rattle.narrowing.specs.Settled.{Settled, Live}
+use Rattle.narrowing.specs.Inputs.{AnswersInputs}
+use Rattle.narrowing.specs.Live.{Live}
 
 module _ (rules : List ℕ) (s : State) where
   pub live-all : (which : ℕ) → Live rules which s which
@@ -41,8 +42,8 @@ module _ (rules : List ℕ) (s : State) where
 
   module _ (which live inputs : ℕ) (v : Live rules which s live) where
     -- both reducts keep the same rules
-    pub settled-live : (M : ℕ) → Settled rules which inputs M → Completes s M → Settled rules live inputs M
-    settled-live M a c = record {
+    pub answers-live : (M : ℕ) → AnswersInputs rules which inputs M → Completes s M → AnswersInputs rules live inputs M
+    answers-live M a c = record {
       answer = record {
         model = record { facts-up = a .answer .model .facts-up; each = λ r k. a .answer .model .each r (more r k) };
         minimal = λ N p m. a .answer .minimal N p (record { facts-up = m .facts-up; each = λ r k. m .each r (less r k) });
@@ -56,5 +57,5 @@ module _ (rules : List ℕ) (s : State) where
         less r k = record { numbered = v .every r M (k .numbered) c (k .holds); holds = k .holds }
 
     -- so that a pass over the live rules is one over all rules
-    pub narrows-live : {t : State} → Narrows (Settled rules live inputs) s t → Narrows (Settled rules which inputs) s t
-    narrows-live n = narrows-when settled-live n
+    pub narrows-live : {t : State} → Narrows (AnswersInputs rules live inputs) s t → Narrows (AnswersInputs rules which inputs) s t
+    narrows-live n = narrows-when answers-live n

@@ -5,11 +5,11 @@ use denote.Ref.{now}
 use borrow.Author.Tests.{not-true}
 use Rattle.atoms.specs.Word.{_∩_, _∪_}
 use Rattle.answer_sets.specs.State.{Narrows}
-use Rattle.unit_search.specs.Agreeing.{SpansAll, JoinsOne}
-use Rattle.unit_search.proofs.Joining.{join-clash, join-narrows}
+use Rattle.unit_search.specs.JoinPass.{SpansAll, JoinsOne}
+use Rattle.unit_search.proofs.Joins.{join-clash, join-narrows}
 use borrow.Author.Needs.{needs}
-use Rattle.unit_search.proofs.join.join_one.Statement.{statement}
-use Rattle.unit_search.proofs.join.join_one.Tie as tie
+use Rattle.unit_search.proofs.join_pass.join_one.Statement.{statement}
+use Rattle.unit_search.proofs.join_pass.join_one.Tie as tie
 
 abbrev start : tie.After-agreeing-entries → tie.Start
 start c = c .before .before .before .before

@@ -6,12 +6,13 @@ use native.Mathlib.Omega.{arith}
 use Rattle.atoms.specs.Word.{_⊆_}
 use Rattle.atoms.proofs.Sets.{subset-refl}
 use Rattle.atoms.proofs.Counting.{taken-less, taken-within}
+use Rattle.plan.specs.Limits.{MAX_UNITS}
 use Rattle.answer_sets.specs.State.{Narrows}
 use Rattle.answer_sets.proofs.Narrows.{narrows-refl, narrows-trans, narrows-for}
-use Rattle.unit_search.specs.Agreeing.{JoinsAll}
-use Rattle.unit_search.proofs.Joining.{joined-lt, joins-one}
-use Rattle.unit_search.proofs.join.join_all.Statement.{statement}
-use Rattle.unit_search.proofs.join.join_all.Tie as tie
+use Rattle.unit_search.specs.JoinPass.{JoinsAll}
+use Rattle.unit_search.proofs.Joins.{joined-lt, joins-one}
+use Rattle.unit_search.proofs.join_pass.join_pass.Statement.{statement}
+use Rattle.unit_search.proofs.join_pass.join_pass.Tie as tie
 
 abbrev Inv-loop : tie.InvT-loop
 Inv-loop table counts heads predecessors rest₀ t₀ rest t =
@@ -24,7 +25,7 @@ loop-holds : tie.Need-loop-holds Inv-loop μ-loop
 loop-holds c = (subset-refl, narrows-refl)
 
 -- the predecessor that is joined is below 16
-inside : (c : tie.After-lowest Inv-loop μ-loop) → c .lowest .result < 16
+inside : (c : tie.After-lowest Inv-loop μ-loop) → c .lowest .result < MAX_UNITS
 inside c = joined-lt (c .before .before .before .before .before .before .pre) (c .before .before .loop .inv .0) (c .lowest .ensures .0 .here)
 
 lowest-requires : tie.Need-lowest-requires Inv-loop μ-loop
@@ -76,8 +77,8 @@ loop-again c =
 returns : tie.Need-returns Inv-loop μ-loop
 returns c = c .before .loop .inv .1
 
-pub join-all-spec : {M : Type 1} → statement M
-join-all-spec =
+pub join-pass-spec : {M : Type 1} → statement M
+join-pass-spec =
     tie.close
     (tie.spec
     Inv-loop

@@ -5,12 +5,13 @@ use mathlib.Core.Logic.{_⊎_, inl, inr}
 use mathlib.Core.List.{List}
 use Prim.Native.Nat.{ℕ, _^_, _<_}
 use native.Mathlib.Decide.{ℕ-discrete}
-use Rattle.atoms.specs.Word.{Has, has, _⊂_, _∩_, _∪_, _∖_, atom, AtMostOne}
+use Rattle.atoms.specs.Word.{ATOMS, Has, has, _⊂_, _∩_, _∪_, _∖_, atom, AtMostOne}
 use Rattle.atoms.specs.Bounded.{someBelow}
 use Rattle.atoms.proofs.Tests.{test-cases, and-true, not-is-true, not-both, decided, decided-true, decided-false}
 use Rattle.atoms.proofs.Sets.{decides-has, decides-apart, has-lt, has-cut, cut-left, cut-right, has-left, has-right, union-cases}
 use Rattle.atoms.proofs.Sets.{has-without, without-left, without-right, has-atom, atom-only, has-none}
 use Rattle.atoms.proofs.Bounded.{some-at, some-intro}
+use Rattle.plan.specs.Limits.{MAX_RULES}
 use Rattle.answer_sets.specs.Program.{Program, Body, Satisfies}
 use Rattle.answer_sets.specs.AnswerSet.{Kept, AnswerSet}
 use Rattle.answer_sets.specs.Lent.{lent, negative}
@@ -18,11 +19,12 @@ use Rattle.answer_sets.specs.State.{Completes}
 use Rattle.answer_sets.specs.Test.{kept, satisfies}
 use Rattle.answer_sets.specs.declared.state.State.{State}
 use Rattle.answer_sets.proofs.Judged.{decides-body, decides-satisfies, kept-has, kept-at, kept-fits}
-use Rattle.narrowing.specs.Support.{Supports, MaySupport, Collects}
+use Rattle.narrowing.specs.Support.{Supports, MaySupport}
+use Rattle.atoms.specs.Collected.{Collects}
 
 -- ---- an answer set's atom is supported
 
-module _ (P : Program) (which facts M a : ℕ) (fits : which < 2 ^ 64) (answer : AnswerSet P which facts M) (up : Has M a)
+module _ (P : Program) (which facts M a : ℕ) (fits : which < 2 ^ ATOMS) (answer : AnswerSet P which facts M) (up : Has M a)
     (own : ¬ Has facts a) where
   -- M without a, which satisfies not all kept rules
   abbrev others : ℕ
@@ -72,7 +74,7 @@ module _ (P : Program) (which facts M a : ℕ) (fits : which < 2 ^ 64) (answer :
       (k .numbered, breaks-supports r k (decides-satisfies P r others .no (not-is-true (satisfies P r others) .0 (both .1))))
 
   -- were there none, M without a would be a model
-  none-broken : someBelow 64 breaks ≡ false → ⊥
+  none-broken : someBelow MAX_RULES breaks ≡ false → ⊥
   none-broken e =
       answer .minimal others proper
       (record {
@@ -89,16 +91,16 @@ module _ (P : Program) (which facts M a : ℕ) (fits : which < 2 ^ 64) (answer :
       go r h (no n) =
           absurd
           (not-both
-          (some-intro 64 breaks r (has-lt (kept P which M) 64 (kept-fits P which M) h)
+          (some-intro MAX_RULES breaks r (has-lt (kept P which M) MAX_RULES (kept-fits P which M) h)
           (and-true (has (kept P which M) r) (not (satisfies P r others)) .1
           (decided-true (decides-has (kept P which M) r) h, not-is-true (satisfies P r others) .1 (decided-false (decides-satisfies P r others) n))))
           e)
 
   pub supporter : (r : ℕ) × Has which r × Supports P r M a
-  supporter = go (test-cases (someBelow 64 breaks))
+  supporter = go (test-cases (someBelow MAX_RULES breaks))
     where
-      go : (someBelow 64 breaks ≡ true) ⊎ (someBelow 64 breaks ≡ false) → (r : ℕ) × Has which r × Supports P r M a
-      go (inl e) = let found = some-at 64 breaks e in let b = broken (found .0) (found .2) in (found .0, b .0, b .1)
+      go : (someBelow MAX_RULES breaks ≡ true) ⊎ (someBelow MAX_RULES breaks ≡ false) → (r : ℕ) × Has which r × Supports P r M a
+      go (inl e) = let found = some-at MAX_RULES breaks e in let b = broken (found .0) (found .2) in (found .0, b .0, b .1)
       go (inr e) = absurd (none-broken e)
 
 -- ---- which rules may support an atom

@@ -1,11 +1,11 @@
 -- An entry that does not agree changes nothing.
 use mathlib.Core.Path.{sym, subst₂, _∙_}
 use Prim.Native.Nat.{ℕ}
-use Rattle.unit_search.specs.Agreeing.{TakenIn}
-use Rattle.unit_search.proofs.Joining.{passes-by, taken-in}
+use Rattle.unit_search.specs.JoinPass.{TakenIn}
+use Rattle.unit_search.proofs.Joins.{passes-by, taken-in}
 use borrow.Author.Needs.{needs}
-use Rattle.unit_search.proofs.join.take_in.Statement.{statement}
-use Rattle.unit_search.proofs.join.take_in.Tie as tie
+use Rattle.unit_search.proofs.join_pass.take_in.Statement.{statement}
+use Rattle.unit_search.proofs.join_pass.take_in.Tie as tie
 
 returns : tie.Need-returns
 returns c =

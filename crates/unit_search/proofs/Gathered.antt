@@ -10,6 +10,7 @@ use lib.ListN.{length, take, drop, replicate, length-append, length-take, length
 use lib.Seq.{drop-drop, take-at, drop-at}
 use Rattle.atoms.specs.Rising.{above-nil, Rising, rising-nil, rising-cons}
 use Rattle.atoms.proofs.Rising.{above-at, above-intro}
+use Rattle.plan.specs.Limits.{LIST_WORDS}
 use Rattle.unit_search.specs.Listing.{insertInto, Inserted, room, no-room, Ordered, Gathered, fits, over, Grown}
 use Rattle.unit_search.proofs.Insertion.{insert-below, insert-same, insert-above}
 
@@ -143,7 +144,7 @@ drop-zeros (suc n) zero = zeros-same 0 (0 - suc n) (omega arith)
 drop-zeros (suc n) (suc m) = drop-zeros n m ∙ zeros-same (m - n) (suc m - suc n) (omega arith)
 
 -- a list whose first words are xs and whose other words are those of an ordered one
-ordered-front : (list : List ℕ) (count : ℕ) → Ordered list count → (xs after : List ℕ) (r : ℕ) → r ≡ length xs → r ≤ 256
+ordered-front : (list : List ℕ) (count : ℕ) → Ordered list count → (xs after : List ℕ) (r : ℕ) → r ≡ length xs → r ≤ LIST_WORDS
     → count ≤ r → Rising xs → after ≡ xs ++ drop r list → Ordered after r
 ordered-front list count o xs after r e small more rising w = record {
   long = long;
@@ -155,19 +156,19 @@ ordered-front list count o xs after r e small more rising w = record {
     front : take r after ≡ xs
     front = ap (take r) w ∙ take-at xs (drop r list) r (sym e)
 
-    long : length after ≡ 256
+    long : length after ≡ LIST_WORDS
     long =
         let a : length after ≡ length xs + length (drop r list) = ap length w ∙ length-append xs (drop r list) in
         let b : length (drop r list) ≡ length list - r = length-drop r list in
         omega (arith, o .long)
 
-    zeros : drop r after ≡ replicate (256 - r) 0
+    zeros : drop r after ≡ replicate (LIST_WORDS - r) 0
     zeros =
         let k : count + (r - count) ≡ r = omega arith in
         ap (drop r) w ∙ drop-at xs (drop r list) r (sym e) ∙ ap (λ (n : ℕ). drop n list) (sym k)
         ∙ sym (drop-drop (r - count) count list)
-        ∙ ap (drop (r - count)) (o .zeros) ∙ drop-zeros (r - count) (256 - count)
-        ∙ zeros-same ((256 - count) - (r - count)) (256 - r) (omega arith)
+        ∙ ap (drop (r - count)) (o .zeros) ∙ drop-zeros (r - count) (LIST_WORDS - count)
+        ∙ zeros-same ((LIST_WORDS - count) - (r - count)) (LIST_WORDS - r) (omega arith)
 
 pub front-is : (xs ys after : List ℕ) (r : ℕ) → r ≡ length xs → after ≡ xs ++ ys → take r after ≡ xs
 front-is xs ys after r e w = ap (take r) w ∙ take-at xs ys r (sym e)
@@ -227,19 +228,19 @@ gathered-iff f g (over o) =
     over (record { many = o .many; rising = o .rising; long = o .long; sound = λ x m. f x (o .sound x m) })
 
 -- a list above 256 stays above it
-pub gathered-over : {Q R : ℕ → Type 0} {list list′ : List ℕ} {r : ℕ} → ((x : ℕ) → Q x → R x) → 256 < r → Gathered Q list r
+pub gathered-over : {Q R : ℕ → Type 0} {list list′ : List ℕ} {r : ℕ} → ((x : ℕ) → Q x → R x) → LIST_WORDS < r → Gathered Q list r
     → Gathered R list′ r
 gathered-over f l (fits o s c) = absurd (omega (arith, o .small))
 gathered-over f l (over o) =
     over (record { many = o .many; rising = o .rising; long = o .long; sound = λ x m. f x (o .sound x m) })
 
-pub gathered-ordered : {Q : ℕ → Type 0} {list : List ℕ} {r : ℕ} → r ≤ 256 → Gathered Q list r → Ordered list r
+pub gathered-ordered : {Q : ℕ → Type 0} {list : List ℕ} {r : ℕ} → r ≤ LIST_WORDS → Gathered Q list r → Ordered list r
 gathered-ordered l (fits o s c) = o
 gathered-ordered l (over o) = absurd (omega arith)
 
 -- first these are added and then those
 pub gathered-then : {A B C : ℕ → Type 0} (list₀ : List ℕ) (count₀ : ℕ) (list₁ : List ℕ) (count₁ : ℕ) {list₂ : List ℕ} {count₂ : ℕ}
-    → ((x : ℕ) → A x → C x) → ((x : ℕ) → B x → C x) → ((x : ℕ) → C x → A x ⊎ B x) → count₁ ≤ 256
+    → ((x : ℕ) → A x → C x) → ((x : ℕ) → B x → C x) → ((x : ℕ) → C x → A x ⊎ B x) → count₁ ≤ LIST_WORDS
     → Gathered (Grown list₀ count₀ A) list₁ count₁ → Gathered (Grown list₁ count₁ B) list₂ count₂
     → Gathered (Grown list₀ count₀ C) list₂ count₂
 gathered-then {A} {B} {C} list₀ count₀ list₁ count₁ a b c l (fits o s h) g = gathered-iff into from g

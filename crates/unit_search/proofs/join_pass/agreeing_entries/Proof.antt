@@ -4,10 +4,10 @@ use Prim.Native.Nat.{ℕ, _-_, _≤_}
 use denote.Ref.{now}
 use borrow.Author.Needs.{needs}
 use native.Mathlib.Omega.{arith}
-use Rattle.unit_search.specs.Agreeing.{SpansAll}
-use Rattle.unit_search.proofs.Joining.{spans-start, spans-next}
-use Rattle.unit_search.proofs.join.agreeing_entries.Statement.{statement}
-use Rattle.unit_search.proofs.join.agreeing_entries.Tie as tie
+use Rattle.unit_search.specs.JoinPass.{SpansAll}
+use Rattle.unit_search.proofs.Joins.{spans-start, spans-next}
+use Rattle.unit_search.proofs.join_pass.agreeing_entries.Statement.{statement}
+use Rattle.unit_search.proofs.join_pass.agreeing_entries.Tie as tie
 
 abbrev Inv-loop : tie.InvT-loop
 Inv-loop words base count up decided found₀ i₀ found i = (i ≤ count) × SpansAll words base i up decided found

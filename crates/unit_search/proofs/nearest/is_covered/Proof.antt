@@ -8,9 +8,10 @@ use borrow.Author.Needs.{needs}
 use Rattle.atoms.specs.Word.{_⊆_, _∖_}
 use Rattle.atoms.proofs.Sets.{subset-refl, has-lt}
 use Rattle.atoms.proofs.Counting.{taken-less, taken-within}
-use Rattle.unit_search.proofs.Joining.{Uncovered, uncovered-start, uncovered-next, covered-here, covered-nowhere}
-use Rattle.unit_search.proofs.join.is_covered.Statement.{statement}
-use Rattle.unit_search.proofs.join.is_covered.Tie as tie
+use Rattle.plan.specs.Limits.{MAX_UNITS}
+use Rattle.unit_search.proofs.Joins.{Uncovered, uncovered-start, uncovered-next, covered-here, covered-nowhere}
+use Rattle.unit_search.proofs.nearest.is_covered.Statement.{statement}
+use Rattle.unit_search.proofs.nearest.is_covered.Tie as tie
 
 abbrev Inv-loop : tie.InvT-loop
 Inv-loop heads units word rest₀ rest = (rest ⊆ units) × Uncovered heads units word (units ∖ rest)
@@ -25,9 +26,9 @@ lowest-requires : tie.Need-lowest-requires Inv-loop μ-loop
 lowest-requires c κs = c .loop-test .taken
 
 -- a unit that is left is below 16
-inside : (c : tie.After-lowest Inv-loop μ-loop) → c .lowest .result < 16
+inside : (c : tie.After-lowest Inv-loop μ-loop) → c .lowest .result < MAX_UNITS
 inside c =
-    has-lt (c .before .before .before .before .args .units) 16 (c .before .before .before .before .pre .1)
+    has-lt (c .before .before .before .before .args .units) MAX_UNITS (c .before .before .before .before .pre .1)
     (c .before .before .loop .inv .0 .each (c .lowest .result) (c .lowest .ensures .0 .here))
 
 mul-is-subset : tie.Need-mul-is-subset Inv-loop μ-loop
