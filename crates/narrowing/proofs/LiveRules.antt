@@ -2,7 +2,7 @@
 use mathlib.Core.Path.{_≡_, sym, subst}
 use mathlib.Core.List.{List}
 use Prim.Native.Nat.{ℕ}
-use Rattle.atoms.specs.Word.{Has, _⊆_, _∖_, atom}
+use Rattle.atoms.specs.Word.{_∖_, atom}
 use Rattle.atoms.proofs.Sets.{subset-refl, subset-trans, has-without, without-left, atom-only}
 use Rattle.answer_sets.specs.Program.{Body}
 use Rattle.answer_sets.specs.AnswerSet.{Kept}

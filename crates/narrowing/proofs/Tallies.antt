@@ -1,10 +1,10 @@
 -- The support pass: what one rule may support and what two may, and what follows for the answer sets among the completions.
-use mathlib.Core.Path.{_≡_, refl, sym, subst, _∙_}
+use mathlib.Core.Path.{_≡_, sym, subst, _∙_}
 use mathlib.Core.Logic.{_⊎_, inl, inr}
 use mathlib.Core.List.{List}
 use Prim.Native.Nat.{ℕ, _^_, _<_}
 use native.Mathlib.Decide.{ℕ-discrete}
-use Rattle.atoms.specs.Word.{ATOMS, Has, _⊆_, Apart, _∩_, _∪_, _∖_, atom, outside}
+use Rattle.atoms.specs.Word.{ATOMS, Has, _∩_, _∪_, _∖_, atom, outside}
 use Rattle.atoms.proofs.Sets.{has-cut, cut-left, cut-right, has-left, has-right, union-cases, without-left, without-right, outside-lacks, has-atom}
 use Rattle.answer_sets.specs.Lent.{lent, negative}
 use Rattle.answer_sets.specs.State.{Completes, Narrows}

@@ -227,7 +227,7 @@ gathered-iff f g (fits o s c) = fits o (λ x m. f x (s x m)) (λ x q. c x (g x q
 gathered-iff f g (over o) =
     over (record { many = o .many; rising = o .rising; long = o .long; sound = λ x m. f x (o .sound x m) })
 
--- a list above 256 stays above it
+-- a list that is too long stays so
 pub gathered-over : {Q R : ℕ → Type 0} {list list′ : List ℕ} {r : ℕ} → ((x : ℕ) → Q x → R x) → LIST_WORDS < r → Gathered Q list r
     → Gathered R list′ r
 gathered-over f l (fits o s c) = absurd (omega (arith, o .small))

@@ -137,7 +137,7 @@ joins-one table counts heads predecessors M v l h j = record {
   listed = all-in-at MAX_UNITS predecessors (λ u. isListed table (LIST_WORDS * u) (getD counts u 0) (M ∩ getD heads u 0)) (j .joined) v l h;
 }
 
--- a predecessor that is still to be joined is below 16, and its list is in the table
+-- a predecessor that is still to be joined is below MAX_UNITS, and its list is in the table
 pub joined-lt : {table counts heads : List ℕ} {predecessors rest v : ℕ} → Joinable table counts heads predecessors
     → rest ⊆ predecessors → Has rest v → v < MAX_UNITS
 joined-lt {predecessors = predecessors} {v = v} j f h = has-lt predecessors MAX_UNITS (j .few) (f .each v h)

@@ -74,10 +74,6 @@ module _ (t : ℕ) where
   abbrev Passed : Type 0
   Passed = some-between-lts.After-rule-pass (calls t) (some-between-at t) some-between.Post
 
-  -- no overlap
-  abbrev Apart-there : Type 0
-  Apart-there = some-between-lts.Else1 (calls t) (some-between-at t) some-between.Post
-
   -- the pass decided nothing
   abbrev Unchanged : Type 0
   Unchanged = some-between-lts.Else2 (calls t) (some-between-at t) some-between.Post
@@ -89,10 +85,6 @@ module _ (t : ℕ) where
   -- an atom was chosen
   abbrev Chosen : Type 0
   Chosen = some-between-lts.After-lowest (calls t) (some-between-at t) some-between.Post
-
-  -- the atom was tried up, and is dropped
-  abbrev Tried : Type 0
-  Tried = some-between-lts.Else4 (calls t) (some-between-at t) some-between.Post
 
   abbrev start : Passed → some-between-lts.Start (calls t) (some-between-at t) some-between.Post
   start c = c .before .before

@@ -28,7 +28,7 @@ abbrev μ-loop : tie.MeasureT-loop
 loop-holds : tie.Need-loop-holds Inv-loop μ-loop
 loop-holds c = (subset-refl, refl)
 
--- the predecessor that is joined is below 16
+-- the predecessor that is joined is below MAX_UNITS
 inside : (c : tie.After-lowest Inv-loop μ-loop) → c .lowest .result < MAX_UNITS
 inside c = joined-lt (c .before .before .before .before .before .before .pre) (c .before .before .loop .inv .0) (c .lowest .ensures .0 .here)
 

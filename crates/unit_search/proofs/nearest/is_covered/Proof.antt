@@ -25,7 +25,7 @@ loop-holds c = let at = c .before .args in (subset-refl, uncovered-start (now (a
 lowest-requires : tie.Need-lowest-requires Inv-loop μ-loop
 lowest-requires c κs = c .loop-test .taken
 
--- a unit that is left is below 16
+-- a unit that is left is below MAX_UNITS
 inside : (c : tie.After-lowest Inv-loop μ-loop) → c .lowest .result < MAX_UNITS
 inside c =
     has-lt (c .before .before .before .before .args .units) MAX_UNITS (c .before .before .before .before .pre .1)

@@ -16,7 +16,7 @@ Inv-loop heads predecessors near₀ rest₀ near rest = (rest ⊆ near₀) × (n
 abbrev μ-loop : tie.MeasureT-loop
 μ-loop heads predecessors near₀ rest₀ near rest = ones rest
 
--- the loop starts with the predecessors below 16
+-- the loop starts with the predecessors below MAX_UNITS
 started : (c : tie.After-cut Inv-loop μ-loop) → {i : ℕ} → Has (c .cut .result) i
     → Has (c .before .before .before .args .predecessors ∩ below MAX_UNITS) i
 started c {i} h =
