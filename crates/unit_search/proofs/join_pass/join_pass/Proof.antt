@@ -1,5 +1,5 @@
 -- The state so far narrows the first one for every position that joins all lists.
-use Prim.Native.Nat.{ℕ, _<_}
+use Prim.Native.Nat.{_<_}
 use denote.Ref.{now}
 use lib.Count.{ones}
 use native.Mathlib.Omega.{arith}
