@@ -1,49 +1,48 @@
 -- What is known of a body at a half-decided position is so at each of its completions.
-use mathlib.Core.Path.{_≡_, refl, sym, ap, ap₂, _∙_, subst}
-use mathlib.Core.Bool.{Bool, true, false, not, _&&_, _||_, true≢false, false≢true}
+use mathlib.Core.Path.{_≡_, refl}
+use mathlib.Core.Bool.{Bool, true, false, not, _&&_, _||_}
 use mathlib.Core.Logic.{_⊎_, inl, inr}
 use mathlib.Core.List.{List}
 use Prim.Native.Nat.{ℕ, _<_}
 use native.Mathlib.Omega.{arith}
-use Rattle.atoms.specs.Word.{Has, _⊆_, subset, Apart, apart, _∖_, below}
-use Rattle.atoms.specs.Bounded.{Decides}
-use Rattle.atoms.proofs.Tests.{and-true, or-true, not-is-true, not-both, decided-true, test-cases}
-use Rattle.atoms.proofs.Sets.{decides-subset, decides-apart, without-left, without-right, has-without, has-below, below-lt, has-dec, subset-trans}
-use Rattle.answer_sets.specs.Program.{Program, Body}
+use borrow.Author.Tests.{not-true, not-false}
+use Rattle.atoms.specs.Word.{ATOMS, Has, _⊆_, subset, Apart, apart, _∖_, outside}
+use Rattle.atoms.proofs.Tests.{and-true, or-true, not-is-true, decided-true}
+use Rattle.atoms.proofs.Sets.{decides-subset, decides-apart, without-left, without-right, has-without, has-outside, outside-lt}
+use Rattle.atoms.proofs.Sets.{outside-lacks, has-dec, subset-trans}
+use Rattle.answer_sets.specs.Program.{Body}
 use Rattle.answer_sets.specs.Lent.{lent, negative}
-use Rattle.answer_sets.specs.State.{Completes, undecided, known, bodyKnown}
-use Rattle.answer_sets.specs.declared.state.Truth.{Truth}
+use Rattle.answer_sets.specs.State.{undecided, known, bodyKnown}
 use Rattle.answer_sets.specs.declared.state.Truth.the-variants.{Holds, Fails, Open}
-use Rattle.answer_sets.specs.declared.state.State.{State}
 
-module _ (rules : List ℕ) (r up dropped : ℕ) where
-  -- ---- the tests, in the order of the code
+-- ---- the tests of the code, in its order: what was read, and each answer
 
-  pub positive-fails : apart (lent rules .positive r) (dropped ∖ up) ≡ false → Fails ≡ bodyKnown rules r up dropped
+module _ (rules : List ℕ) (r up dropped : ℕ) {p n d : ℕ} {a : Bool} (rp : p ≡ lent rules .positive r) (rn : n ≡ negative rules r)
+    (rd : d ≡ dropped ∖ up) (ea : a ≡ apart p d) where
+  pub positive-fails : not a ≡ true → Fails ≡ bodyKnown rules r up dropped
   unfolding bodyKnown
-  positive-fails e = simp e
+  positive-fails ta = simp (← rp, ← rd, ← ea, not-true a ta)
 
-  pub negative-fails : apart (lent rules .positive r) (dropped ∖ up) ≡ true → apart (negative rules r) up ≡ false
-      → Fails ≡ bodyKnown rules r up dropped
-  unfolding bodyKnown
-  negative-fails d e = simp (d, e)
+  module _ {b : Bool} (ta : not a ≡ false) (eb : b ≡ apart n up) where
+    pub negative-fails : not b ≡ true → Fails ≡ bodyKnown rules r up dropped
+    unfolding bodyKnown
+    negative-fails tb = simp (← rp, ← rn, ← rd, ← ea, not-false a ta, ← eb, not-true b tb)
 
-  pub positive-open : apart (lent rules .positive r) (dropped ∖ up) ≡ true → apart (negative rules r) up ≡ true
-      → subset (lent rules .positive r) up ≡ false → Open ≡ bodyKnown rules r up dropped
-  unfolding bodyKnown
-  positive-open d e f = simp (d, e, f)
+    module _ {s : Bool} (tb : not b ≡ false) (es : s ≡ subset p up) where
+      pub positive-open : not s ≡ true → Open ≡ bodyKnown rules r up dropped
+      unfolding bodyKnown
+      positive-open ts = simp (← rp, ← rn, ← rd, ← ea, not-false a ta, ← eb, not-false b tb, ← es, not-true s ts)
 
-  pub negative-open : apart (lent rules .positive r) (dropped ∖ up) ≡ true → apart (negative rules r) up ≡ true
-      → subset (lent rules .positive r) up ≡ true → subset (negative rules r) (dropped ∖ up) ≡ false
-      → Open ≡ bodyKnown rules r up dropped
-  unfolding bodyKnown
-  negative-open d e f g = simp (d, e, f, g)
+      module _ {u : Bool} (ts : not s ≡ false) (eu : u ≡ subset n d) where
+        pub negative-open : not u ≡ true → Open ≡ bodyKnown rules r up dropped
+        unfolding bodyKnown
+        negative-open tu =
+            simp (← rp, ← rn, ← rd, ← ea, not-false a ta, ← eb, not-false b tb, ← es, not-false s ts, ← eu, not-true u tu)
 
-  pub both-hold : apart (lent rules .positive r) (dropped ∖ up) ≡ true → apart (negative rules r) up ≡ true
-      → subset (lent rules .positive r) up ≡ true → subset (negative rules r) (dropped ∖ up) ≡ true
-      → Holds ≡ bodyKnown rules r up dropped
-  unfolding bodyKnown
-  both-hold d e f g = simp (d, e, f, g)
+        pub both-hold : not u ≡ false → Holds ≡ bodyKnown rules r up dropped
+        unfolding bodyKnown
+        both-hold tu =
+            simp (← rp, ← rn, ← rd, ← ea, not-false a ta, ← eb, not-false b tb, ← es, not-false s ts, ← eu, not-false u tu)
 
 -- ---- what the answers mean
 
@@ -94,31 +93,30 @@ module _ (rules : List ℕ) (r up dropped N : ℕ) (has-up : up ⊆ N) (no-dropp
 -- ---- undecided atoms
 
 -- an atom that is not undecided is up or dropped
-pub decided-cases : (up dropped i : ℕ) → i < 64 → ¬ Has (undecided up dropped) i → Has up i ⊎ Has dropped i
+pub decided-cases : (up dropped i : ℕ) → i < ATOMS → ¬ Has (undecided up dropped) i → Has up i ⊎ Has dropped i
 unfolding undecided
 decided-cases up dropped i l h = go (has-dec up i) (has-dec dropped i)
   where
     go : Dec (Has up i) → Dec (Has dropped i) → Has up i ⊎ Has dropped i
     go (yes p) d = inl p
     go (no n) (yes q) = inr q
-    go (no n) (no m) = absurd (h (has-without (below 64 ∖ up) dropped (has-without (below 64) up (has-below 64 i l) n) m))
+    go (no n) (no m) = absurd (h (has-without (outside up) dropped (has-outside up l n) m))
 
 pub undecided-up : (up dropped : ℕ) {i : ℕ} → Has (undecided up dropped) i → ¬ Has up i
 unfolding undecided
-undecided-up up dropped h = without-right (below 64) up (without-left (below 64 ∖ up) dropped h)
+undecided-up up dropped h = outside-lacks up (without-left (outside up) dropped h)
 
 pub undecided-dropped : (up dropped : ℕ) {i : ℕ} → Has (undecided up dropped) i → ¬ Has dropped i
 unfolding undecided
-undecided-dropped up dropped h = without-right (below 64 ∖ up) dropped h
+undecided-dropped up dropped h = without-right (outside up) dropped h
 
-pub undecided-lt : (up dropped : ℕ) {i : ℕ} → Has (undecided up dropped) i → i < 64
+pub undecided-lt : (up dropped : ℕ) {i : ℕ} → Has (undecided up dropped) i → i < ATOMS
 unfolding undecided
-undecided-lt up dropped h = below-lt 64 (without-left (below 64) up (without-left (below 64 ∖ up) dropped h))
+undecided-lt up dropped h = outside-lt up (without-left (outside up) dropped h)
 
-pub undecided-intro : (up dropped i : ℕ) → i < 64 → ¬ Has up i → ¬ Has dropped i → Has (undecided up dropped) i
+pub undecided-intro : (up dropped i : ℕ) → i < ATOMS → ¬ Has up i → ¬ Has dropped i → Has (undecided up dropped) i
 unfolding undecided
-undecided-intro up dropped i l n m =
-    has-without (below 64 ∖ up) dropped (has-without (below 64) up (has-below 64 i l) n) m
+undecided-intro up dropped i l n m = has-without (outside up) dropped (has-outside up l n) m
 
 -- a larger state leaves no more undecided
 pub undecided-shrinks : (up dropped up′ dropped′ : ℕ) → up ⊆ up′ → dropped ⊆ dropped′

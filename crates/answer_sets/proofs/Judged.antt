@@ -1,16 +1,19 @@
 -- The computing twins decide what they are twins of. Rule numbers are bits of a word, so `which` is below 2 ^ 64.
-use mathlib.Core.Path.{_≡_, refl, sym, _∙_}
-use mathlib.Core.Bool.{Bool, true, false, not, _&&_, _||_}
+use mathlib.Core.Path.{_≡_, refl}
+use mathlib.Core.Bool.{Bool, true, false, not, _&&_}
 use Prim.Native.Nat.{ℕ, _^_, _<_}
-use Rattle.atoms.specs.Word.{Has, has, _⊆_, _⊂_, subset, Apart, apart, _∩_}
-use Rattle.atoms.specs.Bounded.{Decides, allIn, someBelow, wordBelow}
-use Rattle.atoms.proofs.Tests.{decides, decides-iff, decides-and, decides-not, decides-implies, decided-true, and-true, not-both}
-use Rattle.atoms.proofs.Sets.{decides-has, decides-subset, decides-apart, has-lt, lt-of-has, subset-lt, subset-of-eq, subset-le, apart-of-cut, cut-of-apart, shared-atom}
+use Rattle.atoms.specs.Word.{ATOMS, Has, has, _⊆_, _⊂_, subset, apart, _∖_, atom, Lowest}
+use Rattle.atoms.specs.Collected.{Collects}
+use Rattle.atoms.specs.Bounded.{Decides}
+use Rattle.atoms.proofs.Tests.{decides-iff, decides-and, decides-not, decides-implies, decided-true, and-true, not-both}
+use Rattle.atoms.proofs.Sets.{ext, decides-has, decides-subset, decides-apart, has-lt, lt-of-has, subset-lt, subset-le, apart-of-cut, shared-atom}
 use Rattle.atoms.proofs.Bounded.{decides-all-in, decides-some, word-has, word-at}
+use Rattle.atoms.proofs.Taking.{Sifts, sifts-keep, sifts-drop}
 use native.Mathlib.Omega.{arith}
+use Rattle.plan.specs.Limits.{MAX_RULES}
 use Rattle.answer_sets.specs.Program.{Program, Body, Satisfies, SatisfiesAll}
 use Rattle.answer_sets.specs.AnswerSet.{Kept, ReductModel, AnswerSet}
-use Rattle.answer_sets.specs.Test.{body, satisfies, satisfiesAll, kept, Smaller, someSmaller, answerSet}
+use Rattle.answer_sets.specs.Test.{body, satisfies, satisfiesAll, kept, keptIf, Smaller, someSmaller, answerSet}
 
 module _ (P : Program) where
   pub decides-body : (r M : ℕ) → Decides (Body P r M) (body P r M)
@@ -30,32 +33,49 @@ module _ (P : Program) where
   decides-satisfies r M =
       decides-iff (λ f. record { head-up = f }) (λ s. s .head-up) (decides-implies (decides-body r M) (decides-head r M))
 
-  pub decides-all-satisfied : (which M : ℕ) → which < 2 ^ 64 → Decides (SatisfiesAll P which M) (satisfiesAll P which M)
+  pub decides-all-satisfied : (which M : ℕ) → which < 2 ^ ATOMS → Decides (SatisfiesAll P which M) (satisfiesAll P which M)
   unfolding satisfiesAll
   decides-all-satisfied which M fits =
-      decides-iff (λ f. record { each = λ r h. f r (has-lt which 64 fits h) h }) (λ s r l h. s .each r h)
-      (decides-all-in 64 which (λ r. satisfies P r M) (λ r l. decides-satisfies r M))
+      decides-iff (λ f. record { each = λ r h. f r (has-lt which MAX_RULES fits h) h }) (λ s r l h. s .each r h)
+      (decides-all-in MAX_RULES which (λ r. satisfies P r M) (λ r l. decides-satisfies r M))
 
   -- ---- the reduct
 
-  pub kept-has : (which M r : ℕ) → which < 2 ^ 64 → Kept P which M r → Has (kept P which M) r
+  pub kept-has : (which M r : ℕ) → which < 2 ^ ATOMS → Kept P which M r → Has (kept P which M) r
   unfolding kept
   kept-has which M r fits k =
-      word-has 64 (λ i. has which i && body P i M) r (has-lt which 64 fits (k .numbered))
+      word-has MAX_RULES (λ i. has which i && body P i M) r (has-lt which MAX_RULES fits (k .numbered))
       (and-true (has which r) (body P r M) .1 (decided-true (decides-has which r) (k .numbered), decided-true (decides-body r M) (k .holds)))
 
   pub kept-at : (which M r : ℕ) → Has (kept P which M) r → Kept P which M r
   unfolding kept
   kept-at which M r h =
-      let b = and-true (has which r) (body P r M) .0 (word-at 64 (λ i. has which i && body P i M) r h .1) in
+      let b = and-true (has which r) (body P r M) .0 (word-at MAX_RULES (λ i. has which i && body P i M) r h .1) in
       record { numbered = decides-has which r .yes (b .0); holds = decides-body r M .yes (b .1) }
 
-  pub kept-fits : (which M : ℕ) → kept P which M < 2 ^ 64
+  pub kept-collected : {which M word : ℕ} → which < 2 ^ ATOMS → Collects (λ r. Has which r × Body P r M) word → word ≡ kept P which M
+  kept-collected {which} {M} {word} fits c =
+      ext word (kept P which M)
+      (λ r h. let k = c .each r h in kept-has which M r fits (record { numbered = k .0; holds = k .1 }))
+      (λ r h. let k = kept-at which M r h in c .all r (k .numbered, k .holds))
+
+  -- a loop over the rules drops r where its body fails
+  pub sifts-kept-if : {which word rest rest′ word′ r M : ℕ} → Sifts (λ i. Body P i M) which word rest → Lowest rest r
+      → rest′ ≡ rest ∖ atom r → word′ ≡ keptIf P r M word → Sifts (λ i. Body P i M) which word′ rest′
+  unfolding keptIf
+  sifts-kept-if {which} {word} {rest} {rest′} {word′} {r} {M} s low e d = go (body P r M) (decides-body r M) d
+    where
+      go : (b : Bool) → Decides (Body P r M) b → word′ ≡ elim b [ true ↦ word | false ↦ word ∖ atom r ]
+          → Sifts (λ i. Body P i M) which word′ rest′
+      go true b q = rw q (sifts-keep s low e (b .yes refl))
+      go false b q = sifts-drop s low e q (b .no refl)
+
+  pub kept-fits : (which M : ℕ) → kept P which M < 2 ^ ATOMS
   unfolding kept
-  kept-fits which M = lt-of-has (kept P which M) 64 (λ r h. word-at 64 (λ i. has which i && body P i M) r h .0)
+  kept-fits which M = lt-of-has (kept P which M) MAX_RULES (λ r h. word-at MAX_RULES (λ i. has which i && body P i M) r h .0)
 
   -- a model of the reduct is a position that has the facts and satisfies the word of kept rules
-  pub reduct-model : (which facts M N : ℕ) → facts ⊆ N → SatisfiesAll P (kept P which M) N → which < 2 ^ 64
+  pub reduct-model : (which facts M N : ℕ) → facts ⊆ N → SatisfiesAll P (kept P which M) N → which < 2 ^ ATOMS
       → ReductModel P which facts M N
   reduct-model which facts M N f s fits =
       record { facts-up = f; each = λ r k. s .each r (kept-has which M r fits k) }
@@ -68,7 +88,7 @@ module _ (P : Program) where
   proper-of-less : (N M : ℕ) → N < M → N ⊆ M → N ⊂ M
   proper-of-less N M l f = record { within = f; short = λ g. absurd (omega (arith, subset-le g)) }
 
-  pub decides-smaller : (numbers facts M : ℕ) → numbers < 2 ^ 64
+  pub decides-smaller : (numbers facts M : ℕ) → numbers < 2 ^ ATOMS
       → Decides (Smaller P numbers facts M) (someSmaller P numbers facts M)
   unfolding someSmaller
   decides-smaller numbers facts M fits =
@@ -80,7 +100,7 @@ module _ (P : Program) where
 
   -- ---- the answer set
 
-  pub decides-answer-set : (which facts M : ℕ) → which < 2 ^ 64
+  pub decides-answer-set : (which facts M : ℕ) → which < 2 ^ ATOMS
       → Decides (AnswerSet P which facts M) (answerSet P which facts M)
   unfolding answerSet
   decides-answer-set which facts M fits =

@@ -1,6 +1,9 @@
 pub mod Judged
-pub mod Steps
+pub mod Lent
+pub mod Cases
 pub mod HalfDecided
-pub mod Narrowing
+pub mod Narrows
+pub mod RulePass
+pub mod Candidates
 pub mod Between
 pub mod Support

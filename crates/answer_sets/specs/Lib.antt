@@ -3,4 +3,5 @@ pub mod AnswerSet
 pub mod Test
 pub mod Lent
 pub mod State
-pub mod Growth
+pub mod RulePass
+pub mod SubsetTest

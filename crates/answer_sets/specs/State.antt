@@ -2,8 +2,7 @@
 use mathlib.Core.Bool.{Bool, true, false, _&&_, _||_, not}
 use mathlib.Core.List.{List}
 use Prim.Native.Nat.{ℕ}
-use Rattle.atoms.specs.Word.{Has, _⊆_, subset, Apart, apart, _∪_, _∖_, atom, below}
-use Rattle.answer_sets.specs.Program.{Program}
+use Rattle.atoms.specs.Word.{_⊆_, subset, Apart, apart, _∪_, _∖_, atom, outside}
 use Rattle.answer_sets.specs.Lent.{lent, negative}
 use Rattle.answer_sets.specs.declared.state.Truth.{Truth}
 use Rattle.answer_sets.specs.declared.state.Truth.the-variants.{Holds, Fails, Open}
@@ -16,7 +15,7 @@ pub record Completes (s : State) (N : ℕ) : Type 0 where
 
 -- the atoms of which nothing is known yet
 unfoldable pub undecided : ℕ → ℕ → ℕ
-undecided up dropped = below 64 ∖ up ∖ dropped
+undecided up dropped = outside up ∖ dropped
 
 -- "The body holds if all parts hold, fails if one fails, else it is open."
 abbrev pub known : Bool → Bool → Truth

@@ -3,6 +3,7 @@ use mathlib.Core.Bool.{Bool, true, false, not, _&&_, _||_}
 use Prim.Native.Nat.{ℕ}
 use Rattle.atoms.specs.Word.{has, _⊂_, _⊆_, subset, apart, _∖_, atom}
 use Rattle.atoms.specs.Bounded.{allIn, someBelow, wordBelow}
+use Rattle.plan.specs.Limits.{MAX_RULES}
 use Rattle.answer_sets.specs.Program.{Program, SatisfiesAll}
 
 -- the body holds at M
@@ -15,11 +16,11 @@ satisfies P r M = not (body P r M) || not (apart (P .head r) M)
 
 -- M satisfies each rule numbered in `which`
 unfoldable pub satisfiesAll : Program → ℕ → ℕ → Bool
-satisfiesAll P which M = allIn 64 which (λ r. satisfies P r M)
+satisfiesAll P which M = allIn MAX_RULES which (λ r. satisfies P r M)
 
 -- the word of the rules that the reduct at M keeps
 unfoldable pub kept : Program → ℕ → ℕ → ℕ
-kept P which M = wordBelow 64 (λ r. has which r && body P r M)
+kept P which M = wordBelow MAX_RULES (λ r. has which r && body P r M)
 
 -- the word without rule r where its body fails at M
 unfoldable pub keptIf : Program → ℕ → ℕ → ℕ → ℕ

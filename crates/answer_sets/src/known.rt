@@ -33,5 +33,5 @@ pub fn body_known(rules: &[u64], rule: usize, up: u64, dropped: u64) -> Truth
 pub fn undecided(up: u64, dropped: u64) -> u64
     ensures { λ r. ⌜ r ≡ undecidedOf up dropped ⌝ }
 {
-    atoms::without(atoms::without(atoms::first(64), up), dropped)
+    atoms::without(atoms::outside(up), dropped)
 }

@@ -1,9 +1,9 @@
 // Judging one position over lent rules: the single-position crate.
-pub mod growth;
 pub mod known;
 mod position;
 pub mod reduct;
 pub mod rule;
+pub mod rule_pass;
 pub mod smaller;
 mod state;
 

@@ -1,7 +1,9 @@
 // The answer-set test of one position, over lent rules and a word of their numbers; and the same for any lent words and any numbers.
 use crate::reduct::all_satisfied;
 use crate::reduct::kept_rules;
+use crate::rule::rule_count;
 use crate::smaller::some_smaller;
+use plan::MAX_RULES;
 ghost use mathlib.Core.Path.{_≡_};
 ghost use Prim.Native.Nat.{min};
 ghost use Rattle.answer_sets.specs.Lent.{lent, Lent, numbered};
@@ -33,8 +35,8 @@ fn lesser(a: usize, b: usize) -> usize
 pub fn lent_numbers(rules: &[u64], n: usize, which: u64) -> u64
     ensures { λ r. ⌜ (r ≡ numbered (now (rules .entry)) n which) × Lent (now (rules .entry)) r ⌝ }
 {
-    let there = lesser(n, rules.len() / 3);
-    atoms::cut(which, atoms::first(lesser(atoms::ATOMS, there)))
+    let there = lesser(n, rule_count(rules));
+    atoms::cut(which, atoms::first(lesser(MAX_RULES, there)))
 }
 
 // The subset test over the n rules lent: whether some proper subset of the position has all the facts and satisfies

@@ -4,7 +4,8 @@ use crate::rule::satisfies;
 ghost use mathlib.Core.Path.{_≡_};
 ghost use Rattle.answer_sets.specs.Lent.{lent, IsLent, Lent};
 ghost use Prim.Native.Nat.{_<_};
-ghost use Rattle.answer_sets.specs.Growth.{Unsatisfied};
+ghost use Rattle.plan.specs.Limits.{MAX_RULES};
+ghost use Rattle.answer_sets.specs.SubsetTest.{Unsatisfied};
 ghost use Rattle.answer_sets.specs.Test.{satisfiesAll, kept, keptIf};
 
 // A rule that a position does not satisfy, if there is one.
@@ -43,7 +44,7 @@ pub fn all_satisfied(rules: &[u64], which: u64, position: u64) -> bool
 
 // The word without the rule where its body fails at the position.
 fn kept_if(rules: &[u64], rule: usize, position: u64, word: u64) -> u64
-    requires { ⌜ IsLent (now rules) rule × (rule < 64) ⌝ }
+    requires { ⌜ IsLent (now rules) rule × (rule < MAX_RULES) ⌝ }
     ensures { λ r. ⌜ r ≡ keptIf (lent (now (rules .entry))) rule position word ⌝ }
 {
     if body_holds(rules, rule, position) {

@@ -1,14 +1,22 @@
-// One lent rule: its words, its body and whether a position satisfies it.
+// One lent rule: its words, its body and whether a position satisfies it. Where a rule's words stand is known here alone.
+use plan::RULE_WORDS;
 ghost use mathlib.Core.Path.{_≡_};
-ghost use Rattle.answer_sets.specs.Lent.{lent, IsLent, negative, looks};
+ghost use Rattle.answer_sets.specs.Lent.{lent, ruleCount, IsLent, negative, looks};
 ghost use Rattle.answer_sets.specs.Test.{body, satisfies as satisfiesAt};
+
+// How many rules the words hold.
+pub fn rule_count(rules: &[u64]) -> usize
+    ensures { λ r. ⌜ r ≡ ruleCount (now (rules .entry)) ⌝ }
+{
+    rules.len() / RULE_WORDS
+}
 
 // The head's atoms.
 pub fn head(rules: &[u64], rule: usize) -> u64
     requires { ⌜ IsLent (now rules) rule ⌝ }
     ensures { λ r. ⌜ r ≡ lent (now (rules .entry)) .head rule ⌝ }
 {
-    rules[3 * rule]
+    rules[RULE_WORDS * rule]
 }
 
 // The atoms that the body wants up.
@@ -16,7 +24,7 @@ pub fn positive_body(rules: &[u64], rule: usize) -> u64
     requires { ⌜ IsLent (now rules) rule ⌝ }
     ensures { λ r. ⌜ r ≡ lent (now (rules .entry)) .positive rule ⌝ }
 {
-    rules[3 * rule + 1]
+    rules[RULE_WORDS * rule + 1]
 }
 
 // The atoms that the body wants dropped.
@@ -24,7 +32,7 @@ pub fn negative_body(rules: &[u64], rule: usize) -> u64
     requires { ⌜ IsLent (now rules) rule ⌝ }
     ensures { λ r. ⌜ r ≡ negative (now (rules .entry)) rule ⌝ }
 {
-    rules[3 * rule + 2]
+    rules[RULE_WORDS * rule + 2]
 }
 
 // The atoms that the rest of the body looks at.

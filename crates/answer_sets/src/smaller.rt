@@ -1,12 +1,12 @@
 // The subset test: whether some proper subset of a position has all the facts and satisfies each rule of a word.
 // It grows from the facts: what every such subset must have goes up, and only then is an atom tried both ways.
-use crate::growth::grow;
 use crate::known::undecided;
 use crate::reduct::Found;
 use crate::reduct::find_unsatisfied;
 use crate::rule::head;
 use crate::rule::negative_body;
 use crate::rule::positive_body;
+use crate::rule_pass::rule_pass;
 use crate::state::State;
 ghost use mathlib.Core.Path.{_≡_};
 ghost use Prim.Native.Nat.{_<_};
@@ -14,7 +14,7 @@ ghost use Rattle.atoms.specs.Bounded.{Decides};
 ghost use Rattle.atoms.specs.Word.{Has, _⊆_, _∩_};
 ghost use Rattle.answer_sets.specs.Lent.{lent, IsLent, Lent};
 ghost use Rattle.answer_sets.specs.Test.{someSmaller};
-ghost use Rattle.answer_sets.specs.Growth.{Between, Confines, Candidates};
+ghost use Rattle.answer_sets.specs.SubsetTest.{Between, Confines, Candidates};
 
 // The free atoms by which the rule may come to be satisfied: of its head, else of its body.
 fn candidates(rules: &[u64], rule: usize, free: u64) -> u64
@@ -34,7 +34,7 @@ fn some_between(rules: &[u64], which: u64, position: u64, up: u64, dropped: u64)
     requires { ⌜ Lent (now rules) which × Confines position dropped ⌝ }
     ensures { λ r. ⌜ Decides (Between (lent (now (rules .entry))) which position (record { up = up; dropped = dropped })) r ⌝ }
 {
-    let t = grow(rules, which, State { up, dropped });
+    let t = rule_pass(rules, which, State { up, dropped });
     if !atoms::are_apart(t.up, t.dropped) {
         return false;
     }
@@ -62,6 +62,5 @@ pub fn some_smaller(rules: &[u64], which: u64, facts: u64, position: u64) -> boo
     requires { ⌜ Lent (now rules) which ⌝ }
     ensures { λ r. ⌜ r ≡ someSmaller (lent (now (rules .entry))) which facts position ⌝ }
 {
-    let outside = atoms::without(atoms::first(64), position);
-    some_between(rules, which, position, facts, outside)
+    some_between(rules, which, position, facts, atoms::outside(position))
 }

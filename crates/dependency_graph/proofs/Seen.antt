@@ -17,20 +17,20 @@ use Rattle.dependency_graph.proofs.Under.{Under, under-edge, under-unit
 -- ---- what can be up at all
 
 -- an atom is given or in the head of some rule
-abbrev pub Founded : Units → ℕ → Type 0
-Founded S a = Has (S .given) a ⊎ ((r : ℕ) × (r < S .rules) × Has (S .program .head r) a)
+abbrev pub Headed : Units → ℕ → Type 0
+Headed S a = Has (S .given) a ⊎ ((r : ℕ) × (r < S .rules) × Has (S .program .head r) a)
 
 -- M has only such atoms
-pub record AllFounded (S : Units) (M : ℕ) : Type 0 where
-  pub each : (a : ℕ) → Has M a → Founded S a
+pub record AllHeaded (S : Units) (M : ℕ) : Type 0 where
+  pub each : (a : ℕ) → Has M a → Headed S a
 
-pub founded-subset : (S : Units) {N M : ℕ} → N ⊆ M → AllFounded S M → AllFounded S N
-founded-subset S f g = record { each = λ a h. g .each a (f .each a h) }
+pub headed-subset : (S : Units) {N M : ℕ} → N ⊆ M → AllHeaded S M → AllHeaded S N
+headed-subset S f g = record { each = λ a h. g .each a (f .each a h) }
 
 -- u holds r, and the heads of u have each positive atom of r that can be up
 pub record Covers (S : Units) (u r : ℕ) : Type 0 where
   pub holds : Holds S u r
-  pub positive : (a : ℕ) → Has (S .program .positive r) a → Founded S a → Has (heads S u) a
+  pub positive : (a : ℕ) → Has (S .program .positive r) a → Headed S a → Has (heads S u) a
 
 -- a unit that holds a rule has its head atoms among its heads
 pub held-heads : (S : Units) (u r a : ℕ) → Holds S u r → Has (S .program .head r) a → Has (heads S u) a
@@ -42,10 +42,10 @@ sees-heads S u s a (inl h) p = held-heads S u s a h p
 sees-heads S u s a (inr t) p = heads-edge S u (t .0) a (t .1) (held-heads S (t .0) s a (t .2) p)
 
 -- an atom that can be up is in the heads of a unit that holds r and sees each other rule with the atom in its head
-founded-seen : (S : Units) (u r a : ℕ) → Holds S u r
-    → ((s : ℕ) → s < S .rules → ¬ (r ≡ s) → Has (S .program .head s) a → Sees S u s) → Founded S a → Has (heads S u) a
-founded-seen S u r a h f (inl g) = heads-given S u a g
-founded-seen S u r a h f (inr t) = go (ℕ-discrete r (t .0))
+headed-seen : (S : Units) (u r a : ℕ) → Holds S u r
+    → ((s : ℕ) → s < S .rules → ¬ (r ≡ s) → Has (S .program .head s) a → Sees S u s) → Headed S a → Has (heads S u) a
+headed-seen S u r a h f (inl g) = heads-given S u a g
+headed-seen S u r a h f (inr t) = go (ℕ-discrete r (t .0))
   where
     go : Dec (r ≡ t .0) → Has (heads S u) a
     go (yes e) = held-heads S u r a h (subst (λ (s : ℕ). Has (S .program .head s) a) (sym e) (t .2))
@@ -105,9 +105,9 @@ module _ (S : Units) (pass : Passes S) where
   -- ---- the atoms that a body asks for
 
   -- an atom that the rest of a body looks at and that can be up is in the heads of every unit that holds the rule
-  pub looks-seen : (u r a : ℕ) → Holds S u r → Has (S .looks r) a → Founded S a → Has (heads S u) a
+  pub looks-seen : (u r a : ℕ) → Holds S u r → Has (S .looks r) a → Headed S a → Has (heads S u) a
   looks-seen u r a h p =
-      founded-seen S u r a h
+      headed-seen S u r a h
       (λ s l e q. pass .c .seen r s u l (record { other = e; shared = record { atom = a; left = p; right = q } }) h)
 
   -- each rule has a unit that covers it
@@ -117,7 +117,7 @@ module _ (S : Units) (pass : Passes S) where
         t .0,
         record {
           holds = t .1;
-          positive = λ a p. founded-seen S (t .0) r a (t .1)
+          positive = λ a p. headed-seen S (t .0) r a (t .1)
               (λ s m e q. t .2 s m (record { other = e; shared = inl (record { atom = a; left = p; right = q }) }));
         },
       )
@@ -131,21 +131,21 @@ module _ (S : Units) (pass : Passes S) where
   -- ---- bodies
 
   module _ (looks : LooksOnly S) where
-    rest-same : (u r M : ℕ) → AllFounded S M → Holds S u r
+    rest-same : (u r M : ℕ) → AllHeaded S M → Holds S u r
         → S .program .rest r (M ∩ heads S u) ≡ S .program .rest r M
     rest-same u r M f h =
         looks .same r (M ∩ heads S u) M
         (λ a p. (cut-left M (heads S u), λ m. has-cut M (heads S u) m (looks-seen u r a h p (f .each a m))))
 
     -- a body that holds at M cut to the heads of a unit that holds the rule, holds at M
-    pub body-up : (u r M : ℕ) → AllFounded S M → Holds S u r → Body (S .program) r (M ∩ heads S u) → Body (S .program) r M
+    pub body-up : (u r M : ℕ) → AllHeaded S M → Holds S u r → Body (S .program) r (M ∩ heads S u) → Body (S .program) r M
     body-up u r M f h b = record {
       positive-up = record { each = λ a p. cut-left M (heads S u) (b .positive-up .each a p) };
       rest-holds = sym (rest-same u r M f h) ∙ b .rest-holds;
     }
 
     -- and back for a unit that covers it
-    pub body-down : (u r M : ℕ) → AllFounded S M → Covers S u r → Body (S .program) r M → Body (S .program) r (M ∩ heads S u)
+    pub body-down : (u r M : ℕ) → AllHeaded S M → Covers S u r → Body (S .program) r M → Body (S .program) r (M ∩ heads S u)
     body-down u r M f k b = record {
       positive-up = record {
         each = λ a p. let m = b .positive-up .each a p in has-cut M (heads S u) m (k .positive a p (f .each a m));
@@ -153,6 +153,6 @@ module _ (S : Units) (pass : Passes S) where
       rest-holds = rest-same u r M f (k .holds) ∙ b .rest-holds;
     }
 
-    pub body-cut : (u r M : ℕ) → AllFounded S M → Covers S u r
+    pub body-cut : (u r M : ℕ) → AllHeaded S M → Covers S u r
         → Body (S .program) r M ↔ Body (S .program) r (M ∩ heads S u)
     body-cut u r M f k = (body-down u r M f k, body-up u r M f (k .holds))

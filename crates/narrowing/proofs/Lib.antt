@@ -1,5 +1,4 @@
-pub mod Taking
-pub mod Living
-pub mod Supporting
-pub mod Tallying
-pub mod Founding
+pub mod LiveRules
+pub mod Supports
+pub mod Tallies
+pub mod FoundedAtoms

@@ -1,4 +1,4 @@
--- The choice among free atoms.
+-- Inner: the choice among free atoms.
 use mathlib.Core.Path.{_≡_}
 use Prim.Native.Nat.{ℕ}
 use Rattle.atoms.specs.Word.{_⊆_}

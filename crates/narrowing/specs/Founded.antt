@@ -1,4 +1,4 @@
--- Founded atoms: closed under the rules, as far as these may act.
+-- Inner: founded atoms, closed under the rules, as far as these may act.
 use mathlib.Core.Path.{_≡_}
 use mathlib.Core.List.{List}
 use Prim.Native.Nat.{ℕ}

@@ -1,4 +1,5 @@
-pub mod Settled
+pub mod Inputs
+pub mod Live
 pub mod Support
 pub mod Founded
 pub mod Choice

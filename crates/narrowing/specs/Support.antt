@@ -1,4 +1,4 @@
--- Support: through which rule an atom is up, and through which it may be.
+-- Inner: support, through which rule an atom is up, and through which it may be.
 use mathlib.Core.Path.{_≡_}
 use mathlib.Core.List.{List}
 use Prim.Native.Nat.{ℕ}
@@ -22,11 +22,6 @@ pub record MaySupport (rules : List ℕ) (r : ℕ) (s : State) (a : ℕ) : Type 
   pub not-positive : ¬ Has (lent rules .positive r) a
   pub not-negative : ¬ Has (negative rules r) a
   pub only : (b : ℕ) → Has (lent rules .head r) b → Has (s .up) b → b ≡ a
-
--- the word's atoms are those of which K holds
-pub record Collects (K : ℕ → Type 0) (word : ℕ) : Type 0 where
-  pub each : (a : ℕ) → Has word a → K a
-  pub all : (a : ℕ) → K a → Has word a
 
 -- what one of the rules may support, and what two of them may
 pub record Tallied (rules : List ℕ) (which : ℕ) (s : State) (found : Supporters) : Type 0 where

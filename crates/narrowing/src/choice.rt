@@ -7,11 +7,11 @@ use answer_sets::rule::positive_body;
 ghost use mathlib.Core.Path.{_≡_};
 ghost use Prim.Native.Nat.{_<_};
 ghost use lib.ListN.{length};
-ghost use Rattle.atoms.specs.Word.{Has, _⊆_};
+ghost use Rattle.atoms.specs.Word.{ATOMS, Has, _⊆_};
 ghost use Rattle.answer_sets.specs.Lent.{IsLent, Lent};
 ghost use Rattle.narrowing.specs.Choice.{SomeOf};
 
-// Seven binary places count up to 127, for at most 64 rules.
+// Seven binary places count up to 127, for at most MAX_RULES rules.
 const PLACES: usize = 7;
 
 // Adds one to the count of each atom of the word. Word i of `places` has the atoms whose count has binary place i.
@@ -83,7 +83,7 @@ fn most(places: &[u64], free: u64) -> u64
 // The free atom to decide next: the lowest of those that stand in most live rules.
 pub fn choose(rules: &[u64], which: u64, s: State, free: u64) -> usize
     requires { ⌜ Lent (now rules) which × (free ≡ 0 → ⊥) ⌝ }
-    ensures { λ r. ⌜ Has free r × (r < 64) ⌝ }
+    ensures { λ r. ⌜ Has free r × (r < ATOMS) ⌝ }
 {
     let mut places = [0u64; PLACES];
     count_rules(rules, live_rules(rules, which, s), s.up, free, &mut places);

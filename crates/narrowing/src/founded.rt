@@ -5,7 +5,7 @@ use answer_sets::rule::negative_body;
 use answer_sets::rule::positive_body;
 ghost use Rattle.answer_sets.specs.Lent.{IsLent, Lent};
 ghost use Rattle.answer_sets.specs.State.{Narrows};
-ghost use Rattle.narrowing.specs.Settled.{Settled};
+ghost use Rattle.narrowing.specs.Inputs.{AnswersInputs};
 ghost use Rattle.narrowing.specs.Founded.{Closed, ClosedAll, Closes, Founded};
 
 // The founded atoms so far with those that the rule adds: where its positive atoms are founded, its head atoms are.
@@ -52,12 +52,12 @@ fn founded_atoms(rules: &[u64], which: u64, dropped: u64, start: u64) -> u64
 // The founded pass: what is not founded on the inputs is dropped.
 pub fn founded_pass(rules: &[u64], which: u64, inputs: u64, s: State) -> State
     requires { ⌜ Lent (now rules) which ⌝ }
-    ensures { λ t. ⌜ Narrows (Settled (now (rules .entry)) which inputs) s t ⌝ }
+    ensures { λ t. ⌜ Narrows (AnswersInputs (now (rules .entry)) which inputs) s t ⌝ }
 {
     let start = atoms::without(inputs, s.dropped);
     let found = founded_atoms(rules, which, s.dropped, start);
     State {
         up: s.up,
-        dropped: atoms::union(s.dropped, atoms::without(atoms::first(64), found)),
+        dropped: atoms::union(s.dropped, atoms::outside(found)),
     }
 }

@@ -3,12 +3,13 @@ use answer_sets::State;
 use answer_sets::Truth;
 use answer_sets::known::body_known;
 ghost use Prim.Native.Nat.{_<_};
+ghost use Rattle.plan.specs.Limits.{MAX_RULES};
 ghost use Rattle.answer_sets.specs.Lent.{IsLent, Lent};
-ghost use Rattle.narrowing.specs.Settled.{Live};
+ghost use Rattle.narrowing.specs.Live.{Live};
 
 // The word without the rule where its body fails at every completion.
 fn live_if(rules: &[u64], rule: usize, s: State, word: u64) -> u64
-    requires { ⌜ IsLent (now rules) rule × (rule < 64) ⌝ }
+    requires { ⌜ IsLent (now rules) rule × (rule < MAX_RULES) ⌝ }
     ensures { λ r. ⌜ Live (now (rules .entry)) word s r ⌝ }
 {
     let truth = body_known(rules, rule, s.up, s.dropped);

@@ -5,8 +5,9 @@ use answer_sets::rule::negative_body;
 use answer_sets::rule::positive_body;
 ghost use Rattle.answer_sets.specs.Lent.{IsLent, Lent};
 ghost use Rattle.answer_sets.specs.State.{Narrows};
-ghost use Rattle.narrowing.specs.Settled.{Settled};
-ghost use Rattle.narrowing.specs.Support.{MaySupport, Collects, Tallied, HoldsSole, HoldsSoles};
+ghost use Rattle.narrowing.specs.Inputs.{AnswersInputs};
+ghost use Rattle.narrowing.specs.Support.{MaySupport, Tallied, HoldsSole, HoldsSoles};
+ghost use Rattle.atoms.specs.Collected.{Collects};
 
 // The atoms that some rule may support, and those that two rules may.
 pub struct Supporters {
@@ -86,10 +87,10 @@ fn held_by_all(rules: &[u64], which: u64, s: State, sole: u64, t: State) -> Stat
 // The support pass: what no rule may support is dropped, and the one rule that may support an atom that is up does so.
 pub fn support_pass(rules: &[u64], which: u64, inputs: u64, s: State) -> State
     requires { ⌜ Lent (now rules) which ⌝ }
-    ensures { λ t. ⌜ Narrows (Settled (now (rules .entry)) which inputs) s t ⌝ }
+    ensures { λ t. ⌜ Narrows (AnswersInputs (now (rules .entry)) which inputs) s t ⌝ }
 {
     let found = tally_support(rules, which, s);
-    let unsupported = atoms::without(atoms::first(64), atoms::union(inputs, found.once));
+    let unsupported = atoms::outside(atoms::union(inputs, found.once));
     let t = State {
         up: s.up,
         dropped: atoms::union(s.dropped, unsupported),

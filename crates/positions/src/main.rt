@@ -1,5 +1,6 @@
 // The single-position questions of document 01's small circuits, and some that a wrong program gets wrong, one line each.
 use libc::STDOUT_FILENO;
+use plan::RULE_WORDS;
 
 // Every rule number; those with no rule behind them are ignored.
 const EVERY: u64 = 0xffff_ffff_ffff_ffff;
@@ -7,9 +8,9 @@ const EVERY: u64 = 0xffff_ffff_ffff_ffff;
 // The atoms of the chain and the words of its rules.
 const CHAIN_ATOMS: usize = 60;
 
-const CHAIN_WORDS: usize = 3 * CHAIN_ATOMS;
+const CHAIN_WORDS: usize = RULE_WORDS * CHAIN_ATOMS;
 
-// Writes whether the position is an answer set of the rules that the words are, three to a rule.
+// Writes whether the position is an answer set of the rules that the words are.
 fn ask(name: &[u8], rules: &[u64], position: u64) {
     io::write_all(STDOUT_FILENO, name);
     io::write_all(STDOUT_FILENO, b" position ");
@@ -99,8 +100,8 @@ fn chain(first: u64) -> [u64; CHAIN_WORDS] {
     rules[1] = first;
     let mut atom = 1;
     while atom < CHAIN_ATOMS {
-        rules[3 * atom] = atoms::single(atom);
-        rules[3 * atom + 1] = atoms::single(atom - 1);
+        rules[RULE_WORDS * atom] = atoms::single(atom);
+        rules[RULE_WORDS * atom + 1] = atoms::single(atom - 1);
         atom += 1;
     }
     rules

@@ -1,11 +1,10 @@
--- An answer set of the whole program is local in every unit: a smaller model of one unit's rules would be filled up, by what M has
+-- An answer set of the whole program is an answer set in every unit: a smaller model of one unit's rules would be filled up, by what M has
 -- outside the heads of the unit, to a smaller model of the whole.
 use mathlib.Core.Path.{_≡_, subst}
 use mathlib.Core.Logic.{_⊎_, inl, inr}
 use Prim.Native.Nat.{ℕ, _<_}
 use Rattle.atoms.specs.Word.{Has, _⊆_, _∩_, _∪_, _∖_, below}
-use Rattle.atoms.proofs.Sets.{ext, has-dec, has-cut, cut-left, cut-right, has-left, has-right, union-cases}
-use Rattle.atoms.proofs.Sets.{has-without, without-left, without-right, has-below, below-lt, subset-refl}
+use Rattle.atoms.proofs.Sets.{ext, has-dec, has-cut, cut-left, cut-right, has-left, has-right, union-cases, has-without, without-left, without-right, has-below, below-lt, subset-refl}
 use Rattle.answer_sets.specs.Program.{Body, Satisfies}
 use Rattle.answer_sets.specs.AnswerSet.{Kept, ReductModel, AnswerSet}
 use Rattle.answer_sets.proofs.Support.{Supported, supported, satisfied, least, of-least}
@@ -13,9 +12,9 @@ use Rattle.dependency_graph.specs.Units.{Units, Holds, LooksOnly}
 use Rattle.dependency_graph.specs.Graph.{Passes}
 use Rattle.dependency_graph.specs.Heads.{own, heads, inputHeads}
 use Rattle.dependency_graph.proofs.Heads.{own-has, heads-cases, input-given}
-use Rattle.dependency_graph.proofs.Seen.{Founded, AllFounded, founded-subset, Covers, held-heads, own-unique, headed-covers, body-up, body-down}
+use Rattle.dependency_graph.proofs.Seen.{Headed, AllHeaded, headed-subset, Covers, held-heads, own-unique, headed-covers, body-up, body-down}
 use Rattle.splitting.proofs.Cuts.{numbers, has-number, number-held, cut-mono}
-use Rattle.splitting.proofs.Local.{AllLocal, input-in-heads}
+use Rattle.splitting.proofs.Local.{AnswersUnits, input-in-heads}
 
 -- the unit of a rule with a head atom a is the one that has a as its own
 own-holds : (S : Units) → Passes S → (w r a : ℕ) → w < S .units → r < S .rules → Has (S .program .head r) a
@@ -28,10 +27,10 @@ own-holds S pass w r a l k p o =
 module _ (S : Units) (pass : Passes S) (looks : LooksOnly S) (M : ℕ)
     (s : AnswerSet (S .program) (below (S .rules)) (S .given) M) where
   -- M has only atoms that can be up
-  whole-founded : AllFounded S M
-  whole-founded = record { each = λ a h. go a (supported (S .program) (below (S .rules)) (S .given) M a s h) }
+  whole-headed : AllHeaded S M
+  whole-headed = record { each = λ a h. go a (supported (S .program) (below (S .rules)) (S .given) M a s h) }
     where
-      go : (a : ℕ) → Supported (S .program) (below (S .rules)) (S .given) a → Founded S a
+      go : (a : ℕ) → Supported (S .program) (below (S .rules)) (S .given) a → Headed S a
       go a (inl g) = inl g
       go a (inr t) = inr (t .0, below-lt (S .rules) (t .1), t .2)
 
@@ -47,7 +46,7 @@ module _ (S : Units) (pass : Passes S) (looks : LooksOnly S) (M : ℕ)
           → (a : ℕ) × Has (S .program .head r) a × Has (M ∩ heads S w) a
       go r h b =
           let sat = satisfied (S .program) (below (S .rules)) (S .given) M r s (has-below (S .rules) r (h .is-rule)) in
-          let t = sat .head-up (body-up S pass looks w r M whole-founded h b) in
+          let t = sat .head-up (body-up S pass looks w r M whole-headed h b) in
           (t .0, t .1, has-cut M (heads S w) (t .2) (held-heads S w r (t .0) h (t .1)))
 
   -- a model N of w's rules below that, filled up to one of the whole program
@@ -102,10 +101,10 @@ module _ (S : Units) (pass : Passes S) (looks : LooksOnly S) (M : ℕ)
         at-N : Body (S .program) r filled → Body (S .program) r N
         at-N c =
             subst (λ (x : ℕ). Body (S .program) r x) filled-cut
-            (body-down S pass looks w r filled (founded-subset S filled-within whole-founded) covers c)
+            (body-down S pass looks w r filled (headed-subset S filled-within whole-headed) covers c)
 
         kept : Kept (S .program) (numbers S w) (M ∩ heads S w) r
-        kept = record { numbered = has-number S w r h; holds = body-down S pass looks w r M whole-founded covers b }
+        kept = record { numbered = has-number S w r h; holds = body-down S pass looks w r M whole-headed covers b }
 
         through : Body (S .program) r filled → (i : ℕ) × Has (S .program .head r) i × Has N i
         through c = m .each r kept .head-up (at-N c)
@@ -139,10 +138,10 @@ module _ (S : Units) (pass : Passes S) (looks : LooksOnly S) (M : ℕ)
         all : M ⊆ filled
         all = least (S .program) (below (S .rules)) (S .given) M s filled filled-within filled-model
 
-  pub whole-locals : AllLocal S M
-  whole-locals = record {
+  pub whole-answers : AnswersUnits S M
+  whole-answers = record {
     given-up = s .model .facts-up;
-    founded = whole-founded;
+    headed = whole-headed;
     each = λ w l.
         of-least (S .program) (numbers S w) (M ∩ inputHeads S w) (M ∩ heads S w) (local-model w l) (local-least w l);
   }

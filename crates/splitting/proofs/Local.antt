@@ -1,4 +1,4 @@
--- Lists by what holds unit by unit: a position is in the list of u exactly if it is local in u and in every unit that u
+-- Lists by what holds unit by unit: a position is in the list of u exactly if it is an answer set locally in u and in every unit that u
 -- reaches. Going down a path cuts the position; going up is the induction along the edges.
 use mathlib.Core.Path.{sym, subst}
 use Prim.Native.Nat.{ℕ, _<_}
@@ -11,7 +11,7 @@ use Rattle.dependency_graph.specs.Heads.{heads, inputHeads}
 use Rattle.dependency_graph.proofs.Heads.{heads-given, heads-input, heads-edge, path-end}
 use Rattle.dependency_graph.proofs.Along.{along-edges}
 use Rattle.dependency_graph.proofs.Under.{Under, here, down, under-edge}
-use Rattle.dependency_graph.proofs.Seen.{AllFounded}
+use Rattle.dependency_graph.proofs.Seen.{AllHeaded}
 use Rattle.splitting.specs.UnitList.{Listed}
 use Rattle.splitting.proofs.Cuts.{numbers, cut-inner, cut-within}
 use Rattle.splitting.proofs.Form.{Member, listed-member}
@@ -20,10 +20,10 @@ use Rattle.splitting.proofs.Form.{Member, listed-member}
 abbrev pub Local : Units → ℕ → ℕ → Type 0
 Local S w M = AnswerSet (S .program) (S .unit w ∩ below (S .rules)) (M ∩ inputHeads S w) (M ∩ heads S w)
 
--- M has the given atoms, only atoms that can be up, and is local in every unit
-pub record AllLocal (S : Units) (M : ℕ) : Type 0 where
+-- M has the given atoms, only atoms that can be up, and is an answer set in every unit
+pub record AnswersUnits (S : Units) (M : ℕ) : Type 0 where
   pub given-up : S .given ⊆ M
-  pub founded : AllFounded S M
+  pub headed : AllHeaded S M
   pub each : (w : ℕ) → w < S .units → Local S w M
 
 pub input-in-heads : (S : Units) (u : ℕ) → u < S .units → inputHeads S u ⊆ heads S u

@@ -1,5 +1,5 @@
 -- The list of a unit that has every unit under it is the set of answer sets of the whole program: both say that a position is
--- local in every unit.
+-- an answer set in every unit.
 use mathlib.Core.Path.{sym, subst}
 use mathlib.Core.Logic.{_↔_, _⊎_, inl, inr}
 use Prim.Native.Nat.{ℕ, _<_}
@@ -10,18 +10,18 @@ use Rattle.dependency_graph.specs.Graph.{Passes}
 use Rattle.dependency_graph.specs.Heads.{own, heads}
 use Rattle.dependency_graph.proofs.Heads.{own-has, own-at, heads-given}
 use Rattle.dependency_graph.proofs.Under.{Under, under-unit, heads-under, heads-source}
-use Rattle.dependency_graph.proofs.Seen.{Founded, AllFounded}
+use Rattle.dependency_graph.proofs.Seen.{Headed, AllHeaded}
 use Rattle.splitting.specs.UnitList.{Listed}
 use Rattle.splitting.proofs.Cuts.{cut-whole}
 use Rattle.splitting.proofs.Form.{listed-member}
-use Rattle.splitting.proofs.Local.{AllLocal, listed-locals, locals-listed}
+use Rattle.splitting.proofs.Local.{AnswersUnits, listed-locals, locals-listed}
 use Rattle.splitting.proofs.Whole.{whole}
 
 -- the heads of a unit can be up
-pub heads-founded : (S : Units) (u a : ℕ) → u < S .units → Has (heads S u) a → Founded S a
-heads-founded S u a l h = go (heads-source S u a l h)
+pub heads-headed : (S : Units) (u a : ℕ) → u < S .units → Has (heads S u) a → Headed S a
+heads-headed S u a l h = go (heads-source S u a l h)
   where
-    go : Has (S .given) a ⊎ ((w : ℕ) × Under S u w × Has (own S w) a) → Founded S a
+    go : Has (S .given) a ⊎ ((w : ℕ) × Under S u w × Has (own S w) a) → Headed S a
     go (inl g) = inl g
     go (inr t) =
         let r = own-at S (t .0) a (under-unit S l (t .1)) (t .2) in
@@ -29,30 +29,30 @@ heads-founded S u a l h = go (heads-source S u a l h)
 
 module _ (S : Units) (pass : Passes S) (free : GivenFree S) (u : ℕ) (l : u < S .units)
     (top : (w : ℕ) → w < S .units → Under S u w) where
-  founded-heads : (M : ℕ) → AllFounded S M → M ⊆ heads S u
-  founded-heads M f = record { each = λ a h. go a (f .each a h) }
+  headed-heads : (M : ℕ) → AllHeaded S M → M ⊆ heads S u
+  headed-heads M f = record { each = λ a h. go a (f .each a h) }
     where
-      go : (a : ℕ) → Founded S a → Has (heads S u) a
+      go : (a : ℕ) → Headed S a → Has (heads S u) a
       go a (inl g) = heads-given S u a g
       go a (inr t) =
           let x = pass .a .placed (t .0) (t .1) in
           heads-under S a (top (x .0) (x .1 .is-unit)) (own-has S (x .0) (t .0) a (x .1) (t .2))
 
-  listed-all-local : (M : ℕ) → Listed S u M → AllLocal S M
-  listed-all-local M h =
+  listed-answers : (M : ℕ) → Listed S u M → AnswersUnits S M
+  listed-answers M h =
       let m = listed-member S pass free u l M .0 h in
       let c : Listed S u (M ∩ heads S u) = subst (λ (x : ℕ). Listed S u x) (sym (cut-whole M (heads S u) (m .within))) h in
       record {
         given-up = m .given-up;
-        founded = record { each = λ a p. heads-founded S u a l (m .within .each a p) };
+        headed = record { each = λ a p. heads-headed S u a l (m .within .each a p) };
         each = λ w k. listed-locals S pass free M u l c (top w k);
       }
 
-  all-local-listed : (M : ℕ) → AllLocal S M → Listed S u M
-  all-local-listed M s =
-      subst (λ (x : ℕ). Listed S u x) (cut-whole M (heads S u) (founded-heads M (s .founded)))
+  answers-listed : (M : ℕ) → AnswersUnits S M → Listed S u M
+  answers-listed M s =
+      subst (λ (x : ℕ). Listed S u x) (cut-whole M (heads S u) (headed-heads M (s .headed)))
       (locals-listed S pass free M (s .given-up) u l (λ w p. s .each w (under-unit S l p)))
 
   pub top-list : LooksOnly S → (M : ℕ) → Listed S u M ↔ AnswerSet (S .program) (below (S .rules)) (S .given) M
   top-list looks M =
-      (λ h. whole S pass looks M .1 (listed-all-local M h), λ s. all-local-listed M (whole S pass looks M .0 s))
+      (λ h. whole S pass looks M .1 (listed-answers M h), λ s. answers-listed M (whole S pass looks M .0 s))

@@ -1,4 +1,4 @@
--- The whole program unit by unit: M is an answer set exactly if it is local in every unit. A rule is satisfied through a unit that
+-- The whole program unit by unit: M is an answer set exactly if it is an answer set in every unit. A rule is satisfied through a unit that
 -- covers it; a smaller model of the whole is cut to each unit in turn, along the edges, and has all that M has there.
 use mathlib.Core.Logic.{_↔_, _⊎_, inl, inr}
 use Prim.Native.Nat.{ℕ, _<_}
@@ -12,12 +12,12 @@ use Rattle.dependency_graph.specs.Graph.{Passes}
 use Rattle.dependency_graph.specs.Heads.{heads, inputHeads}
 use Rattle.dependency_graph.proofs.Heads.{heads-input, input-cases}
 use Rattle.dependency_graph.proofs.Along.{along-edges}
-use Rattle.dependency_graph.proofs.Seen.{Founded, founded-subset, Covers, held-heads, covered, body-up, body-down}
+use Rattle.dependency_graph.proofs.Seen.{Headed, headed-subset, Covers, held-heads, covered, body-up, body-down}
 use Rattle.splitting.proofs.Cuts.{numbers, has-number, number-held, cut-below, cut-mono}
-use Rattle.splitting.proofs.Local.{AllLocal}
-use Rattle.splitting.proofs.Filled.{whole-locals}
+use Rattle.splitting.proofs.Local.{AnswersUnits}
+use Rattle.splitting.proofs.Filled.{whole-answers}
 
-module _ (S : Units) (pass : Passes S) (looks : LooksOnly S) (M : ℕ) (s : AllLocal S M) where
+module _ (S : Units) (pass : Passes S) (looks : LooksOnly S) (M : ℕ) (s : AnswersUnits S M) where
   -- each rule is satisfied through a unit that covers it
   whole-model : ReductModel (S .program) (below (S .rules)) (S .given) M M
   whole-model = record {
@@ -30,7 +30,7 @@ module _ (S : Units) (pass : Passes S) (looks : LooksOnly S) (M : ℕ) (s : AllL
           let u = c .0 in
           let h = c .1 .holds in
           let sat = satisfied (S .program) (numbers S u) (M ∩ inputHeads S u) (M ∩ heads S u) r (s .each u (h .is-unit)) (has-number S u r h) in
-          let t = sat .head-up (body-down S pass looks u r M (s .founded) (c .1) b) in
+          let t = sat .head-up (body-down S pass looks u r M (s .headed) (c .1) b) in
           (t .0, t .1, cut-left M (heads S u) (t .2))
 
   -- a model N of the kept rules within M has what M has of each unit's heads
@@ -57,13 +57,13 @@ module _ (S : Units) (pass : Passes S) (looks : LooksOnly S) (M : ℕ) (s : AllL
         kept : (r : ℕ) → Holds S w r → Body (S .program) r (M ∩ heads S w) → Kept (S .program) (below (S .rules)) M r
         kept r h b = record {
           numbered = has-below (S .rules) r (h .is-rule);
-          holds = body-up S pass looks w r M (s .founded) h b;
+          holds = body-up S pass looks w r M (s .headed) h b;
         }
 
         go : (r : ℕ) → Holds S w r → Body (S .program) r (M ∩ heads S w) → Body (S .program) r (N ∩ heads S w)
             → (a : ℕ) × Has (S .program .head r) a × Has (N ∩ heads S w) a
         go r h b c =
-            let n = body-up S pass looks w r N (founded-subset S f (s .founded)) h c in
+            let n = body-up S pass looks w r N (headed-subset S f (s .headed)) h c in
             let t = m .each r (kept r h b) .head-up n in
             (t .0, t .1, has-cut N (heads S w) (t .2) (held-heads S w r (t .0) h (t .1)))
 
@@ -78,18 +78,18 @@ module _ (S : Units) (pass : Passes S) (looks : LooksOnly S) (M : ℕ) (s : AllL
             (cut-below N (heads S w))
 
     whole-least : M ⊆ N
-    whole-least = record { each = λ a p. go a p (s .founded .each a p) }
+    whole-least = record { each = λ a p. go a p (s .headed .each a p) }
       where
-        go : (a : ℕ) → Has M a → Founded S a → Has N a
+        go : (a : ℕ) → Has M a → Headed S a → Has N a
         go a p (inl g) = m .facts-up .each a g
         go a p (inr t) =
             let x = pass .a .placed (t .0) (t .1) in
             smaller-heads (x .0) (x .1 .is-unit) .each a
             (has-cut M (heads S (x .0)) p (held-heads S (x .0) (t .0) a (x .1) (t .2)))
 
-  pub locals-whole : AnswerSet (S .program) (below (S .rules)) (S .given) M
-  locals-whole = of-least (S .program) (below (S .rules)) (S .given) M whole-model whole-least
+  pub answers-whole : AnswerSet (S .program) (below (S .rules)) (S .given) M
+  answers-whole = of-least (S .program) (below (S .rules)) (S .given) M whole-model whole-least
 
 pub whole : (S : Units) → Passes S → LooksOnly S → (M : ℕ)
-    → AnswerSet (S .program) (below (S .rules)) (S .given) M ↔ AllLocal S M
-whole S pass looks M = (whole-locals S pass looks M, locals-whole S pass looks M)
+    → AnswerSet (S .program) (below (S .rules)) (S .given) M ↔ AnswersUnits S M
+whole S pass looks M = (whole-answers S pass looks M, answers-whole S pass looks M)

@@ -27,7 +27,7 @@ use Rattle.splitting.specs.UnitList.{Listed}
 use Rattle.splitting.proofs.Form.{Member, listed-member}
 use Rattle.unit_search.specs.Listing.{padded, isListed, Ordered, Overfull, Gathered, fits, over, Grown}
 use Rattle.unit_search.specs.Job.{joins, Belongs, Wanted}
-use Rattle.unit_search.specs.declared.Unit.{Unit}
+use Rattle.unit_search.specs.declared.unit.Unit.{Unit}
 use Rattle.unit_lists.specs.Lists.{inList, unitList}
 use Rattle.unit_lists.specs.Stored.{Stored, UnitWorked, list-fits, list-long}
 use Rattle.unit_lists.proofs.Decided.{numbers-fit, listed-within, unit-list-at, unit-list-has}
@@ -160,7 +160,7 @@ module _ (rules : List ℕ) (T : Units) (same : T .program ≡ lent rules) (pass
       answered : AnswerSet (T .program) (T .unit u ∩ below (T .rules)) (M ∩ inputHeads T u) M
       answered =
           decides-answer-set (T .program) (T .unit u ∩ below (T .rules)) (M ∩ inputHeads T u) M (numbers-fit T u small) .yes
-          (same-answer M ∙ b .settled)
+          (same-answer M ∙ b .answers)
 
   pub listed-belongs : (M : ℕ) → heads T u < 2 ^ 64 → Listed T u M → Belongs rules table counts heads′ unit M
   listed-belongs M fit h =
@@ -168,7 +168,7 @@ module _ (rules : List ℕ) (T : Units) (same : T .program ≡ lent rules) (pass
       record {
         word = let l : M ≤ heads T u = subset-le (m .within) in omega arith;
         joined = edge-joins M (m .inputs);
-        settled = sym (same-answer M)
+        answers = sym (same-answer M)
             ∙ decided-true (decides-answer-set (T .program) (T .unit u ∩ below (T .rules)) (M ∩ inputHeads T u) M (numbers-fit T u small))
             (m .answer);
       }

@@ -28,7 +28,7 @@ use Rattle.splitting.specs.UnitList.{Clean, withLast}
 use Rattle.splitting.proofs.Last.{last-unit, last-predecessors, holds-old, edge-from-last, old-heads, old-list, last-passes, last-free}
 use Rattle.unit_search.specs.Listing.{padded, Gathered, Grown}
 use Rattle.unit_search.specs.Job.{Wanted}
-use Rattle.unit_search.specs.declared.Unit.{Unit}
+use Rattle.unit_search.specs.declared.unit.Unit.{Unit}
 use Rattle.unit_lists.specs.Lists.{inList, unitList, lastList}
 use Rattle.unit_lists.specs.Table.{TABLE_WORDS, runs, tally, listAt, listSoFar, tableSoFar, countsSoFar, tableOf, countsOf, cleared, noCounts}
 use Rattle.unit_lists.specs.Answer.{Answer, refuse, workFrom}

@@ -23,7 +23,7 @@ use Rattle.dependency_graph.proofs.Slices.{given-free}
 use Rattle.splitting.specs.UnitList.{Clean}
 use Rattle.unit_search.specs.Listing.{padded, Gathered, Grown}
 use Rattle.unit_search.specs.Job.{Searchable, Joinable, Wanted}
-use Rattle.unit_search.specs.declared.Unit.{Unit}
+use Rattle.unit_search.specs.declared.unit.Unit.{Unit}
 use Rattle.unit_lists.specs.Lists.{unitList}
 use Rattle.unit_lists.specs.Table.{tally, listSoFar, countsSoFar, cleared}
 use Rattle.unit_lists.specs.Answer.{refuse, workFrom}

@@ -9,7 +9,7 @@ use Rattle.atoms.specs.Word.{Has, _⊆_, _∩_, _∖_, below}
 use Rattle.atoms.specs.Bounded.{unionIn}
 use Rattle.unit_search.specs.Listing.{Gathered, Grown}
 use Rattle.unit_search.specs.Job.{Wanted, Joinable}
-use Rattle.unit_search.specs.declared.Unit.{Unit}
+use Rattle.unit_search.specs.declared.unit.Unit.{Unit}
 use Rattle.plan.specs.declared.fault.Fault.the-variants.{LongList}
 use Rattle.dependency_graph.specs.Units.{Units}
 use Rattle.dependency_graph.specs.Graph.{Passes}

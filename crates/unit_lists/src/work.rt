@@ -6,15 +6,16 @@ use crate::Listing;
 use crate::refuse;
 use crate::table::clear;
 use crate::table::store;
+use answer_sets::State;
 use dependency_graph::MAX_UNITS;
 use dependency_graph::head_atoms::fill_head_atoms;
 use dependency_graph::words::union_of;
 use dependency_graph::working_order::next_unit;
 use plan::Fault;
+use plan::LIST_WORDS;
 use plan::Outcome;
-use unit_search::LIST_WORDS;
 use unit_search::Unit;
-use unit_search::join::nearest;
+use unit_search::nearest::nearest;
 use unit_search::search::search;
 ghost use mathlib.Core.Path.{_≡_};
 ghost use Prim.Native.Nat.{_+_, _≤_, _<_};
@@ -50,7 +51,19 @@ pub fn work_list(
 {
     let mut list = [0u64; LIST_WORDS];
     let outside = atoms::without(atoms::first(64), within);
-    let count = search(rules, table, counts, heads, unit, &mut list, 0, 0, outside);
+    let count = search(
+        rules,
+        table,
+        counts,
+        heads,
+        unit,
+        &mut list,
+        0,
+        State {
+            up: 0,
+            dropped: outside,
+        },
+    );
     if LIST_WORDS < count {
         return false;
     }

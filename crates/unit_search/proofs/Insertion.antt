@@ -10,6 +10,7 @@ use native.Mathlib.Nat.{add-zero}
 use lib.ListN.{length, take, drop, getD, set, take-append-drop, drop-of-length-le, length-append, length-take, length-drop, length-set}
 use lib.Seq.{take-suc, drop-cons, drop-drop, drop-set-lt, drop-append-le, take-suc-set, set-split, getD-take, getD-drop, length-take-le}
 use borrow.Author.Tests.{lt-ltb, le-ltb, eq-eqb, ne-eqb}
+use Rattle.plan.specs.Limits.{LIST_WORDS, OVERFULL}
 use Rattle.unit_search.specs.Listing.{insertInto, Inserted, room, no-room}
 
 -- ---- the three cases
@@ -98,7 +99,7 @@ module _ (list₀ : List ℕ) (count value : ℕ) (fits : count ≤ length list�
   }
 
   -- the value is there already
-  pub pass-same : i < count → count ≤ 256 → carried ≡ getD list i 0 → Inserted list₀ count value list count
+  pub pass-same : i < count → count ≤ LIST_WORDS → carried ≡ getD list i 0 → Inserted list₀ count value list count
   pass-same l small e = room counted small whole
     where
       work : take i list ++ drop i (take count list₀) ≡ insertInto value (take count list₀)
@@ -129,7 +130,7 @@ module _ (list₀ : List ℕ) (count value : ℕ) (fits : count ≤ length list�
               ∙ drop-append-le i (take count list₀) (drop count list₀) (simp length-take (omega arith))
 
 -- all members are passed: the carried value comes behind them
-module _ (list₀ : List ℕ) (count value : ℕ) (long : length list₀ ≡ 256) (small : count ≤ 256) (list : List ℕ) (carried : ℕ)
+module _ (list₀ : List ℕ) (count value : ℕ) (long : length list₀ ≡ LIST_WORDS) (small : count ≤ LIST_WORDS) (list : List ℕ) (carried : ℕ)
     (p : Passing list₀ count value list carried count) where
   end-work : take count list ++ (carried ∷ []) ≡ insertInto value (take count list₀)
   unfolding insertInto
@@ -148,10 +149,10 @@ module _ (list₀ : List ℕ) (count value : ℕ) (long : length list₀ ≡ 256
       let c : length (take count list ++ (carried ∷ [])) ≡ length (insertInto value (take count list₀)) = ap length end-work in
       omega arith
 
-  pub pass-full : count ≡ 256 → Inserted list₀ count value list 257
+  pub pass-full : count ≡ LIST_WORDS → Inserted list₀ count value list OVERFULL
   pass-full e = no-room (end-long ∙ ap (λ (n : ℕ). n + 1) e)
 
-  pub pass-end : ¬ (count ≡ 256) → Inserted list₀ count value (set list count carried) (count + 1)
+  pub pass-end : ¬ (count ≡ LIST_WORDS) → Inserted list₀ count value (set list count carried) (count + 1)
   pass-end n = room (sym end-long) (omega arith) whole
     where
       whole : set list count carried ≡ insertInto value (take count list₀) ++ drop (count + 1) list₀

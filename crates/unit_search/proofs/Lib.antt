@@ -1,4 +1,4 @@
 pub mod Insertion
-pub mod Gathering
-pub mod Joining
-pub mod Searching
+pub mod Gathered
+pub mod Joins
+pub mod SearchSteps

@@ -2,35 +2,36 @@
 use mathlib.Core.Path.{_≡_}
 use mathlib.Core.Bool.{Bool, true}
 use mathlib.Core.List.{List}
-use Prim.Native.Nat.{ℕ, _+_, _*_, _^_, _≤_, _<_}
+use Prim.Native.Nat.{ℕ, _*_, _^_, _≤_, _<_}
 use lib.ListN.{length, getD}
-use Rattle.atoms.specs.Word.{Has, _⊆_, _∩_}
+use Rattle.atoms.specs.Word.{ATOMS, _⊆_, _∩_}
 use Rattle.atoms.specs.Bounded.{allIn}
+use Rattle.plan.specs.Limits.{MAX_UNITS, LIST_WORDS, LAST_LIST}
 use Rattle.answer_sets.specs.Lent.{lent, Lent}
 use Rattle.answer_sets.specs.Test.{answerSet}
 use Rattle.answer_sets.specs.State.{Completes}
 use Rattle.answer_sets.specs.declared.state.State.{State}
-use Rattle.unit_search.specs.declared.Unit.{Unit}
+use Rattle.unit_search.specs.declared.unit.Unit.{Unit}
 use Rattle.unit_search.specs.Listing.{isListed}
 
 -- the position cut to the head atoms of v is in v's list, for each direct predecessor v
 unfoldable pub joins : List ℕ → List ℕ → List ℕ → ℕ → ℕ → Bool
 joins table counts heads predecessors M =
-    allIn 16 predecessors (λ v. isListed table (256 * v) (getD counts v 0) (M ∩ getD heads v 0))
+    allIn MAX_UNITS predecessors (λ v. isListed table (LIST_WORDS * v) (getD counts v 0) (M ∩ getD heads v 0))
 
 -- M belongs to the unit's list: it joins the predecessors' lists and is an answer set of the unit's rules with its input as facts
 pub record Belongs (rules table counts heads : List ℕ) (unit : Unit) (M : ℕ) : Type 0 where
-  pub word : M < 2 ^ 64
+  pub word : M < 2 ^ ATOMS
   pub joined : joins table counts heads (unit .predecessors) M ≡ true
-  pub settled : answerSet (lent rules) (unit .rules) (M ∩ unit .inputs) M ≡ true
+  pub answers : answerSet (lent rules) (unit .rules) (M ∩ unit .inputs) M ≡ true
 
 -- the lists of the direct predecessors, with their counts and head atoms, are there
 pub record Joinable (table counts heads : List ℕ) (predecessors : ℕ) : Type 0 where
-  pub table-long : 4096 ≤ length table
-  pub counts-long : 16 ≤ length counts
-  pub heads-long : 16 ≤ length heads
-  pub few : predecessors < 2 ^ 16
-  pub small : (v : ℕ) → v < 16 → getD counts v 0 ≤ 256
+  pub table-long : LAST_LIST ≤ length table
+  pub counts-long : MAX_UNITS ≤ length counts
+  pub heads-long : MAX_UNITS ≤ length heads
+  pub few : predecessors < 2 ^ MAX_UNITS
+  pub small : (v : ℕ) → v < MAX_UNITS → getD counts v 0 ≤ LIST_WORDS
 
 -- all that a search is lent
 pub record Searchable (rules table counts heads : List ℕ) (unit : Unit) : Type 0 where

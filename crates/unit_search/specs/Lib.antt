@@ -1,3 +1,4 @@
 pub mod Listing
 pub mod Job
-pub mod Agreeing
+pub mod JoinPass
+pub mod Nearest

@@ -1,4 +1,4 @@
--- A rising list in 256 words, zeros behind it, and what is said of one that grows or has become too long.
+-- A rising list in LIST_WORDS words, zeros behind it, and what is said of one that grows or has become too long.
 use mathlib.Core.Path.{_≡_}
 use mathlib.Core.Bool.{Bool, true, false}
 use mathlib.Core.List.{List, [], _∷_, _++_, List·Memᴰ}
@@ -8,10 +8,11 @@ use lib.Dec.{eqb, ltb}
 use lib.ListN.{length, take, drop, getD, replicate}
 use Rattle.atoms.specs.Bounded.{someBelow}
 use Rattle.atoms.specs.Rising.{Rising}
+use Rattle.plan.specs.Limits.{LIST_WORDS, OVERFULL}
 
 -- "Each list rises as unsigned numbers and zeros fill up its 256 words."
 unfoldable pub padded : List ℕ → List ℕ
-padded xs = xs ++ replicate (256 - length xs) 0
+padded xs = xs ++ replicate (LIST_WORDS - length xs) 0
 
 -- v put into its place in a rising list, unless it is there already
 unfoldable pub insertInto : ℕ → List ℕ → List ℕ
@@ -23,25 +24,25 @@ insertInto v (x ∷ xs) =
 unfoldable pub isListed : List ℕ → ℕ → ℕ → ℕ → Bool
 isListed words base count value = someBelow count (λ i. eqb (getD words (base + i) 0) value)
 
--- the 256 words hold a rising list of `count` members and zeros behind it
+-- the words hold a rising list of `count` members and zeros behind it
 pub record Ordered (list : List ℕ) (count : ℕ) : Type 0 where
-  pub long : length list ≡ 256
-  pub small : count ≤ 256
+  pub long : length list ≡ LIST_WORDS
+  pub small : count ≤ LIST_WORDS
   pub rising : Rising (take count list)
-  pub zeros : drop count list ≡ replicate (256 - count) 0
+  pub zeros : drop count list ≡ replicate (LIST_WORDS - count) 0
 
--- more than 256 positions are wanted
+-- more positions are wanted than a list may have
 pub record Overfull (Wanted : ℕ → Type 0) : Type 0 where
   pub many : List ℕ
   pub rising : Rising many
-  pub long : length many ≡ 257
+  pub long : length many ≡ OVERFULL
   pub sound : (x : ℕ) → List·Memᴰ x many → Wanted x
 
--- the list holds just what is wanted; or more than 256 positions are wanted, and the count says 257
+-- the list holds just what is wanted; or more positions are wanted than it may have, and the count says so
 pub data Gathered (Wanted : ℕ → Type 0) (list : List ℕ) : ℕ → Type 0 where
   fits : {count : ℕ} → Ordered list count → ((x : ℕ) → List·Memᴰ x (take count list) → Wanted x)
       → ((x : ℕ) → Wanted x → List·Memᴰ x (take count list)) → Gathered Wanted list count
-  over : Overfull Wanted → Gathered Wanted list 257
+  over : Overfull Wanted → Gathered Wanted list OVERFULL
 
 -- a member of the list so far, or one of those that are added
 abbrev pub Grown : List ℕ → ℕ → (ℕ → Type 0) → ℕ → Type 0
@@ -49,6 +50,6 @@ Grown list count Added x = List·Memᴰ x (take count list) ⊎ Added x
 
 -- what an insertion leaves: the list with the value in its place, or that this list is too long
 pub data Inserted (list : List ℕ) (count value : ℕ) (after : List ℕ) : ℕ → Type 0 where
-  room : {r : ℕ} → r ≡ length (insertInto value (take count list)) → r ≤ 256
+  room : {r : ℕ} → r ≡ length (insertInto value (take count list)) → r ≤ LIST_WORDS
       → after ≡ insertInto value (take count list) ++ drop r list → Inserted list count value after r
-  no-room : length (insertInto value (take count list)) ≡ 257 → Inserted list count value after 257
+  no-room : length (insertInto value (take count list)) ≡ OVERFULL → Inserted list count value after OVERFULL

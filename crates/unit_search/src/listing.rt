@@ -1,9 +1,11 @@
-// A rising list of positions in 256 lent words.
-use crate::LIST_WORDS;
+// A rising list of positions in LIST_WORDS lent words.
+use plan::LIST_WORDS;
+use plan::OVERFULL;
 ghost use mathlib.Core.Path.{_≡_};
 ghost use mathlib.Core.List.{_++_};
 ghost use Prim.Native.Nat.{_+_, _≤_, _<_};
 ghost use lib.ListN.{length, take, drop};
+ghost use Rattle.plan.specs.Limits.{LIST_WORDS};
 ghost use Rattle.unit_search.specs.Listing.{insertInto, isListed, Inserted};
 
 // Whether the value is one of the `count` words from `base` on.
@@ -21,9 +23,9 @@ pub fn contains(words: &[u64], base: usize, count: usize, value: u64) -> bool
     false
 }
 
-// Puts the value into its place among the first `count` words, unless it is there: the new count, or 257 where there is no room.
+// Puts the value into its place among the first `count` words, unless it is there: the new count, or OVERFULL where there is no room.
 pub fn insert(list: &mut [u64], count: usize, value: u64) -> usize
-    requires { ⌜ (count ≤ 256) × (length (now list) ≡ 256) ⌝ }
+    requires { ⌜ (count ≤ LIST_WORDS) × (length (now list) ≡ LIST_WORDS) ⌝ }
     ensures { λ r. ⌜ Inserted (now (list .entry)) count value (now (list .exit)) r ⌝ }
 {
     let mut carried = value;
@@ -40,7 +42,7 @@ pub fn insert(list: &mut [u64], count: usize, value: u64) -> usize
         i += 1;
     }
     if count == LIST_WORDS {
-        return LIST_WORDS + 1;
+        return OVERFULL;
     }
     list[count] = carried;
     count + 1

@@ -1,21 +1,8 @@
+-- The second word of the rule.
 use borrow.Author.Needs.{needs}
 use Rattle.answer_sets.specs.Lent.{lent}
 use Rattle.answer_sets.proofs.rule.positive_body.Statement.{statement}
 use Rattle.answer_sets.proofs.rule.positive_body.Tie as tie
-use Rattle.answer_sets.proofs.rule.positive_body.Reads as reads
-use Rattle.answer_sets.proofs.rule.positive_body.Lts as lts
-
-mul-result : tie.Need-mul-result
-mul-result c = search needs
-
-add-result : tie.Need-add-result
-add-result c = search needs
-
-mul-result-2 : tie.Need-mul-result-2
-mul-result-2 c = search needs
-
-shared-slice-read-result : tie.Need-shared-slice-read-result
-shared-slice-read-result c = search needs
 
 returns : tie.Need-returns
 unfolding lent
@@ -23,4 +10,4 @@ returns c = search needs
 
 pub positive-body-spec : {M : Type 1} → statement M
 positive-body-spec =
-    tie.close (tie.spec mul-result add-result mul-result-2 shared-slice-read-result returns)
+    tie.close (tie.spec (λ c. search needs) (λ c. search needs) (λ c. search needs) (λ c. search needs) returns)

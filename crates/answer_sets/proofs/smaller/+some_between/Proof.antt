@@ -1,29 +1,28 @@
 -- The measure is the count of undecided atoms. Each return says of the completions what its step of the subset test shows.
-use mathlib.Core.Path.{_≡_, ap, sym, subst, _∙_}
-use denote.Ref.{now}
-use borrow.Author.Tests.{not-true, not-false}
-use Rattle.atoms.specs.Word.{Has, _∪_, atom}
-use Rattle.atoms.specs.Bounded.{Decides}
-use Rattle.atoms.proofs.Sets.{has-left}
-use Rattle.atoms.proofs.Counting.{count-proper}
-use Rattle.answer_sets.specs.Program.{Satisfies}
-use Rattle.answer_sets.specs.Lent.{lent}
-use Rattle.answer_sets.specs.Growth.{Between, Confines, Unsatisfied}
-use Rattle.answer_sets.proofs.HalfDecided.{undecided-shrinks}
-use Rattle.answer_sets.proofs.Between.{confines-more, between-narrow, between-clash, between-model, between-stuck, branch-yes, branch-no, raise-falls, lower-falls}
-use borrow.Author.Needs.{needs}
+use mathlib.Core.Path.{ap, sym, _∙_}
+use Prim.Native.Nat.{ℕ, _<_, _≤_}
+use native.Mathlib.Omega.{arith}
 use lib.Count.{ones}
-use Rattle.answer_sets.specs.State.{undecided}
-use Prim.Native.Nat.{ℕ, _<_}
+use denote.Ref.{now}
+use borrow.Author.Needs.{needs}
+use borrow.Author.Tests.{not-false}
 use borrow.Fn.Kinds.{In}
 use borrow.Fn.PlainCycle.{Measures, is, falls, and}
+use Rattle.atoms.specs.Word.{Has, Apart}
+use Rattle.atoms.proofs.Sets.{decides-apart, has-left}
+use Rattle.answer_sets.specs.Program.{Satisfies}
+use Rattle.answer_sets.specs.Lent.{lent}
+use Rattle.answer_sets.specs.State.{undecided}
+use Rattle.answer_sets.specs.SubsetTest.{Confines}
+use Rattle.answer_sets.proofs.Between.{confines-more, between-narrow, between-clash, between-model, between-stuck, branch-yes, branch-no}
+use Rattle.answer_sets.proofs.Between.{pass-falls, raise-falls, lower-falls}
 use Rattle.answer_sets.proofs.smaller.some_between.Reads as some-between
 use Rattle.answer_sets.proofs.smaller.some_between.Kinds as some-between-kinds
 use Rattle.answer_sets.proofs.smaller.+some_between.Lts-some_between as some-between-lts
 use Rattle.answer_sets.proofs.known.undecided.Reads as undecided-reads
 use Rattle.answer_sets.proofs.reduct.find_unsatisfied.Reads as find-unsatisfied-reads
 use Rattle.answer_sets.proofs.smaller.candidates.Reads as candidates-reads
-use Rattle.answer_sets.proofs.growth.grow.Reads as grow-reads
+use Rattle.answer_sets.proofs.rule_pass.rule_pass.Reads as rule-pass-reads
 use Rattle.atoms.proofs.are_apart.Reads as are-apart-reads
 use Rattle.atoms.proofs.lowest.Reads as lowest-reads
 use Rattle.atoms.proofs.single.Reads as single-reads
@@ -48,8 +47,8 @@ some-between-below t =
 
 abbrev calls : ℕ → some-between-lts.Claims
 calls t = (
-  grow-reads.Asked,
-  grow-reads.Learnt,
+  rule-pass-reads.Asked,
+  rule-pass-reads.Learnt,
   are-apart-reads.Asked,
   are-apart-reads.Learnt,
   undecided-reads.Asked,
@@ -68,218 +67,155 @@ calls t = (
   union-reads.Learnt,
 )
 
--- the rule that was found: it is of the word, and the atoms that are up do not satisfy it
-unsatisfied : (t : ℕ) (c : some-between-lts.After-found (calls t) (some-between-at t) some-between.Post)
-    → Has (c .before .before .before .before .before .before .before .before .before .before .args .which) (c .found .given .0 .0)
-    × ¬ Satisfies (lent (now (c .before .before .before .before .before .before .before .before .before .before .args .rules)))
-    (c .found .given .0 .0) (c .before .before .before .before .before .before .before .before .grow .result .up)
-unsatisfied t c =
-    let c8 = c .before .before .before .before .before .before .before .before in
-    let c10 = c8 .before .before in
-    subst (Unsatisfied (lent (now (c10 .args .rules))) (c10 .args .which) (c8 .grow .result .up)) (c .found .given .1)
-    (c .before .before .find-unsatisfied .ensures)
+module _ (t : ℕ) where
+  -- ---- the points of the code, and what is known there
 
--- the atom that is tried is undecided
-chosen : (t : ℕ) (c : some-between-lts.After-lowest (calls t) (some-between-at t) some-between.Post)
-    → Has (undecided (c .before .before .before .before .before .before .before .before .before .before .before .before .grow .result .up) (c .before .before .before .before .before .before .before .before .before .before .before .before .grow .result .dropped)) (c .lowest .result)
-chosen t c =
-    subst (λ (w : ℕ). Has w (c .lowest .result)) (c .before .before .before .before .before .before .before .before .before .undecided .ensures)
-    (c .before .before .candidates .ensures .within .each (c .lowest .result) (c .lowest .ensures .0 .here))
+  -- after the pass
+  abbrev Passed : Type 0
+  Passed = some-between-lts.After-rule-pass (calls t) (some-between-at t) some-between.Post
 
--- what was undecided at first is so after the growth
-same-free : (t : ℕ) (c : some-between-lts.After-lowest (calls t) (some-between-at t) some-between.Post)
-    → ones (undecided (c .before .before .before .before .before .before .before .before .before .before .before .before .grow .result .up) (c .before .before .before .before .before .before .before .before .before .before .before .before .grow .result .dropped)) ≡ t
-same-free t c =
-    let c7 = c .before .before .before .before .before .before .before in
-    let c8 = c7 .before in
-    let c9 = c8 .before in
-    let c14 = c9 .before .before .before .before .before in
-    ap ones (sym (c9 .undecided .ensures) ∙ c7 .if2 .left ∙ c8 .undecided2 .ensures) ∙ c14 .pre .0
+  -- the pass decided nothing
+  abbrev Unchanged : Type 0
+  Unchanged = some-between-lts.Else2 (calls t) (some-between-at t) some-between.Post
 
-some-between-grow-requires : (t : ℕ) → some-between-lts.Need-grow-requires (calls t) (some-between-at t) some-between.Post
-some-between-grow-requires t c κs = c .before .pre .1 .0
+  -- a rule was found
+  abbrev Found : Type 0
+  Found = some-between-lts.After-found (calls t) (some-between-at t) some-between.Post
 
-some-between-are-apart-requires : (t : ℕ) → some-between-lts.Need-are-apart-requires (calls t) (some-between-at t) some-between.Post
-some-between-are-apart-requires t c κs = search needs
+  -- an atom was chosen
+  abbrev Chosen : Type 0
+  Chosen = some-between-lts.After-lowest (calls t) (some-between-at t) some-between.Post
 
-some-between-returns : (t : ℕ) → some-between-lts.Need-returns (calls t) (some-between-at t) some-between.Post
-some-between-returns t c =
-    let c4 = c .before .before .before .before in
-    let at = c4 .args in
-    let g = c .before .before .grow in
-    between-narrow (lent (now (at .rules))) (at .which) (at .position) (g .ensures)
-    (between-clash (lent (now (at .rules))) (at .which) (at .position) (g .result) (sym (c .before .are-apart .ensures) ∙ not-true (c .before .are-apart .result) (c .if1 .taken)))
+  abbrev start : Passed → some-between-lts.Start (calls t) (some-between-at t) some-between.Post
+  start c = c .before .before
 
-some-between-undecided-requires : (t : ℕ) → some-between-lts.Need-undecided-requires (calls t) (some-between-at t) some-between.Post
-some-between-undecided-requires t c κs = search needs
+  abbrev unchanged : Chosen → Unchanged
+  unchanged c = c .before .before .before .before .before .before .before
 
-some-between-undecided-requires-2 : (t : ℕ) → some-between-lts.Need-undecided-requires-2 (calls t) (some-between-at t) some-between.Post
-some-between-undecided-requires-2 t c κs = search needs
+  abbrev passed : Unchanged → Passed
+  passed c = c .before .before .before .before .before
 
-some-between-some-between-requires : (t : ℕ) → some-between-lts.Need-some-between-requires (calls t) (some-between-at t) some-between.Post
-some-between-some-between-requires t c κs =
-    let c5 = c .before .before .before .before .before in
-    let c7 = c5 .before .before in
-    let at = c7 .args in
-    let g = c5 .grow in (
-      subst (λ (n : ℕ). ones (undecided (g .result .up) (g .result .dropped)) < n) (c7 .pre .0)
-          (count-proper (undecided (g .result .up) (g .result .dropped)) (undecided (at .up) (at .dropped))
-          (undecided-shrinks (at .up) (at .dropped) (g .result .up) (g .result .dropped) (g .ensures .up-grows) (g .ensures .dropped-grows))
-          (λ e. c .if2 .taken (c .before .before .undecided .ensures ∙ e ∙ sym (c .before .undecided2 .ensures)))),
-      (c7 .pre .1 .0, confines-more (c7 .pre .1 .1) (g .ensures .dropped-grows)),
-    )
+  -- all atoms outside the position are dropped after the pass
+  confined : (c : Passed) → Confines (start c .args .position) (c .rule-pass .result .dropped)
+  confined c = confines-more (start c .pre .1 .1) (c .rule-pass .ensures .dropped-grows)
 
-some-between-returns-2 : (t : ℕ) → some-between-lts.Need-returns-2 (calls t) (some-between-at t) some-between.Post
-some-between-returns-2 t c =
-    let at = c .before .before .before .before .before .before .before .before .args in
-    let g = c .before .before .before .before .before .before .grow in
-    between-narrow (lent (now (at .rules))) (at .which) (at .position) (g .ensures) (c .some-between .ensures)
+  apart-up : (c : Unchanged) → Apart (passed c .rule-pass .result .up) (passed c .rule-pass .result .dropped)
+  apart-up c =
+      let test = c .before .before .before .before .are-apart in
+      decides-apart _ _ .yes (sym (test .ensures) ∙ not-false (test .result) (c .before .before .before .if1 .left))
 
-some-between-find-unsatisfied-requires : (t : ℕ) → some-between-lts.Need-find-unsatisfied-requires (calls t) (some-between-at t) some-between.Post
-some-between-find-unsatisfied-requires t c κs = c .before .before .before .before .before .before .before .pre .1 .0
+  -- the measure is that of the state after the pass
+  same-measure : (c : Unchanged) → ones (undecided (passed c .rule-pass .result .up) (passed c .rule-pass .result .dropped)) ≤ t
+  same-measure c =
+      let e = ap ones (sym (c .before .before .undecided .ensures) ∙ c .if2 .left ∙ c .before .undecided2 .ensures)
+      ∙ start (passed c) .pre .0 in
+      omega (arith, e)
 
-some-between-enum-known-found : (t : ℕ) → some-between-lts.Need-enum-known-found (calls t) (some-between-at t) some-between.Post
-some-between-enum-known-found t c = search needs
+  -- the rule that was found: it is of the word, and the atoms that are up do not satisfy it
+  unsatisfied : (c : Found) → Has (start (passed (c .before .before .before)) .args .which) (c .found .given .0 .0)
+      × ¬ Satisfies (lent (now (start (passed (c .before .before .before)) .args .rules))) (c .found .given .0 .0)
+      (passed (c .before .before .before) .rule-pass .result .up)
+  unsatisfied c = rw (c .found .given .1) at (c .before .before .find-unsatisfied .ensures)
 
-some-between-enum-told : (t : ℕ) → some-between-lts.Need-enum-told (calls t) (some-between-at t) some-between.Post
-some-between-enum-told t c = search needs
+  -- the atom that is tried is undecided
+  undecided-atom : (c : Chosen)
+      → Has (undecided (passed (unchanged c) .rule-pass .result .up) (passed (unchanged c) .rule-pass .result .dropped)) (c .lowest .result)
+  undecided-atom c =
+      rw (unchanged c .before .before .undecided .ensures) at
+      (c .before .before .candidates .ensures .within .each (c .lowest .result) (c .lowest .ensures .0 .here))
 
-some-between-returns-3 : (t : ℕ) → some-between-lts.Need-returns-3 (calls t) (some-between-at t) some-between.Post
-some-between-returns-3 t c =
-    let c7 = c .before .before .before .before .before .before .before in
-    let c8 = c7 .before in
-    let c9 = c8 .before in
-    let c11 = c9 .before .before in
-    let at = c11 .args in
-    let g = c9 .grow in
-    between-narrow (lent (now (at .rules))) (at .which) (at .position) (g .ensures)
-    (between-model (lent (now (at .rules))) (at .which) (at .position) (g .result) (c .struct-known .given .0 .fits)
-    (confines-more (c11 .pre .1 .1) (g .ensures .dropped-grows))
-    (sym (c8 .are-apart .ensures) ∙ not-false (c8 .are-apart .result) (c7 .if1 .left))
-    (subst (Unsatisfied (lent (now (at .rules))) (at .which) (g .result .up)) (c .before .enum-told .given .1) (c .before .before .before .find-unsatisfied .ensures)))
+  -- ---- the needs
 
-some-between-candidates-requires : (t : ℕ) → some-between-lts.Need-candidates-requires (calls t) (some-between-at t) some-between.Post
-some-between-candidates-requires t c κs =
-    let c11 = c .before .before .before .before .before .before .before .before .before .before .before in
-    c11 .pre .1 .0 .each (c .before .found .given .0 .0) (unsatisfied t (c .before) .0)
+  overlap : some-between-lts.Need-returns (calls t) (some-between-at t) some-between.Post
+  overlap c = between-narrow (c .before .before .rule-pass .ensures) (between-clash (c .before .are-apart .ensures) (c .if1 .taken))
 
-some-between-returns-4 : (t : ℕ) → some-between-lts.Need-returns-4 (calls t) (some-between-at t) some-between.Post
-some-between-returns-4 t c =
-    let c8 = c .before .before .before .before .before .before .before .before in
-    let c9 = c8 .before in
-    let c10 = c9 .before in
-    let c11 = c10 .before in
-    let c13 = c11 .before .before in
-    let at = c13 .args in
-    let g = c11 .grow in
-    let found = c .before .before .before .found .given .0 .0 in
-    between-narrow (lent (now (at .rules))) (at .which) (at .position) (g .ensures)
-    (between-stuck (now (at .rules)) (at .which) (at .position) found (g .result)
-    (sym (c10 .are-apart .ensures) ∙ not-false (c10 .are-apart .result) (c9 .if1 .left))
-    (λ i k.
-    subst (λ (w : ℕ). (i < 64) × ¬ Has w i) (c8 .undecided .ensures)
-    (c .before .candidates .ensures .none-left (c .if3 .taken) i k))
-    (unsatisfied t (c .before .before .before) .0) (unsatisfied t (c .before .before .before) .1))
+  again-requires : some-between-lts.Need-some-between-requires (calls t) (some-between-at t) some-between.Post
+  again-requires c κs =
+      let p = c .before .before .before .before .before in (
+        pass-falls (p .rule-pass .ensures) (c .before .before .undecided .ensures) (c .before .undecided2 .ensures) (c .if2 .taken)
+            (start p .pre .0),
+        (start p .pre .1 .0, confined p),
+      )
 
-some-between-lowest-requires : (t : ℕ) → some-between-lts.Need-lowest-requires (calls t) (some-between-at t) some-between.Post
-some-between-lowest-requires t c κs = c .if3 .left
+  again : some-between-lts.Need-returns-2 (calls t) (some-between-at t) some-between.Post
+  again c = between-narrow (c .before .before .before .before .before .before .rule-pass .ensures) (c .some-between .ensures)
 
-some-between-single-requires : (t : ℕ) → some-between-lts.Need-single-requires (calls t) (some-between-at t) some-between.Post
-some-between-single-requires t c κs = c .lowest .ensures .1
+  satisfied : some-between-lts.Need-returns-3 (calls t) (some-between-at t) some-between.Post
+  satisfied c =
+      let u = c .before .before .before .before in
+      between-narrow (passed u .rule-pass .ensures)
+      (between-model (c .struct-known .given .0 .fits) (confined (passed u)) (apart-up u)
+      (rw (c .before .enum-told .given .1) at (c .before .before .before .find-unsatisfied .ensures)))
 
-some-between-union-requires : (t : ℕ) → some-between-lts.Need-union-requires (calls t) (some-between-at t) some-between.Post
-some-between-union-requires t c κs = search needs
+  candidates-requires : some-between-lts.Need-candidates-requires (calls t) (some-between-at t) some-between.Post
+  candidates-requires c κs =
+      start (passed (c .before .before .before .before)) .pre .1 .0 .each _ (unsatisfied (c .before) .0)
 
-some-between-some-between-requires-2 : (t : ℕ) → some-between-lts.Need-some-between-requires-2 (calls t) (some-between-at t) some-between.Post
-some-between-some-between-requires-2 t c κs =
-    let c14 = c .before .before .before .before .before .before .before .before .before .before .before .before .before .before in
-    let c16 = c14 .before .before in
-    let at = c16 .args in
-    let g = c14 .grow in
-    let low = c .before .before .lowest in
-    let raised = c .union .ensures ∙ ap (λ (w : ℕ). g .result .up ∪ w) (c .before .single .ensures) in (
-      subst (λ (w : ℕ). ones (undecided w (g .result .dropped)) < t) (sym raised)
-          (subst (λ (n : ℕ). ones (undecided (g .result .up ∪ atom (low .result)) (g .result .dropped)) < n) (same-free t (c .before .before))
-          (raise-falls (g .result .up) (g .result .dropped) (low .result) (chosen t (c .before .before)))),
-      (c16 .pre .1 .0, confines-more (c16 .pre .1 .1) (g .ensures .dropped-grows)),
-    )
+  stuck : some-between-lts.Need-returns-4 (calls t) (some-between-at t) some-between.Post
+  stuck c =
+      let f = c .before .before .before in
+      let u = f .before .before .before in
+      between-narrow (passed u .rule-pass .ensures)
+      (between-stuck (u .before .before .undecided .ensures) (c .before .candidates .ensures) (c .if3 .taken) (unsatisfied f))
 
-some-between-returns-5 : (t : ℕ) → some-between-lts.Need-returns-5 (calls t) (some-between-at t) some-between.Post
-some-between-returns-5 t c =
-    let c4 = c .before .before .before .before in
-    let c16 = c4 .before .before .before .before .before .before .before .before .before .before .before .before in
-    let c18 = c16 .before .before in
-    let at = c18 .args in
-    let g = c16 .grow in
-    between-narrow (lent (now (at .rules))) (at .which) (at .position) (g .ensures)
-    (branch-yes (lent (now (at .rules))) (at .which) (at .position) (g .result) (c4 .lowest .result)
-    (subst (λ (w : ℕ). Decides (Between (lent (now (at .rules))) (at .which) (at .position) (record { up = w; dropped = g .result .dropped })) (c .before .some-between2 .result))
-    (c .before .before .union .ensures ∙ ap (λ (w : ℕ). g .result .up ∪ w) (c .before .before .before .single .ensures))
-    (c .before .some-between2 .ensures))
-    (c .if4 .taken))
+  up-requires : some-between-lts.Need-some-between-requires-2 (calls t) (some-between-at t) some-between.Post
+  up-requires c κs =
+      let k = c .before .before in
+      let p = passed (unchanged k) in (
+        raise-falls _ _ (c .before .single .ensures) (undecided-atom k) (same-measure (unchanged k)) (c .union .ensures),
+        (start p .pre .1 .0, confined p),
+      )
 
-some-between-union-requires-2 : (t : ℕ) → some-between-lts.Need-union-requires-2 (calls t) (some-between-at t) some-between.Post
-some-between-union-requires-2 t c κs = search needs
+  up-found : some-between-lts.Need-returns-5 (calls t) (some-between-at t) some-between.Post
+  up-found c =
+      let up = c .before in
+      let single = up .before .before in
+      between-narrow (passed (unchanged (single .before)) .rule-pass .ensures)
+      (branch-yes (single .before .lowest .result) (up .before .union .ensures) (single .single .ensures) (up .some-between2 .ensures)
+      (c .if4 .taken))
 
-some-between-some-between-requires-3 : (t : ℕ) → some-between-lts.Need-some-between-requires-3 (calls t) (some-between-at t) some-between.Post
-some-between-some-between-requires-3 t c κs =
-    let c4 = c .before .before .before .before in
-    let c5 = c4 .before in
-    let c17 = c5 .before .before .before .before .before .before .before .before .before .before .before .before in
-    let c19 = c17 .before .before in
-    let at = c19 .args in
-    let g = c17 .grow in
-    let low = c5 .lowest in
-    let raised = c .union2 .ensures ∙ ap (λ (w : ℕ). g .result .dropped ∪ w) (c4 .single .ensures) in (
-      subst (λ (w : ℕ). ones (undecided (g .result .up) w) < t) (sym raised)
-          (subst (λ (n : ℕ). ones (undecided (g .result .up) (g .result .dropped ∪ atom (low .result))) < n) (same-free t c5)
-          (lower-falls (g .result .up) (g .result .dropped) (low .result) (chosen t c5))),
-      (
-        c19 .pre .1 .0,
-        subst (Confines (at .position)) (sym raised)
-            (confines-more (confines-more (c19 .pre .1 .1) (g .ensures .dropped-grows)) (record { each = λ i h. has-left (g .result .dropped) (atom (low .result)) h })),
-      ),
-    )
+  dropped-requires : some-between-lts.Need-some-between-requires-3 (calls t) (some-between-at t) some-between.Post
+  dropped-requires c κs =
+      let single = c .before .before .before .before in
+      let k = single .before in
+      let p = passed (unchanged k) in (
+        lower-falls _ _ (single .single .ensures) (undecided-atom k) (same-measure (unchanged k)) (c .union2 .ensures),
+        (
+          start p .pre .1 .0,
+          confines-more (confined p) (rw (c .union2 .ensures) (record { each = λ i h. has-left _ _ h })),
+        ),
+      )
 
-some-between-returns-6 : (t : ℕ) → some-between-lts.Need-returns-6 (calls t) (some-between-at t) some-between.Post
-some-between-returns-6 t c =
-    let c4 = c .before .before .before .before in
-    let c5 = c4 .before in
-    let c6 = c5 .before in
-    let c18 = c6 .before .before .before .before .before .before .before .before .before .before .before .before in
-    let c20 = c18 .before .before in
-    let at = c20 .args in
-    let g = c18 .grow in
-    between-narrow (lent (now (at .rules))) (at .which) (at .position) (g .ensures)
-    (branch-no (lent (now (at .rules))) (at .which) (at .position) (g .result) (c6 .lowest .result)
-    (subst (λ (w : ℕ). Decides (Between (lent (now (at .rules))) (at .which) (at .position) (record { up = w; dropped = g .result .dropped })) (c .before .before .before .some-between2 .result))
-    (c4 .union .ensures ∙ ap (λ (w : ℕ). g .result .up ∪ w) (c5 .single .ensures)) (c .before .before .before .some-between2 .ensures))
-    (c .before .before .if4 .left)
-    (subst (λ (w : ℕ). Decides (Between (lent (now (at .rules))) (at .which) (at .position) (record { up = g .result .up; dropped = w })) (c .some-between3 .result))
-    (c .before .union2 .ensures ∙ ap (λ (w : ℕ). g .result .dropped ∪ w) (c5 .single .ensures)) (c .some-between3 .ensures)))
+  both-tried : some-between-lts.Need-returns-6 (calls t) (some-between-at t) some-between.Post
+  both-tried c =
+      let up = c .before .before .before in
+      let single = up .before .before in
+      between-narrow (passed (unchanged (single .before)) .rule-pass .ensures)
+      (branch-no (single .before .lowest .result) (up .before .union .ensures) (c .before .union2 .ensures) (single .single .ensures)
+      (up .some-between2 .ensures) (c .before .before .if4 .left) (c .some-between3 .ensures))
 
 pub +some-between-spec : {M : Type 1} → statement M
 +some-between-spec = close μ-some-between λ t. some-between-lts.spec (calls t)
     (some-between-at t)
     some-between.Post
-    (some-between-grow-requires t)
-    (some-between-are-apart-requires t)
-    (some-between-returns t)
-    (some-between-undecided-requires t)
-    (some-between-undecided-requires-2 t)
-    (some-between-some-between-requires t)
-    (some-between-returns-2 t)
-    (some-between-find-unsatisfied-requires t)
-    (some-between-enum-known-found t)
-    (some-between-enum-told t)
-    (some-between-returns-3 t)
-    (some-between-candidates-requires t)
-    (some-between-returns-4 t)
-    (some-between-lowest-requires t)
-    (some-between-single-requires t)
-    (some-between-union-requires t)
-    (some-between-some-between-requires-2 t)
-    (some-between-returns-5 t)
-    (some-between-union-requires-2 t)
-    (some-between-some-between-requires-3 t)
-    (some-between-returns-6 t)
+    (λ c κs. c .before .pre .1 .0)
+    (λ c κs. search needs)
+    (overlap t)
+    (λ c κs. search needs)
+    (λ c κs. search needs)
+    (again-requires t)
+    (again t)
+    (λ c κs. start t (passed t c) .pre .1 .0)
+    (λ c. search needs)
+    (λ c. search needs)
+    (satisfied t)
+    (candidates-requires t)
+    (stuck t)
+    (λ c κs. c .if3 .left)
+    (λ c κs. c .lowest .ensures .1)
+    (λ c κs. search needs)
+    (up-requires t)
+    (up-found t)
+    (λ c κs. search needs)
+    (dropped-requires t)
+    (both-tried t)

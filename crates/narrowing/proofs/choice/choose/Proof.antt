@@ -1,6 +1,6 @@
 -- The lowest of some of the free atoms is a free atom.
 use denote.Ref.{now}
-use Rattle.narrowing.proofs.Living.{live-lent}
+use Rattle.narrowing.proofs.LiveRules.{live-lent}
 use borrow.Author.Needs.{needs}
 use Rattle.narrowing.proofs.choice.choose.Statement.{statement}
 use Rattle.narrowing.proofs.choice.choose.Tie as tie

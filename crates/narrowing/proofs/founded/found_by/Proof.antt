@@ -6,7 +6,7 @@ use borrow.Author.Tests.{not-true}
 use Rattle.atoms.specs.Word.{subset, _∪_, _∖_}
 use Rattle.atoms.proofs.Sets.{decides-subset}
 use Rattle.answer_sets.specs.Lent.{lent}
-use Rattle.narrowing.proofs.Founding.{closes-skip, closes-add}
+use Rattle.narrowing.proofs.FoundedAtoms.{closes-skip, closes-add}
 use borrow.Author.Needs.{needs}
 use Rattle.narrowing.proofs.founded.found_by.Statement.{statement}
 use Rattle.narrowing.proofs.founded.found_by.Tie as tie

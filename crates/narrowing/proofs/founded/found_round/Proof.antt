@@ -7,8 +7,8 @@ use lib.Count.{ones}
 use Rattle.atoms.proofs.Sets.{subset-refl}
 use Rattle.atoms.proofs.Counting.{taken-less, taken-within}
 use Rattle.narrowing.specs.Founded.{ClosedAll, Closes}
-use Rattle.narrowing.proofs.Taking.{all-done}
-use Rattle.narrowing.proofs.Founding.{round-start, round-next}
+use Rattle.atoms.proofs.Taking.{all-done}
+use Rattle.narrowing.proofs.FoundedAtoms.{round-start, round-next}
 use Rattle.narrowing.proofs.founded.found_round.Statement.{statement}
 use Rattle.narrowing.proofs.founded.found_round.Tie as tie
 

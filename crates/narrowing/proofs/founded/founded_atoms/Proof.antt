@@ -3,7 +3,7 @@ use mathlib.Core.Path.{sym}
 use Prim.Native.Nat.{_-_, _^_, _<_}
 use native.Mathlib.Omega.{arith}
 use lib.Count.{ones}
-use Rattle.atoms.specs.Word.{_⊆_}
+use Rattle.atoms.specs.Word.{ATOMS, _⊆_}
 use Rattle.atoms.proofs.Sets.{subset-refl, subset-trans}
 use Rattle.atoms.proofs.Counting.{count-proper, counts-small}
 use Rattle.narrowing.specs.Founded.{ClosedAll, Closes}
@@ -12,10 +12,10 @@ use Rattle.narrowing.proofs.founded.founded_atoms.Tie as tie
 
 abbrev Inv-loop : tie.InvT-loop
 Inv-loop rules which dropped start found₀ next₀ found next =
-    (start ⊆ found) × Closes (ClosedAll rules which dropped) found next × (next < 2 ^ 64)
+    (start ⊆ found) × Closes (ClosedAll rules which dropped) found next × (next < 2 ^ ATOMS)
 
 abbrev μ-loop : tie.MeasureT-loop
-μ-loop rules which dropped start found₀ next₀ found next = 64 - ones found
+μ-loop rules which dropped start found₀ next₀ found next = ATOMS - ones found
 
 found-round-requires : tie.Need-found-round-requires Inv-loop μ-loop
 found-round-requires c κs = c .before .pre

@@ -1,8 +1,8 @@
 -- A rule is left out where its body is known to fail.
 use mathlib.Core.Path.{sym, subst, _∙_}
 use denote.Ref.{now}
-use Rattle.narrowing.specs.Settled.{Live}
-use Rattle.narrowing.proofs.Living.{live-without}
+use Rattle.narrowing.specs.Live.{Live}
+use Rattle.narrowing.proofs.LiveRules.{live-without}
 use borrow.Author.Needs.{needs}
 use Rattle.narrowing.proofs.live.live_if.Statement.{statement}
 use Rattle.narrowing.proofs.live.live_if.Tie as tie

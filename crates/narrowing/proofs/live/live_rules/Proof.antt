@@ -1,51 +1,27 @@
--- The invariant: what is left out so far may be left out. The measure is how many rules are left to try.
-use Prim.Native.Nat.{ℕ}
-use denote.Ref.{now}
-use Rattle.atoms.specs.Word.{_⊆_}
+-- The loop carries that what is left out so far may be left out. The measure is how many rules are left to try.
 use lib.Count.{ones}
-use Rattle.atoms.proofs.Sets.{subset-refl}
-use Rattle.atoms.proofs.Counting.{taken-less, taken-within}
-use Rattle.narrowing.specs.Settled.{Live}
-use Rattle.narrowing.proofs.Living.{live-all, live-trans}
+use Rattle.atoms.proofs.Counting.{taken-less}
+use Rattle.atoms.proofs.Taking.{Carrying, carrying-start, carrying-next, taken-lent}
+use Rattle.narrowing.specs.Live.{Live}
+use Rattle.narrowing.proofs.LiveRules.{live-all, live-trans}
 use Rattle.narrowing.proofs.live.live_rules.Statement.{statement}
 use Rattle.narrowing.proofs.live.live_rules.Tie as tie
 
 abbrev Inv-loop : tie.InvT-loop
-Inv-loop rules which s rest₀ word₀ rest word = (rest ⊆ which) × Live rules which s word
+Inv-loop rules which s rest₀ word₀ rest word = Carrying which rest (Live rules which s word)
 
 abbrev μ-loop : tie.MeasureT-loop
 μ-loop rules which s rest₀ word₀ rest word = ones rest
 
-loop-holds : tie.Need-loop-holds Inv-loop μ-loop
-loop-holds c = let at = c .before .args in (subset-refl, live-all (now (at .rules)) (at .s) (at .which))
-
-lowest-requires : tie.Need-lowest-requires Inv-loop μ-loop
-lowest-requires c κs = c .loop-test .taken
-
 live-if-requires : tie.Need-live-if-requires Inv-loop μ-loop
-live-if-requires c κs = (
-  c .before .before .before .before .pre .each (c .lowest .result)
-      (c .before .before .loop .inv .0 .each (c .lowest .result) (c .lowest .ensures .0 .here)),
-  c .lowest .ensures .1,
-)
-
-drop-requires : tie.Need-drop-requires Inv-loop μ-loop
-drop-requires c κs = c .before .lowest .ensures .1
-
-loop-less : tie.Need-loop-less Inv-loop μ-loop
-loop-less c = taken-less (c .before .before .lowest .ensures .0) (c .drop .ensures)
+live-if-requires c κs =
+    let at = c .before .before in
+    (at .before .before .pre .each _ (taken-lent (at .loop .inv .within) (c .lowest .ensures .0)), c .lowest .ensures .1)
 
 loop-again : tie.Need-loop-again Inv-loop μ-loop
 loop-again c =
-    let at = c .before .before .before .before .before .before .args in
-    let low = c .before .before .lowest in
-    let old = c .before .before .before .before .loop in (
-      taken-within (old .inv .0) (low .ensures .0) (c .drop .ensures),
-      live-trans (now (at .rules)) (at .s) (old .inv .1) (c .before .live-if .ensures),
-    )
-
-returns : tie.Need-returns Inv-loop μ-loop
-returns c = c .before .loop .inv .1
+    carrying-next (c .before .before .before .before .loop .inv) (c .before .before .lowest .ensures .0) (c .drop .ensures)
+    (λ h v. live-trans _ _ v (c .before .live-if .ensures))
 
 pub live-rules-spec : {M : Type 1} → statement M
 live-rules-spec =
@@ -53,10 +29,10 @@ live-rules-spec =
     (tie.spec
     Inv-loop
     μ-loop
-    loop-holds
-    lowest-requires
+    (λ c. carrying-start (live-all _ _ _))
+    (λ c κs. c .loop-test .taken)
     live-if-requires
-    drop-requires
-    loop-less
+    (λ c κs. c .before .lowest .ensures .1)
+    (λ c. taken-less (c .before .before .lowest .ensures .0) (c .drop .ensures))
     loop-again
-    returns)
+    (λ c. c .before .loop .inv .fact))

@@ -6,7 +6,7 @@ use Rattle.atoms.specs.Word.{Has, _∪_, _∖_, atom}
 use Rattle.answer_sets.specs.Lent.{lent, negative}
 use Rattle.answer_sets.specs.State.{Narrows}
 use Rattle.narrowing.specs.Support.{HoldsSole}
-use Rattle.narrowing.proofs.Tallying.{sole-narrows}
+use Rattle.narrowing.proofs.Tallies.{sole-narrows}
 use borrow.Author.Needs.{needs}
 use Rattle.narrowing.proofs.support.held_by.Statement.{statement}
 use Rattle.narrowing.proofs.support.held_by.Tie as tie

@@ -5,8 +5,9 @@ use denote.Ref.{now}
 use Rattle.atoms.specs.Word.{_∩_, _∪_, _∖_}
 use Rattle.atoms.proofs.Sets.{some-atom}
 use Rattle.answer_sets.specs.Lent.{lent, negative}
-use Rattle.narrowing.specs.Support.{MaySupport, Collects}
-use Rattle.narrowing.proofs.Supporting.{none-up, one-up, more-up}
+use Rattle.narrowing.specs.Support.{MaySupport}
+use Rattle.atoms.specs.Collected.{Collects}
+use Rattle.narrowing.proofs.Supports.{none-up, one-up, more-up}
 use borrow.Author.Needs.{needs}
 use Rattle.narrowing.proofs.support.supportable.Statement.{statement}
 use Rattle.narrowing.proofs.support.supportable.Tie as tie

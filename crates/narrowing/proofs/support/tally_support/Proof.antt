@@ -7,7 +7,7 @@ use Rattle.atoms.specs.Word.{_⊆_, _∪_, _∖_, atom}
 use Rattle.atoms.proofs.Sets.{subset-refl}
 use Rattle.atoms.proofs.Counting.{taken-less, taken-within}
 use Rattle.narrowing.specs.Support.{Tallied}
-use Rattle.narrowing.proofs.Tallying.{tally-start, tally-next, tally-end}
+use Rattle.narrowing.proofs.Tallies.{tally-start, tally-next, tally-end}
 use borrow.Author.Needs.{needs}
 use Rattle.narrowing.proofs.support.tally_support.Statement.{statement}
 use Rattle.narrowing.proofs.support.tally_support.Tie as tie

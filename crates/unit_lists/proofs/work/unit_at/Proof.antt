@@ -5,7 +5,7 @@ use denote.Ref.{now}
 use borrow.Author.Needs.{needs}
 use lib.ListN.{getD}
 use Rattle.atoms.specs.Word.{_∩_}
-use Rattle.unit_search.specs.declared.Unit.{Unit}
+use Rattle.unit_search.specs.declared.unit.Unit.{Unit}
 use Rattle.unit_lists.proofs.work.unit_at.Statement.{statement}
 use Rattle.unit_lists.proofs.work.unit_at.Tie as tie
 

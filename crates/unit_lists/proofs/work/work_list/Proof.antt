@@ -7,7 +7,7 @@ use lib.Seq.{paste}
 use Rattle.atoms.specs.Word.{_∖_}
 use Rattle.unit_search.specs.Listing.{Gathered, Grown}
 use Rattle.unit_search.specs.Job.{Wanted}
-use Rattle.unit_search.proofs.Gathering.{gathered-ordered}
+use Rattle.unit_search.proofs.Gathered.{gathered-ordered}
 use Rattle.unit_lists.specs.Work.{fitted, too-long}
 use Rattle.unit_lists.proofs.Storing.{zeros-ordered}
 use borrow.Author.Needs.{needs}

@@ -12,7 +12,7 @@ use Rattle.dependency_graph.specs.Slices.{unitsOf}
 use Rattle.dependency_graph.specs.Order.{nextUnit, Ready}
 use Rattle.dependency_graph.proofs.Slices.{next-edges}
 use Rattle.unit_search.specs.Job.{Searchable}
-use Rattle.unit_search.specs.declared.Unit.{Unit}
+use Rattle.unit_search.specs.declared.unit.Unit.{Unit}
 use Rattle.unit_lists.specs.Lists.{unitList}
 use Rattle.unit_lists.specs.Work.{all-fit, one-long, Working}
 use Rattle.unit_lists.proofs.Working.{working-next, working-long, counts-long}

@@ -11,9 +11,10 @@ use native.Mathlib.Omega.{arith}
 use Rattle.atoms.specs.Word.{_⊆_, _∩_, _∖_, atom}
 use Rattle.atoms.proofs.Sets.{subset-refl}
 use Rattle.atoms.proofs.Counting.{taken-less, taken-within}
+use Rattle.plan.specs.Limits.{MAX_UNITS, LIST_WORDS}
 use Rattle.unit_search.specs.Listing.{isListed}
 use Rattle.unit_search.specs.Job.{joins}
-use Rattle.unit_search.proofs.Joining.{joins-none, joins-take, joined-lt}
+use Rattle.unit_search.proofs.Joins.{joins-none, joins-take, joined-lt}
 use Rattle.unit_search.proofs.join.joins.Statement.{statement}
 use Rattle.unit_search.proofs.join.joins.Tie as tie
 
@@ -27,8 +28,8 @@ abbrev μ-loop : tie.MeasureT-loop
 loop-holds : tie.Need-loop-holds Inv-loop μ-loop
 loop-holds c = (subset-refl, refl)
 
--- the predecessor that is joined is below 16
-inside : (c : tie.After-lowest Inv-loop μ-loop) → c .lowest .result < 16
+-- the predecessor that is joined is below MAX_UNITS
+inside : (c : tie.After-lowest Inv-loop μ-loop) → c .lowest .result < MAX_UNITS
 inside c = joined-lt (c .before .before .before .before .before .before .pre) (c .before .before .loop .inv .0) (c .lowest .ensures .0 .here)
 
 lowest-requires : tie.Need-lowest-requires Inv-loop μ-loop
@@ -63,12 +64,12 @@ joined c = c .before .before .before .before .lowest .result
 -- the answer is the definition's test
 listed : (c : tie.After-contains Inv-loop μ-loop)
     → c .contains .result
-    ≡ isListed (now (start c .args .table)) (256 * joined c) (getD (now (start c .args .counts)) (joined c) 0)
+    ≡ isListed (now (start c .args .table)) (LIST_WORDS * joined c) (getD (now (start c .args .counts)) (joined c) 0)
     (start c .args .position ∩ getD (now (start c .args .heads)) (joined c) 0)
 listed c =
     let at = start c .args in
     c .contains .ensures
-    ∙ ap (λ (w : ℕ). isListed (now (at .table)) (256 * joined c) (getD (now (at .counts)) (joined c) 0) w) (c .before .cut .ensures)
+    ∙ ap (λ (w : ℕ). isListed (now (at .table)) (LIST_WORDS * joined c) (getD (now (at .counts)) (joined c) 0) w) (c .before .cut .ensures)
 
 returns : tie.Need-returns Inv-loop μ-loop
 returns c =

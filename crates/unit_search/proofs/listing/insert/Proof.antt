@@ -4,7 +4,6 @@ use mathlib.Core.Logic.{⊎-elim}
 use mathlib.Core.List.{List}
 use Prim.Native.Nat.{ℕ, _-_, _+_}
 use denote.Ref.{now}
-use borrow.Author.Needs.{needs}
 use native.Mathlib.Omega.{arith}
 use lib.ListN.{length-set}
 use Rattle.unit_search.proofs.Insertion.{Passing, passing-start, pass-below, pass-above, pass-same, pass-full, pass-end}
@@ -45,7 +44,6 @@ loop-again c =
     let at = c .before .before .before .before .before .args in
     let head = c .before .before .before .before .loop in
     let test = c .before .before .before .loop-test .taken in
-    let other = c .before .if1 .left in
     ⊎-elim
     (λ w.
     subst₂ (λ (list : List ℕ) (carried : ℕ). Passing (now (at .list)) (at .count) (at .value) list carried (head .i + 1))
@@ -54,7 +52,8 @@ loop-again c =
     (λ w.
     subst₂ (λ (list : List ℕ) (carried : ℕ). Passing (now (at .list)) (at .count) (at .value) list carried (head .i + 1))
     (sym (w .1)) (sym (w .2))
-    (pass-above (now (at .list)) (at .count) (at .value) (omega arith) (head .list) (head .carried) (head .i) (head .inv) test other (w .0 .left)))
+    (pass-above (now (at .list)) (at .count) (at .value) (omega arith) (head .list) (head .carried) (head .i) (head .inv) test
+    (c .before .if1 .left) (w .0 .left)))
     (c .if2 .came)
 
 same-length-2 : tie.Need-same-length-2 Inv-loop μ-loop
@@ -93,7 +92,6 @@ insert-spec =
     (λ c. omega arith)
     (λ c. omega arith)
     loop-again
-    (λ c. search needs)
     same-length-2
     returns-2
     (λ c. omega arith)

@@ -5,7 +5,7 @@ use denote.Ref.{now}
 use borrow.Author.Tests.{not-true, not-false}
 use Rattle.answer_sets.specs.Lent.{lent}
 use Rattle.answer_sets.specs.Test.{answerSet}
-use Rattle.unit_search.proofs.Searching.{not-joined, joined-settled}
+use Rattle.unit_search.proofs.SearchSteps.{not-joined, joined-answers}
 use borrow.Author.Needs.{needs}
 use Rattle.unit_search.proofs.search.belongs.Statement.{statement}
 use Rattle.unit_search.proofs.search.belongs.Tie as tie
@@ -19,7 +19,7 @@ returns c =
 returns-2 : tie.Need-returns-2
 returns-2 c =
     let at = c .before .before .before .before .before .before .before .before .args in
-    joined-settled (now (at .rules)) (now (at .table)) (now (at .counts)) (now (at .heads)) (at .unit) (at .position) (c .is-answer-set .result)
+    joined-answers (now (at .rules)) (now (at .table)) (now (at .counts)) (now (at .heads)) (at .unit) (at .position) (c .is-answer-set .result)
     (c .before .before .before .before .before .before .before .before .fits .position .fits)
     (sym (c .before .before .before .joins .ensures) ∙ not-false (c .before .before .before .joins .result) (c .before .before .if1 .left))
     (c .is-answer-set .ensures ∙ ap (λ (w : ℕ). answerSet (lent (now (at .rules))) (at .unit .rules) w (at .position)) (c .before .cut .ensures))

@@ -1,7 +1,7 @@
 -- The position is added where it belongs to the list.
 use denote.Ref.{now}
 use borrow.Author.Tests.{not-true, not-false}
-use Rattle.unit_search.proofs.Searching.{offer-none, offer-one}
+use Rattle.unit_search.proofs.SearchSteps.{offer-none, offer-one}
 use borrow.Author.Needs.{needs}
 use Rattle.unit_search.proofs.search.offer.Statement.{statement}
 use Rattle.unit_search.proofs.search.offer.Tie as tie

@@ -1,0 +1,40 @@
+-- Which rules are lent.
+use mathlib.Core.Path.{_≡_}
+use mathlib.Core.List.{List}
+use Prim.Native.Nat.{ℕ, _*_, _<_, _≤_, min}
+use native.Mathlib.Omega.{arith}
+use lib.ListN.{length}
+use Rattle.atoms.specs.Word.{_⊆_, _∩_, below}
+use Rattle.atoms.proofs.Sets.{cut-right, below-lt}
+use Rattle.plan.specs.Limits.{MAX_RULES, RULE_WORDS}
+use Rattle.answer_sets.specs.Lent.{lent, ruleCount, Lent, numbered}
+use Rattle.answer_sets.specs.Test.{kept}
+use Rattle.answer_sets.proofs.Judged.{kept-at}
+
+pub lent-within : {rules : List ℕ} {v w : ℕ} → v ⊆ w → Lent rules w → Lent rules v
+lent-within f l = record { each = λ r h. l .each r (f .each r h) }
+
+-- the first n rules, where their words are there
+pub lent-below : (rules : List ℕ) (n : ℕ) → RULE_WORDS * n ≤ length rules → Lent rules (below n)
+lent-below rules n long = record { each = λ r h. let l : r < n = below-lt n h in omega arith }
+
+pub lent-kept : {rules : List ℕ} {which word : ℕ} (M : ℕ) → word ≡ kept (lent rules) which M → Lent rules which → Lent rules word
+lent-kept {rules} {which} M e l = rw e (record { each = λ r h. l .each r (kept-at (lent rules) which M r h .numbered) })
+
+pub lent-numbered : (rules : List ℕ) (n which : ℕ) → Lent rules (numbered rules n which)
+unfolding numbered
+lent-numbered rules n which = record {
+  each = λ r h.
+      let there = min MAX_RULES (min n (ruleCount rules)) in
+      let l : r < there = below-lt there (cut-right which (below there) h) in
+      omega arith;
+}
+
+-- what the code cuts the word to
+pub numbered-cut : (rules : List ℕ) (n which : ℕ) {m there least first r : ℕ} → m ≡ ruleCount rules → there ≡ min n m
+    → least ≡ min MAX_RULES there → first ≡ below least → r ≡ which ∩ first → (r ≡ numbered rules n which) × Lent rules r
+unfolding numbered
+numbered-cut rules n which {r = r} a b c d e = (is, rw is (lent-numbered rules n which))
+  where
+    is : r ≡ numbered rules n which
+    is = rw (e, d, c, b, a)

@@ -1,0 +1,38 @@
+-- Inner: the statements of the subset test's functions.
+use mathlib.Core.Path.{_≡_}
+use mathlib.Core.List.{List}
+use Prim.Native.Nat.{ℕ, _<_}
+use Rattle.atoms.specs.Word.{ATOMS, Has, _⊆_, _⊂_}
+use Rattle.answer_sets.specs.Program.{Program, Satisfies, SatisfiesAll}
+use Rattle.answer_sets.specs.Lent.{lent, negative}
+use Rattle.answer_sets.specs.State.{Completes}
+use Rattle.answer_sets.specs.declared.state.State.{State}
+use Rattle.answer_sets.specs.declared.reduct.Found.{Found}
+use Rattle.answer_sets.specs.declared.reduct.Found.the-variants.{Rule, Nothing}
+
+-- some completion of the state is a proper subset of M and satisfies each rule of the word
+pub record Between (P : Program) (which M : ℕ) (s : State) : Type 0 where
+  pub set : ℕ
+  pub proper : set ⊂ M
+  pub completes : Completes s set
+  pub satisfied : SatisfiesAll P which set
+
+-- every atom outside the position is dropped, so that completions lie within it
+pub record Confines (M dropped : ℕ) : Type 0 where
+  pub outside : (i : ℕ) → i < ATOMS → ¬ Has M i → Has dropped i
+
+-- a rule of the word that the position does not satisfy, or it satisfies them all
+abbrev pub Unsatisfied : Program → ℕ → ℕ → Found → Type 0
+Unsatisfied P which M (Rule r) = Has which r × ¬ Satisfies P r M
+Unsatisfied P which M Nothing = SatisfiesAll P which M
+
+-- atom i stands in rule r
+pub data InRule (rules : List ℕ) (r i : ℕ) : Type 0 where
+  in-head : Has (lent rules .head r) i → InRule rules r i
+  in-positive : Has (lent rules .positive r) i → InRule rules r i
+  in-negative : Has (negative rules r) i → InRule rules r i
+
+-- w holds atoms of `free`, and none only where no atom of rule r is in `free`
+pub record Candidates (rules : List ℕ) (r free w : ℕ) : Type 0 where
+  pub within : w ⊆ free
+  pub none-left : w ≡ 0 → (i : ℕ) → InRule rules r i → (i < ATOMS) × ¬ Has free i

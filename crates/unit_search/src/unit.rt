@@ -1,0 +1,9 @@
+// What is asked of a unit.
+
+// Its rules, the head atoms that an input may have, its direct predecessors, and those of them that the join pass looks at.
+pub struct Unit {
+    pub rules: u64,
+    pub inputs: u64,
+    pub predecessors: u64,
+    pub nearest: u64,
+}
