@@ -9,12 +9,6 @@ use borrow.Author.Needs.{needs}
 use Rattle.judge.proofs.is_settled.Statement.{statement}
 use Rattle.judge.proofs.is_settled.Tie as tie
 
-first-requires : tie.Need-first-requires
-first-requires c κs = search needs
-
-slice-aggregate-is-answer-set : tie.Need-slice-aggregate-is-answer-set
-slice-aggregate-is-answer-set c = search needs
-
 is-answer-set-requires : tie.Need-is-answer-set-requires
 is-answer-set-requires c κs =
     whole-lent (c .before .before .before .args .plan) _ (c .before .before .before .pre) (search needs) (c .before .first .ensures)
@@ -27,4 +21,4 @@ returns c =
 pub is-settled-spec : {M : Type 1} → statement M
 is-settled-spec =
     tie.close
-    (tie.spec first-requires slice-aggregate-is-answer-set is-answer-set-requires returns)
+    (tie.spec (λ c κs. search needs) (λ c. search needs) is-answer-set-requires returns)

@@ -10,17 +10,8 @@ use borrow.Author.Needs.{needs}
 use Rattle.judge.proofs.judge.Statement.{statement}
 use Rattle.judge.proofs.judge.Tie as tie
 
-read-plan-requires : tie.Need-read-plan-requires
-read-plan-requires c κs = search needs
-
-enum-known-outcome : tie.Need-enum-known-outcome
-enum-known-outcome c = search needs
-
 returns : tie.Need-returns
 returns c = refused-judged _ _ _ (c .before .before .before .read-plan .ensures) _ (c .before .outcome .given .1)
-
-enum-told : tie.Need-enum-told
-enum-told c = search needs
 
 is-settled-requires : tie.Need-is-settled-requires
 is-settled-requires c κs =
@@ -37,10 +28,10 @@ pub judge-spec : {M : Type 1} → statement M
 judge-spec =
     tie.close
     (tie.spec
-    read-plan-requires
-    enum-known-outcome
+    (λ c κs. search needs)
+    (λ c. search needs)
     returns
-    enum-told
+    (λ c. search needs)
     is-settled-requires
     returns-2
     returns-3)

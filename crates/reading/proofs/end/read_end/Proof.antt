@@ -6,9 +6,6 @@ use Rattle.reading.proofs.end.read_end.Tie as tie
 use Rattle.reading.proofs.end.read_end.Reads as reads
 use Rattle.reading.proofs.end.read_end.Lts as lts
 
-add-t6 : tie.Need-add-t6
-add-t6 c = search needs
-
 returns : tie.Need-returns
 unfolding ofKind
 returns c = simp (lt-ltb _ _ (c .if1 .taken))
@@ -18,4 +15,4 @@ unfolding ofKind carrying
 returns-2 c = simp (le-ltb _ _ (c .if1 .left))
 
 pub read-end-spec : {M : Type 1} → statement M
-read-end-spec = tie.close (tie.spec add-t6 returns returns-2)
+read-end-spec = tie.close (tie.spec (λ c. search needs) returns returns-2)

@@ -15,17 +15,11 @@ Inv-loop bytes progress₀ progress = Reached 0 bytes progress
 abbrev μ-loop : tie.MeasureT-loop
 μ-loop bytes progress₀ progress = length bytes - progress .at
 
-empty-plan-requires : tie.Need-empty-plan-requires Inv-loop μ-loop
-empty-plan-requires c κs = search needs
-
 place-requires : tie.Need-place-requires Inv-loop μ-loop
 place-requires c κs = empty-fits _ (c .empty-plan .ensures)
 
 loop-holds : tie.Need-loop-holds Inv-loop μ-loop
 loop-holds c = start-there _ _ _ (c .before .empty-plan .ensures) (c .place .ensures)
-
-enum-known-command : tie.Need-enum-known-command Inv-loop μ-loop
-enum-known-command c = search needs
 
 returns : tie.Need-returns Inv-loop μ-loop
 returns c = past-on 0 _ _ (c .before .loop .inv) (past-rules (c .before .loop .progress .command) (c .match .keys2))
@@ -62,10 +56,10 @@ read-rules-spec =
     (tie.spec
     Inv-loop
     μ-loop
-    empty-plan-requires
+    (λ c κs. search needs)
     place-requires
     loop-holds
-    enum-known-command
+    (λ c. search needs)
     returns
     with-rule-requires
     add-place

@@ -18,9 +18,6 @@ abbrev μ-loop : tie.MeasureT-loop
 loop-holds : tie.Need-loop-holds Inv-loop μ-loop
 loop-holds c = c .before .pre
 
-enum-known-command : tie.Need-enum-known-command Inv-loop μ-loop
-enum-known-command c = search needs
-
 returns : tie.Need-returns Inv-loop μ-loop
 returns c = past-on 1 _ _ (c .before .loop .inv) (past-units (c .before .loop .progress .command) (c .match .keys2) (c .before .loop .inv .past))
 
@@ -57,7 +54,7 @@ read-units-spec =
     Inv-loop
     μ-loop
     loop-holds
-    enum-known-command
+    (λ c. search needs)
     returns
     with-unit-requires
     add-place

@@ -21,22 +21,10 @@ loop-holds : tie.Need-loop-holds Inv-loop μ-loop
 unfolding number
 loop-holds c = (search needs, (search needs, refl))
 
-sub-i : tie.Need-sub-i Inv-loop μ-loop
-sub-i c = search needs
-
 mul-word : tie.Need-mul-word Inv-loop μ-loop
 mul-word c =
     let turn = c .before .loop in
     record { fits = omega (arith, byte-below-fits (turn .i) (turn .word) 0 (c .loop-test .taken) (turn .inv .0) (turn .inv .1 .0) (omega arith)) }
-
-add-wide : tie.Need-add-wide Inv-loop μ-loop
-add-wide c = search needs
-
-shared-slice-read-wide : tie.Need-shared-slice-read-wide Inv-loop μ-loop
-shared-slice-read-wide c = search needs
-
-wide-requires : tie.Need-wide-requires Inv-loop μ-loop
-wide-requires c κs = search needs
 
 add-word : tie.Need-add-word Inv-loop μ-loop
 add-word c =
@@ -46,9 +34,6 @@ add-word c =
     record {
       fits = byte-below-fits (turn .i) _ _ (c .before .before .loop-test .taken) (turn .inv .0) (turn .inv .1 .0) (omega (arith, c .wide .ensures, byte));
     }
-
-loop-less : tie.Need-loop-less Inv-loop μ-loop
-loop-less c = search needs
 
 loop-again : tie.Need-loop-again Inv-loop μ-loop
 loop-again c =
@@ -71,12 +56,12 @@ read-word-spec =
     Inv-loop
     μ-loop
     loop-holds
-    sub-i
+    (λ c. search needs)
     mul-word
-    add-wide
-    shared-slice-read-wide
-    wide-requires
+    (λ c. search needs)
+    (λ c. search needs)
+    (λ c κs. search needs)
     add-word
-    loop-less
+    (λ c. search needs)
     loop-again
     returns)
