@@ -8,7 +8,8 @@ use native.Mathlib.Decide.{ℕ-discrete}
 use Rattle.atoms.specs.Word.{Has, has, _∩_, _∪_, _∖_, atom, below}
 use Rattle.atoms.specs.Bounded.{Decides, allBelow, someBelow, allIn, wordBelow, unionIn}
 use Rattle.atoms.proofs.Tests.{decides, decided-true, false-of-not-true, not-both, test-cases, bool-ext, and-true, implies-true}
-use Rattle.atoms.proofs.Sets.{decides-has, has-cut, cut-left, cut-right, has-left, has-right, union-cases, has-without, without-left, without-right, has-atom, atom-only, has-none, has-below, below-lt}
+use Rattle.atoms.proofs.Sets.{decides-has, has-cut, cut-left, has-left, has-right, union-cases, has-without, without-left}
+use Rattle.atoms.proofs.Sets.{has-atom, atom-only, has-none, has-below, ext, empty}
 
 -- ---- each
 
@@ -51,6 +52,10 @@ some-intro (suc n) p i l e = go (p n) refl (λ l′. some-intro n p i l′ e) (�
     go false q rest (yes j) = absurd (not-both (ap p (sym j) ∙ e) q)
     go false q rest (no j) = rest (omega arith)
 
+-- no number below n passes the test
+pub some-none : (n : ℕ) (p : ℕ → Bool) → ((i : ℕ) → i < n → ¬ (p i ≡ true)) → someBelow n p ≡ false
+some-none n p h = false-of-not-true (someBelow n p) (λ e. let s = some-at n p e in h (s .0) (s .1) (s .2))
+
 -- ---- as tests of statements
 
 pub decides-all : (n : ℕ) (p : ℕ → Bool) {P : ℕ → Type 0} → ((i : ℕ) → i < n → Decides (P i) (p i))
@@ -73,6 +78,10 @@ all-in-at n w p e i l h = implies-true (has w i) (p i) .0 (all-at n (λ j. not (
 pub all-in-intro : (n w : ℕ) (p : ℕ → Bool) → ((i : ℕ) → i < n → Has w i → p i ≡ true) → allIn n w p ≡ true
 all-in-intro n w p f =
     all-intro n (λ j. not (has w j) || p j) (λ i l. implies-true (has w i) (p i) .1 (λ e. f i l (decides-has w i .yes e)))
+
+-- one of them fails
+pub all-in-fails : (n w : ℕ) (p : ℕ → Bool) (i : ℕ) → i < n → Has w i → p i ≡ false → allIn n w p ≡ false
+all-in-fails n w p i l h e = false-of-not-true (allIn n w p) (λ t. not-both (all-in-at n w p t i l h) e)
 
 pub decides-all-in : (n w : ℕ) (p : ℕ → Bool) {P : ℕ → Type 0} → ((i : ℕ) → i < n → Decides (P i) (p i))
     → Decides ((i : ℕ) → i < n → Has w i → P i) (allIn n w p)
@@ -100,9 +109,12 @@ all-in-none n p = all-in-intro n 0 p (λ i l h. absurd (has-none h))
 pub all-in-take : (n w : ℕ) (p : ℕ → Bool) (i : ℕ) → i < n → Has w i → allIn n w p ≡ (p i && allIn n (w ∖ atom i) p)
 all-in-take n w p i l h =
     bool-ext (allIn n w p) (p i && allIn n (w ∖ atom i) p)
-    (λ e. and-true (p i) (allIn n (w ∖ atom i) p) .1 (all-in-at n w p e i l h, all-in-intro n (w ∖ atom i) p (λ j k q. all-in-at n w p e j k (without-left w (atom i) q))))
+    (λ e. and-true (p i) (allIn n (w ∖ atom i) p) .1 (all-in-at n w p e i l h, left e))
     (λ e. let r = and-true (p i) (allIn n (w ∖ atom i) p) .0 e in all-in-intro n w p (λ j k q. go j k q (r .0) (r .1) (ℕ-discrete i j)))
   where
+    left : allIn n w p ≡ true → allIn n (w ∖ atom i) p ≡ true
+    left e = all-in-intro n (w ∖ atom i) p (λ j k q. all-in-at n w p e j k (without-left w (atom i) q))
+
     go : (j : ℕ) → j < n → Has w j → p i ≡ true → allIn n (w ∖ atom i) p ≡ true → Dec (i ≡ j) → p j ≡ true
     go j k q here rest (yes e) = ap p (sym e) ∙ here
     go j k q here rest (no e) =
@@ -171,6 +183,38 @@ union-at (suc n) w f a h = go (has w n) refl h (union-at n w f a)
     go true q k rest = cases q rest (union-cases (unionIn n w f) (f n) k)
     go false q k rest = front rest k
 
--- no number below n passes the test
-pub some-none : (n : ℕ) (p : ℕ → Bool) → ((i : ℕ) → i < n → ¬ (p i ≡ true)) → someBelow n p ≡ false
-some-none n p h = false-of-not-true (someBelow n p) (λ e. let s = some-at n p e in h (s .0) (s .1) (s .2))
+pub union-in-none : (n : ℕ) (f : ℕ → ℕ) → unionIn n 0 f ≡ 0
+union-in-none n f = empty (unionIn n 0 f) (λ i p. has-none (union-at n 0 f i p .2))
+
+-- numbers from n on play no part
+pub union-in-cut : (n w : ℕ) (f : ℕ → ℕ) → unionIn n (w ∩ below n) f ≡ unionIn n w f
+union-in-cut n w f =
+    ext (unionIn n (w ∩ below n) f) (unionIn n w f)
+    (λ a p. let s = union-at n (w ∩ below n) f a p in union-has n w f (s .0) a (s .1) (cut-left w (below n) (s .2)) (s .3))
+    (λ a p. let s = union-at n w f a p in union-has n (w ∩ below n) f (s .0) a (s .1) (has-cut w (below n) (s .2) (has-below n (s .0) (s .1))) (s .3))
+
+-- one number is taken, and then the rest
+pub union-in-take : (n w : ℕ) (f : ℕ → ℕ) (i : ℕ) → i < n → Has w i → unionIn n w f ≡ f i ∪ unionIn n (w ∖ atom i) f
+union-in-take n w f i l h =
+    ext (unionIn n w f) (f i ∪ unionIn n (w ∖ atom i) f)
+    (λ a p. let s = union-at n w f a p in into a (s .0) (s .1) (s .2) (s .3) (ℕ-discrete i (s .0)))
+    (λ a p. from a (union-cases (f i) (unionIn n (w ∖ atom i) f) p))
+  where
+    into : (a j : ℕ) → j < n → Has w j → Has (f j) a → Dec (i ≡ j) → Has (f i ∪ unionIn n (w ∖ atom i) f) a
+    into a j k q r (yes e) = has-left (f i) (unionIn n (w ∖ atom i) f) (subst (λ (x : ℕ). Has (f x) a) (sym e) r)
+    into a j k q r (no e) =
+        has-right (f i) (unionIn n (w ∖ atom i) f)
+        (union-has n (w ∖ atom i) f j a k (has-without w (atom i) q (λ t. e (atom-only i t))) r)
+
+    from : (a : ℕ) → Has (f i) a ⊎ Has (unionIn n (w ∖ atom i) f) a → Has (unionIn n w f) a
+    from a (inl p) = union-has n w f i a l h p
+    from a (inr p) =
+        let s = union-at n (w ∖ atom i) f a p in
+        union-has n w f (s .0) a (s .1) (without-left w (atom i) (s .2)) (s .3)
+
+-- the words may be given otherwise
+pub union-in-same : (n w : ℕ) (f g : ℕ → ℕ) → ((i : ℕ) → i < n → f i ≡ g i) → unionIn n w f ≡ unionIn n w g
+union-in-same n w f g e =
+    ext (unionIn n w f) (unionIn n w g)
+    (λ a p. let s = union-at n w f a p in union-has n w g (s .0) a (s .1) (s .2) (subst (λ (x : ℕ). Has x a) (e (s .0) (s .1)) (s .3)))
+    (λ a p. let s = union-at n w g a p in union-has n w f (s .0) a (s .1) (s .2) (subst (λ (x : ℕ). Has x a) (sym (e (s .0) (s .1))) (s .3)))

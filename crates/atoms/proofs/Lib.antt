@@ -3,5 +3,10 @@ pub mod Tests
 pub mod Sets
 pub mod Counting
 pub mod Bounded
-pub mod Rising
+pub mod Singles
 pub mod MoreSets
+pub mod Collected
+pub mod Taking
+pub mod Gathering
+pub mod Rising
+pub mod Lists

@@ -12,9 +12,10 @@ use lib.Dec.{eqb}
 use lib.Pow.{pow-pos}
 use lib.Arith.{bin-ind}
 use borrow.Author.Tests.{eqb-true, eqb-false, eq-eqb}
-use Rattle.atoms.specs.Word.{digit, Has, has, _⊆_, subset, _⊂_, Apart, apart, _∩_, _∪_, _∖_, atom, below}
+use Rattle.atoms.specs.Word.{digit, Has, has, _⊆_, subset, _⊂_, Apart, apart, _∩_, _∪_, _∖_, atom, below, outside, ATOMS}
 use Rattle.atoms.specs.Bounded.{Decides}
-use Rattle.atoms.proofs.Digits.{digit-lt, digit-zero, digit-low, digit-next, and-at, or-at, sub-at, no-digit, same-digits, power-at, power-off, high-digit, shifted-digit, ones-at}
+use Rattle.atoms.proofs.Digits.{digit-lt, digit-zero, digit-low, digit-next, and-at, or-at, sub-at, same-digits}
+use Rattle.atoms.proofs.Digits.{power-at, power-off, high-digit, shifted-digit, ones-at}
 use Rattle.atoms.proofs.Tests.{decides, decides-iff, decides-equal, decided}
 
 -- ---- membership is decidable
@@ -105,6 +106,18 @@ pub below-lt : (n : ℕ) {i : ℕ} → Has (below n) i → i < n
 unfolding below
 below-lt n p = has-lt (below n) n (omega (arith, pow-pos n)) p
 
+pub has-outside : (w : ℕ) {i : ℕ} → i < ATOMS → ¬ Has w i → Has (outside w) i
+unfolding outside
+has-outside w {i} l n = has-without (below ATOMS) w (has-below ATOMS i l) n
+
+pub outside-lt : (w : ℕ) {i : ℕ} → Has (outside w) i → i < ATOMS
+unfolding outside
+outside-lt w h = below-lt ATOMS (without-left (below ATOMS) w h)
+
+pub outside-lacks : (w : ℕ) {i : ℕ} → Has (outside w) i → ¬ Has w i
+unfolding outside
+outside-lacks w h = without-right (below ATOMS) w h
+
 -- ---- equality and emptiness
 
 -- sets with the same members are equal
@@ -192,6 +205,12 @@ shared-atom a b h =
     let s = some-atom (a ∩ b) h in
     (s .0, cut-left a b (s .1), cut-right a b (s .1))
 
+-- a number is in a word exactly if its own set is not apart from it
+pub decides-has-atom : (w i : ℕ) → Decides (¬ Has w i) (apart w (atom i))
+decides-has-atom w i =
+    decides-iff (λ f h. f .none i h (has-atom i)) (λ n. record { none = λ j p q. n (subst (λ (x : ℕ). Has w x) (sym (atom-only i q)) p) })
+    (decides-apart w (atom i))
+
 -- a subset is at most as large as a number, and a proper one smaller
 pub subset-le : {a b : ℕ} → a ⊆ b → a ≤ b
 unfolding _∩_
@@ -202,6 +221,41 @@ subset-lt {a} {b} f =
     let l : a ≤ b = subset-le (f .within) in
     let n : ¬ (a ≡ b) = λ e. f .short (subset-of-eq (sym e)) in
     omega arith
+
+-- ---- unions
+
+pub union-none-left : (a : ℕ) → 0 ∪ a ≡ a
+union-none-left a = ext (0 ∪ a) a (λ i p. go i (union-cases 0 a p)) (λ i p. has-right 0 a p)
+  where
+    go : (i : ℕ) → Has 0 i ⊎ Has a i → Has a i
+    go i (inl p) = absurd (has-none p)
+    go i (inr p) = p
+
+pub union-none-right : (a : ℕ) → a ∪ 0 ≡ a
+union-none-right a = ext (a ∪ 0) a (λ i p. go i (union-cases a 0 p)) (λ i p. has-left a 0 p)
+  where
+    go : (i : ℕ) → Has a i ⊎ Has 0 i → Has a i
+    go i (inl p) = p
+    go i (inr p) = absurd (has-none p)
+
+pub union-assoc : (a b c : ℕ) → (a ∪ b) ∪ c ≡ a ∪ (b ∪ c)
+union-assoc a b c = ext ((a ∪ b) ∪ c) (a ∪ (b ∪ c)) (λ i p. left i (union-cases (a ∪ b) c p)) (λ i p. right i (union-cases a (b ∪ c) p))
+  where
+    left-in : (i : ℕ) → Has a i ⊎ Has b i → Has (a ∪ (b ∪ c)) i
+    left-in i (inl p) = has-left a (b ∪ c) p
+    left-in i (inr p) = has-right a (b ∪ c) (has-left b c p)
+
+    left : (i : ℕ) → Has (a ∪ b) i ⊎ Has c i → Has (a ∪ (b ∪ c)) i
+    left i (inl p) = left-in i (union-cases a b p)
+    left i (inr p) = has-right a (b ∪ c) (has-right b c p)
+
+    right-in : (i : ℕ) → Has b i ⊎ Has c i → Has ((a ∪ b) ∪ c) i
+    right-in i (inl p) = has-left (a ∪ b) c (has-right a b p)
+    right-in i (inr p) = has-right (a ∪ b) c p
+
+    right : (i : ℕ) → Has a i ⊎ Has (b ∪ c) i → Has ((a ∪ b) ∪ c) i
+    right i (inl p) = has-left (a ∪ b) c (has-left a b p)
+    right i (inr p) = right-in i (union-cases b c p)
 
 -- ---- sizes
 

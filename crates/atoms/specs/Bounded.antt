@@ -32,3 +32,7 @@ wordBelow (suc n) p = elim (p n) [ true ↦ wordBelow n p ∪ atom n | false ↦
 unfoldable pub unionIn : ℕ → ℕ → (ℕ → ℕ) → ℕ
 unionIn zero w f = 0
 unionIn (suc n) w f = elim (has w n) [ true ↦ unionIn n w f ∪ f n | false ↦ unionIn n w f ]
+
+-- the set of the one number i where the test holds, and the empty set where it does not
+unfoldable pub singleIf : Bool → ℕ → ℕ
+singleIf b i = elim b [ true ↦ atom i | false ↦ 0 ]

@@ -1,3 +1,5 @@
 pub mod Word
 pub mod Bounded
+pub mod Collected
 pub mod Rising
+pub mod Lists

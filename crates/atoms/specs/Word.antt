@@ -9,6 +9,10 @@ use lib.Dec.{eqb}
 infixl 70 _∩_
 infixl 65 _∪_ _∖_
 infix 50 _⊆_ _⊂_
+-- how many atoms there are
+abbrev pub ATOMS : ℕ
+ATOMS = 64
+
 -- "atom i is bit i": the binary digit of w at place i
 abbrev pub digit : ℕ → ℕ → ℕ
 digit w i = w / 2 ^ i % 2
@@ -56,9 +60,13 @@ a ∖ b = a - bitAnd a b
 unfoldable pub atom : ℕ → ℕ
 atom i = 2 ^ i
 
--- the set of all atoms below n; `below 64` is every atom there is
+-- the set of all atoms below n; `below ATOMS` is every atom there is
 unfoldable pub below : ℕ → ℕ
 below n = 2 ^ n - 1
+
+-- all atoms but those of w
+unfoldable pub outside : ℕ → ℕ
+outside w = below ATOMS ∖ w
 
 -- r is the lowest atom of w
 pub record Lowest (w r : ℕ) : Type 0 where

@@ -2,8 +2,9 @@
 ghost use mathlib.Core.Path.{_≡_};
 ghost use Prim.Native.Nat.{_≤_, _<_};
 ghost use lib.Count.{ones};
-ghost use Rattle.atoms.specs.Word.{_∩_, _∪_, _∖_, subset, apart, atom, below, Lowest, AtMostOne};
-ghost use Rattle.atoms.specs.Bounded.{Decides};
+ghost use lib.ListN.{length, getD};
+ghost use Rattle.atoms.specs.Word.{ATOMS, _∩_, _∪_, _∖_, subset, apart, atom, below, outside, Lowest, AtMostOne};
+ghost use Rattle.atoms.specs.Bounded.{Decides, singleIf, unionIn};
 
 // How many atoms there are.
 pub const ATOMS: usize = 64;
@@ -45,7 +46,7 @@ pub fn are_apart(a: u64, b: u64) -> bool
 
 // The set of one atom.
 pub fn single(i: usize) -> u64
-    requires { ⌜ i < 64 ⌝ }
+    requires { ⌜ i < ATOMS ⌝ }
     ensures { λ r. ⌜ r ≡ atom i ⌝ }
 {
     1 << i
@@ -53,7 +54,7 @@ pub fn single(i: usize) -> u64
 
 // The set of the atoms below n.
 pub fn first(n: usize) -> u64
-    requires { ⌜ n ≤ 64 ⌝ }
+    requires { ⌜ n ≤ ATOMS ⌝ }
     ensures { λ r. ⌜ r ≡ below n ⌝ }
 {
     if n == ATOMS {
@@ -62,10 +63,28 @@ pub fn first(n: usize) -> u64
     (1 << n) - 1
 }
 
+// All atoms but those of the word.
+pub fn outside(w: u64) -> u64
+    ensures { λ r. ⌜ r ≡ outside w ⌝ }
+{
+    without(first(ATOMS), w)
+}
+
+// The set of the one number i where the test holds, and the empty set where it does not.
+pub fn single_if(test: bool, i: usize) -> u64
+    requires { ⌜ i < ATOMS ⌝ }
+    ensures { λ r. ⌜ r ≡ singleIf test i ⌝ }
+{
+    if test {
+        return single(i);
+    }
+    0
+}
+
 // The lowest atom of a word that has one.
 pub fn lowest(w: u64) -> usize
     requires { ⌜ (w ≡ 0 → ⊥) ⌝ }
-    ensures { λ r. ⌜ Lowest w r × (r < 64) ⌝ }
+    ensures { λ r. ⌜ Lowest w r × (r < ATOMS) ⌝ }
 {
     u64::trailing_zeros(w) as usize
 }
@@ -79,7 +98,7 @@ pub fn count(w: u64) -> usize
 
 // The set without one atom.
 pub fn drop(w: u64, i: usize) -> u64
-    requires { ⌜ i < 64 ⌝ }
+    requires { ⌜ i < ATOMS ⌝ }
     ensures { λ r. ⌜ r ≡ w ∖ atom i ⌝ }
 {
     without(w, single(i))
@@ -93,4 +112,19 @@ pub fn at_most_one(w: u64) -> bool
         return true;
     }
     drop(w, lowest(w)) == 0
+}
+
+// The atoms of those of the first n words whose numbers are in `which`.
+pub fn union_of(words: &[u64], n: usize, which: u64) -> u64
+    requires { ⌜ (n ≤ ATOMS) × (n ≤ length (now words)) ⌝ }
+    ensures { λ r. ⌜ r ≡ unionIn n which (λ i. getD (now (words .entry)) i 0) ⌝ }
+{
+    let mut all = 0;
+    let mut rest = cut(which, first(n));
+    while rest != 0 {
+        let i = lowest(rest);
+        all = union(all, words[i]);
+        rest = drop(rest, i);
+    }
+    all
 }

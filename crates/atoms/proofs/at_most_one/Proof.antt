@@ -1,7 +1,7 @@
 -- An empty word, or one that is empty without its lowest atom.
 use mathlib.Core.Path.{refl}
 use Rattle.atoms.proofs.Tests.{decides}
-use Rattle.atoms.proofs.MoreSets.{at-most-none, decides-at-most-one}
+use Rattle.atoms.proofs.Singles.{at-most-none, decides-at-most-one}
 use borrow.Author.Needs.{needs}
 use Rattle.atoms.proofs.at_most_one.Statement.{statement}
 use Rattle.atoms.proofs.at_most_one.Tie as tie
@@ -9,16 +9,10 @@ use Rattle.atoms.proofs.at_most_one.Tie as tie
 returns : tie.Need-returns
 returns c = decides _ (λ e. at-most-none (c .before .args .w) (c .if1 .taken)) (λ o. refl)
 
-lowest-requires : tie.Need-lowest-requires
-lowest-requires c κs = search needs
-
-drop-requires : tie.Need-drop-requires
-drop-requires c κs = search needs
-
 returns-2 : tie.Need-returns-2
 returns-2 c =
     decides-at-most-one (c .before .before .before .args .w) (c .before .lowest .result) (c .drop .result)
     (c .before .lowest .ensures .0 .here) (c .drop .ensures)
 
 pub at-most-one-spec : {M : Type 1} → statement M
-at-most-one-spec = tie.close (tie.spec returns lowest-requires drop-requires returns-2)
+at-most-one-spec = tie.close (tie.spec returns (λ c κs. search needs) (λ c κs. search needs) returns-2)

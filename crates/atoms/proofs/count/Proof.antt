@@ -7,8 +7,5 @@ use Rattle.atoms.proofs.count.Tie as tie
 cast-result : tie.Need-cast-result
 cast-result c = omega (arith, counts-small (c .args .w) (c .fits .w .fits))
 
-returns : tie.Need-returns
-returns c = search needs
-
 pub count-spec : {M : Type 1} → statement M
-count-spec = tie.close (tie.spec cast-result returns)
+count-spec = tie.close (tie.spec cast-result (λ c. search needs))

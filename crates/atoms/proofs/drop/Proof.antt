@@ -6,14 +6,8 @@ use Rattle.atoms.specs.Word.{_∖_}
 use Rattle.atoms.proofs.drop.Statement.{statement}
 use Rattle.atoms.proofs.drop.Tie as tie
 
-single-requires : tie.Need-single-requires
-single-requires c κs = search needs
-
-without-requires : tie.Need-without-requires
-without-requires c κs = search needs
-
 returns : tie.Need-returns
 returns c = c .without .ensures ∙ ap (λ (x : ℕ). c .before .before .args .w ∖ x) (c .before .single .ensures)
 
 pub drop-spec : {M : Type 1} → statement M
-drop-spec = tie.close (tie.spec single-requires without-requires returns)
+drop-spec = tie.close (tie.spec (λ c κs. search needs) (λ c κs. search needs) returns)

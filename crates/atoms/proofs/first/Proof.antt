@@ -15,9 +15,6 @@ returns c = ap (λ (n : ℕ). 2 ^ n - 1) (sym (c .if1 .taken))
 inside : (c : tie.Else1) → c .before .args .n < 64
 inside c = omega arith
 
-shl-result : tie.Need-shl-result
-shl-result c = search needs
-
 sub-result : tie.Need-sub-result
 sub-result c = omega (arith, shifted-one (c .before .args .n) (inside c), pow-pos (c .before .args .n))
 
@@ -26,4 +23,4 @@ unfolding below
 returns-2 c = ap (λ (x : ℕ). x - 1) (shifted-one (c .before .args .n) (inside c))
 
 pub first-spec : {M : Type 1} → statement M
-first-spec = tie.close (tie.spec returns shl-result sub-result returns-2)
+first-spec = tie.close (tie.spec returns (λ c. search needs) sub-result returns-2)
