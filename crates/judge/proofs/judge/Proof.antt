@@ -19,10 +19,16 @@ is-settled-requires c κs =
     subst (λ (r : Reading). Fitting (r .plan)) (sym (at .read-plan .ensures)) (record-fits (now (at .before .before .args .plan)))
 
 returns-2 : tie.Need-returns-2
-returns-2 c = accepted-judged _ _ _ (c .before .before .before .before .before .read-plan .ensures) true (c .before .before .before .enum-told .given .1) (sym (c .if1 .taken) ∙ c .before .is-settled .ensures)
+returns-2 c =
+    let accepted = c .before .before .before in
+    let test = sym (c .if1 .taken) ∙ c .before .is-settled .ensures in
+    accepted-judged _ _ _ (accepted .before .before .read-plan .ensures) true (accepted .enum-told .given .1) test
 
 returns-3 : tie.Need-returns-3
-returns-3 c = accepted-judged _ _ _ (c .before .before .before .before .before .read-plan .ensures) false (c .before .before .before .enum-told .given .1) (sym (c .if1 .left) ∙ c .before .is-settled .ensures)
+returns-3 c =
+    let accepted = c .before .before .before in
+    let test = sym (c .if1 .left) ∙ c .before .is-settled .ensures in
+    accepted-judged _ _ _ (accepted .before .before .read-plan .ensures) false (accepted .enum-told .given .1) test
 
 pub judge-spec : {M : Type 1} → statement M
 judge-spec =

@@ -9,19 +9,21 @@ returns : tie.Need-returns
 returns c = no-byte-there _ _ _ (c .if1 .taken)
 
 returns-2 : tie.Need-returns-2
-returns-2 c = kind-there _ _ _ rule _ (c .before .before .before .before .if1 .left) (c .before .match .keys1) (c .read-rule .ensures)
+returns-2 c = kind-there _ _ _ (c .before .before .before .before .if1 .left) rule _ (c .before .match .keys1) (c .read-rule .ensures)
 
 returns-3 : tie.Need-returns-3
-returns-3 c = kind-there _ _ _ unit _ (c .before .before .before .before .if1 .left) (c .before .match .keys2) (c .read-unit .ensures)
+returns-3 c = kind-there _ _ _ (c .before .before .before .before .if1 .left) unit _ (c .before .match .keys2) (c .read-unit .ensures)
 
 returns-4 : tie.Need-returns-4
-returns-4 c = kind-there _ _ _ edge _ (c .before .before .before .before .if1 .left) (c .before .match .keys3) (c .read-edge .ensures)
+returns-4 c = kind-there _ _ _ (c .before .before .before .before .if1 .left) edge _ (c .before .match .keys3) (c .read-edge .ensures)
 
 returns-5 : tie.Need-returns-5
-returns-5 c = kind-there _ _ _ end _ (c .before .before .before .before .if1 .left) (c .before .match .keys4) (c .read-end .ensures)
+returns-5 c = kind-there _ _ _ (c .before .before .before .before .if1 .left) end _ (c .before .match .keys4) (c .read-end .ensures)
 
 returns-6 : tie.Need-returns-6
-returns-6 c = no-kind-there _ _ _ (c .before .before .before .if1 .left) (c .match .rest .0 .0 .0 .1) (c .match .rest .0 .0 .1) (c .match .rest .0 .1) (c .match .rest .1)
+returns-6 c =
+    let none = c .match .rest in
+    no-kind-there _ _ _ (c .before .before .before .if1 .left) (none .0 .0 .0 .1) (none .0 .0 .1) (none .0 .1) (none .1)
 
 pub read-command-spec : {M : Type 1} → statement M
 read-command-spec =
