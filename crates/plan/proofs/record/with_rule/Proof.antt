@@ -1,10 +1,9 @@
+-- `with_rule` meets its contract: the words stand where the definition puts them.
 use mathlib.Core.Path.{refl}
 use Rattle.plan.specs.Record.{withRule}
 use borrow.Author.Needs.{needs}
 use Rattle.plan.proofs.record.with_rule.Statement.{statement}
 use Rattle.plan.proofs.record.with_rule.Tie as tie
-use Rattle.plan.proofs.record.with_rule.Reads as reads
-use Rattle.plan.proofs.record.with_rule.Lts as lts
 
 returns : tie.Need-returns
 unfolding withRule

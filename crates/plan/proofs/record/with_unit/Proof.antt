@@ -1,10 +1,9 @@
+-- `with_unit` meets its contract: its word stands behind the units that are there.
 use mathlib.Core.Path.{refl}
 use Rattle.plan.specs.Record.{withUnit}
 use borrow.Author.Needs.{needs}
 use Rattle.plan.proofs.record.with_unit.Statement.{statement}
 use Rattle.plan.proofs.record.with_unit.Tie as tie
-use Rattle.plan.proofs.record.with_unit.Reads as reads
-use Rattle.plan.proofs.record.with_unit.Lts as lts
 
 returns : tie.Need-returns
 unfolding withUnit

@@ -1,3 +1,4 @@
+-- `read_end` meets its contract: END has no operands, so nothing but a byte behind it stops it.
 use borrow.Author.Needs.{needs}
 use lib.Dec.{leb·suc-zero}
 use borrow.Author.Tests.{lt-ltb, le-ltb}
