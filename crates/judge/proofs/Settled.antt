@@ -30,15 +30,15 @@ use Rattle.judge.specs.declared.Answer.the-variants.{Settled, NotSettled
 -- ---- the whole program of a record
 
 -- each rule of the record is among its words
-pub whole-lent : (p : Plan) (which : ℕ) → Fitting p → length (p .rules) ≡ RULE_WORDS * MAX_RULES
-    → which ≡ below (p .«rule_count») → Lent (p .rules) which
+pub whole-lent : (p : Plan) (which : ℕ) → Fitting p → length (p .rules) ≡ RULE_WORDS * MAX_RULES → which ≡ below (p .«rule_count»)
+    → Lent (p .rules) which
 whole-lent p which f l e =
     record { each = λ r h. let k : r < p .«rule_count» = below-lt (p .«rule_count») (rw e at h) in omega (arith, f .rules-fit) }
 
 pub decides-settled : (p : Plan) (M : ℕ) → Fitting p → Decides (Settles p M) (settled p M)
 decides-settled p M f =
     decides-answer-set (lent (p .rules)) (below (p .«rule_count»)) 0 M
-    (lt-of-has (below (p .«rule_count»)) 64 (λ r h. let k : r < p .«rule_count» = below-lt (p .«rule_count») h in omega (arith, f .rules-fit)))
+    (lt-of-has (below (p .«rule_count»)) MAX_RULES (λ r h. let k : r < p .«rule_count» = below-lt (p .«rule_count») h in omega (arith, f .rules-fit)))
 
 -- ---- the answer
 
@@ -110,6 +110,5 @@ settled-headed p M a s h = go (supported (lent (p .rules)) (below (p .«rule_cou
 pub headless-not-settled : (bytes : List ℕ) (position a : ℕ) → reading bytes .outcome ≡ Accepted → Has position a
     → ¬ Headed (reading bytes .plan) a → judged bytes position ≡ NotSettled
 headless-not-settled bytes position a e h n =
-    let p = reading bytes .plan in
-    judged-accepted bytes position e
-    ∙ ap yesNo (decided-false (decides-settled p position (record-fits bytes)) (λ s. n (settled-headed p position a s h)))
+    let not-settled : ¬ Settles (reading bytes .plan) position = λ s. n (settled-headed (reading bytes .plan) position a s h) in
+    judged-accepted bytes position e ∙ ap yesNo (decided-false (decides-settled (reading bytes .plan) position (record-fits bytes)) not-settled)

@@ -1,108 +1,91 @@
--- The spot of a reading fault lies within the plan's bytes: by induction on what is left to read.
+-- The spot of a reading fault lies within the plan's bytes.
 use mathlib.Core.Path.{_≡_, refl, ap, sym, subst}
 use mathlib.Core.Bool.{Bool, true, false}
 use mathlib.Core.List.{List, [], _∷_}
 use mathlib.Core.Option.{Option, some, none}
-use Prim.Native.Nat.{ℕ, zero, suc, _+_, _≤_}
+use Prim.Native.Nat.{ℕ, suc, _+_, _≤_}
 use native.Mathlib.Omega.{arith}
-use lib.ListN.{length}
-use borrow.Author.Tests.{ltb-false}
+use lib.ListN.{length, drop, length-drop}
 use Rattle.plan.specs.Faults.{spot}
-use Rattle.plan.specs.Record.{emptyPlan, withRule, withUnit, withEdge}
-use Rattle.reading.specs.Commands.{Kind, rule, unit, edge, end, Row, rows, firstFit, ofKind, carrying, kindOf, operandBytes, commandAt}
-use Rattle.reading.specs.Reading.{walk, reading, commandBytes}
-use Rattle.reading.proofs.Commands.{known-command, unknown-command, carried-rule, carried-unit, carried-edge}
+use Rattle.plan.specs.Record.{emptyPlan}
+use Rattle.reading.specs.Commands.{Kind, rule, unit, edge, end, Row, rows, firstFit, ofKind, carrying, kindOf, commandAt}
+use Rattle.reading.specs.Reading.{Step, onward, ended, stepOf, reading, commandBytes}
+use Rattle.reading.proofs.Commands.{known-command, unknown-command, Leads}
+use Rattle.reading.proofs.Walk.{walk-keeps}
 use Rattle.plan.specs.declared.record.Plan.{Plan}
 use Rattle.plan.specs.declared.fault.Fault.{Fault}
 use Rattle.plan.specs.declared.fault.Fault.the-variants.{UnknownCommand}
 use Rattle.plan.specs.declared.fault.Outcome.{Outcome}
 use Rattle.plan.specs.declared.fault.Outcome.the-variants.{Accepted, Refused as RefusedWith}
 use Rattle.reading.specs.declared.command.Command.{Command}
-use Rattle.reading.specs.declared.command.Command.the-variants.{Rule, Unit as UnitOf, Edge, End, Fault as Faulty}
-
--- the fault of a command, if it is one, has a spot of at most n
-abbrev SpotBy : ℕ → Command → Type 0
-SpotBy n (Faulty f) = spot f ≤ n
-SpotBy n (Rule h b m) = Unit {0}
-SpotBy n (UnitOf w) = Unit {0}
-SpotBy n (Edge u v) = Unit {0}
-SpotBy n End = Unit {0}
-
-abbrev AllBy : ℕ → List Row → Type 0
-AllBy n [] = Unit {0}
-AllBy n (r ∷ rs) = (spot (r .fault) ≤ n) × AllBy n rs
-
-first-fit-by : (n : ℕ) (rs : List Row) (x : Command) → AllBy n rs → SpotBy n x → SpotBy n (firstFit rs x)
-first-fit-by n [] x a h = h
-first-fit-by n (r ∷ rs) x a h = go (r .fits) (first-fit-by n rs x (a .1) h)
-  where
-    go : (b : Bool) → SpotBy n (firstFit rs x) → SpotBy n (elim b [ true ↦ Faulty (r .fault) | false ↦ firstFit rs x ])
-    go true rest = a .0
-    go false rest = rest
-
-rows-by : (p : Plan) (at : ℕ) (k : Kind) (operands : List ℕ) → AllBy (at + 1) (rows p at k operands)
-rows-by p at rule operands = (omega arith, (omega arith, (omega arith, (omega arith, tt))))
-rows-by p at unit operands = (omega arith, (omega arith, (omega arith, (omega arith, tt))))
-rows-by p at edge operands = (omega arith, (omega arith, tt))
-rows-by p at end operands = (omega arith, tt)
-
-carrying-by : (n : ℕ) (k : Kind) (operands : List ℕ) → SpotBy n (carrying k operands)
-unfolding carrying
-carrying-by n rule operands = tt
-carrying-by n unit operands = tt
-carrying-by n edge operands = tt
-carrying-by n end operands = tt
-
--- a command's fault is spotted at its byte or the next
-command-by : (p : Plan) (at b : ℕ) (operands : List ℕ) → SpotBy (at + 1) (commandAt p at (b ∷ operands))
-unfolding ofKind
-command-by p at b operands = go (kindOf b) refl
-  where
-    go : (x : Option Kind) → kindOf b ≡ x → SpotBy (at + 1) (commandAt p at (b ∷ operands))
-    go none e =
-        let near : spot (UnknownCommand at) ≤ at + 1 = omega arith in
-        subst (SpotBy (at + 1)) (sym (unknown-command p at b operands e)) near
-    go (some k) e =
-        subst (SpotBy (at + 1)) (sym (known-command p at b operands k e))
-        (first-fit-by (at + 1) (rows p at k operands) (carrying k operands) (rows-by p at k operands) (carrying-by (at + 1) k operands))
 
 -- the fault of an outcome, if it is a refusal, has a spot of at most n
 abbrev OutcomeBy : ℕ → Outcome → Type 0
 OutcomeBy n Accepted = Unit {0}
 OutcomeBy n (RefusedWith f) = spot f ≤ n
 
--- reading on from `at` spots nothing behind byte n, the end of what is left
-walk-by : (n : ℕ) (p : Plan) (at skip : ℕ) (s : List ℕ) → skip ≤ length s → at + length s ≤ n + skip → OutcomeBy n (walk p at skip s .outcome)
-unfolding walk
-walk-by n p at skip [] l h = omega arith
-walk-by n p at (suc skip) (b ∷ s) l h = walk-by n p at skip s (omega arith) (omega arith)
-walk-by n p at zero (b ∷ s) l h = go (commandAt p at (b ∷ s)) refl (λ q a k. walk-by n q a k s)
+-- so has that of a command
+abbrev StepBy : ℕ → Step → Type 0
+StepBy n (onward k q) = Unit {0}
+StepBy n (ended r) = OutcomeBy n (r .outcome)
+
+abbrev RowsBy : ℕ → List Row → Type 0
+RowsBy n [] = Unit {0}
+RowsBy n (r ∷ rs) = (spot (r .fault) ≤ n) × RowsBy n rs
+
+first-fit-by : (n : ℕ) (p : Plan) (rs : List Row) (x : Command) → RowsBy n rs → StepBy n (stepOf p x) → StepBy n (stepOf p (firstFit rs x))
+first-fit-by n p [] x a h = h
+first-fit-by n p (r ∷ rs) x a h = go (r .fits) refl (first-fit-by n p rs x (a .1) h)
   where
-    go : (x : Command) → commandAt p at (b ∷ s) ≡ x
-        → ((q : Plan) (a k : ℕ) → k ≤ length s → a + length s ≤ n + k → OutcomeBy n (walk q a k s .outcome))
-        → OutcomeBy n (walk p at zero (b ∷ s) .outcome)
-    go (Rule f c m) e rec =
-        let r = carried-rule p at (b ∷ s) f c m e in
-        let long : operandBytes rule ≤ length (r .operands) = ltb-false _ _ (r .passed .1 .1 .0) in
-        let same : suc (length s) ≡ suc (length (r .operands)) = ap length (r .bytes) in
-        rw (e, walk) (rec (withRule p f c m) (at + commandBytes rule) (operandBytes rule) (omega arith) (omega arith))
-    go (UnitOf w) e rec =
-        let r = carried-unit p at (b ∷ s) w e in
-        let long : operandBytes unit ≤ length (r .operands) = ltb-false _ _ (r .passed .1 .1 .0) in
-        let same : suc (length s) ≡ suc (length (r .operands)) = ap length (r .bytes) in
-        rw (e, walk) (rec (withUnit p w) (at + commandBytes unit) (operandBytes unit) (omega arith) (omega arith))
-    go (Edge u v) e rec =
-        let r = carried-edge p at (b ∷ s) u v e in
-        let long : operandBytes edge ≤ length (r .operands) = ltb-false _ _ (r .passed .0) in
-        let same : suc (length s) ≡ suc (length (r .operands)) = ap length (r .bytes) in
-        rw (e, walk) (rec (withEdge p u v) (at + commandBytes edge) (operandBytes edge) (omega arith) (omega arith))
-    go End e rec = rw (e, walk) tt
-    go (Faulty f) e rec =
-        let near : spot f ≤ at + 1 = subst (SpotBy (at + 1)) e (command-by p at b s) in
-        rw (e, walk) (omega arith)
+    go : (b : Bool) → r .fits ≡ b → StepBy n (stepOf p (firstFit rs x)) → StepBy n (stepOf p (firstFit (r ∷ rs) x))
+    go true t rest = rw t (a .0)
+    go false t rest = rw t rest
+
+rows-by : (p : Plan) (at : ℕ) (k : Kind) (operands : List ℕ) → RowsBy (at + 1) (rows p at k operands)
+rows-by p at rule operands = (omega arith, (omega arith, (omega arith, (omega arith, tt))))
+rows-by p at unit operands = (omega arith, (omega arith, (omega arith, (omega arith, tt))))
+rows-by p at edge operands = (omega arith, (omega arith, tt))
+rows-by p at end operands = (omega arith, (omega arith, tt))
+
+carrying-by : (n : ℕ) (p : Plan) (k : Kind) (operands : List ℕ) → StepBy n (stepOf p (carrying k operands))
+unfolding carrying
+carrying-by n p rule operands = tt
+carrying-by n p unit operands = tt
+carrying-by n p edge operands = tt
+carrying-by n p end operands = tt
+
+-- a command's fault is spotted at its byte or the next, and where no byte is left at the end
+command-by : (n : ℕ) (p : Plan) (at : ℕ) (s : List ℕ) → at + length s ≡ n → StepBy n (stepOf p (commandAt p at s))
+unfolding commandAt ofKind
+command-by n p at [] l = omega arith
+command-by n p at (b ∷ operands) l = go (kindOf b) refl
+  where
+    near : (x : Step) → StepBy (at + 1) x → StepBy n x
+    near (onward k q) h = tt
+    near (ended r) h = outcome (r .outcome) h
+      where
+        outcome : (o : Outcome) → OutcomeBy (at + 1) o → OutcomeBy n o
+        outcome Accepted k = tt
+        outcome (RefusedWith f) k = omega arith
+
+    go : (x : Option Kind) → kindOf b ≡ x → StepBy n (stepOf p (commandAt p at (b ∷ operands)))
+    go none e = let here : spot (UnknownCommand at) ≤ n = omega arith in rw (unknown-command p at b operands e) here
+    go (some k) e =
+        rw (known-command p at b operands k e)
+        (near (stepOf p (ofKind p at k operands))
+        (first-fit-by (at + 1) p (rows p at k operands) (carrying k operands) (rows-by p at k operands) (carrying-by (at + 1) p k operands)))
+
+on : (n : ℕ) (p q : Plan) (at : ℕ) (s : List ℕ) (k : Kind) → at + length s ≡ n → Leads k p at s q
+    → at + commandBytes k + length (drop (commandBytes k) s) ≡ n
+on n p q at s k h l =
+    let whole : length s ≡ suc (length (l .read .operands)) = ap length (l .read .bytes) in
+    omega (arith, l .read .long, length-drop (commandBytes k) s)
 
 -- a reading fault's spot is at most the plan's length
 pub spot-within : (bytes : List ℕ) (f : Fault) → reading bytes .outcome ≡ RefusedWith f → spot f ≤ length bytes
 unfolding reading
 spot-within bytes f e =
-    subst (OutcomeBy (length bytes)) e (walk-by (length bytes) emptyPlan 0 0 bytes (omega arith) (omega arith))
+    let n : ℕ = length bytes in
+    subst (OutcomeBy n) e
+    (walk-keeps (λ p at s. at + length s ≡ n) (λ r. OutcomeBy n (r .outcome)) (on n) (λ p at s h k. tt)
+    (λ p at s f h k. subst (StepBy n) (ap (stepOf p) k) (command-by n p at s h)) emptyPlan 0 bytes (omega arith))

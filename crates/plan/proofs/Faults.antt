@@ -1,23 +1,25 @@
--- What holds of every fault.
-use Prim.Native.Nat.{_≤_}
+-- The number of a fault fits the 16 bits above those of its spot.
+use Prim.Native.Nat.{_<_}
 use native.Mathlib.Omega.{arith}
-use Rattle.plan.specs.Faults.{number}
+use Rattle.plan.specs.Faults.{number, CODE_STEP}
 use Rattle.plan.specs.declared.fault.Fault.{Fault}
-use Rattle.plan.specs.declared.fault.Fault.the-variants.{TableShort, Truncated, UnknownCommand, OutOfOrder, TooMany, EmptyRule, AbsentRule, BadEdge, TrailingBytes, RuleInNoUnit, HeadedRuleInSeveral, Cycle, NonmonotonicUnseen, MonotonicUnseen, LongList}
+use Rattle.plan.specs.declared.fault.Fault.the-variants.{TableShort, Truncated, UnknownCommand, OutOfOrder, TooMany}
+use Rattle.plan.specs.declared.fault.Fault.the-variants.{EmptyRule, AbsentRule, BadEdge, TrailingBytes}
+use Rattle.plan.specs.declared.fault.Fault.the-variants.{RuleInNoUnit, HeadedRuleInSeveral, Cycle, NonmonotonicUnseen, MonotonicUnseen, LongList}
 
-pub number-at-most : (f : Fault) → number f ≤ 15
-number-at-most (TableShort s) = omega arith
-number-at-most (Truncated s) = omega arith
-number-at-most (UnknownCommand s) = omega arith
-number-at-most (OutOfOrder s) = omega arith
-number-at-most (TooMany s) = omega arith
-number-at-most (EmptyRule s) = omega arith
-number-at-most (AbsentRule s) = omega arith
-number-at-most (BadEdge s) = omega arith
-number-at-most (TrailingBytes s) = omega arith
-number-at-most (RuleInNoUnit s) = omega arith
-number-at-most (HeadedRuleInSeveral s) = omega arith
-number-at-most (Cycle s) = omega arith
-number-at-most (NonmonotonicUnseen s) = omega arith
-number-at-most (MonotonicUnseen s) = omega arith
-number-at-most (LongList s) = omega arith
+pub number-fits : (f : Fault) → number f < CODE_STEP
+number-fits (TableShort s) = omega arith
+number-fits (Truncated s) = omega arith
+number-fits (UnknownCommand s) = omega arith
+number-fits (OutOfOrder s) = omega arith
+number-fits (TooMany s) = omega arith
+number-fits (EmptyRule s) = omega arith
+number-fits (AbsentRule s) = omega arith
+number-fits (BadEdge s) = omega arith
+number-fits (TrailingBytes s) = omega arith
+number-fits (RuleInNoUnit s) = omega arith
+number-fits (HeadedRuleInSeveral s) = omega arith
+number-fits (Cycle s) = omega arith
+number-fits (NonmonotonicUnseen s) = omega arith
+number-fits (MonotonicUnseen s) = omega arith
+number-fits (LongList s) = omega arith

@@ -1,7 +1,9 @@
 -- The numbers and spots of faults. Document 01, "Faults, by where they are found": columns "no." and "spot".
-use Prim.Native.Nat.{ℕ, _+_, _*_, min}
+use Prim.Native.Nat.{ℕ, _+_, _*_, _-_, _^_, min}
 use Rattle.plan.specs.declared.fault.Fault.{Fault}
-use Rattle.plan.specs.declared.fault.Fault.the-variants.{TableShort, Truncated, UnknownCommand, OutOfOrder, TooMany, EmptyRule, AbsentRule, BadEdge, TrailingBytes, RuleInNoUnit, HeadedRuleInSeveral, Cycle, NonmonotonicUnseen, MonotonicUnseen, LongList}
+use Rattle.plan.specs.declared.fault.Fault.the-variants.{TableShort, Truncated, UnknownCommand, OutOfOrder, TooMany}
+use Rattle.plan.specs.declared.fault.Fault.the-variants.{EmptyRule, AbsentRule, BadEdge, TrailingBytes}
+use Rattle.plan.specs.declared.fault.Fault.the-variants.{RuleInNoUnit, HeadedRuleInSeveral, Cycle, NonmonotonicUnseen, MonotonicUnseen, LongList}
 
 -- column "no."
 abbrev pub number : Fault → ℕ
@@ -40,5 +42,11 @@ spot (MonotonicUnseen s) = s
 spot (LongList s) = s
 
 -- a refusal as one number: its fault number above 16 bits for its spot
+abbrev pub CODE_STEP : ℕ
+CODE_STEP = 2 ^ 16
+
+abbrev pub WIDEST_SPOT : ℕ
+WIDEST_SPOT = CODE_STEP - 1
+
 abbrev pub refusalCode : Fault → ℕ
-refusalCode f = 65536 * number f + min 65535 (spot f)
+refusalCode f = CODE_STEP * number f + min WIDEST_SPOT (spot f)

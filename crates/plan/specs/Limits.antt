@@ -1,10 +1,11 @@
 -- The limits of a plan, of its lists and of the lent table (document 01, The plan, The lent table). What follows from another number is
 -- derived from it.
 use Prim.Native.Nat.{ℕ, _+_, _-_, _*_}
+use Rattle.atoms.specs.Word.{ATOMS}
 
--- column "most": RULE 64, "bit i for rule i"
+-- column "most": RULE 64, as many as a word has bits: "bit i for rule i"
 abbrev pub MAX_RULES : ℕ
-MAX_RULES = 64
+MAX_RULES = ATOMS
 
 -- column "most": UNIT 16
 abbrev pub MAX_UNITS : ℕ

@@ -74,9 +74,9 @@ pub fn fault_spot(f: Fault) -> usize
 }
 
 // A refusal's code is its number times CODE_STEP and its spot, of which WIDEST_SPOT is the most that fits.
-const CODE_STEP: u64 = 65536;
+const CODE_STEP: u64 = 0x10000;
 
-const WIDEST_SPOT: usize = 65535;
+const WIDEST_SPOT: usize = 0xffff;
 
 // The refusal as one number.
 pub fn refusal_code(fault: Fault) -> u64

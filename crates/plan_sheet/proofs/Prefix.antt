@@ -6,7 +6,8 @@ use Prim.Native.Nat.{ℕ, _≤_}
 use native.Mathlib.Omega.{arith}
 use lib.Dec.{ltb}
 use lib.ListN.{length, take}
-use Rattle.reading.proofs.Prefix.{DECIDING_BYTES, reading-prefix}
+use Rattle.reading.specs.Reading.{DECIDING_BYTES}
+use Rattle.reading.proofs.Prefix.{reading-prefix}
 use Rattle.plan.specs.declared.fault.Fault.the-variants.{TableShort}
 use Rattle.reading.specs.declared.reader.Reading.{Reading}
 use Rattle.unit_lists.specs.Table.{TABLE_WORDS}

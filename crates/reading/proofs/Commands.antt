@@ -1,66 +1,55 @@
--- A command that is no fault: its kind, that no row of the fault table fits it, and what it carries.
+-- A command that is no fault: its kind, that no row of the fault table fits it, and what it does to the record.
 use mathlib.Core.Path.{_≡_, refl, ap, sym, _∙_, subst}
-use mathlib.Core.List.{List, [], _∷_}
+use mathlib.Core.List.{List, [], _∷_, _++_}
 use mathlib.Core.Bool.{Bool, true, false, true≢false}
+use mathlib.Core.Logic.{_⊎_, inl, inr}
 use mathlib.Core.Option.{Option, some, none}
-use Prim.Native.Nat.{ℕ, zero, suc, _+_, _-_, _≤_, _<_}
+use Prim.Native.Nat.{ℕ, suc, _+_, _-_, _≤_, _<_}
 use native.Mathlib.Omega.{arith}
 use native.Mathlib.Numerals.{add-one}
-use lib.Dec.{eqb}
+use lib.Dec.{eqb, ltb}
 use lib.ListN.{length, take, drop, getD, length-drop, drop-of-length-le}
 use lib.Seq.{take-all, drop-cons}
-use borrow.Author.Tests.{eqb-true, ne-eqb}
-use Rattle.reading.specs.Commands.{Kind, rule, unit, edge, end, byteOf, kindOf, carrying, Row, rows, firstFit, ofKind, commandAt}
-use Rattle.reading.specs.Progress.{RULES, UNITS, EDGES, ENDING, groupOf}
+use borrow.Author.Tests.{eqb-true, ne-eqb, ltb-false, leb-false, le-ltb, lt-leb}
+use Rattle.plan.specs.Limits.{MAX_RULES, MAX_UNITS}
+use Rattle.reading.specs.Commands.{Kind, rule, unit, edge, end, byteOf, kindAmong, kindOf, operandBytes, carrying}
+use Rattle.reading.specs.Commands.{lateRule, lateUnit, Row, kindRows, operandRows, rows, firstFit, ofKind, commandAt}
+use Rattle.reading.proofs.Edges.{or-false}
+use Rattle.reading.specs.Reading.{Step, onward, ended, stepOf}
+use Rattle.reading.specs.Progress.{kindOfStep}
 use Rattle.plan.specs.declared.record.Plan.{Plan}
+use Rattle.plan.specs.declared.fault.Fault.{Fault}
 use Rattle.plan.specs.declared.fault.Fault.the-variants.{Truncated, UnknownCommand}
 use Rattle.reading.specs.declared.command.Command.{Command}
-use Rattle.reading.specs.declared.command.Command.the-variants.{Rule, Unit as UnitOf, Edge, End, Fault as Faulty}
+use Rattle.reading.specs.declared.command.Command.the-variants.{Fault as Faulty}
 
-abbrev pub isFault : Command → Bool
-isFault (Rule head positive negative) = false
-isFault (UnitOf word) = false
-isFault (Edge u v) = false
-isFault End = false
-isFault (Faulty f) = true
+-- ---- bytes and kinds
 
--- no row fits
-abbrev pub Passed : List Row → Type 0
-Passed [] = Unit {0}
-Passed (r ∷ rs) = (r .fits ≡ false) × Passed rs
+pub kind-of-byte : (k : Kind) → kindOf (byteOf k) ≡ some k
+unfolding kindOf
+kind-of-byte rule = refl
+kind-of-byte unit = refl
+kind-of-byte edge = refl
+kind-of-byte end = refl
 
-pub no-row-fits : (rs : List Row) (command x : Command) → isFault x ≡ false → firstFit rs command ≡ x → Passed rs × (command ≡ x)
-no-row-fits [] command x n e = (tt, e)
-no-row-fits (r ∷ rs) command x n e = go (r .fits) refl (no-row-fits rs command x n)
+byte-among : (kinds : List Kind) (b : ℕ) (k : Kind) → kindAmong kinds b ≡ some k → b ≡ byteOf k
+byte-among [] b k e = absurd (let z : _≡_ {A = ℕ} 0 1 = cc in omega arith)
+byte-among (j ∷ kinds) b k e = go (eqb b (byteOf j)) refl (byte-among kinds b k)
   where
-    go : (b : Bool) → r .fits ≡ b → (firstFit rs command ≡ x → Passed rs × (command ≡ x)) → Passed (r ∷ rs) × (command ≡ x)
-    go true t rec = absurd (true≢false (ap isFault (rw t at e) ∙ n))
-    go false t rec = let h = rec (rw t at e) in ((t, h .0), h .1)
+    is : some j ≡ some k → b ≡ byteOf j → b ≡ byteOf k
+    is s h = let q : j ≡ k = cc in subst (λ (i : Kind). b ≡ byteOf i) q h
+
+    go : (t : Bool) → eqb b (byteOf j) ≡ t → (kindAmong kinds b ≡ some k → b ≡ byteOf k) → b ≡ byteOf k
+    go true t rec = is (rw (t, kindAmong) at e) (eqb-true _ _ t)
+    go false t rec = rec (rw (t, kindAmong) at e)
 
 pub kind-byte : (b : ℕ) (k : Kind) → kindOf b ≡ some k → b ≡ byteOf k
 unfolding kindOf
-kind-byte b k e = rules (eqb b (byteOf rule)) refl
-  where
-    is : (j : Kind) → some j ≡ some k → b ≡ byteOf j → b ≡ byteOf k
-    is j s h = let q : j ≡ k = cc in subst (λ (i : Kind). b ≡ byteOf i) q h
+kind-byte b k e = byte-among (rule ∷ unit ∷ edge ∷ end ∷ []) b k e
 
-    ends : (t : Bool) → eqb b (byteOf end) ≡ t → elim t as (λ x. Option Kind) [ true ↦ some end | false ↦ none ] ≡ some k → b ≡ byteOf k
-    ends true t s = is end s (eqb-true _ _ t)
-    ends false t s = absurd (let z : _≡_ {A = ℕ} 0 1 = cc in omega arith)
-
-    edges : (t : Bool) → eqb b (byteOf edge) ≡ t → elim t as (λ x. Option Kind) [ true ↦ some edge | false ↦ elim (eqb b (byteOf end)) [ true ↦ some end | false ↦ none ] ] ≡ some k → b ≡ byteOf k
-    edges true t s = is edge s (eqb-true _ _ t)
-    edges false t s = ends (eqb b (byteOf end)) refl s
-
-    units : (t : Bool) → eqb b (byteOf unit) ≡ t
-        → elim t as (λ x. Option Kind) [ true ↦ some unit | false ↦ elim (eqb b (byteOf edge)) [ true ↦ some edge | false ↦ elim (eqb b (byteOf end)) [ true ↦ some end | false ↦ none ] ] ] ≡ some k
-        → b ≡ byteOf k
-    units true t s = is unit s (eqb-true _ _ t)
-    units false t s = edges (eqb b (byteOf edge)) refl s
-
-    rules : (t : Bool) → eqb b (byteOf rule) ≡ t → b ≡ byteOf k
-    rules true t = is rule (rw (t, kindOf) at e) (eqb-true _ _ t)
-    rules false t = units (eqb b (byteOf unit)) refl (rw (t, kindOf) at e)
+pub no-kind : (b : ℕ) → ¬ (b ≡ byteOf rule) → ¬ (b ≡ byteOf unit) → ¬ (b ≡ byteOf edge) → ¬ (b ≡ byteOf end) → kindOf b ≡ none
+unfolding kindOf
+no-kind b r u e n = simp (kindOf, kindAmong, ne-eqb _ _ r, ne-eqb _ _ u, ne-eqb _ _ e, ne-eqb _ _ n)
 
 module _ (p : Plan) (at b : ℕ) (operands : List ℕ) where
   pub known-command : (k : Kind) → kindOf b ≡ some k → commandAt p at (b ∷ operands) ≡ ofKind p at k operands
@@ -71,99 +60,187 @@ module _ (p : Plan) (at b : ℕ) (operands : List ℕ) where
   unfolding commandAt
   unknown-command t = rw (t, commandAt)
 
--- a command x of the kind, read at the front of s, that no row stopped
-pub record Carried (kind : Kind) (p : Plan) (at : ℕ) (s : List ℕ) (x : Command) : Type 0 where
+-- ---- no row fits
+
+abbrev pub Passed : List Row → Type 0
+Passed [] = Unit {0}
+Passed (r ∷ rs) = (r .fits ≡ false) × Passed rs
+
+passed-both : (a b : List Row) → Passed (a ++ b) → Passed a × Passed b
+passed-both [] b h = (tt, h)
+passed-both (r ∷ a) b h = let k = passed-both a b (h .1) in ((h .0, k .0), k .1)
+
+pub passed-append : (a b : List Row) → Passed a → Passed b → Passed (a ++ b)
+passed-append [] b h k = k
+passed-append (r ∷ a) b h k = (h .0, passed-append a b (h .1) k)
+
+pub none-fits : (rs : List Row) (command : Command) → Passed rs → firstFit rs command ≡ command
+none-fits [] command h = refl
+none-fits (r ∷ rs) command h = rw (h .0) (none-fits rs command (h .1))
+
+-- either no row fits, or the command is a fault
+fits-or-not : (rs : List Row) (x : Command) → Passed rs ⊎ ((f : Fault) × (firstFit rs x ≡ Faulty f))
+fits-or-not [] x = inl tt
+fits-or-not (r ∷ rs) x = go (r .fits) refl (fits-or-not rs x)
+  where
+    go : (b : Bool) → r .fits ≡ b → Passed rs ⊎ ((f : Fault) × (firstFit rs x ≡ Faulty f))
+        → Passed (r ∷ rs) ⊎ ((f : Fault) × (firstFit (r ∷ rs) x ≡ Faulty f))
+    go true t rest = inr (r .fault, rw t)
+    go false t (inl h) = inl (t, h)
+    go false t (inr (f, e)) = inr (f, rw t e)
+
+-- ---- rows 4 and 5
+
+-- how many commands of later kinds the record has
+abbrev pub later : Plan → Kind → ℕ
+later p rule = p .«unit_count» + p .«edge_count»
+later p unit = p .«edge_count»
+later p edge = 0
+later p end = 0
+
+-- there is room for a command of the kind more
+abbrev pub Room : Plan → Kind → Type 0
+Room p rule = p .«rule_count» < MAX_RULES
+Room p unit = p .«unit_count» < MAX_UNITS
+Room p edge = Unit {0}
+Room p end = Unit {0}
+
+pub record InPlace (p : Plan) (k : Kind) : Type 0 where
+  pub on-time : later p k ≤ 0
+  pub room : Room p k
+
+pub passed-in-place : (p : Plan) (at : ℕ) (k : Kind) → Passed (kindRows p at k) → InPlace p k
+unfolding lateRule lateUnit
+passed-in-place p at rule h =
+    let none = or-false (ltb 0 (p .«unit_count»)) (ltb 0 (p .«edge_count»)) (h .0) in
+    let no-units : p .«unit_count» ≤ 0 = ltb-false _ _ (none .0) in
+    let no-edges : p .«edge_count» ≤ 0 = ltb-false _ _ (none .1) in
+    record { on-time = omega arith; room = leb-false _ _ (h .1 .0) }
+passed-in-place p at unit h = record { on-time = ltb-false _ _ (h .0); room = leb-false _ _ (h .1 .0) }
+passed-in-place p at edge h = record { on-time = omega arith; room = tt }
+passed-in-place p at end h = record { on-time = omega arith; room = tt }
+
+pub in-place-passed : (p : Plan) (at : ℕ) (k : Kind) → InPlace p k → Passed (kindRows p at k)
+unfolding lateRule lateUnit
+in-place-passed p at rule h =
+    let few = h .on-time in
+    (simp (le-ltb 0 (p .«unit_count») (omega arith), le-ltb 0 (p .«edge_count») (omega arith)), (lt-leb _ _ (h .room), tt))
+in-place-passed p at unit h = (le-ltb _ _ (h .on-time), (lt-leb _ _ (h .room), tt))
+in-place-passed p at edge h = tt
+in-place-passed p at end h = tt
+
+-- ---- a command at the front of s: one that no row stops, or a fault
+
+-- a command of the kind, read at the front of s, that no row stops
+pub record Unstopped (kind : Kind) (p : Plan) (at : ℕ) (s : List ℕ) : Type 0 where
   pub operands : List ℕ
   pub bytes : s ≡ byteOf kind ∷ operands
-  pub passed : Passed (rows p at kind operands)
-  pub command : carrying kind operands ≡ x
+  pub in-place : InPlace p kind
+  pub long : operandBytes kind ≤ length operands
+  pub right : Passed (operandRows p at kind operands)
+  pub command : commandAt p at s ≡ carrying kind operands
 
-carried : (p : Plan) (at : ℕ) (s : List ℕ) (x : Command) → isFault x ≡ false → commandAt p at s ≡ x → (k : Kind) × Carried k p at s x
+pub data Front (p : Plan) (at : ℕ) (s : List ℕ) : Type 0 where
+  unstopped : (k : Kind) → Unstopped k p at s → Front p at s
+  stopped : (f : Fault) → commandAt p at s ≡ Faulty f → Front p at s
+
+pub front : (p : Plan) (at : ℕ) (s : List ℕ) → Front p at s
 unfolding commandAt ofKind
-carried p at [] x n e = absurd (true≢false (ap isFault e ∙ n))
-carried p at (b ∷ operands) x n e = go (kindOf b) refl
+front p at [] = stopped (Truncated at) refl
+front p at (b ∷ operands) = go (kindOf b) refl
   where
-    go : (o : Option Kind) → kindOf b ≡ o → (k : Kind) × Carried k p at (b ∷ operands) x
-    go none t = absurd (true≢false (ap isFault (sym (unknown-command p at b operands t) ∙ e) ∙ n))
-    go (some k) t =
-        let h = no-row-fits (rows p at k operands) (carrying k operands) x n (sym (known-command p at b operands k t) ∙ e) in
-        (k, record { operands = operands; bytes = ap (λ (y : ℕ). y ∷ operands) (kind-byte b k t); passed = h .0; command = h .1 })
+    judged : (k : Kind) → kindOf b ≡ some k → Passed (rows p at k operands) ⊎ ((f : Fault) × (ofKind p at k operands ≡ Faulty f))
+        → Front p at (b ∷ operands)
+    judged k t (inr (f, e)) = stopped f (known-command p at b operands k t ∙ e)
+    judged k t (inl h) =
+        let parts = passed-both (kindRows p at k) _ h in
+        unstopped k
+        (record {
+          operands = operands;
+          bytes = ap (λ (y : ℕ). y ∷ operands) (kind-byte b k t);
+          in-place = passed-in-place p at k (parts .0);
+          long = ltb-false _ _ (parts .1 .0);
+          right = parts .1 .1;
+          command = known-command p at b operands k t ∙ none-fits (rows p at k operands) (carrying k operands) h;
+        })
 
--- a kind's group, and the kind of a group
-abbrev kindGroup : Kind → ℕ
-kindGroup rule = RULES
-kindGroup unit = UNITS
-kindGroup edge = EDGES
-kindGroup end = ENDING
+    go : (o : Option Kind) → kindOf b ≡ o → Front p at (b ∷ operands)
+    go none t = stopped (UnknownCommand at) (unknown-command p at b operands t)
+    go (some k) t = judged k t (fits-or-not (rows p at k operands) (carrying k operands))
 
-abbrev groupKind : ℕ → Kind
-groupKind zero = rule
-groupKind (suc zero) = unit
-groupKind (suc (suc zero)) = edge
-groupKind (suc (suc (suc n))) = end
+-- ---- what it does to the record
 
-group-kind : (k : Kind) → groupKind (kindGroup k) ≡ k
-group-kind rule = refl
-group-kind unit = refl
-group-kind edge = refl
-group-kind end = refl
+abbrev pub planOf : Step → Plan
+planOf (onward k q) = q
+planOf (ended r) = r .plan
 
-group-carrying : (k : Kind) (operands : List ℕ) → groupOf (carrying k operands) ≡ kindGroup k
+-- the record with a command of the kind more
+abbrev pub grown : Plan → Kind → List ℕ → Plan
+grown p k operands = planOf (stepOf p (carrying k operands))
+
+-- whether a command of the kind adds to the record; END ends reading
+abbrev pub adds : Kind → Bool
+adds rule = true
+adds unit = true
+adds edge = true
+adds end = false
+
+abbrev pub goesOn : Step → Bool
+goesOn (onward k q) = true
+goesOn (ended r) = false
+
+pub step-on : (p : Plan) (k : Kind) (operands : List ℕ) → adds k ≡ true → stepOf p (carrying k operands) ≡ onward k (grown p k operands)
 unfolding carrying
-group-carrying rule operands = refl
-group-carrying unit operands = refl
-group-carrying edge operands = refl
-group-carrying end operands = refl
+step-on p rule operands a = refl
+step-on p unit operands a = refl
+step-on p edge operands a = refl
+step-on p end operands a = absurd (true≢false (sym a))
 
--- a command of a kind's group is of that kind
-carried-as : (k : Kind) (p : Plan) (at : ℕ) (s : List ℕ) (x : Command) → isFault x ≡ false → groupOf x ≡ kindGroup k → commandAt p at s ≡ x → Carried k p at s x
-carried-as k p at s x n g e =
-    let c = carried p at s x n e in
-    let same : kindGroup (c .0) ≡ kindGroup k = sym (group-carrying (c .0) (c .1 .operands)) ∙ ap groupOf (c .1 .command) ∙ g in
-    subst (λ (j : Kind). Carried j p at s x) (sym (group-kind (c .0)) ∙ ap groupKind same ∙ group-kind k) (c .1)
+pub step-kind : (p : Plan) (k : Kind) (operands : List ℕ) → kindOfStep (stepOf p (carrying k operands)) ≡ k
+unfolding carrying
+step-kind p rule operands = refl
+step-kind p unit operands = refl
+step-kind p edge operands = refl
+step-kind p end operands = refl
 
-module _ (p : Plan) (at : ℕ) (s : List ℕ) where
-  pub carried-rule : (h b n : ℕ) → commandAt p at s ≡ Rule h b n → Carried rule p at s (Rule h b n)
-  carried-rule h b n = carried-as rule p at s (Rule h b n) refl refl
+pub step-adds : (p : Plan) (k : Kind) (operands : List ℕ) → goesOn (stepOf p (carrying k operands)) ≡ adds k
+unfolding carrying
+step-adds p rule operands = refl
+step-adds p unit operands = refl
+step-adds p edge operands = refl
+step-adds p end operands = refl
 
-  pub carried-unit : (w : ℕ) → commandAt p at s ≡ UnitOf w → Carried unit p at s (UnitOf w)
-  carried-unit w = carried-as unit p at s (UnitOf w) refl refl
+-- the command at the front of s leads from the record p to q
+pub record Leads (kind : Kind) (p : Plan) (at : ℕ) (s : List ℕ) (q : Plan) : Type 0 where
+  pub read : Unstopped kind p at s
+  pub more : adds kind ≡ true
+  pub is : grown p kind (read .operands) ≡ q
 
-  pub carried-edge : (u v : ℕ) → commandAt p at s ≡ Edge u v → Carried edge p at s (Edge u v)
-  carried-edge u v = carried-as edge p at s (Edge u v) refl refl
+pub leads-step : (p : Plan) (at : ℕ) (s : List ℕ) (k : Kind) (q : Plan) → Leads k p at s q → stepOf p (commandAt p at s) ≡ onward k q
+leads-step p at s k q l = ap (stepOf p) (l .read .command) ∙ step-on p k (l .read .operands) (l .more) ∙ ap (onward k) (l .is)
 
-  pub carried-end : commandAt p at s ≡ End → Carried end p at s End
-  carried-end = carried-as end p at s End refl refl
-
-pub kind-of-byte : (k : Kind) → kindOf (byteOf k) ≡ some k
-unfolding kindOf
-kind-of-byte rule = refl
-kind-of-byte unit = refl
-kind-of-byte edge = refl
-kind-of-byte end = refl
-
-pub no-kind : (b : ℕ) → ¬ (b ≡ byteOf rule) → ¬ (b ≡ byteOf unit) → ¬ (b ≡ byteOf edge) → ¬ (b ≡ byteOf end) → kindOf b ≡ none
-unfolding kindOf
-no-kind b r u e n = simp (kindOf, ne-eqb _ _ r, ne-eqb _ _ u, ne-eqb _ _ e, ne-eqb _ _ n)
+-- ---- the command at byte `at` of s, as the code finds it
 
 -- a part that goes to the end is what is left
 pub rest-is : (s : List ℕ) (n : ℕ) → take (length s - n) (drop n s) ≡ drop n s
 rest-is s n = take-all (length s - n) (drop n s) (omega (arith, length-drop n s))
 
--- the command at byte `at` of s, as the code finds it
 module _ (p : Plan) (s : List ℕ) (at : ℕ) where
   pub no-byte-there : length s ≤ at → Faulty (Truncated at) ≡ commandAt p at (drop at s)
   unfolding commandAt
   no-byte-there h = rw (drop-of-length-le s h)
 
-  pub kind-there : (k : Kind) (r : Command) → at < length s → getD s at 0 ≡ byteOf k → r ≡ ofKind p at k (take (length s - (at + 1)) (drop (at + 1) s))
-      → r ≡ commandAt p at (drop at s)
-  kind-there k r h c e =
-      let t : kindOf (getD s at 0) ≡ some k = ap kindOf c ∙ kind-of-byte k in
-      e ∙ ap (ofKind p at k) (rest-is s (at + 1)) ∙ ap (λ (n : ℕ). ofKind p at k (drop n s)) (add-one at)
-      ∙ sym (known-command p at (getD s at 0) (drop (suc at) s) k t) ∙ ap (commandAt p at) (sym (drop-cons s at 0 h))
+  module _ (h : at < length s) where
+    at-front : (x : Command) → x ≡ commandAt p at (getD s at 0 ∷ drop (suc at) s) → x ≡ commandAt p at (drop at s)
+    at-front x e = e ∙ ap (commandAt p at) (sym (drop-cons s at 0 h))
 
-  pub no-kind-there : at < length s → ¬ (getD s at 0 ≡ byteOf rule) → ¬ (getD s at 0 ≡ byteOf unit) → ¬ (getD s at 0 ≡ byteOf edge) → ¬ (getD s at 0 ≡ byteOf end)
-      → Faulty (UnknownCommand at) ≡ commandAt p at (drop at s)
-  no-kind-there h r u e n =
-      sym (unknown-command p at (getD s at 0) (drop (suc at) s) (no-kind (getD s at 0) r u e n)) ∙ ap (commandAt p at) (sym (drop-cons s at 0 h))
+    pub kind-there : (k : Kind) (r : Command) → getD s at 0 ≡ byteOf k → r ≡ ofKind p at k (take (length s - (at + 1)) (drop (at + 1) s))
+        → r ≡ commandAt p at (drop at s)
+    kind-there k r c e =
+        let t : kindOf (getD s at 0) ≡ some k = ap kindOf c ∙ kind-of-byte k in
+        let rest : take (length s - (at + 1)) (drop (at + 1) s) ≡ drop (suc at) s = rest-is s (at + 1) ∙ ap (λ (n : ℕ). drop n s) (add-one at) in
+        at-front r (e ∙ ap (ofKind p at k) rest ∙ sym (known-command p at (getD s at 0) (drop (suc at) s) k t))
+
+    pub no-kind-there : ¬ (getD s at 0 ≡ byteOf rule) → ¬ (getD s at 0 ≡ byteOf unit) → ¬ (getD s at 0 ≡ byteOf edge)
+        → ¬ (getD s at 0 ≡ byteOf end) → Faulty (UnknownCommand at) ≡ commandAt p at (drop at s)
+    no-kind-there r u e n = at-front _ (sym (unknown-command p at (getD s at 0) (drop (suc at) s) (no-kind (getD s at 0) r u e n)))

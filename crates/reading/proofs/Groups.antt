@@ -1,218 +1,213 @@
 -- The reader's loops: what one command more does to the place that is reached.
 use mathlib.Core.Path.{_≡_, refl, ap, sym, _∙_, subst}
 use mathlib.Core.List.{List, [], _∷_}
-use mathlib.Core.Bool.{Bool, true, false, true≢false, _||_}
-use Prim.Native.Nat.{ℕ, suc, _+_, _-_, _≤_, _<_}
+use mathlib.Core.Bool.{true, true≢false, not}
+use Prim.Native.Nat.{ℕ, suc, min, _+_, _-_, _≤_, _<_}
 use native.Mathlib.Omega.{arith}
-use lib.Dec.{ltb}
 use lib.ListN.{length, drop, getD, length-drop}
 use lib.Seq.{drop-drop}
-use borrow.Author.Tests.{leb-false, ltb-false, lt-ltb}
+use lib.Dec.{T}
+use mir.Val.{hasKey}
 use types.Run.{OneOf, miss}
 use denote.Enum.Declared.{tagOf}
 use Rattle.reading.proofs.command.Command.{the-type}
-use Rattle.reading.specs.Commands.{rule, unit, edge, commandAt, lateRule, lateUnit, carrying}
 use Rattle.plan.specs.Record.{Fitting, emptyPlan, withRule, withUnit, withEdge}
-use Rattle.reading.specs.Reading.{walk, reading, accepted, commandBytes}
-use Rattle.reading.specs.Progress.{placeAt, groupOf, Reached}
-use Rattle.reading.proofs.Commands.{carried-rule, carried-unit, carried-edge}
-use Rattle.reading.proofs.Edges.{not-bad-edge}
-use Rattle.reading.proofs.Walk.{walk-on}
+use Rattle.reading.specs.Commands.{Kind, rule, unit, edge, end, commandAt, carrying}
+use Rattle.reading.specs.Reading.{Step, onward, ended, stepOf, walk, reading, accepted, refused, commandBytes}
+use Rattle.reading.specs.Progress.{placeAt, orderOf, kindOfStep, Reached}
+use Rattle.reading.proofs.Commands.{later, Unstopped, Front, unstopped, stopped, front}
+use Rattle.reading.proofs.Commands.{planOf, adds, goesOn, grown, step-kind, step-adds, Leads}
+use Rattle.reading.proofs.Edges.{NewEdge, not-bad-edge}
+use Rattle.reading.proofs.Limits.{empty-fits, leads-fit}
+use Rattle.reading.proofs.Walk.{walk-on, walk-ended}
 use Rattle.plan.specs.declared.record.Plan.{Plan}
+use Rattle.plan.specs.declared.fault.Fault.{Fault}
+use Rattle.plan.specs.declared.fault.Outcome.the-variants.{Refused}
 use Rattle.reading.specs.declared.reader.Progress.{Progress}
 use Rattle.reading.specs.declared.reader.Reading.{Reading}
-use Rattle.plan.specs.declared.fault.Outcome.the-variants.{Refused}
-use Rattle.plan.specs.declared.fault.Fault.{Fault}
 use Rattle.reading.specs.declared.command.Command.{Command}
 use Rattle.reading.specs.declared.command.Command.the-variants.{Rule, Unit as UnitOf, Edge, End, Fault as Faulty}
 
-module _ (p : Plan) (at : ℕ) (s : List ℕ) where
-  -- once a UNIT is read no RULE comes any more
-  pub units-begun : 0 < p .«unit_count» → 1 ≤ groupOf (commandAt p at s)
-  unfolding lateRule
-  units-begun h = go (commandAt p at s) refl
-    where
-      go : (x : Command) → commandAt p at s ≡ x → 1 ≤ groupOf x
-      go (Rule head positive negative) e =
-          absurd (true≢false (sym (ap (λ (t : Bool). t || ltb 0 (p .«edge_count»)) (lt-ltb 0 (p .«unit_count») h)) ∙ carried-rule p at s head positive negative e .passed .0))
-      go (UnitOf word) e = omega arith
-      go (Edge u v) e = omega arith
-      go End e = omega arith
-      go (Faulty f) e = omega arith
+-- ---- the order of kinds
 
-  -- once an EDGE is read neither a RULE nor a UNIT comes any more
-  pub edges-begun : 0 < p .«edge_count» → 2 ≤ groupOf (commandAt p at s)
-  unfolding lateRule lateUnit
-  edges-begun h = go (commandAt p at s) refl
-    where
-      late : (a b : Bool) → b ≡ true → a || b ≡ false → ⊥
-      late true b t f = true≢false f
-      late false b t f = true≢false (sym t ∙ f)
+-- how many commands of the kind the record has
+abbrev count : Plan → Kind → ℕ
+count p rule = p .«rule_count»
+count p unit = p .«unit_count»
+count p edge = p .«edge_count»
+count p end = 0
 
-      go : (x : Command) → commandAt p at s ≡ x → 2 ≤ groupOf x
-      go (Rule head positive negative) e =
-          absurd (late (ltb 0 (p .«unit_count»)) _ (lt-ltb 0 (p .«edge_count») h) (carried-rule p at s head positive negative e .passed .0))
-      go (UnitOf word) e = absurd (true≢false (sym (lt-ltb 0 (p .«edge_count») h) ∙ carried-unit p at s word e .passed .0))
-      go (Edge u v) e = omega arith
-      go End e = omega arith
-      go (Faulty f) e = omega arith
+-- once a command of kind k is read, none of an earlier kind is in place
+in-order : (p : Plan) (k j : Kind) → 0 < count p k → later p j ≤ 0 → orderOf k ≤ orderOf j
+in-order p rule j h l = omega arith
+in-order p unit rule h l = absurd (omega arith)
+in-order p unit unit h l = omega arith
+in-order p unit edge h l = omega arith
+in-order p unit end h l = omega arith
+in-order p edge rule h l = absurd (omega arith)
+in-order p edge unit h l = absurd (omega arith)
+in-order p edge edge h l = omega arith
+in-order p edge end h l = omega arith
+in-order p end j h l = absurd (omega arith)
+
+order-end : (k : Kind) → orderOf k ≤ orderOf end
+order-end rule = omega arith
+order-end unit = omega arith
+order-end edge = omega arith
+order-end end = omega arith
+
+-- one command more is counted, and is at most one EDGE more
+record Counted (p q : Plan) (k : Kind) : Type 0 where
+  some : 0 < count q k
+  few-edges : q .«edge_count» ≤ suc (p .«edge_count»)
+
+grown-counted : (p : Plan) (k : Kind) (operands : List ℕ) → adds k ≡ true → Counted p (grown p k operands) k
+unfolding withRule withUnit withEdge carrying
+grown-counted p rule operands a = record { some = omega arith; few-edges = omega arith }
+grown-counted p unit operands a = record { some = omega arith; few-edges = omega arith }
+grown-counted p edge operands a = record { some = omega arith; few-edges = omega arith }
+grown-counted p end operands a = absurd (true≢false (sym a))
+
+counted : (p q : Plan) (at : ℕ) (s : List ℕ) (k : Kind) → Leads k p at s q → Counted p q k
+counted p q at s k l = subst (λ (z : Plan). Counted p z k) (l .is) (grown-counted p k (l .read .operands) (l .more))
+
+past-after : (p : Plan) (k : Kind) → 0 < count p k → (at : ℕ) (s : List ℕ) → orderOf k ≤ orderOf (kindOfStep (stepOf p (commandAt p at s)))
+past-after p k h at s = go (front p at s)
+  where
+    go : Front p at s → orderOf k ≤ orderOf (kindOfStep (stepOf p (commandAt p at s)))
+    go (unstopped j u) = rw (u .command, step-kind p j (u .operands)) (in-order p k j h (u .in-place .on-time))
+    go (stopped f e) = rw e (order-end k)
+
+-- a command that goes on was stopped by no row
+leads : (p : Plan) (at : ℕ) (s : List ℕ) (k : Kind) (q : Plan) → stepOf p (commandAt p at s) ≡ onward k q → Leads k p at s q
+leads p at s k q e = go (front p at s)
+  where
+    is : (j : Kind) (u : Unstopped j p at s) → stepOf p (carrying j (u .operands)) ≡ onward k q → Leads k p at s q
+    is j u t =
+        let same : j ≡ k = sym (step-kind p j (u .operands)) ∙ ap kindOfStep t in
+        let more : adds j ≡ true = sym (step-adds p j (u .operands)) ∙ ap goesOn t in
+        let there : Leads j p at s q = record { read = u; more = more; is = ap planOf t } in
+        subst (λ (i : Kind). Leads i p at s q) same there
+
+    go : Front p at s → Leads k p at s q
+    go (unstopped j u) = is j u (ap (stepOf p) (sym (u .command)) ∙ e)
+    go (stopped f z) = absurd (true≢false (sym (ap goesOn (ap (stepOf p) (sym z) ∙ e))))
+
+-- ---- one turn of a loop
 
 -- the place behind one command more
-pub record Taken (group : ℕ) (bytes : List ℕ) (at size : ℕ) (taken : Plan) : Type 0 where
-  pub inside : at + size ≤ length bytes
-  pub fitting : Fitting taken
-  pub reached : Reached group bytes (placeAt bytes taken (at + size))
+pub record Taken (k : Kind) (bytes : List ℕ) (r : Progress) (q : Plan) : Type 0 where
+  pub leads : Leads k (r .plan) (r .at) (drop (r .at) bytes) q
+  pub inside : r .at + commandBytes k ≤ length bytes
+  pub reached : Reached k bytes (placeAt bytes q (r .at + commandBytes k))
 
-module _ (bytes : List ℕ) (r : Progress) where
-  step : (group size : ℕ) (q : Plan) → Fitting q → q .«edge_count» ≤ r .at + size → size ≤ length (drop (r .at) bytes) → r .at ≤ length bytes
-      → group ≤ groupOf (commandAt q (r .at + size) (drop (r .at + size) bytes))
-      → walk (r .plan) (r .at) 0 (drop (r .at) bytes) ≡ reading bytes
-      → walk (r .plan) (r .at) 0 (drop (r .at) bytes) ≡ walk q (r .at + size) 0 (drop size (drop (r .at) bytes))
-      → Taken group bytes (r .at) size q
-  step group size q fit few long within past same next =
-      let inside : r .at + size ≤ length bytes = omega (arith, length-drop (r .at) bytes) in
-      record {
-        inside = inside;
-        fitting = fit;
-        reached =
-            record {
-              fitting = fit;
-              within = inside;
-              few-edges = few;
-              command-there = refl;
-              past = past;
-              same = ap (walk q (r .at + size) 0) (sym (drop-drop size (r .at) bytes)) ∙ sym next ∙ same;
-            };
-      }
-
-  pub after-rule : (h b n : ℕ) → Reached 0 bytes r → r .command ≡ Rule h b n
-      → (r .plan .«rule_count» < 64) × Taken 0 bytes (r .at) (commandBytes rule) (withRule (r .plan) h b n)
-  unfolding withRule
-  after-rule h b n R e =
-      let there : commandAt (r .plan) (r .at) (drop (r .at) bytes) ≡ Rule h b n = sym (R .command-there) ∙ e in
-      let c = carried-rule (r .plan) (r .at) (drop (r .at) bytes) h b n there in
-      let room : r .plan .«rule_count» < 64 = leb-false _ _ (c .passed .1 .0) in
-      let long : 24 ≤ length (c .operands) = ltb-false _ _ (c .passed .1 .1 .0) in
-      let l : length (drop (r .at) bytes) ≡ suc (length (c .operands)) = ap length (c .bytes) in (
-        room,
-        step 0 (commandBytes rule) (withRule (r .plan) h b n) (record { rules-fit = omega arith; units-fit = R .fitting .units-fit })
-            (omega (arith, R .few-edges)) (omega arith) (R .within) (omega arith) (R .same) (walk-on (r .plan) (r .at) _ (Rule h b n) there),
-      )
-
-  pub after-unit : (w : ℕ) → Reached 1 bytes r → r .command ≡ UnitOf w
-      → (r .plan .«unit_count» < 16) × Taken 1 bytes (r .at) (commandBytes unit) (withUnit (r .plan) w)
-  unfolding withUnit
-  after-unit w R e =
-      let there : commandAt (r .plan) (r .at) (drop (r .at) bytes) ≡ UnitOf w = sym (R .command-there) ∙ e in
-      let c = carried-unit (r .plan) (r .at) (drop (r .at) bytes) w there in
-      let room : r .plan .«unit_count» < 16 = leb-false _ _ (c .passed .1 .0) in
-      let long : 8 ≤ length (c .operands) = ltb-false _ _ (c .passed .1 .1 .0) in
-      let l : length (drop (r .at) bytes) ≡ suc (length (c .operands)) = ap length (c .bytes) in (
-        room,
-        step 1 (commandBytes unit) (withUnit (r .plan) w) (record { rules-fit = R .fitting .rules-fit; units-fit = omega arith })
-            (omega (arith, R .few-edges)) (omega arith) (R .within) (units-begun (withUnit (r .plan) w) _ _ (omega arith)) (R .same)
-            (walk-on (r .plan) (r .at) _ (UnitOf w) there),
-      )
-
-  pub after-edge : (u v : ℕ) → Reached 2 bytes r → r .command ≡ Edge u v
-      → ((u < 16) × (v < 16)) × Taken 2 bytes (r .at) (commandBytes edge) (withEdge (r .plan) u v)
-  unfolding withEdge carrying
-  after-edge u v R e =
-      let there : commandAt (r .plan) (r .at) (drop (r .at) bytes) ≡ Edge u v = sym (R .command-there) ∙ e in
-      let c = carried-edge (r .plan) (r .at) (drop (r .at) bytes) u v there in
-      let new = not-bad-edge (r .plan) _ _ (c .passed .1 .0) in
-      let is : Edge (getD (c .operands) 0 0) (getD (c .operands) 1 0) ≡ Edge u v = c .command in
-      let iu : getD (c .operands) 0 0 ≡ u = cc in
-      let iv : getD (c .operands) 1 0 ≡ v = cc in
-      let long : 2 ≤ length (c .operands) = ltb-false _ _ (c .passed .0) in
-      let l : length (drop (r .at) bytes) ≡ suc (length (c .operands)) = ap length (c .bytes) in
-      let few = R .fitting .units-fit in (
-        (omega (arith, new .from-there), omega (arith, new .to-there)),
-        step 2 (commandBytes edge) (withEdge (r .plan) u v) (record { rules-fit = R .fitting .rules-fit; units-fit = R .fitting .units-fit })
-            (omega (arith, R .few-edges)) (omega arith) (R .within) (edges-begun (withEdge (r .plan) u v) _ _ (omega arith)) (R .same)
-            (walk-on (r .plan) (r .at) _ (Edge u v) there),
-      )
-
--- a command that is of no group before `group`, and not of it either, is of a later one
-pub past-on : (group : ℕ) (bytes : List ℕ) (r : Progress) → Reached group bytes r → suc group ≤ groupOf (r .command) → Reached (suc group) bytes r
-past-on group bytes r R h =
+pub taken : (k : Kind) (bytes : List ℕ) (r : Progress) (x : Command) (q : Plan) → Reached k bytes r → r .command ≡ x
+    → stepOf (r .plan) x ≡ onward k q → Taken k bytes r q
+taken k bytes r x q R e t =
+    let at = r .at in
+    let size = commandBytes k in
+    let step : stepOf (r .plan) (commandAt (r .plan) at (drop at bytes)) ≡ onward k q =
+    ap (stepOf (r .plan)) (sym (R .command-there) ∙ e) ∙ t in
+    let m = leads (r .plan) at (drop at bytes) k q step in
+    let more = counted (r .plan) q at (drop at bytes) k m in
+    let whole : length (drop at bytes) ≡ suc (length (m .read .operands)) = ap length (m .read .bytes) in
+    let inside : at + size ≤ length bytes = omega (arith, length-drop at bytes, m .read .long, R .within) in
     record {
-      fitting = R .fitting;
-      within = R .within;
-      few-edges = R .few-edges;
-      command-there = R .command-there;
-      past = h;
-      same = R .same;
+      leads = m;
+      inside = inside;
+      reached =
+          record {
+            fitting = leads-fit (r .plan) q at (drop at bytes) k (R .fitting) m;
+            within = inside;
+            few-edges = omega (arith, R .few-edges, more .few-edges);
+            command-there = refl;
+            past = past-after q k (more .some) (at + size) (drop (at + size) bytes);
+            same = ap (walk q (at + size) 0) (sym (drop-drop size at bytes)) ∙ sym (walk-on (r .plan) at (drop at bytes) k q step) ∙ R .same;
+          };
     }
+
+-- an EDGE that no row stops is new
+pub edge-there : (p : Plan) (at : ℕ) (s : List ℕ) (u v : ℕ) → Unstopped edge p at s → commandAt p at s ≡ Edge u v → NewEdge p u v
+unfolding carrying
+edge-there p at s u v l e =
+    let same : Edge (getD (l .operands) 0 0) (getD (l .operands) 1 0) ≡ Edge u v = sym (l .command) ∙ e in
+    let is-u : getD (l .operands) 0 0 ≡ u = cc in
+    let is-v : getD (l .operands) 1 0 ≡ v = cc in
+    rw (is-u, is-v) at (not-bad-edge p (getD (l .operands) 0 0) (getD (l .operands) 1 0) (l .right .0))
+
+abbrev pub Turn : {k : Kind} {bytes : List ℕ} {r : Progress} → Reached k bytes r → Type 0
+Turn {k} {bytes} {r} R = (q : Plan) × Taken k bytes r q
+
+-- the next turn: p and next are the record and the place that the code has then
+module _ {k : Kind} {bytes : List ℕ} {r : Progress} {q : Plan} (t : Taken k bytes r q) (p : Plan) (e : p ≡ q) where
+  pub taken-fits : Fitting p
+  taken-fits = rw e (t .reached .fitting)
+
+  pub taken-there : (next : Progress) → next ≡ placeAt bytes p (r .at + commandBytes k) → Reached k bytes next
+  taken-there next f = rw (f, e) (t .reached)
+
+  pub taken-less : (next : Progress) → next ≡ placeAt bytes p (r .at + commandBytes k) → length bytes - next .at < length bytes - r .at
+  taken-less next f = let z : next .at ≡ r .at + commandBytes k = ap (λ (x : Progress). x .at) f in omega (arith, t .inside)
 
 pub place-is : (bytes : List ℕ) (taken : Plan) (at : ℕ) (x : Command) → x ≡ commandAt taken at (drop at bytes)
     → _≡_ {A = Progress} (record { plan = taken; at = at; command = x }) (placeAt bytes taken at)
 place-is bytes taken at x e = ap (λ (y : Command). record { plan = taken; at = at; command = y }) e
 
 -- nothing is read yet
-pub start : (bytes : List ℕ) → Reached 0 bytes (placeAt bytes emptyPlan 0)
+pub start : (bytes : List ℕ) (q : Plan) (r : Progress) → q ≡ emptyPlan → r ≡ placeAt bytes q 0 → Reached rule bytes r
 unfolding emptyPlan reading
-start bytes =
-    record {
-      fitting = record { rules-fit = omega arith; units-fit = omega arith };
+start bytes q r e f =
+    rw (f, e)
+    (record {
+      fitting = empty-fits;
       within = omega arith;
       few-edges = omega arith;
       command-there = refl;
       past = omega arith;
       same = refl;
+    })
+
+-- ---- the end of a loop
+
+-- the tags of commands are in the order of kinds, and that of a fault comes last
+tag-order : (p : Plan) (x : Command) → orderOf (kindOfStep (stepOf p x)) ≡ min (orderOf end) (tagOf the-type x)
+tag-order p (Rule head positive negative) = refl
+tag-order p (UnitOf word) = refl
+tag-order p (Edge u v) = refl
+tag-order p End = refl
+tag-order p (Faulty f) = refl
+
+-- a command that the loop of kind k did not take is of a later kind
+pub passed-by : (k next : Kind) (tags bytes : List ℕ) (r : Progress) → Reached k bytes r → OneOf tags (tagOf the-type (r .command))
+    → T (not (hasKey tags (orderOf k))) → orderOf k < orderOf end → orderOf next ≡ suc (orderOf k) → Reached next bytes r
+passed-by k next tags bytes r R o not-k before n =
+    let other : ¬ (tagOf the-type (r .command) ≡ orderOf k) = λ e. miss tags (orderOf k) not-k (subst (OneOf tags) e o) in
+    record {
+      fitting = R .fitting;
+      within = R .within;
+      few-edges = R .few-edges;
+      command-there = R .command-there;
+      past = omega (arith, R .past, tag-order (r .plan) (r .command));
+      same = R .same;
     }
 
-pub empty-fits : (q : Plan) → q ≡ emptyPlan → Fitting q
-empty-fits q e = subst (λ (x : Plan). Fitting x) (sym e) (start [] .fitting)
-
-pub start-there : (bytes : List ℕ) (q : Plan) (r : Progress) → q ≡ emptyPlan → r ≡ placeAt bytes q 0 → Reached 0 bytes r
-start-there bytes q r e f = subst (λ (x : Progress). Reached 0 bytes x) (sym (f ∙ ap (λ (x : Plan). placeAt bytes x 0) e)) (start bytes)
-
--- the next turn of a loop: q and r are the record and the place that the code has then
-module _ (group : ℕ) (bytes : List ℕ) (at size : ℕ) (taken q : Plan) (t : Taken group bytes at size taken) (e : q ≡ taken) where
-  pub taken-fits : Fitting q
-  taken-fits = subst (λ (x : Plan). Fitting x) (sym e) (t .fitting)
-
-  pub taken-there : (r : Progress) → r ≡ placeAt bytes q (at + size) → Reached group bytes r
-  taken-there r f = subst (λ (x : Progress). Reached group bytes x) (sym (f ∙ ap (λ (x : Plan). placeAt bytes x (at + size)) e)) (t .reached)
-
-  pub taken-less : 0 < size → (r : Progress) → r ≡ placeAt bytes q (at + size) → length bytes - r .at < length bytes - at
-  taken-less pos r f = let z : r .at ≡ at + size = ap (λ (x : Progress). x .at) f in omega (arith, t .inside)
-
--- a command that the loop of a group did not take is of a later group
-pub past-rules : (x : Command) → OneOf (1 ∷ 2 ∷ 3 ∷ 4 ∷ []) (tagOf the-type x) → 1 ≤ groupOf x
-past-rules (Rule head positive negative) o = absurd (miss (1 ∷ 2 ∷ 3 ∷ 4 ∷ []) 0 tt o)
-past-rules (UnitOf word) o = omega arith
-past-rules (Edge u v) o = omega arith
-past-rules End o = omega arith
-past-rules (Faulty f) o = omega arith
-
-pub past-units : (x : Command) → OneOf (0 ∷ 2 ∷ 3 ∷ 4 ∷ []) (tagOf the-type x) → 1 ≤ groupOf x → 2 ≤ groupOf x
-past-units (Rule head positive negative) o h = absurd (omega arith)
-past-units (UnitOf word) o h = absurd (miss (0 ∷ 2 ∷ 3 ∷ 4 ∷ []) 1 tt o)
-past-units (Edge u v) o h = omega arith
-past-units End o h = omega arith
-past-units (Faulty f) o h = omega arith
-
-pub past-edges : (x : Command) → OneOf (0 ∷ 1 ∷ 3 ∷ 4 ∷ []) (tagOf the-type x) → 2 ≤ groupOf x → 3 ≤ groupOf x
-past-edges (Rule head positive negative) o h = absurd (omega arith)
-past-edges (UnitOf word) o h = absurd (omega arith)
-past-edges (Edge u v) o h = absurd (miss (0 ∷ 1 ∷ 3 ∷ 4 ∷ []) 2 tt o)
-past-edges End o h = omega arith
-past-edges (Faulty f) o h = omega arith
-
-at-end : (x : Command) → OneOf (0 ∷ 1 ∷ 2 ∷ 3 ∷ []) (tagOf the-type x) → 3 ≤ groupOf x → x ≡ End
-at-end (Rule head positive negative) o h = absurd (omega arith)
-at-end (UnitOf word) o h = absurd (omega arith)
-at-end (Edge u v) o h = absurd (omega arith)
-at-end End o h = refl
-at-end (Faulty f) o h = absurd (miss (0 ∷ 1 ∷ 2 ∷ 3 ∷ []) 4 tt o)
-
 -- behind all EDGEs stands END or a fault
-module _ (bytes : List ℕ) (r : Progress) (R : Reached 3 bytes r) where
-  pub ended : OneOf (0 ∷ 1 ∷ 2 ∷ 3 ∷ []) (tagOf the-type (r .command)) → accepted (r .plan) ≡ reading bytes
-  ended o = sym (walk-on (r .plan) (r .at) _ End (sym (R .command-there) ∙ at-end (r .command) o (R .past))) ∙ R .same
+module _ (bytes : List ℕ) (r : Progress) (R : Reached end bytes r) where
+  at-end : (x : Command) → OneOf (0 ∷ 1 ∷ 2 ∷ 3 ∷ []) (tagOf the-type x) → orderOf end ≤ orderOf (kindOfStep (stepOf (r .plan) x)) → x ≡ End
+  at-end (Rule head positive negative) o h = absurd (omega arith)
+  at-end (UnitOf word) o h = absurd (omega arith)
+  at-end (Edge u v) o h = absurd (omega arith)
+  at-end End o h = refl
+  at-end (Faulty f) o h = absurd (miss (0 ∷ 1 ∷ 2 ∷ 3 ∷ []) 4 tt o)
 
-  pub stopped : (f : Fault) (q : Plan) → r .command ≡ Faulty f → q ≡ emptyPlan → _≡_ {A = Reading} (record { outcome = Refused f; plan = q }) (reading bytes)
-  stopped f q e z =
-      ap (λ (x : Plan). record { outcome = Refused f; plan = x }) z ∙ sym (walk-on (r .plan) (r .at) _ (Faulty f) (sym (R .command-there) ∙ e)) ∙ R .same
+  there : (x : Command) → r .command ≡ x → stepOf (r .plan) (commandAt (r .plan) (r .at) (drop (r .at) bytes)) ≡ stepOf (r .plan) x
+  there x e = ap (stepOf (r .plan)) (sym (R .command-there) ∙ e)
+
+  pub accepted-here : OneOf (0 ∷ 1 ∷ 2 ∷ 3 ∷ []) (tagOf the-type (r .command)) → accepted (r .plan) ≡ reading bytes
+  accepted-here o = sym (walk-ended (r .plan) (r .at) _ (accepted (r .plan)) (there End (at-end (r .command) o (R .past)))) ∙ R .same
+
+  pub refused-here : (f : Fault) (q : Plan) → r .command ≡ Faulty f → q ≡ emptyPlan
+      → _≡_ {A = Reading} (record { outcome = Refused f; plan = q }) (reading bytes)
+  refused-here f q e z =
+      ap (λ (x : Plan). record { outcome = Refused f; plan = x }) z
+      ∙ sym (walk-ended (r .plan) (r .at) _ (refused f) (there (Faulty f) e)) ∙ R .same

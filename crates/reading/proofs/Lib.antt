@@ -3,10 +3,11 @@ pub mod Units
 pub mod Edges
 pub mod Commands
 pub mod Walk
-pub mod Groups
-pub mod Records
-pub mod RoundTrip
-pub mod Pigeonhole
-pub mod Accepted
 pub mod Limits
+pub mod Groups
+pub mod Predecessors
+pub mod Pigeonhole
+pub mod Elements
+pub mod RoundTrip
+pub mod Accepted
 pub mod Prefix

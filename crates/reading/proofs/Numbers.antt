@@ -6,51 +6,71 @@ use native.Mathlib.Omega.{arith}
 use native.Mathlib.Nat.{pow-le-pow-right, pow-succ', pow-zero}
 use lib.ListN.{length, take, drop, getD, length-drop}
 use lib.Seq.{drop-cons, take-at, drop-at, length-take-le}
-use Rattle.reading.specs.Words.{number, wordAt}
+use Rattle.reading.specs.Words.{WORD_BYTES, BYTE_VALUES, WORD_VALUES, number, wordAt}
 use Rattle.reading.specs.Layout.{bytesOf, wordBytes, IsByte, All}
 
 -- one byte more in front
-pub number-step : (s : List ℕ) (at k : ℕ) → at < length s → number (take (suc k) (drop at s)) ≡ getD s at 0 + 256 * number (take k (drop (suc at) s))
+pub number-step : (s : List ℕ) (at k : ℕ) → at < length s
+    → number (take (suc k) (drop at s)) ≡ getD s at 0 + BYTE_VALUES * number (take k (drop (suc at) s))
 unfolding number
 number-step s at k h = rw (drop-cons s at 0 h)
 
--- a number of k bytes with one byte more below it still fits a word, for k below 8
-pub byte-below-fits : (i w b : ℕ) → 0 < i → i ≤ 8 → w < 256 ^ (8 - i) → b < 256 → w * 256 + b < 2 ^ 64
-byte-below-fits i w b pos i≤8 w< b< =
-    let e : 256 ^ suc (8 - i) ≡ 256 * 256 ^ (8 - i) = pow-succ' 256 (8 - i) in
-    let le : 256 ^ suc (8 - i) ≤ 256 ^ 8 = pow-le-pow-right (omega arith) {i = suc (8 - i)} {j = 8} (omega arith) in
-    omega (arith, e, le)
+-- ---- a word built from its highest byte down
 
--- the number of the bytes from place i - 1 on, from that of the bytes from place i on
-pub byte-below : (s : List ℕ) (at i w b : ℕ) → 0 < i → i ≤ 8 → at + 8 ≤ length s → w < 256 ^ (8 - i) → w ≡ number (take (8 - i) (drop (at + i) s)) → b < 256 → b ≡ getD s (at + (i - 1)) 0
-    → (w * 256 + b < 256 ^ (8 - (i - 1))) × (w * 256 + b ≡ number (take (8 - (i - 1)) (drop (at + (i - 1)) s)))
-byte-below s at zero w b pos i≤8 fits w< e b< eb = absurd (omega arith)
-byte-below s at (suc i) w b pos i≤8 fits w< e b< eb =
-    let k : 8 - (suc i - 1) ≡ suc (8 - suc i) = omega arith in
+-- w is the word's part from byte i on
+pub record Built (s : List ℕ) (at i w : ℕ) : Type 0 where
+  pub within : i ≤ WORD_BYTES
+  pub below : w < BYTE_VALUES ^ (WORD_BYTES - i)
+  pub is : w ≡ number (take (WORD_BYTES - i) (drop (at + i) s))
+
+-- with one byte more below it, it still fits a word
+pub built-fits : {s : List ℕ} {at i w : ℕ} (b : ℕ) → Built s at i w → 0 < i → b < BYTE_VALUES → w * BYTE_VALUES + b < WORD_VALUES
+built-fits {s} {at} {i} {w} b h pos b< =
+    let k : ℕ = WORD_BYTES - i in
+    let more : BYTE_VALUES ^ suc k ≡ BYTE_VALUES * BYTE_VALUES ^ k = pow-succ' BYTE_VALUES k in
+    let most : BYTE_VALUES ^ suc k ≤ WORD_VALUES =
+    pow-le-pow-right (omega arith) {i = suc k} {j = WORD_BYTES} (omega (arith, h .within)) in
+    omega (arith, h .below)
+
+pub built-more : {s : List ℕ} {at w : ℕ} (i b : ℕ) → Built s at i w → 0 < i → at + WORD_BYTES ≤ length s → b < BYTE_VALUES
+    → b ≡ getD s (at + (i - 1)) 0 → Built s at (i - 1) (w * BYTE_VALUES + b)
+built-more {s} {at} {w} zero b h pos fits b< eb = absurd (omega arith)
+built-more {s} {at} {w} (suc i) b h pos fits b< eb =
+    let k : WORD_BYTES - (suc i - 1) ≡ suc (WORD_BYTES - suc i) = omega (arith, h .within) in
     let p : at + (suc i - 1) ≡ at + i = omega arith in
     let q : at + suc i ≡ suc (at + i) = omega arith in
-    let r : 256 ^ suc (8 - suc i) ≡ 256 * 256 ^ (8 - suc i) = pow-succ' 256 (8 - suc i) in
-    let w' : w ≡ number (take (8 - suc i) (drop (suc (at + i)) s)) = rw q at e in
+    let more = pow-succ' BYTE_VALUES (WORD_BYTES - suc i) in
+    let w' : w ≡ number (take (WORD_BYTES - suc i) (drop (suc (at + i)) s)) = rw q at (h .is) in
     let b' : b ≡ getD s (at + i) 0 = rw p at eb in
-    (rw k (omega (arith, r)), rw (k, p) (omega (arith, number-step s (at + i) (8 - suc i) (omega arith))))
+    record {
+      within = omega (arith, h .within);
+      below = rw k (omega (arith, more, h .below));
+      is = rw (k, p) (omega (arith, number-step s (at + i) (WORD_BYTES - suc i) (omega (arith, h .within))));
+    }
 
--- the invariant at the end
-pub number-whole : (s : List ℕ) (at i w : ℕ) → i ≤ 0 → w ≡ number (take (8 - i) (drop (at + i) s)) → w ≡ number (take 8 (drop at s))
-number-whole s at zero w h e = let z : at + 0 ≡ at = omega arith in e ∙ ap (λ (k : ℕ). number (take 8 (drop k s))) z
-number-whole s at (suc i) w h e = absurd (omega arith)
+pub built-none : (s : List ℕ) (at : ℕ) → Built s at WORD_BYTES 0
+unfolding number
+built-none s at = record { within = omega arith; below = omega arith; is = refl }
+
+pub built-whole : {s : List ℕ} {at w : ℕ} (i : ℕ) → Built s at i w → i ≤ 0 → w ≡ wordAt at s
+unfolding wordAt
+built-whole {s} {at} {w} zero h l = let z : at + 0 ≡ at = omega arith in rw z at (h .is)
+built-whole {s} {at} {w} (suc i) h l = absurd (omega arith)
+
+-- ---- bytes and numbers
 
 pub length-bytes : (k w : ℕ) → length (bytesOf k w) ≡ k
 unfolding bytesOf
 length-bytes zero w = refl
-length-bytes (suc k) w = ap suc (length-bytes k (w / 256))
+length-bytes (suc k) w = ap suc (length-bytes k (w / BYTE_VALUES))
 
 -- bytes and back
-pub number-bytes : (k w : ℕ) → w < 256 ^ k → number (bytesOf k w) ≡ w
+pub number-bytes : (k w : ℕ) → w < BYTE_VALUES ^ k → number (bytesOf k w) ≡ w
 unfolding number bytesOf
-number-bytes zero w h = omega (arith, pow-zero 256)
+number-bytes zero w h = omega (arith, pow-zero BYTE_VALUES)
 number-bytes (suc k) w h =
-    let e : 256 ^ suc k ≡ 256 * 256 ^ k = pow-succ' 256 k in
-    let rec : number (bytesOf k (w / 256)) ≡ w / 256 = number-bytes k (w / 256) (omega arith) in
+    let e : BYTE_VALUES ^ suc k ≡ BYTE_VALUES * BYTE_VALUES ^ k = pow-succ' BYTE_VALUES k in
+    let rec : number (bytesOf k (w / BYTE_VALUES)) ≡ w / BYTE_VALUES = number-bytes k (w / BYTE_VALUES) (omega arith) in
     omega arith
 
 -- a number and back
@@ -58,17 +78,17 @@ pub bytes-number : (s : List ℕ) → All IsByte s → bytesOf (length s) (numbe
 unfolding number bytesOf
 bytes-number [] h = refl
 bytes-number (b ∷ s) h =
-    let l : b < 256 = h .0 in
-    let low : (b + 256 * number s) % 256 ≡ b = omega arith in
-    let high : (b + 256 * number s) / 256 ≡ number s = omega arith in
+    let l : b < BYTE_VALUES = h .0 in
+    let low : (b + BYTE_VALUES * number s) % BYTE_VALUES ≡ b = omega arith in
+    let high : (b + BYTE_VALUES * number s) / BYTE_VALUES ≡ number s = omega arith in
     rw (low, high) (ap (λ (t : List ℕ). b ∷ t) (bytes-number s (h .1)))
 
-pub number-fits : (s : List ℕ) → All IsByte s → number s < 256 ^ length s
+pub number-fits : (s : List ℕ) → All IsByte s → number s < BYTE_VALUES ^ length s
 unfolding number
-number-fits [] h = omega (arith, pow-zero 256)
+number-fits [] h = omega (arith, pow-zero BYTE_VALUES)
 number-fits (b ∷ s) h =
-    let l : b < 256 = h .0 in
-    let e : 256 ^ suc (length s) ≡ 256 * 256 ^ length s = pow-succ' 256 (length s) in
+    let l : b < BYTE_VALUES = h .0 in
+    let e : BYTE_VALUES ^ suc (length s) ≡ BYTE_VALUES * BYTE_VALUES ^ length s = pow-succ' BYTE_VALUES (length s) in
     let rec = number-fits s (h .1) in
     omega arith
 
@@ -83,23 +103,26 @@ all-drop P (suc n) [] h = tt
 all-drop P (suc n) (x ∷ s) h = all-drop P n s (h .1)
 
 -- the word behind n bytes
-pub word-behind : (a : List ℕ) (n w : ℕ) (t : List ℕ) → length a ≡ n → w < 2 ^ 64 → wordAt n (a ++ (wordBytes w ++ t)) ≡ w
+pub word-behind : (a : List ℕ) (n w : ℕ) (t : List ℕ) → length a ≡ n → w < WORD_VALUES → wordAt n (a ++ (wordBytes w ++ t)) ≡ w
 unfolding wordAt
 word-behind a n w t e h =
-    ap (λ (s : List ℕ). number (take 8 s)) (drop-at a (wordBytes w ++ t) n e) ∙ ap number (take-at (wordBytes w) t 8 (length-bytes 8 w)) ∙ number-bytes 8 w h
+    rw (drop-at a (wordBytes w ++ t) n e, take-at (wordBytes w) t WORD_BYTES (length-bytes WORD_BYTES w)) (number-bytes WORD_BYTES w h)
 
--- a word is the eight bytes that it is read from, and fits
-module _ (s : List ℕ) (n : ℕ) (long : n + 8 ≤ length s) (bytes : All IsByte s) where
-  eight : length (take 8 (drop n s)) ≡ 8
-  eight = length-take-le 8 (drop n s) (omega (arith, length-drop n s))
+-- a word is the bytes that it is read from, and fits
+module _ (s : List ℕ) (n : ℕ) (long : n + WORD_BYTES ≤ length s) (bytes : All IsByte s) where
+  abbrev part : List ℕ
+  part = take WORD_BYTES (drop n s)
 
-  small : All IsByte (take 8 (drop n s))
-  small = all-take _ 8 (drop n s) (all-drop _ n s bytes)
+  part-long : length part ≡ WORD_BYTES
+  part-long = length-take-le WORD_BYTES (drop n s) (omega (arith, length-drop n s))
 
-  pub word-bytes : wordBytes (wordAt n s) ≡ take 8 (drop n s)
+  small : All IsByte part
+  small = all-take _ WORD_BYTES (drop n s) (all-drop _ n s bytes)
+
+  pub word-bytes : wordBytes (wordAt n s) ≡ part
   unfolding wordAt
-  word-bytes = ap (λ (k : ℕ). bytesOf k (number (take 8 (drop n s)))) (sym eight) ∙ bytes-number (take 8 (drop n s)) small
+  word-bytes = ap (λ (k : ℕ). bytesOf k (number part)) (sym part-long) ∙ bytes-number part small
 
-  pub word-fits : wordAt n s < 2 ^ 64
+  pub word-fits : wordAt n s < WORD_VALUES
   unfolding wordAt
-  word-fits = subst (λ (k : ℕ). number (take 8 (drop n s)) < 256 ^ k) eight (number-fits (take 8 (drop n s)) small)
+  word-fits = subst (λ (k : ℕ). number part < BYTE_VALUES ^ k) part-long (number-fits part small)

@@ -1,6 +1,6 @@
--- At most 240 edges join 16 units: each takes a number below 240 of its own.
+-- At most MAX_EDGES edges join MAX_UNITS units: each takes a number below MAX_EDGES of its own.
 use mathlib.Core.Path.{_≡_, ap, sym, _∙_, subst}
-use mathlib.Core.List.{List, [], _∷_}
+use mathlib.Core.List.{List, [], _∷_, List·Memᴰ, List·Memᴰ·head, List·Memᴰ·tail}
 use mathlib.Core.Logic.{_⊎_, inl, inr}
 use Prim.Native.Nat.{ℕ, min, _+_, _*_, _-_, _≤_, _<_}
 use native.Mathlib.Omega.{arith}
@@ -10,10 +10,14 @@ use lib.ListN.{length}
 use Rattle.atoms.specs.Word.{Has, _∪_, atom}
 use Rattle.atoms.proofs.Sets.{has-none, has-left, has-right, has-atom, atom-only, union-cases, lt-of-has}
 use Rattle.atoms.proofs.Counting.{count-lt}
-use Rattle.reading.specs.Layout.{UnitPair, All, Member, Distinct, GoodEdge}
-use Rattle.reading.proofs.Records.{pair-is}
+use Rattle.plan.specs.Limits.{MAX_UNITS, MAX_EDGES}
+use Rattle.reading.specs.Layout.{UnitPair, All, Distinct, GoodEdge}
+use Rattle.reading.proofs.Predecessors.{pair-is}
 
--- fifteen numbers for each u: the v below it, then those above
+-- a number for each other unit of u: the v below it, then those above
+abbrev OTHERS : ℕ
+OTHERS = MAX_UNITS - 1
+
 place : ℕ → ℕ → ℕ
 place u v = v - min 1 (v - u)
 
@@ -25,23 +29,23 @@ place-below : (u v : ℕ) → v ≤ u → place u v ≡ v
 unfolding place
 place-below u v h = omega arith
 
-place-lt : (e : UnitPair) → GoodEdge 16 e → place (e .u) (e .v) < 15
+place-lt : (e : UnitPair) → GoodEdge MAX_UNITS e → place (e .u) (e .v) < OTHERS
 unfolding place
 place-lt e g = omega (arith, g .from-there, g .to-there, g .apart)
 
 slot : UnitPair → ℕ
-slot e = 15 * e .u + place (e .u) (e .v)
+slot e = OTHERS * e .u + place (e .u) (e .v)
 
 slots : List UnitPair → ℕ
 slots [] = 0
 slots (e ∷ edges) = slots edges ∪ atom (slot e)
 
-slot-below : (e : UnitPair) → GoodEdge 16 e → slot e < 240
+slot-below : (e : UnitPair) → GoodEdge MAX_UNITS e → slot e < MAX_EDGES
 unfolding slot
 slot-below e g = omega (arith, g .from-there, place-lt e g)
 
--- the two digits of a number in base 15
-digits : (a b c d : ℕ) → b < 15 → d < 15 → 15 * a + b ≡ 15 * c + d → (a ≡ c) × (b ≡ d)
+-- the two digits of a number in base OTHERS
+digits : (a b c d : ℕ) → b < OTHERS → d < OTHERS → OTHERS * a + b ≡ OTHERS * c + d → (a ≡ c) × (b ≡ d)
 digits a b c d l k e = (omega arith, omega arith)
 
 place-own : (u v w : ℕ) → ¬ (u ≡ v) → ¬ (u ≡ w) → place u v ≡ place u w → v ≡ w
@@ -53,23 +57,24 @@ place-own u v w d n e = go (decLt u v) (decLt u w)
     go (no p) (yes q) = absurd (omega (arith, place-below u v (omega arith), place-above u w q))
     go (no p) (no q) = omega (arith, place-below u v (omega arith), place-below u w (omega arith))
 
-slot-own : (d e : UnitPair) → GoodEdge 16 d → GoodEdge 16 e → slot d ≡ slot e → d ≡ e
+slot-own : (d e : UnitPair) → GoodEdge MAX_UNITS d → GoodEdge MAX_UNITS e → slot d ≡ slot e → d ≡ e
 unfolding slot
 slot-own d e g h q =
     let z = digits (d .u) (place (d .u) (d .v)) (e .u) (place (e .u) (e .v)) (place-lt d g) (place-lt e h) q in
     let n : ¬ (d .u ≡ e .v) = λ k. h .apart (sym (z .0) ∙ k) in
     pair-is (z .0) (place-own (d .u) (d .v) (e .v) (g .apart) n (z .1 ∙ ap (λ (x : ℕ). place x (e .v)) (sym (z .0))))
 
-slot-taken : (edges : List UnitPair) (e : UnitPair) → All (GoodEdge 16) edges → GoodEdge 16 e → Has (slots edges) (slot e) → Member e edges
+slot-taken : (edges : List UnitPair) (e : UnitPair) → All (GoodEdge MAX_UNITS) edges → GoodEdge MAX_UNITS e → Has (slots edges) (slot e)
+    → List·Memᴰ e edges
 unfolding slots
 slot-taken [] e a g h = absurd (has-none h)
 slot-taken (x ∷ edges) e a g h = go (slot-taken edges e (a .1) g) (union-cases (slots edges) (atom (slot x)) h)
   where
-    go : (Has (slots edges) (slot e) → Member e edges) → Has (slots edges) (slot e) ⊎ Has (atom (slot x)) (slot e) → Member e (x ∷ edges)
-    go rec (inl k) = inr (rec k)
-    go rec (inr k) = inl (slot-own e x g (a .0) (sym (atom-only (slot x) k)))
+    go : (Has (slots edges) (slot e) → List·Memᴰ e edges) → Has (slots edges) (slot e) ⊎ Has (atom (slot x)) (slot e) → List·Memᴰ e (x ∷ edges)
+    go rec (inl k) = List·Memᴰ·tail (rec k)
+    go rec (inr k) = List·Memᴰ·head (slot-own e x g (a .0) (sym (atom-only (slot x) k)))
 
-count-slots : (edges : List UnitPair) → All (GoodEdge 16) edges → Distinct edges → length edges ≤ ones (slots edges)
+count-slots : (edges : List UnitPair) → All (GoodEdge MAX_UNITS) edges → Distinct edges → length edges ≤ ones (slots edges)
 unfolding slots
 count-slots [] a d = omega arith
 count-slots (e ∷ edges) a d =
@@ -78,14 +83,14 @@ count-slots (e ∷ edges) a d =
     (has-right (slots edges) (atom (slot e)) (has-atom (slot e))) (λ h. d .0 (slot-taken edges e (a .1) (a .0) h)) in
     omega arith
 
-slots-below : (edges : List UnitPair) → All (GoodEdge 16) edges → (i : ℕ) → Has (slots edges) i → i < 240
+slots-below : (edges : List UnitPair) → All (GoodEdge MAX_UNITS) edges → (i : ℕ) → Has (slots edges) i → i < MAX_EDGES
 unfolding slots
 slots-below [] a i h = absurd (has-none h)
 slots-below (e ∷ edges) a i h = go (slots-below edges (a .1) i) (union-cases (slots edges) (atom (slot e)) h)
   where
-    go : (Has (slots edges) i → i < 240) → Has (slots edges) i ⊎ Has (atom (slot e)) i → i < 240
+    go : (Has (slots edges) i → i < MAX_EDGES) → Has (slots edges) i ⊎ Has (atom (slot e)) i → i < MAX_EDGES
     go rec (inl k) = rec k
-    go rec (inr k) = subst (λ (j : ℕ). j < 240) (atom-only (slot e) k) (slot-below e (a .0))
+    go rec (inr k) = subst (λ (j : ℕ). j < MAX_EDGES) (atom-only (slot e) k) (slot-below e (a .0))
 
-pub edges-at-most : (edges : List UnitPair) → All (GoodEdge 16) edges → Distinct edges → length edges ≤ 240
-edges-at-most edges a d = omega (arith, count-slots edges a d, ones-le 240 (slots edges) (lt-of-has (slots edges) 240 (slots-below edges a)))
+pub edges-at-most : (edges : List UnitPair) → All (GoodEdge MAX_UNITS) edges → Distinct edges → length edges ≤ MAX_EDGES
+edges-at-most edges a d = omega (arith, count-slots edges a d, ones-le MAX_EDGES (slots edges) (lt-of-has (slots edges) MAX_EDGES (slots-below edges a)))

@@ -1,39 +1,31 @@
--- The first 2,467 bytes decide what reading gives. Every command that is read ends by byte 2,464, since its place follows from
--- how many rules, units and edges the record has; and a command shows its fault within three bytes more. By induction on the
--- bytes, each command is the same with what lies behind cut off.
+-- The first DECIDING_BYTES bytes decide what reading gives. The place of a command follows from how many rules, units and edges the record
+-- has, so every command that is read ends in time; and a command shows its fault within three bytes more. So each command is the same with
+-- what lies behind cut off.
 use mathlib.Core.Path.{_≡_, refl, ap, sym, _∙_, subst}
-use mathlib.Core.List.{List, [], _∷_}
-use mathlib.Core.Bool.{Bool, true, false}
+use mathlib.Core.List.{List, [], _∷_, _++_}
+use mathlib.Core.Bool.{Bool, true, false, true≢false}
 use mathlib.Core.Option.{Option, some, none}
-use mathlib.Core.Logic.{inl, inr}
-use Prim.Native.Nat.{ℕ, zero, suc, _+_, _*_, _≤_, _<_}
+use Prim.Native.Nat.{ℕ, zero, suc, _+_, _*_, _-_, _≤_, _<_}
 use native.Mathlib.Omega.{arith}
-use native.Mathlib.Decide.{ℕ-discrete, decLt}
-use lib.Dec.{leb, ltb}
-use lib.ListN.{length, take, drop, getD, set, length-take, length-set}
-use lib.Seq.{take-nil, take-take, getD-take, getD-set-same, getD-set-other}
-use borrow.Author.Tests.{lt-ltb, le-ltb, ltb-false, leb-false}
-use Rattle.atoms.specs.Word.{Has, _∪_, atom}
-use Rattle.atoms.proofs.Sets.{decides-has, has-left, has-right, has-atom}
-use Rattle.atoms.proofs.Tests.{decided-true, not-both}
+use native.Mathlib.Decide.{decLt}
+use lib.Dec.{ltb}
+use lib.ListN.{length, take, drop, length-take}
+use lib.Seq.{take-nil, take-take, getD-take}
+use borrow.Author.Tests.{lt-ltb, le-ltb}
+use Rattle.plan.specs.Record.{emptyPlan}
 use Rattle.reading.specs.Words.{WORD_BYTES, number, wordAt}
-use Rattle.plan.specs.Limits.{MAX_RULES, MAX_UNITS, MAX_EDGES}
-use Rattle.plan.specs.Record.{Fitting, emptyPlan, withRule, withUnit, withEdge}
-use Rattle.reading.specs.Commands.{Kind, rule, unit, edge, end, kindOf, operandBytes, carrying, ofKind, commandAt, lateRule, lateUnit}
-use Rattle.reading.specs.Reading.{walk, reading, commandBytes}
-use Rattle.reading.specs.Layout.{UnitPair, All, Member, Distinct, GoodEdge}
-use Rattle.reading.proofs.Edges.{or-false, NewEdge, not-bad-edge}
-use Rattle.reading.proofs.Commands.{known-command, unknown-command, carried-rule, carried-unit, carried-edge}
-use Rattle.reading.proofs.Groups.{empty-fits}
-use Rattle.reading.proofs.Pigeonhole.{edges-at-most}
-use Rattle.reading.proofs.Limits.{rule-fits, unit-fits, edge-fits}
+use Rattle.reading.specs.Commands.{Kind, rule, unit, edge, end, kindOf, operandBytes, carrying, Row, kindRows, operandRows}
+use Rattle.reading.specs.Commands.{firstFit, ofKind, commandAt}
+use Rattle.reading.specs.Reading.{ended, stepOf, walk, reading, accepted, refused, commandBytes, DECIDING_BYTES}
+use Rattle.reading.specs.Layout.{Contents, recordOf}
+use Rattle.reading.proofs.Commands.{Passed, InPlace, passed-in-place, known-command, unknown-command, adds, Leads, leads-step}
+use Rattle.reading.proofs.Elements.{Element, nothing, with, length-snoc, Held, held-none, few-edges, record-none, more}
+use Rattle.reading.proofs.RoundTrip.{end-step}
+use Rattle.reading.proofs.Walk.{walk-on, walk-ended, walk-keeps}
 use Rattle.plan.specs.declared.record.Plan.{Plan}
+use Rattle.plan.specs.declared.fault.Fault.the-variants.{Truncated}
+use Rattle.reading.specs.declared.reader.Reading.{Reading}
 use Rattle.reading.specs.declared.command.Command.{Command}
-use Rattle.reading.specs.declared.command.Command.the-variants.{Rule, Unit as UnitOf, Edge, End, Fault as Faulty}
-
--- the bytes of 64 RULEs, 16 UNITs and 240 EDGEs, and of one EDGE more, which is complete only with its last byte
-abbrev pub DECIDING_BYTES : ℕ
-DECIDING_BYTES = 2467
 
 -- ---- what a command looks at
 
@@ -66,209 +58,130 @@ word-kept : (at m : ℕ) (s : List ℕ) → at + WORD_BYTES ≤ m → wordAt at 
 unfolding wordAt
 word-kept at m s h = ap number (part-kept WORD_BYTES at m s h)
 
+drop-taken : (k m : ℕ) (s : List ℕ) → drop k (take m s) ≡ take (m - k) (drop k s)
+drop-taken zero m s = let e : m - 0 ≡ m = omega arith in rw e
+drop-taken (suc k) zero s = let e : 0 - suc k ≡ 0 = omega arith in rw e
+drop-taken (suc k) (suc m) [] = sym (take-nil (suc m - suc k))
+drop-taken (suc k) (suc m) (b ∷ s) = let e : suc m - suc k ≡ m - k = omega arith in rw e (drop-taken k m s)
+
+-- the rows and the command behind them are the same, unless a row of the kind alone fits
+rows-kept : (rs others rest : List Row) (x y : Command) → (Passed rs → firstFit others x ≡ firstFit rest y)
+    → firstFit (rs ++ others) x ≡ firstFit (rs ++ rest) y
+rows-kept [] others rest x y h = h tt
+rows-kept (r ∷ rs) others rest x y h = go (r .fits) refl (rows-kept rs others rest x y)
+  where
+    go : (b : Bool) → r .fits ≡ b → ((Passed rs → firstFit others x ≡ firstFit rest y) → firstFit (rs ++ others) x ≡ firstFit (rs ++ rest) y)
+        → firstFit ((r ∷ rs) ++ others) x ≡ firstFit ((r ∷ rs) ++ rest) y
+    go true t rec = rw t
+    go false t rec = rw t (rec (λ p. h (t, p)))
+
 module _ (p : Plan) (at m : ℕ) (s : List ℕ) where
-  kind-kept : (k : Kind) → looksAt k ≤ m → ofKind p at k (take m s) ≡ ofKind p at k s
-  unfolding ofKind carrying
-  kind-kept rule h =
-      rw (short-kept (operandBytes rule) m s h, word-kept 0 m s (omega arith), word-kept WORD_BYTES m s (omega arith), word-kept (2 * WORD_BYTES) m s (omega arith))
-  kind-kept unit h = rw (short-kept (operandBytes unit) m s h, word-kept 0 m s (omega arith))
-  kind-kept edge h = rw (short-kept (operandBytes edge) m s h, getD-take m s 0 0 (omega arith), getD-take m s 1 0 (omega arith))
-  kind-kept end h = rw (some-kept m s h)
+  operands-kept : (k : Kind) → looksAt k ≤ m
+      → firstFit (operandRows p at k (take m s)) (carrying k (take m s)) ≡ firstFit (operandRows p at k s) (carrying k s)
+  unfolding carrying
+  operands-kept rule h = rw (word-kept 0 m s (omega arith), word-kept WORD_BYTES m s (omega arith), word-kept (2 * WORD_BYTES) m s (omega arith))
+  operands-kept unit h = rw (word-kept 0 m s (omega arith))
+  operands-kept edge h = rw (getD-take m s 0 0 (omega arith), getD-take m s 1 0 (omega arith))
+  operands-kept end h = rw (some-kept m s h)
 
-  -- a RULE or UNIT that is late or too many is refused whatever its operands are
-  rule-kept : (lateRule p ≡ false → leb MAX_RULES (p .«rule_count») ≡ false → operandBytes rule ≤ m) → ofKind p at rule (take m s) ≡ ofKind p at rule s
+  kind-kept : (k : Kind) → (InPlace p k → looksAt k ≤ m) → operandBytes k ≤ looksAt k → ofKind p at k (take m s) ≡ ofKind p at k s
   unfolding ofKind
-  rule-kept f = go (lateRule p) refl (leb MAX_RULES (p .«rule_count»)) refl
-    where
-      go : (a : Bool) → lateRule p ≡ a → (b : Bool) → leb MAX_RULES (p .«rule_count») ≡ b → ofKind p at rule (take m s) ≡ ofKind p at rule s
-      go true late b many = rw late
-      go false late true many = rw (late, many)
-      go false late false many = kind-kept rule (f late many)
-
-  unit-kept : (lateUnit p ≡ false → leb MAX_UNITS (p .«unit_count») ≡ false → operandBytes unit ≤ m) → ofKind p at unit (take m s) ≡ ofKind p at unit s
-  unfolding ofKind
-  unit-kept f = go (lateUnit p) refl (leb MAX_UNITS (p .«unit_count»)) refl
-    where
-      go : (a : Bool) → lateUnit p ≡ a → (b : Bool) → leb MAX_UNITS (p .«unit_count») ≡ b → ofKind p at unit (take m s) ≡ ofKind p at unit s
-      go true late b many = rw late
-      go false late true many = rw (late, many)
-      go false late false many = kind-kept unit (f late many)
+  kind-kept k h l =
+      let short : Row = record { fits = ltb (length s) (operandBytes k); fault = Truncated at } in
+      let x = carrying k (take m s) in
+      rows-kept (kindRows p at k) _ (short ∷ operandRows p at k s) x (carrying k s)
+      (λ r.
+      let near = h (passed-in-place p at k r) in
+      rw (short-kept (operandBytes k) m s (omega arith))
+      (rows-kept (short ∷ []) (operandRows p at k (take m s)) (operandRows p at k s) x (carrying k s) (λ q. operands-kept k near)))
 
 -- ---- how far reading has come
 
--- p is read and the next command stands at `at`: the counts tell where that is, and the edges are good, each read once
-record ReadTo (p : Plan) (at : ℕ) : Type 0 where
-  edges : List UnitPair
-  fitting : Fitting p
-  rows : length (p .predecessors) ≡ MAX_UNITS
-  counted : p .«edge_count» ≡ length edges
-  good : All (GoodEdge MAX_UNITS) edges
-  no-repeat : Distinct edges
-  known : (e : UnitPair) → Member e edges → Has (getD (p .predecessors) (e .u) 0) (e .v)
-  placed : at ≡ commandBytes rule * p .«rule_count» + commandBytes unit * p .«unit_count» + commandBytes edge * p .«edge_count»
+-- where the next command stands, behind those of the lists
+abbrev placeBehind : Contents → ℕ
+placeBehind c = commandBytes rule * length (c .rules) + commandBytes unit * length (c .units) + commandBytes edge * length (c .edges)
 
-module _ (p : Plan) (at : ℕ) (r : ReadTo p at) where
-  few-edges : p .«edge_count» ≤ MAX_EDGES
-  few-edges = omega (arith, r .counted, edges-at-most (r .edges) (r .good) (r .no-repeat))
+place-with : (c : Contents) (k : Kind) (x : Element k) → adds k ≡ true → placeBehind (with c k x) ≡ placeBehind c + commandBytes k
+place-with c rule r a = omega (arith, length-snoc (c .rules) r)
+place-with c unit w a = omega (arith, length-snoc (c .units) w)
+place-with c edge e a = omega (arith, length-snoc (c .edges) e)
+place-with c end x a = absurd (true≢false (sym a))
 
-  -- one more EDGE ends by then
-  near : at + commandBytes edge ≤ DECIDING_BYTES
-  near = omega (arith, r .placed, r .fitting .rules-fit, r .fitting .units-fit, few-edges)
+looks-long : (k : Kind) → operandBytes k ≤ looksAt k
+looks-long rule = omega arith
+looks-long unit = omega arith
+looks-long edge = omega arith
+looks-long end = omega arith
 
-read-none : ReadTo emptyPlan 0
-unfolding emptyPlan
-read-none = record {
-  edges = [];
-  fitting = empty-fits emptyPlan refl;
-  rows = refl;
-  counted = refl;
-  good = tt;
-  no-repeat = tt;
-  known = λ e m. absurd m;
-  placed = omega arith;
-}
+-- what lies behind the first n bytes is cut off; reading on from here gives what reading the cut bytes from the start gives
+record Cut (n : ℕ) (result : Reading) (p : Plan) (at : ℕ) (s : List ℕ) : Type 0 where
+  contents : Contents
+  held : Held contents
+  record-is : p ≡ recordOf contents
+  placed : at ≡ placeBehind contents
+  same : walk p at 0 (take (n - at) s) ≡ result
 
-module _ (p : Plan) (at : ℕ) (s : List ℕ) (r : ReadTo p at) where
-  read-rule : (h b n : ℕ) → commandAt p at s ≡ Rule h b n → ReadTo (withRule p h b n) (at + commandBytes rule)
-  unfolding withRule
-  read-rule h b n e = record {
-    edges = r .edges;
-    fitting = rule-fits p at s h b n (r .fitting) e;
-    rows = r .rows;
-    counted = r .counted;
-    good = r .good;
-    no-repeat = r .no-repeat;
-    known = r .known;
-    placed = omega (arith, r .placed);
-  }
+module _ (n : ℕ) (long : DECIDING_BYTES ≤ n) where
+  -- what a command that is in place looks at is kept
+  near : (c : Contents) → Held c → (k : Kind) → InPlace (recordOf c) k → placeBehind c + suc (looksAt k) ≤ n
+  unfolding recordOf
+  near c h rule i = omega (arith, i .on-time, i .room)
+  near c h unit i = omega (arith, i .on-time, i .room, h .few .few-rules)
+  near c h edge i = omega (arith, h .few .few-rules, h .few .few-units, few-edges c h)
+  near c h end i = omega (arith, h .few .few-rules, h .few .few-units, few-edges c h)
 
-  read-unit : (w : ℕ) → commandAt p at s ≡ UnitOf w → ReadTo (withUnit p w) (at + commandBytes unit)
-  unfolding withUnit
-  read-unit w e = record {
-    edges = r .edges;
-    fitting = unit-fits p at s w (r .fitting) e;
-    rows = r .rows;
-    counted = r .counted;
-    good = r .good;
-    no-repeat = r .no-repeat;
-    known = r .known;
-    placed = omega (arith, r .placed);
-  }
+  module _ (result : Reading) (p : Plan) (at : ℕ) (s : List ℕ) (cut : Cut n result p at s) where
+    near-by : (k : Kind) → InPlace p k → at + suc (looksAt k) ≤ n
+    near-by k i = rw (cut .placed) (near (cut .contents) (cut .held) k (rw (cut .record-is) at i))
 
--- a row keeps its atoms, and has the new one
-row-keeps : (rows : List ℕ) (u v : ℕ) → u < length rows → (i j : ℕ) → Has (getD rows i 0) j → Has (getD (set rows u (getD rows u 0 ∪ atom v)) i 0) j
-row-keeps rows u v l i j h = go (ℕ-discrete i u)
-  where
-    go : Dec (i ≡ u) → Has (getD (set rows u (getD rows u 0 ∪ atom v)) i 0) j
-    go (yes e) =
-        subst (λ (k : ℕ). Has (getD (set rows u (getD rows u 0 ∪ atom v)) k 0) j) (sym e)
-        (subst (λ (w : ℕ). Has w j) (sym (getD-set-same rows u (getD rows u 0 ∪ atom v) 0 l))
-        (has-left (getD rows u 0) (atom v) (subst (λ (k : ℕ). Has (getD rows k 0) j) e h)))
-    go (no n) = subst (λ (w : ℕ). Has w j) (sym (getD-set-other rows u i (getD rows u 0 ∪ atom v) 0 n)) h
+    kept : commandAt p at (take (n - at) s) ≡ commandAt p at s
+    kept = go (n - at) (omega (arith, near-by edge (record { on-time = omega arith; room = tt }))) s
+      where
+        go : (m : ℕ) → m + at ≡ n → (t : List ℕ) → commandAt p at (take m t) ≡ commandAt p at t
+        go m left [] = ap (commandAt p at) (take-nil m)
+        go zero left (b ∷ t) = absurd (omega (arith, near-by edge (record { on-time = omega arith; room = tt })))
+        go (suc m) left (b ∷ t) = by-kind (kindOf b) refl
+          where
+            by-kind : (x : Option Kind) → kindOf b ≡ x → commandAt p at (b ∷ take m t) ≡ commandAt p at (b ∷ t)
+            by-kind none e = unknown-command p at b (take m t) e ∙ sym (unknown-command p at b t e)
+            by-kind (some k) e =
+                known-command p at b (take m t) k e ∙ kind-kept p at m t k (λ h. omega (arith, near-by k h)) (looks-long k)
+                ∙ sym (known-command p at b t k e)
 
-row-has : (rows : List ℕ) (u v : ℕ) → u < length rows → Has (getD (set rows u (getD rows u 0 ∪ atom v)) u 0) v
-row-has rows u v l =
-    subst (λ (w : ℕ). Has w v) (sym (getD-set-same rows u (getD rows u 0 ∪ atom v) 0 l)) (has-right (getD rows u 0) (atom v) (has-atom v))
+    on : (q : Plan) (k : Kind) → Leads k p at s q → Cut n result q (at + commandBytes k) (drop (commandBytes k) s)
+    on q k l =
+        let c = cut .contents in
+        let size = commandBytes k in
+        let lead : Leads k (recordOf c) at s q = subst (λ (z : Plan). Leads k z at s q) (cut .record-is) l in
+        let m = more c k at s q (cut .held) lead in
+        let step = ap (stepOf p) kept ∙ leads-step p at s k q l in
+        let less : n - at - size ≡ n - (at + size) = omega arith in
+        let rest : drop size (take (n - at) s) ≡ take (n - (at + size)) (drop size s) =
+        drop-taken size (n - at) s ∙ ap (λ (j : ℕ). take j (drop size s)) less in
+        record {
+          contents = with c k _;
+          held = m .held;
+          record-is = m .is;
+          placed = ap (λ (j : ℕ). j + size) (cut .placed) ∙ sym (place-with c k _ (l .more));
+          same = ap (walk q (at + size) 0) (sym rest) ∙ sym (walk-on p at (take (n - at) s) k q step) ∙ cut .same;
+        }
 
-same-edge : (a b u v : ℕ) → Edge a b ≡ Edge u v → (a ≡ u) × (b ≡ v)
-same-edge a b u v e = (cc, cc)
-
-module _ (p : Plan) (at : ℕ) (s : List ℕ) (r : ReadTo p at) (u v : ℕ) (e : commandAt p at s ≡ Edge u v) where
-  new-edge : NewEdge p u v
-  unfolding carrying
-  new-edge =
-      let c = carried-edge p at s u v e in
-      let same = same-edge (getD (c .operands) 0 0) (getD (c .operands) 1 0) u v (c .command) in
-      subst (NewEdge p u) (same .1)
-      (subst (λ (x : ℕ). NewEdge p x (getD (c .operands) 1 0)) (same .0)
-      (not-bad-edge p (getD (c .operands) 0 0) (getD (c .operands) 1 0) (c .passed .1 .0)))
-
-  row-there : u < length (p .predecessors)
-  row-there = omega (arith, r .rows, new-edge .from-there, r .fitting .units-fit)
-
-  abbrev this : UnitPair
-  this = record { u = u; v = v }
-
-  known-after : (x : UnitPair) → Member x (this ∷ r .edges) → Has (getD (set (p .predecessors) u (getD (p .predecessors) u 0 ∪ atom v)) (x .u) 0) (x .v)
-  known-after x (inl q) =
-      subst (λ (y : UnitPair). Has (getD (set (p .predecessors) u (getD (p .predecessors) u 0 ∪ atom v)) (y .u) 0) (y .v)) (sym q)
-      (row-has (p .predecessors) u v row-there)
-  known-after x (inr m) = row-keeps (p .predecessors) u v row-there (x .u) (x .v) (r .known x m)
-
-  read-edge : ReadTo (withEdge p u v) (at + commandBytes edge)
-  unfolding withEdge
-  read-edge = record {
-    edges = this ∷ r .edges;
-    fitting = edge-fits p u v (r .fitting);
-    rows = length-set (p .predecessors) u (getD (p .predecessors) u 0 ∪ atom v) ∙ r .rows;
-    counted = omega (arith, r .counted);
-    good = (
-      record {
-        from-there = omega (arith, new-edge .from-there, r .fitting .units-fit);
-        to-there = omega (arith, new-edge .to-there, r .fitting .units-fit);
-        apart = new-edge .apart;
-      },
-      r .good,
-    );
-    no-repeat = (
-      λ m. not-both (decided-true (decides-has (getD (p .predecessors) u 0) v) (r .known this m)) (new-edge .fresh),
-      r .no-repeat,
-    );
-    known = known-after;
-    placed = omega (arith, r .placed);
-  }
-
--- ---- what lies behind is cut off
-
-module _ (n : ℕ) (long : DECIDING_BYTES ≤ n) (p : Plan) (at m : ℕ) (r : ReadTo p at) (left : suc m + at ≡ n) where
-  of-kind-kept : (k : Kind) (s : List ℕ) → ofKind p at k (take m s) ≡ ofKind p at k s
-  unfolding lateRule lateUnit
-  of-kind-kept rule s =
-      rule-kept p at m s
-      (λ late many.
-      let on-time = or-false (ltb 0 (p .«unit_count»)) (ltb 0 (p .«edge_count»)) late in
-      let no-units : p .«unit_count» ≤ 0 = ltb-false 0 (p .«unit_count») (on-time .0) in
-      let no-edges : p .«edge_count» ≤ 0 = ltb-false 0 (p .«edge_count») (on-time .1) in
-      let room : p .«rule_count» < MAX_RULES = leb-false MAX_RULES (p .«rule_count») many in
-      omega (arith, r .placed))
-  of-kind-kept unit s =
-      unit-kept p at m s
-      (λ late many.
-      let no-edges : p .«edge_count» ≤ 0 = ltb-false 0 (p .«edge_count») late in
-      let room : p .«unit_count» < MAX_UNITS = leb-false MAX_UNITS (p .«unit_count») many in
-      omega (arith, r .placed, r .fitting .rules-fit))
-  of-kind-kept edge s = kind-kept p at m s edge (omega (arith, near p at r))
-  of-kind-kept end s = kind-kept p at m s end (omega (arith, near p at r))
-
-  command-kept : (b : ℕ) (s : List ℕ) → commandAt p at (b ∷ take m s) ≡ commandAt p at (b ∷ s)
-  command-kept b s = go (kindOf b) refl
-    where
-      go : (x : Option Kind) → kindOf b ≡ x → commandAt p at (b ∷ take m s) ≡ commandAt p at (b ∷ s)
-      go none e = unknown-command p at b (take m s) e ∙ sym (unknown-command p at b s e)
-      go (some k) e = known-command p at b (take m s) k e ∙ of-kind-kept k s ∙ sym (known-command p at b s k e)
-
-walk-kept : (n : ℕ) → DECIDING_BYTES ≤ n → (p : Plan) (at skip m : ℕ) (s : List ℕ) → ReadTo p at → m + at ≡ n + skip → walk p at skip (take m s) ≡ walk p at skip s
-unfolding walk
-walk-kept n long p at skip m [] r left = ap (walk p at skip) (take-nil m)
-walk-kept n long p at skip zero (b ∷ s) r left = absurd (omega (arith, near p at r))
-walk-kept n long p at (suc skip) (suc m) (b ∷ s) r left = walk-kept n long p at skip m s r (omega arith)
-walk-kept n long p at zero (suc m) (b ∷ s) r left =
-    go (commandAt p at (b ∷ s)) refl (command-kept n long p at m r (omega arith) b s) (λ q a k. walk-kept n long q a k m s)
-  where
-    go : (x : Command) → commandAt p at (b ∷ s) ≡ x → commandAt p at (b ∷ take m s) ≡ x
-        → ((q : Plan) (a k : ℕ) → ReadTo q a → m + a ≡ n + k → walk q a k (take m s) ≡ walk q a k s)
-        → walk p at zero (b ∷ take m s) ≡ walk p at zero (b ∷ s)
-    go (Rule h c d) e cut rec =
-        rw (e, cut, walk)
-        (rec (withRule p h c d) (at + commandBytes rule) (operandBytes rule) (read-rule p at (b ∷ s) r h c d e) (omega arith))
-    go (UnitOf w) e cut rec =
-        rw (e, cut, walk) (rec (withUnit p w) (at + commandBytes unit) (operandBytes unit) (read-unit p at (b ∷ s) r w e) (omega arith))
-    go (Edge u v) e cut rec =
-        rw (e, cut, walk) (rec (withEdge p u v) (at + commandBytes edge) (operandBytes edge) (read-edge p at (b ∷ s) r u v e) (omega arith))
-    go End e cut rec = rw (e, cut, walk)
-    go (Faulty f) e cut rec = rw (e, cut, walk)
+    ended-so : (x : Reading) → stepOf p (commandAt p at s) ≡ ended x → result ≡ x
+    ended-so x e = sym (cut .same) ∙ walk-ended p at (take (n - at) s) x (ap (stepOf p) kept ∙ e)
 
 -- reading keeps its whole result, outcome and record, where only the first n bytes are kept
 pub reading-prefix : (n : ℕ) (bytes : List ℕ) → DECIDING_BYTES ≤ n → reading (take n bytes) ≡ reading bytes
 unfolding reading
-reading-prefix n bytes long = walk-kept n long emptyPlan 0 0 n bytes read-none (omega arith)
+reading-prefix n bytes long =
+    let result : Reading = reading (take n bytes) in
+    let none : n - 0 ≡ n = omega arith in
+    walk-keeps (Cut n result) (λ x. result ≡ x) (λ p q at s k c l. on n long result p at s c q k l)
+    (λ p at s c e. ended-so n long result p at s c (accepted p) (rw e (end-step p at)))
+    (λ p at s f c e. ended-so n long result p at s c (refused f) (ap (stepOf p) e)) emptyPlan 0 bytes
+    (record {
+      contents = nothing;
+      held = held-none;
+      record-is = sym record-none;
+      placed = omega arith;
+      same = ap (λ (m : ℕ). walk emptyPlan 0 0 (take m bytes)) none;
+    })

@@ -1,36 +1,75 @@
--- Reading on, command by command: each law takes one command off the front.
-use mathlib.Core.Path.{_≡_, refl, subst}
+-- Reading on, command by command. `walk-keeps` is the one induction over what is left to read.
+use mathlib.Core.Path.{_≡_, refl, ap, sym, _∙_, subst}
 use mathlib.Core.List.{List, [], _∷_}
-use Prim.Native.Nat.{ℕ, zero, suc, _+_}
-use lib.ListN.{drop}
-use Rattle.reading.specs.Commands.{rule, unit, edge, operandBytes, commandAt}
-use Rattle.plan.specs.Record.{withRule, withUnit, withEdge}
-use Rattle.reading.specs.Reading.{walk, accepted, refused, commandBytes}
+use mathlib.Core.Bool.{Bool, true, false, true≢false}
+use Prim.Native.Nat.{ℕ, zero, suc, _+_, _≤_, _<_}
+use native.Mathlib.Omega.{arith}
+use lib.ListN.{length, drop, length-drop}
+use borrow.Author.Tests.{ltb-false}
+use Rattle.reading.specs.Commands.{Kind, rule, unit, edge, end, operandBytes, carrying, commandAt}
+use Rattle.reading.specs.Reading.{Step, onward, ended, stepOf, walk, accepted, refused, commandBytes}
+use Rattle.reading.specs.Layout.{endBytes}
+use Rattle.reading.proofs.Commands.{Unstopped, Front, unstopped, stopped, front, adds, goesOn, Leads, leads-step}
 use Rattle.plan.specs.declared.record.Plan.{Plan}
+use Rattle.plan.specs.declared.fault.Fault.{Fault}
 use Rattle.reading.specs.declared.reader.Reading.{Reading}
-use Rattle.reading.specs.declared.command.Command.{Command}
-use Rattle.reading.specs.declared.command.Command.the-variants.{Rule, Unit as UnitOf, Edge, End, Fault as Faulty}
+use Rattle.reading.specs.declared.command.Command.the-variants.{Fault as Faulty}
 
 -- operands that are read already are stepped over
-pub walk-skip : (p : Plan) (at k : ℕ) (s : List ℕ) → walk p at k s ≡ walk p at 0 (drop k s)
+walk-skip : (p : Plan) (at k : ℕ) (s : List ℕ) → walk p at k s ≡ walk p at 0 (drop k s)
 unfolding walk
 walk-skip p at zero s = refl
 walk-skip p at (suc k) [] = refl
 walk-skip p at (suc k) (b ∷ s) = walk-skip p at k s
 
--- what reading on gives once the command at the front of s is known
-abbrev pub after : Plan → ℕ → List ℕ → Command → Reading
-after p at s (Rule head positive negative) = walk (withRule p head positive negative) (at + commandBytes rule) 0 (drop (commandBytes rule) s)
-after p at s (UnitOf word) = walk (withUnit p word) (at + commandBytes unit) 0 (drop (commandBytes unit) s)
-after p at s (Edge u v) = walk (withEdge p u v) (at + commandBytes edge) 0 (drop (commandBytes edge) s)
-after p at s End = accepted p
-after p at s (Faulty f) = refused f
+abbrev readingOf : Reading → Step → Reading
+readingOf otherwise (onward k q) = otherwise
+readingOf otherwise (ended r) = r
 
-pub walk-on : (p : Plan) (at : ℕ) (s : List ℕ) (x : Command) → commandAt p at s ≡ x → walk p at 0 s ≡ after p at s x
-unfolding walk commandAt
-walk-on p at [] x e = subst (λ (y : Command). walk p at 0 [] ≡ after p at [] y) e refl
-walk-on p at (b ∷ s) (Rule head positive negative) e = rw (e, walk) (walk-skip (withRule p head positive negative) (at + commandBytes rule) (operandBytes rule) s)
-walk-on p at (b ∷ s) (UnitOf word) e = rw (e, walk) (walk-skip (withUnit p word) (at + commandBytes unit) (operandBytes unit) s)
-walk-on p at (b ∷ s) (Edge u v) e = rw (e, walk) (walk-skip (withEdge p u v) (at + commandBytes edge) (operandBytes edge) s)
-walk-on p at (b ∷ s) End e = rw (e, walk)
-walk-on p at (b ∷ s) (Faulty f) e = rw (e, walk)
+module _ (p : Plan) (at : ℕ) where
+  pub walk-on : (s : List ℕ) (k : Kind) (q : Plan) → stepOf p (commandAt p at s) ≡ onward k q
+      → walk p at 0 s ≡ walk q (at + commandBytes k) 0 (drop (commandBytes k) s)
+  unfolding walk commandAt
+  walk-on [] k q e = absurd (true≢false (sym (ap goesOn e)))
+  walk-on (b ∷ s) k q e = rw (e, walk) (walk-skip q (at + commandBytes k) (operandBytes k) s)
+
+  pub walk-ended : (s : List ℕ) (r : Reading) → stepOf p (commandAt p at s) ≡ ended r → walk p at 0 s ≡ r
+  unfolding walk commandAt
+  walk-ended [] r e = ap (readingOf r) e
+  walk-ended (b ∷ s) r e = rw (e, walk)
+
+-- END with nothing behind it
+end-alone : (p : Plan) (at : ℕ) (s : List ℕ) → Unstopped end p at s → s ≡ endBytes
+end-alone p at s u = u .bytes ∙ ap (λ (t : List ℕ). 0x00 ∷ t) (empty (u .operands) (ltb-false _ _ (u .right .0)))
+  where
+    empty : (l : List ℕ) → length l ≤ 0 → l ≡ []
+    empty [] h = refl
+    empty (x ∷ l) h = absurd (omega arith)
+
+-- what each command keeps holds to the end: I of the record, the place and the bytes from there on; P of what reading gives
+module _ (I : Plan → ℕ → List ℕ → Type 0) (P : Reading → Type 0)
+    (on : (p q : Plan) (at : ℕ) (s : List ℕ) (k : Kind) → I p at s → Leads k p at s q → I q (at + commandBytes k) (drop (commandBytes k) s))
+    (well : (p : Plan) (at : ℕ) (s : List ℕ) → I p at s → s ≡ endBytes → P (accepted p))
+    (ill : (p : Plan) (at : ℕ) (s : List ℕ) (f : Fault) → I p at s → commandAt p at s ≡ Faulty f → P (refused f)) where
+  module _ (n : ℕ) (rec : (q : Plan) (a : ℕ) (t : List ℕ) → length t < n → I q a t → P (walk q a 0 t)) (p : Plan) (at : ℕ) (s : List ℕ)
+      (short : length s < suc n) (i : I p at s) where
+    one-more : (k : Kind) (q : Plan) → Leads k p at s q → P (walk p at 0 s)
+    one-more k q l =
+        let whole : length s ≡ suc (length (l .read .operands)) = ap length (l .read .bytes) in
+        let less : length (drop (commandBytes k) s) < n = omega (arith, length-drop (commandBytes k) s) in
+        rw (walk-on p at s k q (leads-step p at s k q l)) (rec q (at + commandBytes k) (drop (commandBytes k) s) less (on p q at s k i l))
+
+    one-step : Front p at s → P (walk p at 0 s)
+    unfolding carrying
+    one-step (unstopped rule u) = one-more rule _ (record { read = u; more = refl; is = refl })
+    one-step (unstopped unit u) = one-more unit _ (record { read = u; more = refl; is = refl })
+    one-step (unstopped edge u) = one-more edge _ (record { read = u; more = refl; is = refl })
+    one-step (unstopped end u) = rw (walk-ended p at s (accepted p) (ap (stepOf p) (u .command))) (well p at s i (end-alone p at s u))
+    one-step (stopped f e) = rw (walk-ended p at s (refused f) (ap (stepOf p) e)) (ill p at s f i e)
+
+  keeps-within : (n : ℕ) (p : Plan) (at : ℕ) (s : List ℕ) → length s < n → I p at s → P (walk p at 0 s)
+  keeps-within zero p at s l i = absurd (omega arith)
+  keeps-within (suc n) p at s l i = one-step n (keeps-within n) p at s l i (front p at s)
+
+  pub walk-keeps : (p : Plan) (at : ℕ) (s : List ℕ) → I p at s → P (walk p at 0 s)
+  walk-keeps p at s i = keeps-within (suc (length s)) p at s (omega arith) i

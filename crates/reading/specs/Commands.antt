@@ -1,6 +1,6 @@
 -- One command: its kind, its operands, and the rows of the fault table that it is held against.
 -- Document 01, "The plan" and "Faults, by where they are found", place "reading".
-use mathlib.Core.List.{List, [], _∷_}
+use mathlib.Core.List.{List, [], _∷_, _++_}
 use mathlib.Core.Bool.{Bool, true, false, _||_, _&&_}
 use mathlib.Core.Option.{Option, some, none}
 use Prim.Native.Nat.{ℕ, _+_, _*_, _^_}
@@ -13,7 +13,8 @@ use Rattle.plan.specs.declared.record.Plan.{Plan}
 use Rattle.reading.specs.declared.command.Command.{Command}
 use Rattle.reading.specs.declared.command.Command.the-variants.{Rule, Unit as UnitOf, Edge, End, Fault as Faulty}
 use Rattle.plan.specs.declared.fault.Fault.{Fault}
-use Rattle.plan.specs.declared.fault.Fault.the-variants.{Truncated, UnknownCommand, OutOfOrder, TooMany, EmptyRule, AbsentRule, BadEdge, TrailingBytes}
+use Rattle.plan.specs.declared.fault.Fault.the-variants.{Truncated, UnknownCommand, OutOfOrder, TooMany}
+use Rattle.plan.specs.declared.fault.Fault.the-variants.{EmptyRule, AbsentRule, BadEdge, TrailingBytes}
 
 -- column "command"
 pub data Kind : Type 0 where
@@ -27,20 +28,12 @@ byteOf edge = 0x03
 byteOf end = 0x00
 
 -- "One byte names a command"
+abbrev pub kindAmong : List Kind → ℕ → Option Kind
+kindAmong [] b = none
+kindAmong (kind ∷ kinds) b = elim (eqb b (byteOf kind)) [ true ↦ some kind | false ↦ kindAmong kinds b ]
+
 unfoldable pub kindOf : ℕ → Option Kind
-kindOf b =
-    elim (eqb b (byteOf rule)) [
-      | true ↦ some rule
-      | false ↦
-          elim (eqb b (byteOf unit)) [
-            | true ↦ some unit
-            | false ↦
-                elim (eqb b (byteOf edge)) [
-                  | true ↦ some edge
-                  | false ↦ elim (eqb b (byteOf end)) [ true ↦ some end | false ↦ none ]
-                ]
-          ]
-    ]
+kindOf b = kindAmong (rule ∷ unit ∷ edge ∷ end ∷ []) b
 
 -- column "operands", in bytes
 abbrev pub operandBytes : Kind → ℕ
@@ -83,26 +76,26 @@ pub record Row : Type 0 where
 abbrev row : Bool → Fault → Row
 row b f = record { fits = b; fault = f }
 
--- the rows that a command of each kind can meet, from top to bottom, once p is read and the command stands at `at`;
--- a 241st EDGE names no unit, joins a unit to itself or is a repeat, so row 5 has RULE and UNIT alone
+-- rows 4 and 5: what the kind alone tells, once p is read and the command stands at `at`; a 241st EDGE names no unit, joins a unit to
+-- itself or is a repeat, so row 5 has RULE and UNIT alone
+abbrev pub kindRows : Plan → ℕ → Kind → List Row
+kindRows p at rule = row (lateRule p) (OutOfOrder at) ∷ row (leb MAX_RULES (p .«rule_count»)) (TooMany at) ∷ []
+kindRows p at unit = row (lateUnit p) (OutOfOrder at) ∷ row (leb MAX_UNITS (p .«unit_count»)) (TooMany at) ∷ []
+kindRows p at edge = []
+kindRows p at end = []
+
+-- rows 6 to 9: what the operands tell
+abbrev pub operandRows : Plan → ℕ → Kind → List ℕ → List Row
+operandRows p at rule operands =
+    row (emptyRule (wordAt 0 operands) (wordAt WORD_BYTES operands) (wordAt (2 * WORD_BYTES) operands)) (EmptyRule at) ∷ []
+operandRows p at unit operands = row (absentRule p (wordAt 0 operands)) (AbsentRule at) ∷ []
+operandRows p at edge operands = row (badEdge p (getD operands 0 0) (getD operands 1 0)) (BadEdge at) ∷ []
+operandRows p at end operands = row (ltb 0 (length operands)) (TrailingBytes (at + 1)) ∷ []
+
+-- the rows that a command of each kind can meet, from top to bottom; row 2 stands between the two
 abbrev pub rows : Plan → ℕ → Kind → List ℕ → List Row
-rows p at rule operands =
-    row (lateRule p) (OutOfOrder at)
-    ∷ row (leb MAX_RULES (p .«rule_count»)) (TooMany at)
-    ∷ row (ltb (length operands) (operandBytes rule)) (Truncated at)
-    ∷ row (emptyRule (wordAt 0 operands) (wordAt WORD_BYTES operands) (wordAt (2 * WORD_BYTES) operands)) (EmptyRule at)
-    ∷ []
-rows p at unit operands =
-    row (lateUnit p) (OutOfOrder at)
-    ∷ row (leb MAX_UNITS (p .«unit_count»)) (TooMany at)
-    ∷ row (ltb (length operands) (operandBytes unit)) (Truncated at)
-    ∷ row (absentRule p (wordAt 0 operands)) (AbsentRule at)
-    ∷ []
-rows p at edge operands =
-    row (ltb (length operands) (operandBytes edge)) (Truncated at)
-    ∷ row (badEdge p (getD operands 0 0) (getD operands 1 0)) (BadEdge at)
-    ∷ []
-rows p at end operands = row (ltb 0 (length operands)) (TrailingBytes (at + 1)) ∷ []
+rows p at kind operands =
+    kindRows p at kind ++ (row (ltb (length operands) (operandBytes kind)) (Truncated at) ∷ operandRows p at kind operands)
 
 -- "inside a place the first row that fits counts": its fault, or the command where no row fits
 abbrev pub firstFit : List Row → Command → Command

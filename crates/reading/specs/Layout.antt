@@ -1,13 +1,13 @@
 -- The bytes of a plan and its record, from its lists. Document 01, "The plan", written down apart from the reader.
 use mathlib.Core.Path.{_≡_}
-use mathlib.Core.List.{List, [], _∷_, _++_}
+use mathlib.Core.List.{List, [], _∷_, _++_, flatMap, List·Memᴰ}
 use mathlib.Core.Bool.{true, false}
-use mathlib.Core.Logic.{_⊎_}
-use Prim.Native.Nat.{ℕ, zero, suc, _*_, _-_, _/_, _%_, _^_, _≤_, _<_}
+use Prim.Native.Nat.{ℕ, zero, suc, _*_, _/_, _%_, _^_, _≤_, _<_}
 use lib.Dec.{eqb}
-use lib.ListN.{length, replicate}
+use lib.ListN.{length}
+use Rattle.atoms.specs.Lists.{padded, tabulate}
 use Rattle.atoms.specs.Word.{_∪_, atom}
-use Rattle.reading.specs.Words.{WORD_BYTES}
+use Rattle.reading.specs.Words.{WORD_BYTES, BYTE_VALUES, WORD_VALUES}
 use Rattle.plan.specs.Limits.{MAX_RULES, MAX_UNITS, MAX_EDGES, RULE_WORDS}
 use Rattle.plan.specs.declared.record.Plan.{Plan}
 
@@ -25,7 +25,7 @@ pub record UnitPair : Type 0 where
 -- the lowest k bytes of w, lowest first
 unfoldable pub bytesOf : ℕ → ℕ → List ℕ
 bytesOf zero w = []
-bytesOf (suc k) w = w % 256 ∷ bytesOf k (w / 256)
+bytesOf (suc k) w = w % BYTE_VALUES ∷ bytesOf k (w / BYTE_VALUES)
 
 -- "Words are 64 bits, lowest byte first"
 abbrev pub wordBytes : ℕ → List ℕ
@@ -44,18 +44,15 @@ edgeBytes e = 0x03 ∷ e .u ∷ e .v ∷ []
 abbrev pub endBytes : List ℕ
 endBytes = 0x00 ∷ []
 
--- one after the other
-abbrev pub each : {A : Type 0} → (A → List ℕ) → List A → List ℕ
-each f [] = []
-each f (x ∷ xs) = f x ++ each f xs
+-- what a plan says: its lists
+pub record Contents : Type 0 where
+  pub rules : List RuleWords
+  pub units : List ℕ
+  pub edges : List UnitPair
 
 -- "All RULEs come first, then UNITs, then EDGEs, then END"
-unfoldable pub layout : List RuleWords → List ℕ → List UnitPair → List ℕ
-layout rules units edges = each ruleBytes rules ++ (each unitBytes units ++ (each edgeBytes edges ++ endBytes))
-
--- a list filled up with zeros
-unfoldable pub padded : ℕ → List ℕ → List ℕ
-padded size xs = xs ++ replicate {A = ℕ} (size - length xs) 0
+unfoldable pub layout : Contents → List ℕ
+layout c = flatMap ruleBytes (c .rules) ++ (flatMap unitBytes (c .units) ++ (flatMap edgeBytes (c .edges) ++ endBytes))
 
 abbrev pub threeWords : RuleWords → List ℕ
 threeWords r = r .head ∷ r .positive ∷ r .negative ∷ []
@@ -66,42 +63,34 @@ predecessorsOf [] u = 0
 predecessorsOf (e ∷ edges) u =
     elim (eqb (e .u) u) [ true ↦ predecessorsOf edges u ∪ atom (e .v) | false ↦ predecessorsOf edges u ]
 
-unfoldable pub tabulate : ℕ → (ℕ → ℕ) → List ℕ
-tabulate zero f = []
-tabulate (suc n) f = f 0 ∷ tabulate n (λ i. f (suc i))
-
 -- the record of the lists
-unfoldable pub recordOf : List RuleWords → List ℕ → List UnitPair → Plan
-recordOf rules units edges =
+unfoldable pub recordOf : Contents → Plan
+recordOf c =
     record {
-      rules = padded (RULE_WORDS * MAX_RULES) (each threeWords rules);
-      «rule_count» = length rules;
-      units = padded MAX_UNITS units;
-      «unit_count» = length units;
-      predecessors = tabulate MAX_UNITS (predecessorsOf edges);
-      «edge_count» = length edges;
+      rules = padded (RULE_WORDS * MAX_RULES) (flatMap threeWords (c .rules));
+      «rule_count» = length (c .rules);
+      units = padded MAX_UNITS (c .units);
+      «unit_count» = length (c .units);
+      predecessors = tabulate MAX_UNITS (predecessorsOf (c .edges));
+      «edge_count» = length (c .edges);
     }
 
 abbrev pub IsByte : ℕ → Type 0
-IsByte b = b < 256
+IsByte b = b < BYTE_VALUES
 
 abbrev pub All : {A : Type 0} → (A → Type 0) → List A → Type 0
 All P [] = Unit {0}
 All P (x ∷ xs) = P x × All P xs
 
-abbrev pub Member : UnitPair → List UnitPair → Type 0
-Member e [] = ⊥
-Member e (x ∷ xs) = (e ≡ x) ⊎ Member e xs
-
-abbrev pub Distinct : List UnitPair → Type 0
+abbrev pub Distinct : {A : Type 0} → List A → Type 0
 Distinct [] = Unit {0}
-Distinct (e ∷ es) = ¬ Member e es × Distinct es
+Distinct (x ∷ xs) = ¬ List·Memᴰ x xs × Distinct xs
 
 -- three words, not all zero
 pub record GoodRule (r : RuleWords) : Type 0 where
-  pub head-fits : r .head < 2 ^ 64
-  pub positive-fits : r .positive < 2 ^ 64
-  pub negative-fits : r .negative < 2 ^ 64
+  pub head-fits : r .head < WORD_VALUES
+  pub positive-fits : r .positive < WORD_VALUES
+  pub negative-fits : r .negative < WORD_VALUES
   pub some-word : ¬ ((r .head ≡ 0) × ((r .positive ≡ 0) × (r .negative ≡ 0)))
 
 -- an edge between two of n units
@@ -111,20 +100,18 @@ pub record GoodEdge (n : ℕ) (e : UnitPair) : Type 0 where
   pub apart : ¬ (e .u ≡ e .v)
 
 -- what a plan may hold: column "most", and rows 6, 7 and 8 of the fault table
-pub record Within (rules : List RuleWords) (units : List ℕ) (edges : List UnitPair) : Type 0 where
-  pub most-rules : length rules ≤ MAX_RULES
-  pub most-units : length units ≤ MAX_UNITS
-  pub most-edges : length edges ≤ MAX_EDGES
-  pub good-rules : All GoodRule rules
-  pub good-units : All (λ word. word < 2 ^ length rules) units
-  pub good-edges : All (GoodEdge (length units)) edges
-  pub no-repeat : Distinct edges
+pub record Within (c : Contents) : Type 0 where
+  pub most-rules : length (c .rules) ≤ MAX_RULES
+  pub most-units : length (c .units) ≤ MAX_UNITS
+  pub most-edges : length (c .edges) ≤ MAX_EDGES
+  pub good-rules : All GoodRule (c .rules)
+  pub good-units : All (λ word. word < 2 ^ length (c .rules)) (c .units)
+  pub good-edges : All (GoodEdge (length (c .units))) (c .edges)
+  pub no-repeat : Distinct (c .edges)
 
 -- the bytes are the layout of lists within the limits, and the record is theirs
 pub record IsPlan (bytes : List ℕ) (plan : Plan) : Type 0 where
-  pub rules : List RuleWords
-  pub units : List ℕ
-  pub edges : List UnitPair
-  pub within : Within rules units edges
-  pub bytes-are : bytes ≡ layout rules units edges
-  pub record-is : plan ≡ recordOf rules units edges
+  pub contents : Contents
+  pub within : Within contents
+  pub bytes-are : bytes ≡ layout contents
+  pub record-is : plan ≡ recordOf contents

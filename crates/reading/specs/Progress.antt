@@ -4,44 +4,33 @@ use mathlib.Core.List.{List}
 use Prim.Native.Nat.{ℕ, _≤_}
 use lib.ListN.{length, drop}
 use Rattle.plan.specs.Record.{Fitting}
-use Rattle.reading.specs.Commands.{commandAt}
-use Rattle.reading.specs.Reading.{walk, reading}
+use Rattle.reading.specs.Commands.{Kind, rule, unit, edge, end, commandAt}
+use Rattle.reading.specs.Reading.{Step, onward, ended, stepOf, walk, reading}
 use Rattle.plan.specs.declared.record.Plan.{Plan}
-use Rattle.reading.specs.declared.command.Command.{Command}
-use Rattle.reading.specs.declared.command.Command.the-variants.{Rule, Unit as UnitOf, Edge, End, Fault as Faulty}
 use Rattle.reading.specs.declared.reader.Progress.{Progress}
 
 -- the place at byte `at`, behind what is taken, with its command
 abbrev pub placeAt : List ℕ → Plan → ℕ → Progress
 placeAt bytes taken at = record { plan = taken; at = at; command = commandAt taken at (drop at bytes) }
 
--- "All RULEs come first, then UNITs, then EDGEs, then END": the groups in order
-abbrev pub RULES : ℕ
-RULES = 0
+-- "All RULEs come first, then UNITs, then EDGEs, then END": the kinds' order
+abbrev pub orderOf : Kind → ℕ
+orderOf rule = 0
+orderOf unit = 1
+orderOf edge = 2
+orderOf end = 3
 
-abbrev pub UNITS : ℕ
-UNITS = 1
+-- a command's kind; a fault ends reading as END does
+abbrev pub kindOfStep : Step → Kind
+kindOfStep (onward kind q) = kind
+kindOfStep (ended r) = end
 
-abbrev pub EDGES : ℕ
-EDGES = 2
-
-abbrev pub ENDING : ℕ
-ENDING = 3
-
--- a command's group; a fault ends reading as END does
-abbrev pub groupOf : Command → ℕ
-groupOf (Rule head positive negative) = RULES
-groupOf (UnitOf word) = UNITS
-groupOf (Edge u v) = EDGES
-groupOf End = ENDING
-groupOf (Faulty f) = ENDING
-
--- the reader has come to a place whose command is of this group or a later one, and reading on from there gives what reading
--- from the start gives
-pub record Reached (group : ℕ) (bytes : List ℕ) (r : Progress) : Type 0 where
+-- the reader has come to a place whose command is of this kind or one that comes later, and reading on from there gives what
+-- reading from the start gives
+pub record Reached (kind : Kind) (bytes : List ℕ) (r : Progress) : Type 0 where
   pub fitting : Fitting (r .plan)
   pub within : r .at ≤ length bytes
   pub few-edges : r .plan .«edge_count» ≤ r .at
   pub command-there : r .command ≡ commandAt (r .plan) (r .at) (drop (r .at) bytes)
-  pub past : group ≤ groupOf (r .command)
+  pub past : orderOf kind ≤ orderOf (kindOfStep (stepOf (r .plan) (r .command)))
   pub same : walk (r .plan) (r .at) 0 (drop (r .at) bytes) ≡ reading bytes

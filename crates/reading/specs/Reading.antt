@@ -1,9 +1,11 @@
 -- Reading a whole plan: its record, or the first fault from the left.
 use mathlib.Core.List.{List, [], _∷_}
-use Prim.Native.Nat.{ℕ, zero, suc, _+_}
+use Prim.Native.Nat.{ℕ, zero, suc, _+_, _*_}
+use Rattle.plan.specs.Limits.{MAX_RULES, MAX_UNITS, MAX_EDGES}
 use Rattle.plan.specs.Record.{emptyPlan, withRule, withUnit, withEdge}
-use Rattle.reading.specs.Commands.{Kind, rule, unit, edge, operandBytes, commandAt}
+use Rattle.reading.specs.Commands.{Kind, rule, unit, edge, end, operandBytes, commandAt}
 use Rattle.plan.specs.declared.record.Plan.{Plan}
+use Rattle.reading.specs.declared.command.Command.{Command}
 use Rattle.reading.specs.declared.command.Command.the-variants.{Rule, Unit as UnitOf, Edge, End, Fault as Faulty}
 use Rattle.plan.specs.declared.fault.Fault.{Fault}
 use Rattle.plan.specs.declared.fault.Outcome.the-variants.{Accepted, Refused}
@@ -20,19 +22,40 @@ refused f = record { outcome = Refused f; plan = emptyPlan }
 abbrev pub commandBytes : Kind → ℕ
 commandBytes kind = suc (operandBytes kind)
 
+-- what a command does to the record p: reading goes on behind its operands with the record that has it too, or reading ends
+pub data Step : Type 0 where
+  onward : Kind → Plan → Step
+  ended : Reading → Step
+
+abbrev pub stepOf : Plan → Command → Step
+stepOf p (Rule head positive negative) = onward rule (withRule p head positive negative)
+stepOf p (UnitOf word) = onward unit (withUnit p word)
+stepOf p (Edge u v) = onward edge (withEdge p u v)
+stepOf p End = ended (accepted p)
+stepOf p (Faulty f) = ended (refused f)
+
 -- reading on, once p is read: the next command stands at `at`, behind `skip` bytes of operands that are read already
 unfoldable pub walk : Plan → ℕ → ℕ → List ℕ → Reading
 walk p at skip [] = refused (Fault.Truncated at)
 walk p at (suc skip) (b ∷ rest) = walk p at skip rest
 walk p at zero (b ∷ rest) =
-    elim (commandAt p at (b ∷ rest)) [
-      | Rule head positive negative ↦ walk (withRule p head positive negative) (at + commandBytes rule) (operandBytes rule) rest
-      | UnitOf word ↦ walk (withUnit p word) (at + commandBytes unit) (operandBytes unit) rest
-      | Edge u v ↦ walk (withEdge p u v) (at + commandBytes edge) (operandBytes edge) rest
-      | End ↦ accepted p
-      | Faulty f ↦ refused f
+    elim (stepOf p (commandAt p at (b ∷ rest))) [
+      | onward kind q ↦ walk q (at + commandBytes kind) (operandBytes kind) rest
+      | ended r ↦ r
     ]
 
 -- "reading, from the left"
 unfoldable pub reading : List ℕ → Reading
 reading bytes = walk emptyPlan 0 0 bytes
+
+-- "RULE 64, UNIT 16, EDGE 240": the bytes of as many commands before END as there may be
+abbrev MOST_BEFORE_END : ℕ
+MOST_BEFORE_END = commandBytes rule * MAX_RULES + commandBytes unit * MAX_UNITS + commandBytes edge * MAX_EDGES
+
+-- "The longest plan has 2,465 bytes."
+abbrev pub LONGEST_PLAN : ℕ
+LONGEST_PLAN = MOST_BEFORE_END + commandBytes end
+
+-- "every reading fault, a 241st EDGE and bytes after END included, shows within 2,467"
+abbrev pub DECIDING_BYTES : ℕ
+DECIDING_BYTES = MOST_BEFORE_END + commandBytes edge

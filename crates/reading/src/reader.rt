@@ -1,7 +1,8 @@
 // Reading a plan from the left: RULEs, then UNITs, then EDGEs, then END.
 ghost use mathlib.Core.Path.{_≡_};
 ghost use Rattle.plan.specs.Record.{Fitting};
-ghost use Rattle.reading.specs.Progress.{placeAt, Reached, UNITS, EDGES, ENDING};
+ghost use Rattle.reading.specs.Commands.{unit, edge, end};
+ghost use Rattle.reading.specs.Progress.{placeAt, Reached};
 ghost use Rattle.reading.specs.Reading.{reading};
 use crate::command::Command;
 use crate::dispatch::read_command;
@@ -43,7 +44,7 @@ fn place(bytes: &[u8], taken: Plan, at: usize) -> Progress
 
 // The place behind all RULEs.
 fn read_rules(bytes: &[u8]) -> Progress
-    ensures { λ r. ⌜ Reached UNITS (now (bytes .entry)) r ⌝ }
+    ensures { λ r. ⌜ Reached unit (now (bytes .entry)) r ⌝ }
 {
     let mut progress = place(bytes, empty_plan(), 0);
     loop {
@@ -64,8 +65,8 @@ fn read_rules(bytes: &[u8]) -> Progress
 
 // The place behind all UNITs.
 fn read_units(bytes: &[u8], from: Progress) -> Progress
-    requires { ⌜ Reached UNITS (now bytes) from ⌝ }
-    ensures { λ r. ⌜ Reached EDGES (now (bytes .entry)) r ⌝ }
+    requires { ⌜ Reached unit (now bytes) from ⌝ }
+    ensures { λ r. ⌜ Reached edge (now (bytes .entry)) r ⌝ }
 {
     let mut progress = from;
     loop {
@@ -81,8 +82,8 @@ fn read_units(bytes: &[u8], from: Progress) -> Progress
 
 // The place behind all EDGEs.
 fn read_edges(bytes: &[u8], from: Progress) -> Progress
-    requires { ⌜ Reached EDGES (now bytes) from ⌝ }
-    ensures { λ r. ⌜ Reached ENDING (now (bytes .entry)) r ⌝ }
+    requires { ⌜ Reached edge (now bytes) from ⌝ }
+    ensures { λ r. ⌜ Reached end (now (bytes .entry)) r ⌝ }
 {
     let mut progress = from;
     loop {

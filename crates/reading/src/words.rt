@@ -6,7 +6,7 @@ ghost use Rattle.reading.specs.Words.{wordAt, WORD_BYTES as Words·WORD_
 
 pub const WORD_BYTES: usize = 8;
 
-const BYTE_VALUES: u64 = 256;
+const BYTE_VALUES: u64 = 0x100;
 
 // The byte as a word.
 fn wide(b: u8) -> u64

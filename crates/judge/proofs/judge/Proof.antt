@@ -20,13 +20,15 @@ is-settled-requires c κs =
 
 returns-2 : tie.Need-returns-2
 returns-2 c =
-    let told = c .before .before .before in
-    accepted-judged _ _ _ (told .before .before .read-plan .ensures) true (told .enum-told .given .1) (sym (c .if1 .taken) ∙ c .before .is-settled .ensures)
+    let accepted = c .before .before .before in
+    let test = sym (c .if1 .taken) ∙ c .before .is-settled .ensures in
+    accepted-judged _ _ _ (accepted .before .before .read-plan .ensures) true (accepted .enum-told .given .1) test
 
 returns-3 : tie.Need-returns-3
 returns-3 c =
-    let told = c .before .before .before in
-    accepted-judged _ _ _ (told .before .before .read-plan .ensures) false (told .enum-told .given .1) (sym (c .if1 .left) ∙ c .before .is-settled .ensures)
+    let accepted = c .before .before .before in
+    let test = sym (c .if1 .left) ∙ c .before .is-settled .ensures in
+    accepted-judged _ _ _ (accepted .before .before .read-plan .ensures) false (accepted .enum-told .given .1) test
 
 pub judge-spec : {M : Type 1} → statement M
 judge-spec =

@@ -1,9 +1,8 @@
+-- `empty_plan` meets its contract: all zero.
 use mathlib.Core.Path.{refl}
 use Rattle.plan.specs.Record.{emptyPlan}
 use Rattle.plan.proofs.record.empty_plan.Statement.{statement}
 use Rattle.plan.proofs.record.empty_plan.Tie as tie
-use Rattle.plan.proofs.record.empty_plan.Reads as reads
-use Rattle.plan.proofs.record.empty_plan.Lts as lts
 
 returns : tie.Need-returns
 unfolding emptyPlan

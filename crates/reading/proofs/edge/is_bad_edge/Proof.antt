@@ -18,18 +18,6 @@ returns-3 : tie.Need-returns-3
 unfolding badEdge
 returns-3 c = simp (lt-leb _ _ (c .before .before .before .if1 .left), lt-leb _ _ (c .before .if2 .left), eq-eqb _ _ (c .if3 .taken))
 
-single-requires : tie.Need-single-requires
-single-requires c κs = search needs
-
-mul-is-subset : tie.Need-mul-is-subset
-mul-is-subset c = search needs
-
-array-read-is-subset : tie.Need-array-read-is-subset
-array-read-is-subset c = search needs
-
-is-subset-requires : tie.Need-is-subset-requires
-is-subset-requires c κs = search needs
-
 returns-4 : tie.Need-returns-4
 unfolding badEdge
 returns-4 c =
@@ -44,8 +32,8 @@ is-bad-edge-spec =
     returns
     returns-2
     returns-3
-    single-requires
-    mul-is-subset
-    array-read-is-subset
-    is-subset-requires
+    (λ c κs. search needs)
+    (λ c. search needs)
+    (λ c. search needs)
+    (λ c κs. search needs)
     returns-4)

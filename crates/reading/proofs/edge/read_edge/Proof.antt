@@ -10,15 +10,6 @@ returns : tie.Need-returns
 unfolding ofKind
 returns c = simp (lt-ltb _ _ (c .if1 .taken))
 
-shared-slice-read-u : tie.Need-shared-slice-read-u
-shared-slice-read-u c = search needs
-
-shared-slice-read-v : tie.Need-shared-slice-read-v
-shared-slice-read-v c = search needs
-
-is-bad-edge-requires : tie.Need-is-bad-edge-requires
-is-bad-edge-requires c κs = search needs
-
 returns-2 : tie.Need-returns-2
 unfolding ofKind
 returns-2 c = simp (le-ltb _ _ (c .before .before .before .before .if1 .left), sym (c .before .is-bad-edge .ensures) ∙ c .if2 .taken)
@@ -32,8 +23,8 @@ read-edge-spec =
     tie.close
     (tie.spec
     returns
-    shared-slice-read-u
-    shared-slice-read-v
-    is-bad-edge-requires
+    (λ c. search needs)
+    (λ c. search needs)
+    (λ c κs. search needs)
     returns-2
     returns-3)

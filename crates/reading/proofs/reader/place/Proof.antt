@@ -4,11 +4,8 @@ use Rattle.reading.proofs.Groups.{place-is}
 use Rattle.reading.proofs.reader.place.Statement.{statement}
 use Rattle.reading.proofs.reader.place.Tie as tie
 
-read-command-requires : tie.Need-read-command-requires
-read-command-requires c κs = search needs
-
 returns : tie.Need-returns
 returns c = place-is _ _ _ _ (c .read-command .ensures)
 
 pub place-spec : {M : Type 1} → statement M
-place-spec = tie.close (tie.spec read-command-requires returns)
+place-spec = tie.close (tie.spec (λ c κs. search needs) returns)

@@ -1,55 +1,37 @@
 -- `read_edges` meets its contract. The invariant: reading on from the place that is reached gives what reading from the start gives.
 -- The measure is what is left of the bytes.
+use mathlib.Core.Path.{refl, sym, _∙_}
 use native.Mathlib.Omega.{arith}
-use Rattle.reading.proofs.Groups.{after-edge, past-on, past-edges, taken-fits, taken-there, taken-less}
 use Prim.Native.Nat.{_-_}
 use lib.ListN.{length}
+use mathlib.Core.List.{[], _∷_}
+use Rattle.reading.specs.Commands.{edge, end}
 use Rattle.reading.specs.Progress.{Reached}
+use Rattle.reading.proofs.Groups.{Turn, taken, taken-fits, taken-there, taken-less, passed-by, edge-there}
 use borrow.Author.Needs.{needs}
 use Rattle.reading.proofs.reader.read_edges.Statement.{statement}
 use Rattle.reading.proofs.reader.read_edges.Tie as tie
 
 abbrev Inv-loop : tie.InvT-loop
-Inv-loop bytes progress₀ progress = Reached 2 bytes progress
+Inv-loop bytes progress₀ progress = Reached edge bytes progress
 
 abbrev μ-loop : tie.MeasureT-loop
 μ-loop bytes progress₀ progress = length bytes - progress .at
 
-loop-holds : tie.Need-loop-holds Inv-loop μ-loop
-loop-holds c = c .before .pre
-
-enum-known-command : tie.Need-enum-known-command Inv-loop μ-loop
-enum-known-command c = search needs
-
 returns : tie.Need-returns Inv-loop μ-loop
-returns c = past-on 2 _ _ (c .before .loop .inv) (past-edges (c .before .loop .progress .command) (c .match .keys2) (c .before .loop .inv .past))
+returns c = passed-by edge end (0 ∷ 1 ∷ 3 ∷ 4 ∷ []) _ _ (c .before .loop .inv) (c .match .keys2) tt (omega arith) refl
+
+-- the place behind the command that this turn takes
+abbrev took : (c : tie.After-command Inv-loop μ-loop) → Turn (c .before .before .loop .inv)
+took c = (_, taken edge _ _ _ _ (c .before .before .loop .inv) (c .command .given .1) refl)
 
 with-edge-requires : tie.Need-with-edge-requires Inv-loop μ-loop
 with-edge-requires c κs =
-    let turn = c .before in
-    let h = after-edge _ _ _ _ (turn .before .before .loop .inv) (turn .command .given .1) in
-    (h .0 .0, h .0 .1, omega (arith, h .1 .inside, turn .before .before .loop .inv .few-edges))
-
-add-place : tie.Need-add-place Inv-loop μ-loop
-add-place c =
-    let turn = c .before .before in
-    let h = after-edge _ _ _ _ (turn .before .before .loop .inv) (turn .command .given .1) in
-    omega (arith, h .1 .inside)
-
-place-requires : tie.Need-place-requires Inv-loop μ-loop
-place-requires c κs =
-    let turn = c .before .before in
-    taken-fits 2 _ _ _ _ _ ((after-edge _ _ _ _ (turn .before .before .loop .inv) (turn .command .given .1)) .1) (c .with-edge .ensures)
-
-loop-less : tie.Need-loop-less Inv-loop μ-loop
-loop-less c =
-    let turn = c .before .before .before in
-    taken-less 2 _ _ _ _ _ ((after-edge _ _ _ _ (turn .before .before .loop .inv) (turn .command .given .1)) .1) (c .before .with-edge .ensures) (omega arith) _ (c .place .ensures)
-
-loop-again : tie.Need-loop-again Inv-loop μ-loop
-loop-again c =
-    let turn = c .before .before .before in
-    taken-there 2 _ _ _ _ _ ((after-edge _ _ _ _ (turn .before .before .loop .inv) (turn .command .given .1)) .1) (c .before .with-edge .ensures) _ (c .place .ensures)
+    let R = c .before .before .before .loop .inv in
+    let t = took (c .before) .1 in
+    let new = edge-there _ _ _ _ _ (t .leads .read) (sym (R .command-there) ∙ c .before .command .given .1) in
+    let few = R .fitting .units-fit in
+    (omega (arith, new .from-there), omega (arith, new .to-there), omega (arith, t .inside, R .few-edges))
 
 pub read-edges-spec : {M : Type 1} → statement M
 read-edges-spec =
@@ -57,11 +39,11 @@ read-edges-spec =
     (tie.spec
     Inv-loop
     μ-loop
-    loop-holds
-    enum-known-command
+    (λ c. c .before .pre)
+    (λ c. search needs)
     returns
     with-edge-requires
-    add-place
-    place-requires
-    loop-less
-    loop-again)
+    (λ c. omega (arith, took (c .before .before) .1 .inside))
+    (λ c κs. taken-fits (took (c .before .before) .1) _ (c .with-edge .ensures))
+    (λ c. taken-less (took (c .before .before .before) .1) _ (c .before .with-edge .ensures) _ (c .place .ensures))
+    (λ c. taken-there (took (c .before .before .before) .1) _ (c .before .with-edge .ensures) _ (c .place .ensures)))

@@ -1,60 +1,30 @@
 -- `read_rules` meets its contract. The invariant: reading on from the place that is reached gives what reading from the start gives.
 -- The measure is what is left of the bytes.
+use mathlib.Core.Path.{refl}
 use native.Mathlib.Omega.{arith}
-use Rattle.reading.proofs.Groups.{empty-fits, start-there, after-rule, past-on, past-rules, taken-fits, taken-there, taken-less}
 use Prim.Native.Nat.{_-_}
 use lib.ListN.{length}
+use mathlib.Core.List.{[], _∷_}
+use Rattle.reading.specs.Commands.{rule, unit}
 use Rattle.reading.specs.Progress.{Reached}
+use Rattle.reading.proofs.Groups.{start, Turn, taken, taken-fits, taken-there, taken-less, passed-by}
+use Rattle.reading.proofs.Limits.{empty-fits}
 use borrow.Author.Needs.{needs}
 use Rattle.reading.proofs.reader.read_rules.Statement.{statement}
 use Rattle.reading.proofs.reader.read_rules.Tie as tie
 
 abbrev Inv-loop : tie.InvT-loop
-Inv-loop bytes progress₀ progress = Reached 0 bytes progress
+Inv-loop bytes progress₀ progress = Reached rule bytes progress
 
 abbrev μ-loop : tie.MeasureT-loop
 μ-loop bytes progress₀ progress = length bytes - progress .at
 
-empty-plan-requires : tie.Need-empty-plan-requires Inv-loop μ-loop
-empty-plan-requires c κs = search needs
-
-place-requires : tie.Need-place-requires Inv-loop μ-loop
-place-requires c κs = empty-fits _ (c .empty-plan .ensures)
-
-loop-holds : tie.Need-loop-holds Inv-loop μ-loop
-loop-holds c = start-there _ _ _ (c .before .empty-plan .ensures) (c .place .ensures)
-
-enum-known-command : tie.Need-enum-known-command Inv-loop μ-loop
-enum-known-command c = search needs
-
 returns : tie.Need-returns Inv-loop μ-loop
-returns c = past-on 0 _ _ (c .before .loop .inv) (past-rules (c .before .loop .progress .command) (c .match .keys2))
+returns c = passed-by rule unit (1 ∷ 2 ∷ 3 ∷ 4 ∷ []) _ _ (c .before .loop .inv) (c .match .keys2) tt (omega arith) refl
 
-with-rule-requires : tie.Need-with-rule-requires Inv-loop μ-loop
-with-rule-requires c κs =
-    let turn = c .before in
-    (after-rule _ _ _ _ _ (turn .before .before .loop .inv) (turn .command .given .1)) .0
-
-add-place : tie.Need-add-place Inv-loop μ-loop
-add-place c =
-    let turn = c .before .before in
-    let h = after-rule _ _ _ _ _ (turn .before .before .loop .inv) (turn .command .given .1) in
-    omega (arith, h .1 .inside)
-
-place-requires-2 : tie.Need-place-requires-2 Inv-loop μ-loop
-place-requires-2 c κs =
-    let turn = c .before .before in
-    taken-fits 0 _ _ _ _ _ ((after-rule _ _ _ _ _ (turn .before .before .loop .inv) (turn .command .given .1)) .1) (c .with-rule .ensures)
-
-loop-less : tie.Need-loop-less Inv-loop μ-loop
-loop-less c =
-    let turn = c .before .before .before in
-    taken-less 0 _ _ _ _ _ ((after-rule _ _ _ _ _ (turn .before .before .loop .inv) (turn .command .given .1)) .1) (c .before .with-rule .ensures) (omega arith) _ (c .place2 .ensures)
-
-loop-again : tie.Need-loop-again Inv-loop μ-loop
-loop-again c =
-    let turn = c .before .before .before in
-    taken-there 0 _ _ _ _ _ ((after-rule _ _ _ _ _ (turn .before .before .loop .inv) (turn .command .given .1)) .1) (c .before .with-rule .ensures) _ (c .place2 .ensures)
+-- the place behind the command that this turn takes
+abbrev took : (c : tie.After-command Inv-loop μ-loop) → Turn (c .before .before .loop .inv)
+took c = (_, taken rule _ _ _ _ (c .before .before .loop .inv) (c .command .given .1) refl)
 
 pub read-rules-spec : {M : Type 1} → statement M
 read-rules-spec =
@@ -62,13 +32,13 @@ read-rules-spec =
     (tie.spec
     Inv-loop
     μ-loop
-    empty-plan-requires
-    place-requires
-    loop-holds
-    enum-known-command
+    (λ c κs. search needs)
+    (λ c κs. rw (c .empty-plan .ensures) empty-fits)
+    (λ c. start _ _ _ (c .before .empty-plan .ensures) (c .place .ensures))
+    (λ c. search needs)
     returns
-    with-rule-requires
-    add-place
-    place-requires-2
-    loop-less
-    loop-again)
+    (λ c κs. took (c .before) .1 .leads .read .in-place .room)
+    (λ c. omega (arith, took (c .before .before) .1 .inside))
+    (λ c κs. taken-fits (took (c .before .before) .1) _ (c .with-rule .ensures))
+    (λ c. taken-less (took (c .before .before .before) .1) _ (c .before .with-rule .ensures) _ (c .place2 .ensures))
+    (λ c. taken-there (took (c .before .before .before) .1) _ (c .before .with-rule .ensures) _ (c .place2 .ensures)))

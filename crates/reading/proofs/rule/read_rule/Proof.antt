@@ -6,9 +6,6 @@ use borrow.Author.Needs.{needs}
 use Rattle.reading.proofs.rule.read_rule.Statement.{statement}
 use Rattle.reading.proofs.rule.read_rule.Tie as tie
 
-is-late-rule-requires : tie.Need-is-late-rule-requires
-is-late-rule-requires c κs = search needs
-
 returns : tie.Need-returns
 unfolding ofKind
 returns c = simp (sym (c .before .is-late-rule .ensures) ∙ c .if1 .taken)
@@ -22,21 +19,6 @@ unfolding ofKind
 returns-3 c =
     let room = c .before .before in
     simp (sym (room .before .is-late-rule .ensures) ∙ room .if1 .left, lt-leb _ _ (c .before .if2 .left), lt-ltb _ _ (c .if3 .taken))
-
-read-word-requires : tie.Need-read-word-requires
-read-word-requires c κs = search needs
-
-read-word-requires-2 : tie.Need-read-word-requires-2
-read-word-requires-2 c κs = search needs
-
-add-read-word : tie.Need-add-read-word
-add-read-word c = search needs
-
-read-word-requires-3 : tie.Need-read-word-requires-3
-read-word-requires-3 c κs = search needs
-
-is-empty-rule-requires : tie.Need-is-empty-rule-requires
-is-empty-rule-requires c κs = search needs
 
 returns-4 : tie.Need-returns-4
 unfolding ofKind
@@ -72,14 +54,14 @@ pub read-rule-spec : {M : Type 1} → statement M
 read-rule-spec =
     tie.close
     (tie.spec
-    is-late-rule-requires
+    (λ c κs. search needs)
     returns
     returns-2
     returns-3
-    read-word-requires
-    read-word-requires-2
-    add-read-word
-    read-word-requires-3
-    is-empty-rule-requires
+    (λ c κs. search needs)
+    (λ c κs. search needs)
+    (λ c. search needs)
+    (λ c κs. search needs)
+    (λ c κs. search needs)
     returns-4
     returns-5)

@@ -5,12 +5,9 @@ use borrow.Author.Needs.{needs}
 use Rattle.reading.proofs.unit.names_absent_rule.Statement.{statement}
 use Rattle.reading.proofs.unit.names_absent_rule.Tie as tie
 
-first-requires : tie.Need-first-requires
-first-requires c κs = search needs
-
 returns : tie.Need-returns
 unfolding absentRule
 returns c = absent-above-below _ _ _ (c .first .ensures)
 
 pub names-absent-rule-spec : {M : Type 1} → statement M
-names-absent-rule-spec = tie.close (tie.spec first-requires returns)
+names-absent-rule-spec = tie.close (tie.spec (λ c κs. search needs) returns)

@@ -18,12 +18,6 @@ returns-3 : tie.Need-returns-3
 unfolding ofKind lateUnit
 returns-3 c = simp (le-ltb _ _ (c .before .before .if1 .left), lt-leb _ _ (c .before .if2 .left), lt-ltb _ _ (c .if3 .taken))
 
-read-word-requires : tie.Need-read-word-requires
-read-word-requires c κs = search needs
-
-names-absent-rule-requires : tie.Need-names-absent-rule-requires
-names-absent-rule-requires c κs = search needs
-
 returns-4 : tie.Need-returns-4
 unfolding ofKind lateUnit
 returns-4 c =
@@ -55,7 +49,7 @@ read-unit-spec =
     returns
     returns-2
     returns-3
-    read-word-requires
-    names-absent-rule-requires
+    (λ c κs. search needs)
+    (λ c κs. search needs)
     returns-4
     returns-5)
