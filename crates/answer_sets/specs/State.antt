@@ -1,4 +1,4 @@
--- Half-decided positions, and what is known of a body there (document 02, S-7).
+-- Inner: half-decided positions, what is known of a body there (document 02, S-7), and the contract that every narrowing pass has.
 use mathlib.Core.Bool.{Bool, true, false, _&&_, _||_, not}
 use mathlib.Core.List.{List}
 use Prim.Native.Nat.{ℕ}

@@ -1,4 +1,4 @@
--- Tables of words that functions fill.
+-- Inner: tables of words that functions fill.
 use mathlib.Core.Path.{_≡_}
 use mathlib.Core.List.{List}
 use Prim.Native.Nat.{ℕ, _≤_, _<_}

@@ -1,4 +1,4 @@
--- How far the reader has come: what its loops hand on to each other.
+-- Inner: how far the reader has come: what its loops hand on to each other.
 use mathlib.Core.Path.{_≡_}
 use mathlib.Core.List.{List}
 use Prim.Native.Nat.{ℕ, _≤_}

@@ -1,4 +1,4 @@
--- A rising list in LIST_WORDS words, zeros behind it, and what is said of one that grows or has become too long.
+-- Inner: a rising list in LIST_WORDS words, zeros behind it, and what is said of one that grows or has become too long.
 use mathlib.Core.Path.{_≡_}
 use mathlib.Core.Bool.{Bool, true, false}
 use mathlib.Core.List.{List, [], _∷_, _++_, List·Memᴰ}
@@ -9,10 +9,6 @@ use lib.ListN.{length, take, drop, getD, replicate}
 use Rattle.atoms.specs.Bounded.{someBelow}
 use Rattle.atoms.specs.Rising.{Rising}
 use Rattle.plan.specs.Limits.{LIST_WORDS, OVERFULL}
-
--- "Each list rises as unsigned numbers and zeros fill up its 256 words."
-unfoldable pub padded : List ℕ → List ℕ
-padded xs = xs ++ replicate (LIST_WORDS - length xs) 0
 
 -- v put into its place in a rising list, unless it is there already
 unfoldable pub insertInto : ℕ → List ℕ → List ℕ
