@@ -1,8 +1,8 @@
 -- `chain` is safe and ends: each rule's words lie in the array.
 use Prim.Native.Nat.{_≤_, _<_, _-_}
 use borrow.Author.Needs.{needs}
-use Rattle.positions.proofs.chain.Statement.{statement}
-use Rattle.positions.proofs.chain.Tie as tie
+use Rattle.check_positions.proofs.chain.Statement.{statement}
+use Rattle.check_positions.proofs.chain.Tie as tie
 
 abbrev Inv-loop : tie.InvT-loop
 Inv-loop first rules₀ atom₀ rules atom = (0 < atom) × (atom ≤ 60)
