@@ -28,9 +28,6 @@ promised : (bytes table : List ℕ) → All IsByte bytes → (r : Listing) (tabl
     → Handed (answer bytes table) r table′ × (Demand2 bytes table r × Demand3 bytes table r table′)
 promised bytes table all r table′ h = (h, (demand-2 bytes table r table′ h, demand-3 bytes table all r table′ h))
 
-refuse-requires : tie.Need-refuse-requires
-refuse-requires c κs = search needs
-
 returns : tie.Need-returns
 returns c =
     let c4 = c .before .before .before .before in
@@ -41,15 +38,6 @@ returns c =
     (short-answer (now (at .plan)) (now (at .table)) (c .before .if1 .taken)) (c .refuse .ensures) refl in
     promised (now (at .plan)) (now (at .table)) (all-bytes (now (at .plan)) (λ i. c .before .before .before .shared-slice-known .given i .fits))
     (c .refuse .result) (now (c4 .args .table)) handed
-
-read-plan-requires : tie.Need-read-plan-requires
-read-plan-requires c κs = search needs
-
-enum-known-outcome : tie.Need-enum-known-outcome
-enum-known-outcome c = search needs
-
-refuse-requires-2 : tie.Need-refuse-requires-2
-refuse-requires-2 c κs = search needs
 
 returns-2 : tie.Need-returns-2
 returns-2 c =
@@ -66,9 +54,6 @@ returns-2 c =
     promised (now (at .plan)) (now (at .table)) (all-bytes (now (at .plan)) (λ i. c7 .shared-slice-known .given i .fits)) (c .refuse2 .result)
     (now (c8 .args .table)) handed
 
-enum-told : tie.Need-enum-told
-enum-told c = search needs
-
 list-read-plan-requires : tie.Need-list-read-plan-requires
 list-read-plan-requires c κs =
     let c4 = c .before .before .before .before in
@@ -82,9 +67,6 @@ list-read-plan-requires c κs =
           (sym (ap (λ (r : Reading). r .outcome) e) ∙ c .before .enum-told .given .1)),
       c4 .if1 .left,
     )
-
-same-length : tie.Need-same-length
-same-length c = search needs
 
 returns-3 : tie.Need-returns-3
 returns-3 c =
@@ -108,13 +90,13 @@ pub list-positions-spec : {M : Type 1} → statement M
 list-positions-spec =
     tie.close
     (tie.spec
-    refuse-requires
+    (λ c κs. search needs)
     returns
-    read-plan-requires
-    enum-known-outcome
-    refuse-requires-2
+    (λ c κs. search needs)
+    (λ c. search needs)
+    (λ c κs. search needs)
     returns-2
-    enum-told
+    (λ c. search needs)
     list-read-plan-requires
-    same-length
+    (λ c. search needs)
     returns-3)

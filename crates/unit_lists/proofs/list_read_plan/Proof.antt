@@ -16,15 +16,6 @@ use borrow.Author.Needs.{needs}
 use Rattle.unit_lists.proofs.list_read_plan.Statement.{statement}
 use Rattle.unit_lists.proofs.list_read_plan.Tie as tie
 
-slice-aggregate-check-graph : tie.Need-slice-aggregate-check-graph
-slice-aggregate-check-graph c = search needs
-
-slice-aggregate-check-graph-2 : tie.Need-slice-aggregate-check-graph-2
-slice-aggregate-check-graph-2 c = search needs
-
-slice-aggregate-check-graph-3 : tie.Need-slice-aggregate-check-graph-3
-slice-aggregate-check-graph-3 c = search needs
-
 -- the words that the counts name are there
 graph-lent : (c : tie.After-predecessors2)
     → GraphLent (c .before .before .before .before .before .before .before .args .plan .rules)
@@ -49,18 +40,6 @@ graph-lent c =
 check-graph-requires : tie.Need-check-graph-requires
 check-graph-requires c κs = graph-lent c
 
-enum-told : tie.Need-enum-told
-enum-told c = search needs
-
-slice-aggregate-work-plan : tie.Need-slice-aggregate-work-plan
-slice-aggregate-work-plan c = search needs
-
-slice-aggregate-work-plan-2 : tie.Need-slice-aggregate-work-plan-2
-slice-aggregate-work-plan-2 c = search needs
-
-slice-aggregate-work-plan-3 : tie.Need-slice-aggregate-work-plan-3
-slice-aggregate-work-plan-3 c = search needs
-
 work-plan-requires : tie.Need-work-plan-requires
 unfolding planUnits
 work-plan-requires c κs =
@@ -72,39 +51,6 @@ work-plan-requires c κs =
       clean = c .before .before .before .before .before .before .before .before .before .before .before .before .before .before .pre .1;
       long = c .before .before .before .before .before .before .before .before .before .before .before .before .before .before .pre .2;
     }
-
-enum-known-verdict : tie.Need-enum-known-verdict
-enum-known-verdict c = search needs
-
-refuse-requires : tie.Need-refuse-requires
-refuse-requires c κs = search needs
-
-enum-known-verdict-2 : tie.Need-enum-known-verdict-2
-enum-known-verdict-2 c = search needs
-
-refuse-requires-2 : tie.Need-refuse-requires-2
-refuse-requires-2 c κs = search needs
-
-enum-known-verdict-3 : tie.Need-enum-known-verdict-3
-enum-known-verdict-3 c = search needs
-
-refuse-requires-3 : tie.Need-refuse-requires-3
-refuse-requires-3 c κs = search needs
-
-enum-known-verdict-4 : tie.Need-enum-known-verdict-4
-enum-known-verdict-4 c = search needs
-
-refuse-requires-4 : tie.Need-refuse-requires-4
-refuse-requires-4 c κs = search needs
-
-enum-known-verdict-5 : tie.Need-enum-known-verdict-5
-enum-known-verdict-5 c = search needs
-
-refuse-requires-5 : tie.Need-refuse-requires-5
-refuse-requires-5 c κs = search needs
-
-same-length : tie.Need-same-length
-same-length c = search needs
 
 returns : tie.Need-returns
 unfolding planUnits afterGraph
@@ -176,26 +122,26 @@ pub list-read-plan-spec : {M : Type 1} → statement M
 list-read-plan-spec =
     tie.close
     (tie.spec
-    slice-aggregate-check-graph
-    slice-aggregate-check-graph-2
-    slice-aggregate-check-graph-3
+    (λ c. search needs)
+    (λ c. search needs)
+    (λ c. search needs)
     check-graph-requires
-    enum-told
-    slice-aggregate-work-plan
-    slice-aggregate-work-plan-2
-    slice-aggregate-work-plan-3
+    (λ c. search needs)
+    (λ c. search needs)
+    (λ c. search needs)
+    (λ c. search needs)
     work-plan-requires
-    enum-known-verdict
-    refuse-requires
-    enum-known-verdict-2
-    refuse-requires-2
-    enum-known-verdict-3
-    refuse-requires-3
-    enum-known-verdict-4
-    refuse-requires-4
-    enum-known-verdict-5
-    refuse-requires-5
-    same-length
+    (λ c. search needs)
+    (λ c κs. search needs)
+    (λ c. search needs)
+    (λ c κs. search needs)
+    (λ c. search needs)
+    (λ c κs. search needs)
+    (λ c. search needs)
+    (λ c κs. search needs)
+    (λ c. search needs)
+    (λ c κs. search needs)
+    (λ c. search needs)
     returns
     returns-2
     returns-3

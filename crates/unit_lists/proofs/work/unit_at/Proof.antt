@@ -9,39 +9,6 @@ use Rattle.unit_search.specs.declared.Unit.{Unit}
 use Rattle.unit_lists.proofs.work.unit_at.Statement.{statement}
 use Rattle.unit_lists.proofs.work.unit_at.Tie as tie
 
-mul-cut : tie.Need-mul-cut
-mul-cut c = search needs
-
-shared-slice-read-cut : tie.Need-shared-slice-read-cut
-shared-slice-read-cut c = search needs
-
-first-requires : tie.Need-first-requires
-first-requires c κs = search needs
-
-cut-requires : tie.Need-cut-requires
-cut-requires c κs = search needs
-
-mul-t12 : tie.Need-mul-t12
-mul-t12 c = search needs
-
-shared-slice-read-t14 : tie.Need-shared-slice-read-t14
-shared-slice-read-t14 c = search needs
-
-mul-t15 : tie.Need-mul-t15
-mul-t15 c = search needs
-
-shared-slice-read-t17 : tie.Need-shared-slice-read-t17
-shared-slice-read-t17 c = search needs
-
-mul-nearest : tie.Need-mul-nearest
-mul-nearest c = search needs
-
-shared-slice-read-nearest : tie.Need-shared-slice-read-nearest
-shared-slice-read-nearest c = search needs
-
-nearest-requires : tie.Need-nearest-requires
-nearest-requires c κs = search needs
-
 returns : tie.Need-returns
 returns c =
     let c4 = c .before .before .before .before in
@@ -62,15 +29,15 @@ pub unit-at-spec : {M : Type 1} → statement M
 unit-at-spec =
     tie.close
     (tie.spec
-    mul-cut
-    shared-slice-read-cut
-    first-requires
-    cut-requires
-    mul-t12
-    shared-slice-read-t14
-    mul-t15
-    shared-slice-read-t17
-    mul-nearest
-    shared-slice-read-nearest
-    nearest-requires
+    (λ c. search needs)
+    (λ c. search needs)
+    (λ c κs. search needs)
+    (λ c κs. search needs)
+    (λ c. search needs)
+    (λ c. search needs)
+    (λ c. search needs)
+    (λ c. search needs)
+    (λ c. search needs)
+    (λ c. search needs)
+    (λ c κs. search needs)
     returns)

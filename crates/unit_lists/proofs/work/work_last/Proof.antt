@@ -12,15 +12,6 @@ use borrow.Author.Needs.{needs}
 use Rattle.unit_lists.proofs.work.work_last.Statement.{statement}
 use Rattle.unit_lists.proofs.work.work_last.Tie as tie
 
-first-requires : tie.Need-first-requires
-first-requires c κs = search needs
-
-union-of-requires : tie.Need-union-of-requires
-union-of-requires c κs = search needs
-
-nearest-requires : tie.Need-nearest-requires
-nearest-requires c κs = search needs
-
 work-list-requires : tie.Need-work-list-requires
 work-list-requires c κs =
     let c9 = c .before .before .before .before .before .before .before .before .before in
@@ -35,12 +26,6 @@ work-list-requires c κs =
       omega (arith, pre .table-long),
       omega (arith, pre .counts-long),
     )
-
-same-length : tie.Need-same-length
-same-length c = search needs
-
-same-length-2 : tie.Need-same-length-2
-same-length-2 c = search needs
 
 returns : tie.Need-returns
 returns c =
@@ -66,10 +51,10 @@ pub work-last-spec : {M : Type 1} → statement M
 work-last-spec =
     tie.close
     (tie.spec
-    first-requires
-    union-of-requires
-    nearest-requires
+    (λ c κs. search needs)
+    (λ c κs. search needs)
+    (λ c κs. search needs)
     work-list-requires
-    same-length
-    same-length-2
+    (λ c. search needs)
+    (λ c. search needs)
     returns)

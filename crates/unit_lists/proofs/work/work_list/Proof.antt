@@ -14,23 +14,8 @@ use borrow.Author.Needs.{needs}
 use Rattle.unit_lists.proofs.work.work_list.Statement.{statement}
 use Rattle.unit_lists.proofs.work.work_list.Tie as tie
 
-first-requires : tie.Need-first-requires
-first-requires c κs = search needs
-
-without-requires : tie.Need-without-requires
-without-requires c κs = search needs
-
-slice-aggregate-search : tie.Need-slice-aggregate-search
-slice-aggregate-search c = search needs
-
 search-requires : tie.Need-search-requires
 search-requires c κs = (c .before .before .before .before .before .before .before .before .before .pre .0, zeros-ordered)
-
-same-length : tie.Need-same-length
-same-length c = search needs
-
-same-length-2 : tie.Need-same-length-2
-same-length-2 c = search needs
 
 returns : tie.Need-returns
 returns c =
@@ -42,24 +27,6 @@ returns c =
     (subst (λ (w : ℕ). Gathered (Grown (replicate {A = ℕ} 256 0) 0 (Wanted (now (at .rules)) (now (at .table)) (now (at .counts)) (now (at .heads)) (at .unit) (record { up = 0; dropped = w }))) (c .before .before .search .last .1 .1 .1 .1 .1 .0) (c .before .before .search .result))
     (c6 .without .ensures ∙ ap (λ (w : ℕ). w ∖ at .within) (c7 .first .ensures)) (c .before .before .search .ensures))
     refl refl
-
-slice-aggregate-store : tie.Need-slice-aggregate-store
-slice-aggregate-store c = search needs
-
-store-requires : tie.Need-store-requires
-store-requires c κs = search needs
-
-mul-counts : tie.Need-mul-counts
-mul-counts c = search needs
-
-slice-write-counts : tie.Need-slice-write-counts
-slice-write-counts c = search needs
-
-same-length-3 : tie.Need-same-length-3
-same-length-3 c = search needs
-
-same-length-4 : tie.Need-same-length-4
-same-length-4 c = search needs
 
 returns-2 : tie.Need-returns-2
 returns-2 c =
@@ -80,17 +47,17 @@ pub work-list-spec : {M : Type 1} → statement M
 work-list-spec =
     tie.close
     (tie.spec
-    first-requires
-    without-requires
-    slice-aggregate-search
+    (λ c κs. search needs)
+    (λ c κs. search needs)
+    (λ c. search needs)
     search-requires
-    same-length
-    same-length-2
+    (λ c. search needs)
+    (λ c. search needs)
     returns
-    slice-aggregate-store
-    store-requires
-    mul-counts
-    slice-write-counts
-    same-length-3
-    same-length-4
+    (λ c. search needs)
+    (λ c κs. search needs)
+    (λ c. search needs)
+    (λ c. search needs)
+    (λ c. search needs)
+    (λ c. search needs)
     returns-2)

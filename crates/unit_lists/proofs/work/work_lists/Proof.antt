@@ -10,12 +10,6 @@ use Rattle.unit_lists.proofs.Handing.{cleared-start, handed-long, last-
 use Rattle.unit_lists.proofs.work.work_lists.Statement.{statement}
 use Rattle.unit_lists.proofs.work.work_lists.Tie as tie
 
-clear-requires : tie.Need-clear-requires
-clear-requires c κs = search needs
-
-slice-aggregate-work-units : tie.Need-slice-aggregate-work-units
-slice-aggregate-work-units c = search needs
-
 work-units-requires : tie.Need-work-units-requires
 work-units-requires c κs =
     let c4 = c .before .before .before .before in
@@ -25,15 +19,6 @@ work-units-requires c κs =
       cleared-start (unitsOf (now (at .rules)) (at .rule-count) (now (at .units)) (at .unit-count) (now (at .predecessors))) (now (at .table))
           (c4 .clear .last .0) (replicate {A = ℕ} 17 0) (c12 .pre .1) (c4 .clear .kept .0) (c4 .clear .ensures) refl,
     )
-
-enum-known-worked : tie.Need-enum-known-worked
-enum-known-worked c = search needs
-
-refuse-long-requires : tie.Need-refuse-long-requires
-refuse-long-requires c κs = search needs
-
-same-length : tie.Need-same-length
-same-length c = search needs
 
 returns : tie.Need-returns
 returns c =
@@ -49,12 +34,6 @@ returns c =
     (c5 .worked .given .0 .0) (c .before .before .refuse-long .result) (c .before .before .refuse-long .last .1 .0) (c5 .worked .given .1)
     (c .before .before .refuse-long .ensures .0) (c .before .before .refuse-long .ensures .1)
 
-enum-told : tie.Need-enum-told
-enum-told c = search needs
-
-slice-aggregate-work-last : tie.Need-slice-aggregate-work-last
-slice-aggregate-work-last c = search needs
-
 work-last-requires : tie.Need-work-last-requires
 work-last-requires c κs =
     let c7 = c .before .before .before .before .before .before .before in
@@ -65,12 +44,6 @@ work-last-requires c κs =
     (c20 .pre .0) (now (at .table)) (c12 .clear .last .0) (c12 .clear .ensures)
     (c7 .work-units .last .1 .1 .1 .1 .1 .1 .1 .0) (c7 .work-units .last .1 .1 .1 .1 .1 .1 .1 .1 .0) (c7 .work-units .result)
     (c7 .work-units .ensures) (c .before .before .enum-told .given .1)
-
-refuse-long-requires-2 : tie.Need-refuse-long-requires-2
-refuse-long-requires-2 c κs = search needs
-
-same-length-2 : tie.Need-same-length-2
-same-length-2 c = search needs
 
 returns-2 : tie.Need-returns-2
 returns-2 c =
@@ -88,9 +61,6 @@ returns-2 c =
     (c8 .work-last .last .1 .1 .1 .0) (c8 .work-last .last .1 .1 .1 .1 .0) (c8 .work-last .result) (c8 .work-last .ensures)
     (c .before .before .refuse-long2 .result) (c .before .before .refuse-long2 .last .1 .0) (not-true (c8 .work-last .result) (c4 .if1 .taken))
     (c .before .before .refuse-long2 .ensures .0) (c .before .before .refuse-long2 .ensures .1)
-
-same-length-3 : tie.Need-same-length-3
-same-length-3 c = search needs
 
 returns-3 : tie.Need-returns-3
 returns-3 c =
@@ -111,18 +81,18 @@ pub work-lists-spec : {M : Type 1} → statement M
 work-lists-spec =
     tie.close
     (tie.spec
-    clear-requires
-    slice-aggregate-work-units
+    (λ c κs. search needs)
+    (λ c. search needs)
     work-units-requires
-    enum-known-worked
-    refuse-long-requires
-    same-length
+    (λ c. search needs)
+    (λ c κs. search needs)
+    (λ c. search needs)
     returns
-    enum-told
-    slice-aggregate-work-last
+    (λ c. search needs)
+    (λ c. search needs)
     work-last-requires
-    refuse-long-requires-2
-    same-length-2
+    (λ c κs. search needs)
+    (λ c. search needs)
     returns-2
-    same-length-3
+    (λ c. search needs)
     returns-3)

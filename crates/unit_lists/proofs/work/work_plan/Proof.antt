@@ -8,21 +8,6 @@ use Rattle.unit_lists.proofs.Handing.{setting-filled}
 use Rattle.unit_lists.proofs.work.work_plan.Statement.{statement}
 use Rattle.unit_lists.proofs.work.work_plan.Tie as tie
 
-slice-aggregate-fill-head-atoms : tie.Need-slice-aggregate-fill-head-atoms
-slice-aggregate-fill-head-atoms c = search needs
-
-slice-aggregate-fill-head-atoms-2 : tie.Need-slice-aggregate-fill-head-atoms-2
-slice-aggregate-fill-head-atoms-2 c = search needs
-
-fill-head-atoms-requires : tie.Need-fill-head-atoms-requires
-fill-head-atoms-requires c κs = search needs
-
-slice-aggregate-work-lists : tie.Need-slice-aggregate-work-lists
-slice-aggregate-work-lists c = search needs
-
-slice-aggregate-work-lists-2 : tie.Need-slice-aggregate-work-lists-2
-slice-aggregate-work-lists-2 c = search needs
-
 work-lists-requires : tie.Need-work-lists-requires
 work-lists-requires c κs =
     let c5 = c .before .before .before .before .before in
@@ -35,21 +20,15 @@ work-lists-requires c κs =
       c12 .pre .long,
     )
 
-same-length : tie.Need-same-length
-same-length c = search needs
-
-returns : tie.Need-returns
-returns c = search needs
-
 pub work-plan-spec : {M : Type 1} → statement M
 work-plan-spec =
     tie.close
     (tie.spec
-    slice-aggregate-fill-head-atoms
-    slice-aggregate-fill-head-atoms-2
-    fill-head-atoms-requires
-    slice-aggregate-work-lists
-    slice-aggregate-work-lists-2
+    (λ c. search needs)
+    (λ c. search needs)
+    (λ c κs. search needs)
+    (λ c. search needs)
+    (λ c. search needs)
     work-lists-requires
-    same-length
-    returns)
+    (λ c. search needs)
+    (λ c. search needs))

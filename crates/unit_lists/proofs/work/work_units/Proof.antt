@@ -221,15 +221,6 @@ single-requires c κs =
     let c21 = c10 .before .before .before .before .before .before .before .before .before .before .before in
     omega (arith, next-small c10, c21 .pre .0 .lent-words)
 
-union-requires : tie.Need-union-requires Inv-loop μ-loop
-union-requires c κs = search needs
-
-sub-left : tie.Need-sub-left Inv-loop μ-loop
-sub-left c = omega arith
-
-loop-less : tie.Need-loop-less Inv-loop μ-loop
-loop-less c = omega arith
-
 loop-again : tie.Need-loop-again Inv-loop μ-loop
 unfolding unitsOf
 loop-again c =
@@ -297,9 +288,9 @@ work-units-spec =
     same-length-4
     returns-2
     single-requires
-    union-requires
-    sub-left
-    loop-less
+    (λ c κs. search needs)
+    (λ c. omega arith)
+    (λ c. omega arith)
     loop-again
     same-length-5
     same-length-6
