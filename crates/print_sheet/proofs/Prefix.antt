@@ -9,7 +9,7 @@ use lib.ListN.{length, take}
 use Rattle.reading.proofs.Prefix.{DECIDING_BYTES, reading-prefix}
 use Rattle.plan.specs.declared.fault.Fault.the-variants.{TableShort}
 use Rattle.reading.specs.declared.reader.Reading.{Reading}
-use Rattle.unit_lists.specs.Table.{TABLE_WORDS}
+use Rattle.plan.specs.Limits.{TABLE_WORDS}
 use Rattle.unit_lists.specs.Answer.{Answer, refuse, afterReading, answer}
 use Rattle.print_sheet.specs.Sheets.{sheetOf}
 

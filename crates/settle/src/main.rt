@@ -1,9 +1,9 @@
 // settle: reads a plan from standard input and writes its sheet.
 use libc::STDIN_FILENO;
 use libc::STDOUT_FILENO;
+use plan::TABLE_WORDS;
 use print_sheet::SHEET_BYTES;
 use print_sheet::shown_sheet;
-use unit_lists::TABLE_WORDS;
 
 fn main() {
     // The first 4,096 bytes are kept, and they decide the sheet: every reading fault shows within 2,467.

@@ -6,6 +6,7 @@ use native.Mathlib.Omega.{arith}
 use native.Mathlib.Decide.{decLt}
 use lib.ListN.{length}
 use Rattle.reading.specs.Reading.{reading}
+use Rattle.plan.specs.Limits.{MAX_RULES, MAX_UNITS, LIST_WORDS, TABLE_WORDS}
 use Rattle.plan.specs.Faults.{number}
 use Rattle.plan.specs.declared.fault.Fault.{Fault}
 use Rattle.plan.specs.declared.fault.Fault.the-variants.{TableShort, Truncated, UnknownCommand, OutOfOrder, TooMany, EmptyRule, AbsentRule, BadEdge, TrailingBytes, RuleInNoUnit, HeadedRuleInSeveral, Cycle, NonmonotonicUnseen, MonotonicUnseen, LongList}
@@ -26,7 +27,7 @@ use Rattle.unit_lists.specs.Lists.{unitList, lastList}
 use Rattle.unit_lists.specs.Answer.{Answer, workFrom, planUnits, afterGraph, answer}
 use Rattle.unit_lists.specs.Handed.{Handed}
 use Rattle.unit_lists.specs.Demands.{GraphRefused, GraphJudged, Demand2}
-use Rattle.unit_lists.specs.declared.Listing.{Listing}
+use Rattle.unit_lists.specs.declared.listing.Listing.{Listing}
 use Rattle.unit_lists.proofs.Handing.{read-answer}
 use Rattle.unit_lists.proofs.Stepping.{work-fits, work-long}
 use Rattle.unit_lists.proofs.LastList.{last-fits, last-long}
@@ -38,14 +39,14 @@ data Worked : Outcome → Type 0 where
   too-long : (u : ℕ) → Worked (Refused (LongList u))
 
 work-outcome : (S : Units) (table us : List ℕ) → Worked (workFrom S table us .outcome)
-work-outcome S table [] = go (decLt 256 (length (lastList S)))
+work-outcome S table [] = go (decLt LIST_WORDS (length (lastList S)))
   where
-    go : Dec (256 < length (lastList S)) → Worked (workFrom S table [] .outcome)
+    go : Dec (LIST_WORDS < length (lastList S)) → Worked (workFrom S table [] .outcome)
     go (yes l) = subst (λ (a : Answer). Worked (a .outcome)) (sym (last-long S table l)) (too-long (S .units))
     go (no n) = subst (λ (a : Answer). Worked (a .outcome)) (sym (last-fits S table (omega arith))) listed
-work-outcome S table (u ∷ us) = go (decLt 256 (length (unitList S u))) (work-outcome S table us)
+work-outcome S table (u ∷ us) = go (decLt LIST_WORDS (length (unitList S u))) (work-outcome S table us)
   where
-    go : Dec (256 < length (unitList S u)) → Worked (workFrom S table us .outcome) → Worked (workFrom S table (u ∷ us) .outcome)
+    go : Dec (LIST_WORDS < length (unitList S u)) → Worked (workFrom S table us .outcome) → Worked (workFrom S table (u ∷ us) .outcome)
     go (yes l) w = subst (λ (a : Answer). Worked (a .outcome)) (sym (work-long S table u us l)) (too-long u)
     go (no n) w = subst (λ (a : Answer). Worked (a .outcome)) (sym (work-fits S table u us (omega arith))) w
 
@@ -129,7 +130,7 @@ unrefused table v (row-14 {r} a b y c l) n = absurd (n (refused (MonotonicUnseen
 
 -- ---- the demand
 
-module _ (S : Units) (few-rules : S .rules ≤ 64) (few-units : S .units ≤ 64) (table : List ℕ) (o : Outcome)
+module _ (S : Units) (few-rules : S .rules ≤ MAX_RULES) (few-units : S .units ≤ MAX_RULES) (table : List ℕ) (o : Outcome)
     (o-is : o ≡ afterGraph S table (verdict S) .outcome) where
   tells : verdict S ≡ told o
   tells = sym (ap told o-is ∙ graph-told S table (verdict S))
@@ -160,10 +161,10 @@ module _ (S : Units) (few-rules : S .rules ≤ 64) (few-units : S .units ≤ 64)
   }
 
 module _ (bytes table : List ℕ) (r : Listing) (table′ : List ℕ) (h : Handed (answer bytes table) r table′) where
-  judged : reading bytes .outcome ≡ Accepted → 4352 ≤ length table → GraphJudged (planUnits (reading bytes .plan)) (r .outcome)
+  judged : reading bytes .outcome ≡ Accepted → TABLE_WORDS ≤ length table → GraphJudged (planUnits (reading bytes .plan)) (r .outcome)
   unfolding planUnits unitsOf
   judged read long =
-      let few : reading bytes .plan .«unit_count» ≤ 16 = record-fits bytes .units-fit in
+      let few : reading bytes .plan .«unit_count» ≤ MAX_UNITS = record-fits bytes .units-fit in
       graph-judged (planUnits (reading bytes .plan)) (record-fits bytes .rules-fit) (omega arith) table (r .outcome)
       (h .outcome-is ∙ ap (λ (a : Answer). a .outcome) (read-answer bytes table long read))
 

@@ -16,6 +16,7 @@ use Rattle.answer_sets.specs.AnswerSet.{AnswerSet}
 use Rattle.answer_sets.specs.Lent.{lent}
 use Rattle.reading.specs.Reading.{reading}
 use Rattle.reading.specs.Layout.{IsByte, All}
+use Rattle.plan.specs.Limits.{MAX_RULES, MAX_UNITS, LIST_WORDS, LAST_LIST, TABLE_WORDS, LAST_COUNT}
 use Rattle.plan.specs.declared.fault.Fault.the-variants.{LongList}
 use Rattle.plan.specs.declared.fault.Outcome.the-variants.{Accepted, Refused}
 use Rattle.reading.proofs.Limits.{record-fits}
@@ -31,11 +32,11 @@ use Rattle.splitting.specs.UnitList.{Clean, withLast}
 use Rattle.splitting.proofs.Last.{last-list, last-passes, last-free}
 use Rattle.unit_search.specs.Listing.{padded}
 use Rattle.unit_lists.specs.Lists.{unitList, lastList}
-use Rattle.unit_lists.specs.Table.{TABLE_WORDS, runs, tally, listAt, tableOf, countsOf}
+use Rattle.unit_lists.specs.Table.{runs, tally, listAt, tableOf, countsOf}
 use Rattle.unit_lists.specs.Answer.{Answer, refuse, workFrom, planUnits, afterGraph, answer}
 use Rattle.unit_lists.specs.Handed.{Handed}
 use Rattle.unit_lists.specs.Demands.{FirstLong, here, later, last, lastIn, ListsAll, Complete, Demand3}
-use Rattle.unit_lists.specs.declared.Listing.{Listing}
+use Rattle.unit_lists.specs.declared.listing.Listing.{Listing}
 use Rattle.unit_lists.proofs.Decided.{unit-list-at, unit-list-has}
 use Rattle.unit_lists.proofs.Joined.{unit-list-rising}
 use Rattle.unit_lists.proofs.Runs.{padded-long, runs-long, tally-long}
@@ -57,82 +58,82 @@ same-spot : (u v : ℕ) → Refused (LongList v) ≡ Refused (LongList u) → v 
 same-spot u v e = cc
 
 refused-long : (S : Units) (table us : List ℕ) (u : ℕ) → workFrom S table us .outcome ≡ Refused (LongList u) → FirstLong S us u
-refused-long S table [] u e = go (decLt 256 (length (lastList S)))
+refused-long S table [] u e = go (decLt LIST_WORDS (length (lastList S)))
   where
-    go : Dec (256 < length (lastList S)) → FirstLong S [] u
+    go : Dec (LIST_WORDS < length (lastList S)) → FirstLong S [] u
     go (yes l) =
         subst (FirstLong S []) (same-spot u (S .units) (sym (ap (λ (a : Answer). a .outcome) (last-long S table l)) ∙ e)) (last l)
     go (no n) = absurd (not-accepted (LongList u) (sym (ap (λ (a : Answer). a .outcome) (last-fits S table (omega arith))) ∙ e))
-refused-long S table (v ∷ vs) u e = go (decLt 256 (length (unitList S v))) (refused-long S table vs u)
+refused-long S table (v ∷ vs) u e = go (decLt LIST_WORDS (length (unitList S v))) (refused-long S table vs u)
   where
-    go : Dec (256 < length (unitList S v)) → (workFrom S table vs .outcome ≡ Refused (LongList u) → FirstLong S vs u) → FirstLong S (v ∷ vs) u
+    go : Dec (LIST_WORDS < length (unitList S v)) → (workFrom S table vs .outcome ≡ Refused (LongList u) → FirstLong S vs u) → FirstLong S (v ∷ vs) u
     go (yes l) r =
         subst (FirstLong S (v ∷ vs)) (same-spot u v (sym (ap (λ (a : Answer). a .outcome) (work-long S table v vs l)) ∙ e)) (here l)
     go (no n) r =
-        let l : length (unitList S v) ≤ 256 = omega arith in
+        let l : length (unitList S v) ≤ LIST_WORDS = omega arith in
         later l (r (sym (ap (λ (a : Answer). a .outcome) (work-fits S table v vs l)) ∙ e))
 
 -- ---- otherwise: every list fits
 
 none-long : (S : Units) (table us : List ℕ) → ((u : ℕ) → ¬ FirstLong S us u)
     → workFrom S table us ≡ record { outcome = Accepted; counts = countsOf S; table = tableOf S table }
-none-long S table [] f = last-fits S table (let n : ¬ (256 < length (lastList S)) = λ l. f (S .units) (last l) in omega arith)
+none-long S table [] f = last-fits S table (let n : ¬ (LIST_WORDS < length (lastList S)) = λ l. f (S .units) (last l) in omega arith)
 none-long S table (v ∷ vs) f =
-    let n : ¬ (256 < length (unitList S v)) = λ l. f v (here l) in
+    let n : ¬ (LIST_WORDS < length (unitList S v)) = λ l. f v (here l) in
     work-fits S table v vs (omega arith) ∙ none-long S table vs (λ u g. f u (later (omega arith) g))
 
-none-long-small : (S : Units) (us : List ℕ) → ((u : ℕ) → ¬ FirstLong S us u) → length (lastList S) ≤ 256
-none-long-small S [] f = let n : ¬ (256 < length (lastList S)) = λ l. f (S .units) (last l) in omega arith
+none-long-small : (S : Units) (us : List ℕ) → ((u : ℕ) → ¬ FirstLong S us u) → length (lastList S) ≤ LIST_WORDS
+none-long-small S [] f = let n : ¬ (LIST_WORDS < length (lastList S)) = λ l. f (S .units) (last l) in omega arith
 none-long-small S (v ∷ vs) f =
-    let n : ¬ (256 < length (unitList S v)) = λ l. f v (here l) in
+    let n : ¬ (LIST_WORDS < length (unitList S v)) = λ l. f v (here l) in
     none-long-small S vs (λ u g. f u (later (omega arith) g))
 
 -- each list that is in the table has at most 256 members
-order-small : (S : Units) (us : List ℕ) → ((u : ℕ) → ¬ FirstLong S us u) → (u : ℕ) → List·Memᴰ u us → length (unitList S u) ≤ 256
+order-small : (S : Units) (us : List ℕ) → ((u : ℕ) → ¬ FirstLong S us u) → (u : ℕ) → List·Memᴰ u us → length (unitList S u) ≤ LIST_WORDS
 order-small S [] f u m = absurd (List·Memᴰ·not-nil m)
 order-small S (v ∷ vs) f u m =
-    let n : ¬ (256 < length (unitList S v)) = λ l. f v (here l) in
-    let small : length (unitList S v) ≤ 256 = omega arith in
+    let n : ¬ (LIST_WORDS < length (unitList S v)) = λ l. f v (here l) in
+    let small : length (unitList S v) ≤ LIST_WORDS = omega arith in
     go small (List·Memᴰ·cases-cons m) (order-small S vs (λ w g. f w (later small g)) u)
   where
-    go : length (unitList S v) ≤ 256 → (u ≡ v) ⊎ List·Memᴰ u vs → (List·Memᴰ u vs → length (unitList S u) ≤ 256) → length (unitList S u) ≤ 256
-    go l (inl e) r = subst (λ (x : ℕ). length (unitList S x) ≤ 256) (sym e) l
+    go : length (unitList S v) ≤ LIST_WORDS → (u ≡ v) ⊎ List·Memᴰ u vs → (List·Memᴰ u vs → length (unitList S u) ≤ LIST_WORDS) → length (unitList S u) ≤ LIST_WORDS
+    go l (inl e) r = subst (λ (x : ℕ). length (unitList S x) ≤ LIST_WORDS) (sym e) l
     go l (inr k) r = r k
 
 module _ (S : Units) (acyclic : Acyclic S) (table : List ℕ) (none : (u : ℕ) → ¬ FirstLong S (workingOrder S) u) where
-  list-small : (i : ℕ) → length (listAt S i) ≤ 256
+  list-small : (i : ℕ) → length (listAt S i) ≤ LIST_WORDS
   unfolding listAt
   list-small i = go (decLt i (S .units))
     where
       picked : Bool → List ℕ
       picked b = elim b [ true ↦ unitList S i | false ↦ [] ]
 
-      go : Dec (i < S .units) → length (picked (ltb i (S .units))) ≤ 256
+      go : Dec (i < S .units) → length (picked (ltb i (S .units))) ≤ LIST_WORDS
       go (yes l) =
-          subst (λ (b : Bool). length (picked b) ≤ 256) (sym (lt-ltb i (S .units) l))
+          subst (λ (b : Bool). length (picked b) ≤ LIST_WORDS) (sym (lt-ltb i (S .units) l))
           (order-small S (workingOrder S) none i (order-each S acyclic i l))
-      go (no n) = subst (λ (b : Bool). length (picked b) ≤ 256) (sym (le-ltb i (S .units) (omega arith))) (omega arith)
+      go (no n) = subst (λ (b : Bool). length (picked b) ≤ LIST_WORDS) (sym (le-ltb i (S .units) (omega arith))) (omega arith)
 
-  last-words : drop 4096 (tableOf S table) ≡ padded (lastList S) ++ drop TABLE_WORDS table
+  last-words : drop LAST_LIST (tableOf S table) ≡ padded (lastList S) ++ drop TABLE_WORDS table
   unfolding tableOf
   last-words =
-      drop-at (runs (λ i. padded (listAt S i)) 16) (padded (lastList S) ++ drop TABLE_WORDS table) 4096
-      (runs-long (λ i. padded (listAt S i)) 16 (λ i l. padded-long (listAt S i) (list-small i)))
+      drop-at (runs (λ i. padded (listAt S i)) MAX_UNITS) (padded (lastList S) ++ drop TABLE_WORDS table) LAST_LIST
+      (runs-long (λ i. padded (listAt S i)) MAX_UNITS (λ i l. padded-long (listAt S i) (list-small i)))
 
-  last-count : getD (countsOf S) 16 0 ≡ length (lastList S)
+  last-count : getD (countsOf S) LAST_COUNT 0 ≡ length (lastList S)
   unfolding countsOf
-  last-count = getD-at (tally (λ i. length (listAt S i)) 16) (length (lastList S)) [] 0 16 (tally-long (λ i. length (listAt S i)) 16)
+  last-count = getD-at (tally (λ i. length (listAt S i)) MAX_UNITS) (length (lastList S)) [] 0 MAX_UNITS (tally-long (λ i. length (listAt S i)) MAX_UNITS)
 
   -- the words from 4,096 on, as many as the last count says
-  pub last-in-table : take (getD (countsOf S) 16 0) (drop 4096 (tableOf S table)) ≡ lastList S
+  pub last-in-table : take (getD (countsOf S) LAST_COUNT 0) (drop LAST_LIST (tableOf S table)) ≡ lastList S
   unfolding padded
   last-in-table =
-      ap (take (getD (countsOf S) 16 0))
-      (last-words ∙ append-assoc (lastList S) (replicate {A = ℕ} (256 - length (lastList S)) 0) (drop TABLE_WORDS table))
-      ∙ take-at (lastList S) (replicate {A = ℕ} (256 - length (lastList S)) 0 ++ drop TABLE_WORDS table) (getD (countsOf S) 16 0) (sym last-count)
+      ap (take (getD (countsOf S) LAST_COUNT 0))
+      (last-words ∙ append-assoc (lastList S) (replicate {A = ℕ} (LIST_WORDS - length (lastList S)) 0) (drop TABLE_WORDS table))
+      ∙ take-at (lastList S) (replicate {A = ℕ} (LIST_WORDS - length (lastList S)) 0 ++ drop TABLE_WORDS table) (getD (countsOf S) LAST_COUNT 0) (sym last-count)
 
 -- the last list is the list of the answer sets of the whole program
-last-answer-sets : (S : Units) → Passes S → LooksOnly S → GivenFree S → Clean S → S .rules ≤ 64 → (M : ℕ)
+last-answer-sets : (S : Units) → Passes S → LooksOnly S → GivenFree S → Clean S → S .rules ≤ MAX_RULES → (M : ℕ)
     → List·Memᴰ M (lastList S) ↔ AnswerSet (S .program) (below (S .rules)) (S .given) M
 unfolding lastList withLast
 last-answer-sets S pass looks free clean small M =
@@ -149,7 +150,7 @@ last-rising S = unit-list-rising (withLast S) (S .units)
 -- ---- the demand
 
 module _ (bytes table : List ℕ) (all : All IsByte bytes) (r : Listing) (table′ : List ℕ) (h : Handed (answer bytes table) r table′) where
-  module _ (read : reading bytes .outcome ≡ Accepted) (pass : Passes (planUnits (reading bytes .plan))) (long : 4352 ≤ length table) where
+  module _ (read : reading bytes .outcome ≡ Accepted) (pass : Passes (planUnits (reading bytes .plan))) (long : TABLE_WORDS ≤ length table) where
     worked : answer bytes table ≡ workFrom (planUnits (reading bytes .plan)) table (workingOrder (planUnits (reading bytes .plan)))
     unfolding afterGraph
     worked =
@@ -169,7 +170,7 @@ module _ (bytes table : List ℕ) (all : All IsByte bytes) (r : Listing) (table�
         let counts : r .counts ≡ countsOf S = h .counts-are ∙ ap (λ (a : Answer). a .counts) e in
         let words : table′ ≡ tableOf S table = h .table-is ∙ ap (λ (a : Answer). a .table) e in
         let last : lastIn r table′ ≡ lastList S =
-        ap₂ (λ (c t : List ℕ). take (getD c 16 0) (drop 4096 t)) counts words ∙ last-in-table S (pass .acyclic) table none in
+        ap₂ (λ (c t : List ℕ). take (getD c LAST_COUNT 0) (drop LAST_LIST t)) counts words ∙ last-in-table S (pass .acyclic) table none in
         let sets = last-answer-sets S pass (looks-only (p .rules) (p .«rule_count») (p .units) (p .«unit_count») (p .predecessors))
         (given-free (p .rules) (p .«rule_count») (p .units) (p .«unit_count») (p .predecessors)) (plan-clean bytes all read)
         (record-fits bytes .rules-fit) in
@@ -177,7 +178,7 @@ module _ (bytes table : List ℕ) (all : All IsByte bytes) (r : Listing) (table�
           accepted = h .outcome-is ∙ ap (λ (a : Answer). a .outcome) e;
           rising = subst Rising (sym last) (last-rising S);
           members = λ M. subst (λ (l : List ℕ). List·Memᴰ M l ↔ AnswerSet (lent (p .rules)) (below (p .«rule_count»)) 0 M) (sym last) (sets M);
-          counted = ap length last ∙ sym (ap (λ (c : List ℕ). getD c 16 0) counts ∙ last-count S (pass .acyclic) table none);
+          counted = ap length last ∙ sym (ap (λ (c : List ℕ). getD c LAST_COUNT 0) counts ∙ last-count S (pass .acyclic) table none);
         }
 
     complete : Complete (reading bytes .plan) r table′

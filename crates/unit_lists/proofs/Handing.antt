@@ -8,6 +8,7 @@ use lib.ListN.{length, drop, getD, replicate}
 use borrow.Author.Tests.{lt-ltb, le-ltb}
 use Rattle.atoms.specs.Word.{Has, below}
 use Rattle.atoms.proofs.Sets.{below-lt}
+use Rattle.plan.specs.Limits.{MAX_UNITS, LAST_LIST, TABLE_WORDS, COUNTS}
 use Rattle.plan.specs.declared.fault.Fault.{Fault}
 use Rattle.plan.specs.declared.fault.Fault.the-variants.{TableShort, LongList}
 use Rattle.reading.specs.Reading.{reading}
@@ -17,12 +18,12 @@ use Rattle.dependency_graph.specs.Heads.{heads, inputHeads}
 use Rattle.dependency_graph.specs.Slices.{unitsOf, Filled}
 use Rattle.dependency_graph.specs.Order.{workingOrder}
 use Rattle.unit_lists.specs.Lists.{lastList}
-use Rattle.unit_lists.specs.Table.{TABLE_WORDS, cleared, tableOf, countsOf, noCounts}
+use Rattle.unit_lists.specs.Table.{cleared, tableOf, countsOf, noCounts}
 use Rattle.dependency_graph.specs.Check.{verdict}
 use Rattle.unit_lists.specs.Answer.{Answer, refuse, workFrom, planUnits, afterGraph, afterReading, answer}
 use Rattle.unit_lists.specs.Handed.{refusal, Handed}
 use Rattle.unit_lists.specs.Work.{Setting, Working, UnitsWorked, all-fit, one-long, LastLent, LastWorked, Workable}
-use Rattle.unit_lists.specs.declared.Listing.{Listing}
+use Rattle.unit_lists.specs.declared.listing.Listing.{Listing}
 use Rattle.unit_lists.specs.declared.work.Work.{Work}
 use Rattle.unit_lists.specs.declared.work.Work.the-variants.{Fits, Long}
 use Rattle.unit_lists.proofs.Stepping.{UnitDone, done-fits, done-long, unit-done, joinable}
@@ -52,7 +53,7 @@ handed-listed a counts table counts′ table′ e c t = record {
 -- ---- the start
 
 pub setting-filled : (rules : List ℕ) (n : ℕ) (units : List ℕ) (m : ℕ) (predecessors table : List ℕ) → Workable rules n units m predecessors table
-    → (before before′ heads′ inputs : List ℕ) → length before ≡ 16 → length before′ ≡ 16
+    → (before before′ heads′ inputs : List ℕ) → length before ≡ MAX_UNITS → length before′ ≡ MAX_UNITS
     → Filled m (heads (unitsOf rules n units m predecessors)) before heads′
     → Filled m (inputHeads (unitsOf rules n units m predecessors)) before′ inputs → Setting rules n units m predecessors heads′ inputs
 setting-filled rules n units m predecessors table w before before′ heads′ inputs a b h i = record {
@@ -65,8 +66,8 @@ setting-filled rules n units m predecessors table w before before′ heads′ in
   inputs-are = i .filled;
 }
 
-pub cleared-start : (S : Units) (table₀ table counts : List ℕ) → 4352 ≤ length table₀ → length table ≡ length table₀ → table ≡ cleared table₀
-    → counts ≡ replicate {A = ℕ} 17 0 → Working S 0 table table counts
+pub cleared-start : (S : Units) (table₀ table counts : List ℕ) → TABLE_WORDS ≤ length table₀ → length table ≡ length table₀ → table ≡ cleared table₀
+    → counts ≡ replicate {A = ℕ} COUNTS 0 → Working S 0 table table counts
 cleared-start S table₀ table counts long same e c =
     working-start S table counts (omega arith) (e ∙ cleared-again table₀ ∙ ap cleared (sym e)) c
 
@@ -128,12 +129,12 @@ module _ (rules : List ℕ) (n : ℕ) (units : List ℕ) (m : ℕ) (predecessors
       }
 
   module _ (fit : w ≡ Fits) (table₃ counts₃ : List ℕ) (b : Bool) (last : LastWorked rules m heads′ table₂ counts₂ table₃ counts₃ b) where
-    last-done : UnitDone (lastList (unitsOf rules n units m predecessors)) 4096 16 table₂ counts₂ table₃ counts₃ b
+    last-done : UnitDone (lastList (unitsOf rules n units m predecessors)) LAST_LIST MAX_UNITS table₂ counts₂ table₃ counts₃ b
     unfolding unitsOf
     last-done =
         let f = as-fit worked fit in
         unit-done (lastList (unitsOf rules n units m predecessors)) rules heads′ (record { rules = 0; inputs = last .input; predecessors = below m; nearest = last .near })
-        (last .input) 4096 16 table₂ counts₂ table₃ counts₃ b
+        (last .input) LAST_LIST MAX_UNITS table₂ counts₂ table₃ counts₃ b
         (last-answer rules n units m predecessors heads′ inputs s (f .done) table₁ table₂ counts₂ (f .working) (f .all) (last .input) (last .near) (last .is) (last .fits))
         (last .worked)
 
@@ -164,23 +165,23 @@ module _ (rules : List ℕ) (n : ℕ) (units : List ℕ) (m : ℕ) (predecessors
 
 -- ---- the places before unit work
 
-pub short-answer : (bytes table : List ℕ) → length table < 4352 → answer bytes table ≡ refuse (TableShort (length table)) table
+pub short-answer : (bytes table : List ℕ) → length table < TABLE_WORDS → answer bytes table ≡ refuse (TableShort (length table)) table
 unfolding answer
 short-answer bytes table l =
     ap (λ (b : Bool). elim b [ true ↦ refuse (TableShort (length table)) table | false ↦ afterReading (reading bytes .plan) table (reading bytes .outcome) ])
-    (lt-ltb (length table) 4352 l)
+    (lt-ltb (length table) TABLE_WORDS l)
 
-long-answer : (bytes table : List ℕ) → 4352 ≤ length table → answer bytes table ≡ afterReading (reading bytes .plan) table (reading bytes .outcome)
+long-answer : (bytes table : List ℕ) → TABLE_WORDS ≤ length table → answer bytes table ≡ afterReading (reading bytes .plan) table (reading bytes .outcome)
 unfolding answer
 long-answer bytes table l =
     ap (λ (b : Bool). elim b [ true ↦ refuse (TableShort (length table)) table | false ↦ afterReading (reading bytes .plan) table (reading bytes .outcome) ])
-    (le-ltb (length table) 4352 l)
+    (le-ltb (length table) TABLE_WORDS l)
 
-pub refused-answer : (bytes table : List ℕ) (f : Fault) → 4352 ≤ length table → reading bytes .outcome ≡ Refused f → answer bytes table ≡ refuse f table
+pub refused-answer : (bytes table : List ℕ) (f : Fault) → TABLE_WORDS ≤ length table → reading bytes .outcome ≡ Refused f → answer bytes table ≡ refuse f table
 unfolding afterReading
 refused-answer bytes table f l e = long-answer bytes table l ∙ ap (afterReading (reading bytes .plan) table) e
 
-pub read-answer : (bytes table : List ℕ) → 4352 ≤ length table → reading bytes .outcome ≡ Accepted
+pub read-answer : (bytes table : List ℕ) → TABLE_WORDS ≤ length table → reading bytes .outcome ≡ Accepted
     → answer bytes table ≡ afterGraph (planUnits (reading bytes .plan)) table (verdict (planUnits (reading bytes .plan)))
 unfolding afterReading
 read-answer bytes table l e = long-answer bytes table l ∙ ap (afterReading (reading bytes .plan) table) e

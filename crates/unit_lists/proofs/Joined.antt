@@ -8,6 +8,7 @@ use native.Mathlib.Omega.{arith}
 use lib.Dec.{eqb}
 use lib.ListN.{length, take, drop, getD, replicate, take-append-drop, length-take, length-replicate}
 use borrow.Author.Tests.{eqb-true, eq-eqb}
+use Rattle.plan.specs.Limits.{MAX_RULES, MAX_UNITS, LIST_WORDS, OVERFULL}
 use Rattle.atoms.specs.Word.{Has, _⊆_, _∩_, _∖_, below}
 use Rattle.atoms.specs.Rising.{Rising, rising-nil, rising-cons, Above, members}
 use Rattle.atoms.proofs.Tests.{decided-true}
@@ -50,21 +51,21 @@ index-of (y ∷ ys) x m = go (List·Memᴰ·cases-cons m) (index-of ys x)
 
 -- a stored list is searched word by word
 stored-at : (T : Units) (table counts : List ℕ) (v x : ℕ) → Stored T table counts v
-    → isListed table (256 * v) (getD counts v 0) x ≡ true → List·Memᴰ x (unitList T v)
+    → isListed table (LIST_WORDS * v) (getD counts v 0) x ≡ true → List·Memᴰ x (unitList T v)
 unfolding isListed
 stored-at T table counts v x s e =
-    let f = some-at (getD counts v 0) (λ i. eqb (getD table (256 * v + i) 0) x) e in
+    let f = some-at (getD counts v 0) (λ i. eqb (getD table (LIST_WORDS * v + i) 0) x) e in
     let l : f .0 < length (unitList T v) = omega (arith, f .1, s .counted) in
-    subst (λ (y : ℕ). List·Memᴰ y (unitList T v)) (sym (s .words (f .0) l) ∙ eqb-true (getD table (256 * v + f .0) 0) x (f .2))
+    subst (λ (y : ℕ). List·Memᴰ y (unitList T v)) (sym (s .words (f .0) l) ∙ eqb-true (getD table (LIST_WORDS * v + f .0) 0) x (f .2))
     (member-getD (unitList T v) (f .0) l)
 
 stored-has : (T : Units) (table counts : List ℕ) (v x : ℕ) → Stored T table counts v → List·Memᴰ x (unitList T v)
-    → isListed table (256 * v) (getD counts v 0) x ≡ true
+    → isListed table (LIST_WORDS * v) (getD counts v 0) x ≡ true
 unfolding isListed
 stored-has T table counts v x s m =
     let f = index-of (unitList T v) x m in
-    some-intro (getD counts v 0) (λ i. eqb (getD table (256 * v + i) 0) x) (f .0) (omega (arith, f .1, s .counted))
-    (eq-eqb (getD table (256 * v + f .0) 0) x (s .words (f .0) (f .1) ∙ f .2))
+    some-intro (getD counts v 0) (λ i. eqb (getD table (LIST_WORDS * v + i) 0) x) (f .0) (omega (arith, f .1, s .counted))
+    (eq-eqb (getD table (LIST_WORDS * v + f .0) 0) x (s .words (f .0) (f .1) ∙ f .2))
 
 -- ---- a list in its 256 words
 
@@ -77,7 +78,7 @@ unfolding padded
 ordered-padded list k o =
     let e : length (take k list) ≡ k = length-take k list ∙ omega (arith, o .long, o .small) in
     sym (take-append-drop k list)
-    ∙ ap (λ (ys : List ℕ). take k list ++ ys) (o .zeros ∙ ap (λ (n : ℕ). replicate {A = ℕ} (256 - n) 0) (sym e))
+    ∙ ap (λ (ys : List ℕ). take k list ++ ys) (o .zeros ∙ ap (λ (n : ℕ). replicate {A = ℕ} (LIST_WORDS - n) 0) (sym e))
 
 -- rising lists of which one is within the other
 rising-longer : (xs ys : List ℕ) → Rising xs → Rising ys → ((x : ℕ) → List·Memᴰ x xs → List·Memᴰ x ys) → length xs ≤ length ys
@@ -95,16 +96,16 @@ rising-longer (x ∷ xs) (y ∷ ys) (rising-cons a r) (rising-cons b s) f =
         first (inr k) = absurd (omega (arith, above-at a z m, above-at b x k))
     behind z m (inr k) = k
 
-longer : (xs ys : List ℕ) → Rising xs → Rising ys → ((x : ℕ) → List·Memᴰ x xs → List·Memᴰ x ys) → length xs ≡ 257 → 256 < length ys
+longer : (xs ys : List ℕ) → Rising xs → Rising ys → ((x : ℕ) → List·Memᴰ x xs → List·Memᴰ x ys) → length xs ≡ OVERFULL → LIST_WORDS < length ys
 longer xs ys r s f e = omega (arith, rising-longer xs ys r s f)
 
 -- the count of a list that fits is its length
-pub worked-count : (members list : List ℕ) (r : ℕ) → UnitWorked members list r → r ≤ 256
-    → (length members ≤ 256) × (list ≡ padded members) × (r ≡ length members)
+pub worked-count : (members list : List ℕ) (r : ℕ) → UnitWorked members list r → r ≤ LIST_WORDS
+    → (length members ≤ LIST_WORDS) × (list ≡ padded members) × (r ≡ length members)
 worked-count members list r (list-fits e l w) small = (omega arith, w, e)
 worked-count members list r (list-long l) small = absurd (omega arith)
 
-pub worked-long : (members list : List ℕ) (r : ℕ) → UnitWorked members list r → 256 < r → 256 < length members
+pub worked-long : (members list : List ℕ) (r : ℕ) → UnitWorked members list r → LIST_WORDS < r → LIST_WORDS < length members
 worked-long members list r (list-fits e l w) long = absurd (omega arith)
 worked-long members list r (list-long l) long = l
 
@@ -113,12 +114,12 @@ pub record Asked (T : Units) (u : ℕ) (table counts heads′ : List ℕ) (unit 
   pub is-unit : u < T .units
   pub numbers : unit .rules ≡ T .unit u ∩ below (T .rules)
   pub inputs : unit .inputs ≡ inputHeads T u
-  pub edge-of : (v : ℕ) → Has (unit .predecessors) v → Edge T u v × (v < 16)
+  pub edge-of : (v : ℕ) → Has (unit .predecessors) v → Edge T u v × (v < MAX_UNITS)
   pub of-edge : (v : ℕ) → Edge T u v → Has (unit .predecessors) v
   pub heads-are : (v : ℕ) → Edge T u v → getD heads′ v 0 ≡ heads T v
   pub stored : (v : ℕ) → Edge T u v → Stored T table counts v
 
-module _ (rules : List ℕ) (T : Units) (same : T .program ≡ lent rules) (pass : Passes T) (free : GivenFree T) (none-given : T .given ≡ 0) (small : T .rules ≤ 64)
+module _ (rules : List ℕ) (T : Units) (same : T .program ≡ lent rules) (pass : Passes T) (free : GivenFree T) (none-given : T .given ≡ 0) (small : T .rules ≤ MAX_RULES)
     (u : ℕ) (table counts heads′ : List ℕ) (unit : Unit) (a : Asked T u table counts heads′ unit) where
   -- each predecessor's list has the position's cut
   joins-edge : (M : ℕ) → joins table counts heads′ (unit .predecessors) M ≡ true → (v : ℕ) → Edge T u v → Listed T v (M ∩ heads T v)
@@ -126,16 +127,16 @@ module _ (rules : List ℕ) (T : Units) (same : T .program ≡ lent rules) (pass
   joins-edge M j v e =
       unit-list-at T pass free small v (M ∩ heads T v) (e .is-predecessor)
       (stored-at T table counts v (M ∩ heads T v) (a .stored v e)
-      (subst (λ (w : ℕ). isListed table (256 * v) (getD counts v 0) (M ∩ w) ≡ true) (a .heads-are v e)
-      (all-in-at 16 (unit .predecessors) (λ w. isListed table (256 * w) (getD counts w 0) (M ∩ getD heads′ w 0)) j v (a .edge-of v (a .of-edge v e) .1) (a .of-edge v e))))
+      (subst (λ (w : ℕ). isListed table (LIST_WORDS * v) (getD counts v 0) (M ∩ w) ≡ true) (a .heads-are v e)
+      (all-in-at MAX_UNITS (unit .predecessors) (λ w. isListed table (LIST_WORDS * w) (getD counts w 0) (M ∩ getD heads′ w 0)) j v (a .edge-of v (a .of-edge v e) .1) (a .of-edge v e))))
 
   edge-joins : (M : ℕ) → ((v : ℕ) → Edge T u v → Listed T v (M ∩ heads T v)) → joins table counts heads′ (unit .predecessors) M ≡ true
   unfolding joins
   edge-joins M f =
-      all-in-intro 16 (unit .predecessors) (λ w. isListed table (256 * w) (getD counts w 0) (M ∩ getD heads′ w 0))
+      all-in-intro MAX_UNITS (unit .predecessors) (λ w. isListed table (LIST_WORDS * w) (getD counts w 0) (M ∩ getD heads′ w 0))
       (λ v l h.
       let e : Edge T u v = a .edge-of v h .0 in
-      subst (λ (w : ℕ). isListed table (256 * v) (getD counts v 0) (M ∩ w) ≡ true) (sym (a .heads-are v e))
+      subst (λ (w : ℕ). isListed table (LIST_WORDS * v) (getD counts v 0) (M ∩ w) ≡ true) (sym (a .heads-are v e))
       (stored-has T table counts v (M ∩ heads T v) (a .stored v e)
       (unit-list-has T pass free small v (M ∩ heads T v) (e .is-predecessor) (f v e))))
 
@@ -205,15 +206,15 @@ module _ (rules : List ℕ) (T : Units) (same : T .program ≡ lent rules) (pass
 
     pub search-answer : (list : List ℕ) (r : ℕ)
         → Gathered
-        (Grown (replicate {A = ℕ} 256 0) 0 (Wanted rules table counts heads′ unit (record { up = 0; dropped = below 64 ∖ heads T u }))) list r
+        (Grown (replicate {A = ℕ} LIST_WORDS 0) 0 (Wanted rules table counts heads′ unit (record { up = 0; dropped = below 64 ∖ heads T u }))) list r
         → UnitWorked (unitList T u) list r
     search-answer list r g = go g
       where
-        go : {k : ℕ} → Gathered (Grown (replicate {A = ℕ} 256 0) 0 (Wanted rules table counts heads′ unit (record { up = 0; dropped = below 64 ∖ heads T u }))) list k
+        go : {k : ℕ} → Gathered (Grown (replicate {A = ℕ} LIST_WORDS 0) 0 (Wanted rules table counts heads′ unit (record { up = 0; dropped = below 64 ∖ heads T u }))) list k
             → UnitWorked (unitList T u) list k
         go {k} (fits o s c) = list-fits counted (o .small) (ordered-padded list k o ∙ ap padded whole)
           where
-            only : (x : ℕ) → Grown (replicate {A = ℕ} 256 0) 0 (Wanted rules table counts heads′ unit (record { up = 0; dropped = below 64 ∖ heads T u })) x
+            only : (x : ℕ) → Grown (replicate {A = ℕ} LIST_WORDS 0) 0 (Wanted rules table counts heads′ unit (record { up = 0; dropped = below 64 ∖ heads T u })) x
                 → List·Memᴰ x (unitList T u)
             only x (inl m) = absurd (List·Memᴰ·not-nil m)
             only x (inr w) = wanted-member x w
@@ -229,7 +230,7 @@ module _ (rules : List ℕ) (T : Units) (same : T .program ≡ lent rules) (pass
                 sym e ∙ ap length whole
         go (over o) = list-long (longer (o .many) (unitList T u) (o .rising) (unit-list-rising T u) (λ x m. only x (o .sound x m)) (o .long))
           where
-            only : (x : ℕ) → Grown (replicate {A = ℕ} 256 0) 0 (Wanted rules table counts heads′ unit (record { up = 0; dropped = below 64 ∖ heads T u })) x
+            only : (x : ℕ) → Grown (replicate {A = ℕ} LIST_WORDS 0) 0 (Wanted rules table counts heads′ unit (record { up = 0; dropped = below 64 ∖ heads T u })) x
                 → List·Memᴰ x (unitList T u)
             only x (inl m) = absurd (List·Memᴰ·not-nil m)
             only x (inr w) = wanted-member x w

@@ -16,6 +16,7 @@ use Rattle.atoms.proofs.Tests.{decides-same}
 use Rattle.atoms.proofs.Sets.{ext, empty, has-none, has-below, below-lt, cut-left, lt-of-has, has-lt}
 use Rattle.atoms.proofs.Bounded.{union-has, union-at}
 use Rattle.atoms.proofs.Rising.{members-same}
+use Rattle.plan.specs.Limits.{MAX_RULES, MAX_UNITS, LIST_WORDS, LAST_LIST, TABLE_WORDS, LAST_COUNT}
 use Rattle.plan.specs.declared.fault.Fault.the-variants.{LongList}
 use Rattle.plan.specs.declared.fault.Outcome.the-variants.{Accepted}
 use Rattle.dependency_graph.specs.Units.{Units, Edge, GivenFree}
@@ -30,7 +31,7 @@ use Rattle.unit_search.specs.Listing.{padded, Gathered, Grown}
 use Rattle.unit_search.specs.Job.{Wanted}
 use Rattle.unit_search.specs.declared.Unit.{Unit}
 use Rattle.unit_lists.specs.Lists.{inList, unitList, lastList}
-use Rattle.unit_lists.specs.Table.{TABLE_WORDS, runs, tally, listAt, listSoFar, tableSoFar, countsSoFar, tableOf, countsOf, cleared, noCounts}
+use Rattle.unit_lists.specs.Table.{runs, tally, listAt, listSoFar, tableSoFar, countsSoFar, tableOf, countsOf, cleared, noCounts}
 use Rattle.unit_lists.specs.Answer.{Answer, refuse, workFrom}
 use Rattle.unit_lists.specs.Stored.{Stored, UnitWorked}
 use Rattle.unit_lists.specs.Work.{Setting, Working}
@@ -40,7 +41,7 @@ use Rattle.unit_lists.proofs.Runs.{padded-long, runs-same, runs-long, t
 use Rattle.unit_lists.proofs.Working.{working-stored, all-lists, so-far-small}
 
 -- a unit's list is the same where the one more unit is added
-pub lists-same : (S : Units) (pass : Passes S) (free : GivenFree S) (clean : Clean S) (small : S .rules ≤ 64) (u : ℕ) → u < S .units
+pub lists-same : (S : Units) (pass : Passes S) (free : GivenFree S) (clean : Clean S) (small : S .rules ≤ MAX_RULES) (u : ℕ) → u < S .units
     → unitList S u ≡ unitList (withLast S) u
 unfolding unitList withLast
 lists-same S pass free clean small u l =
@@ -109,8 +110,8 @@ module _ (rules : List ℕ) (n : ℕ) (units : List ℕ) (m : ℕ) (predecessors
         (s .lent-words .rules-most) v l in
         record {
           counted = w .counted ∙ ap length e;
-          small = subst (λ (x : List ℕ). length x ≤ 256) e (w .small);
-          words = subst (λ (x : List ℕ). (i : ℕ) → i < length x → getD table (256 * v + i) 0 ≡ getD x i 0) e (w .words);
+          small = subst (λ (x : List ℕ). length x ≤ LIST_WORDS) e (w .small);
+          words = subst (λ (x : List ℕ). (i : ℕ) → i < length x → getD table (LIST_WORDS * v + i) 0 ≡ getD x i 0) e (w .words);
         }
 
     last-asked : (input near : ℕ) → input ≡ unionIn m (below m) (λ v. getD heads′ v 0)
@@ -132,7 +133,7 @@ module _ (rules : List ℕ) (n : ℕ) (units : List ℕ) (m : ℕ) (predecessors
 
     pub last-answer : (input near : ℕ) → input ≡ unionIn m (below m) (λ v. getD heads′ v 0) → input < 2 ^ 64 → (list : List ℕ) (r : ℕ)
         → Gathered
-        (Grown (replicate {A = ℕ} 256 0) 0 (Wanted rules table counts heads′ (record { rules = 0; inputs = input; predecessors = below m; nearest = near }) (record { up = 0; dropped = below 64 ∖ input }))) list r
+        (Grown (replicate {A = ℕ} LIST_WORDS 0) 0 (Wanted rules table counts heads′ (record { rules = 0; inputs = input; predecessors = below m; nearest = near }) (record { up = 0; dropped = below 64 ∖ input }))) list r
         → UnitWorked (lastList (unitsOf rules n units m predecessors)) list r
     unfolding unitsOf withLast lastList
     last-answer input near e fit list r g =
@@ -142,44 +143,44 @@ module _ (rules : List ℕ) (n : ℕ) (units : List ℕ) (m : ℕ) (predecessors
         (last-free (unitsOf rules n units m predecessors) (given-free rules n units m predecessors)) refl (s .lent-words .rules-most)
         m table counts heads′ (record { rules = 0; inputs = input; predecessors = below m; nearest = near }) (last-asked input near e)
         (subst (λ (x : ℕ). x < 2 ^ 64) h fit) list r
-        (subst (λ (x : ℕ). Gathered (Grown (replicate {A = ℕ} 256 0) 0 (Wanted rules table counts heads′ (record { rules = 0; inputs = input; predecessors = below m; nearest = near }) (record { up = 0; dropped = below 64 ∖ x }))) list r) h g)
+        (subst (λ (x : ℕ). Gathered (Grown (replicate {A = ℕ} LIST_WORDS 0) 0 (Wanted rules table counts heads′ (record { rules = 0; inputs = input; predecessors = below m; nearest = near }) (record { up = 0; dropped = below 64 ∖ x }))) list r) h g)
 
 -- ---- the answer
 
-module _ (S : Units) (few : S .units ≤ 16) (done : ℕ) (table₀ table counts : List ℕ) (w : Working S done table₀ table counts)
+module _ (S : Units) (few : S .units ≤ MAX_UNITS) (done : ℕ) (table₀ table counts : List ℕ) (w : Working S done table₀ table counts)
     (all : (u : ℕ) → u < S .units → Has done u) where
-  run-long : (j : ℕ) → j < 16 → length (padded (listSoFar S done j)) ≡ 256
+  run-long : (j : ℕ) → j < MAX_UNITS → length (padded (listSoFar S done j)) ≡ LIST_WORDS
   run-long j l = padded-long (listSoFar S done j) (so-far-small S done j (w .done-small))
 
-  pub table-complete : (table′ : List ℕ) → length (lastList S) ≤ 256 → table′ ≡ paste table 4096 (padded (lastList S)) 256 → table′ ≡ tableOf S table₀
+  pub table-complete : (table′ : List ℕ) → length (lastList S) ≤ LIST_WORDS → table′ ≡ paste table LAST_LIST (padded (lastList S)) LIST_WORDS → table′ ≡ tableOf S table₀
   unfolding tableSoFar tableOf
   table-complete table′ small t =
-      t ∙ ap (λ (l : List ℕ). paste l 4096 (padded (lastList S)) 256) (w .table-is)
-      ∙ paste-behind (runs (λ i. padded (listSoFar S done i)) 16) (padded []) (drop TABLE_WORDS table₀) (padded (lastList S)) 4096
-      (runs-long (λ i. padded (listSoFar S done i)) 16 run-long) (padded-long [] (omega arith)) (padded-long (lastList S) small)
+      t ∙ ap (λ (l : List ℕ). paste l LAST_LIST (padded (lastList S)) LIST_WORDS) (w .table-is)
+      ∙ paste-behind (runs (λ i. padded (listSoFar S done i)) MAX_UNITS) (padded []) (drop TABLE_WORDS table₀) (padded (lastList S)) LAST_LIST
+      (runs-long (λ i. padded (listSoFar S done i)) MAX_UNITS run-long) (padded-long [] (omega arith)) (padded-long (lastList S) small)
       ∙ ap (λ (l : List ℕ). l ++ (padded (lastList S) ++ drop TABLE_WORDS table₀))
-      (runs-same (λ i. padded (listSoFar S done i)) (λ i. padded (listAt S i)) 16 (λ i k. ap padded (all-lists S few done table₀ table counts w all i)))
+      (runs-same (λ i. padded (listSoFar S done i)) (λ i. padded (listAt S i)) MAX_UNITS (λ i k. ap padded (all-lists S few done table₀ table counts w all i)))
 
-  pub counts-complete : (counts′ : List ℕ) → counts′ ≡ set counts 16 (length (lastList S)) → counts′ ≡ countsOf S
+  pub counts-complete : (counts′ : List ℕ) → counts′ ≡ set counts LAST_COUNT (length (lastList S)) → counts′ ≡ countsOf S
   unfolding countsSoFar countsOf
   counts-complete counts′ c =
-      c ∙ ap (λ (l : List ℕ). set l 16 (length (lastList S))) (w .counts-are)
-      ∙ set-at (tally (λ i. length (listSoFar S done i)) 16) 0 [] (length (lastList S)) 16 (tally-long (λ i. length (listSoFar S done i)) 16)
+      c ∙ ap (λ (l : List ℕ). set l LAST_COUNT (length (lastList S))) (w .counts-are)
+      ∙ set-at (tally (λ i. length (listSoFar S done i)) MAX_UNITS) 0 [] (length (lastList S)) MAX_UNITS (tally-long (λ i. length (listSoFar S done i)) MAX_UNITS)
       ∙ ap (λ (l : List ℕ). l ++ (length (lastList S) ∷ []))
-      (tally-same (λ i. length (listSoFar S done i)) (λ i. length (listAt S i)) 16 (λ i k. ap length (all-lists S few done table₀ table counts w all i)))
+      (tally-same (λ i. length (listSoFar S done i)) (λ i. length (listAt S i)) MAX_UNITS (λ i k. ap length (all-lists S few done table₀ table counts w all i)))
 
-pub last-fits : (S : Units) (table : List ℕ) → length (lastList S) ≤ 256
+pub last-fits : (S : Units) (table : List ℕ) → length (lastList S) ≤ LIST_WORDS
     → workFrom S table [] ≡ record { outcome = Accepted; counts = countsOf S; table = tableOf S table }
 unfolding workFrom
 last-fits S table l =
     ap (λ (b : Bool). elim b [ true ↦ refuse (LongList (S .units)) (cleared table) | false ↦ record { outcome = Accepted; counts = countsOf S; table = tableOf S table } ])
-    (le-ltb 256 (length (lastList S)) l)
+    (le-ltb LIST_WORDS (length (lastList S)) l)
 
-pub last-long : (S : Units) (table : List ℕ) → 256 < length (lastList S) → workFrom S table [] ≡ refuse (LongList (S .units)) (cleared table)
+pub last-long : (S : Units) (table : List ℕ) → LIST_WORDS < length (lastList S) → workFrom S table [] ≡ refuse (LongList (S .units)) (cleared table)
 unfolding workFrom
 last-long S table l =
     ap (λ (b : Bool). elim b [ true ↦ refuse (LongList (S .units)) (cleared table) | false ↦ record { outcome = Accepted; counts = countsOf S; table = tableOf S table } ])
-    (lt-ltb 256 (length (lastList S)) l)
+    (lt-ltb LIST_WORDS (length (lastList S)) l)
 
 cleared-same : (a b : List ℕ) → drop TABLE_WORDS a ≡ drop TABLE_WORDS b → cleared a ≡ cleared b
 unfolding cleared
@@ -187,7 +188,7 @@ cleared-same a b e = ap (λ (l : List ℕ). replicate {A = ℕ} TABLE_WORDS 0 ++
 
 table-same : (S : Units) (a b : List ℕ) → drop TABLE_WORDS a ≡ drop TABLE_WORDS b → tableOf S a ≡ tableOf S b
 unfolding tableOf
-table-same S a b e = ap (λ (l : List ℕ). runs (λ i. padded (listAt S i)) 16 ++ (padded (lastList S) ++ l)) e
+table-same S a b e = ap (λ (l : List ℕ). runs (λ i. padded (listAt S i)) MAX_UNITS ++ (padded (lastList S) ++ l)) e
 
 -- a cleared table keeps its words from 4,352 on, and stays as it is when it is cleared again
 pub cleared-behind : (t : List ℕ) → drop TABLE_WORDS (cleared t) ≡ drop TABLE_WORDS t
@@ -201,8 +202,8 @@ cleared-again t = cleared-same t (cleared t) (sym (cleared-behind t))
 pub work-same : (S : Units) (a b : List ℕ) (us : List ℕ) → drop TABLE_WORDS a ≡ drop TABLE_WORDS b → workFrom S a us ≡ workFrom S b us
 unfolding workFrom
 work-same S a b [] e =
-    ap₂ (λ (x y : List ℕ). elim (ltb 256 (length (lastList S))) as (λ (z : Bool). Answer) [ true ↦ refuse (LongList (S .units)) x | false ↦ record { outcome = Accepted; counts = countsOf S; table = y } ])
+    ap₂ (λ (x y : List ℕ). elim (ltb LIST_WORDS (length (lastList S))) as (λ (z : Bool). Answer) [ true ↦ refuse (LongList (S .units)) x | false ↦ record { outcome = Accepted; counts = countsOf S; table = y } ])
     (cleared-same a b e) (table-same S a b e)
 work-same S a b (u ∷ us) e =
-    ap₂ (λ (x : List ℕ) (y : Answer). elim (ltb 256 (length (unitList S u))) as (λ (z : Bool). Answer) [ true ↦ refuse (LongList u) x | false ↦ y ])
+    ap₂ (λ (x : List ℕ) (y : Answer). elim (ltb LIST_WORDS (length (unitList S u))) as (λ (z : Bool). Answer) [ true ↦ refuse (LongList u) x | false ↦ y ])
     (cleared-same a b e) (work-same S a b us e)

@@ -6,6 +6,7 @@ use Prim.Native.Nat.{ℕ, _≤_, _<_}
 use native.Mathlib.Omega.{arith}
 use lib.ListN.{length, getD}
 use Rattle.atoms.specs.Word.{Has}
+use Rattle.plan.specs.Limits.{MAX_UNITS}
 use Rattle.plan.specs.Record.{Fitting}
 use Rattle.reading.specs.Reading.{reading}
 use Rattle.reading.specs.Layout.{UnitPair, predecessorsOf, tabulate, recordOf, IsByte, All, GoodEdge, Member, IsPlan}
@@ -30,10 +31,10 @@ plan-clean bytes b e = record { there = go (accepted-is-plan bytes b e) }
     go : IsPlan bytes (reading bytes .plan) → (u v : ℕ) → u < reading bytes .plan .«unit_count» → Has (getD (reading bytes .plan .predecessors) u 0) v
         → v < reading bytes .plan .«unit_count»
     go p u v l h =
-        let few : reading bytes .plan .«unit_count» ≤ 16 = record-fits bytes .units-fit in
+        let few : reading bytes .plan .«unit_count» ≤ MAX_UNITS = record-fits bytes .units-fit in
         let count : reading bytes .plan .«unit_count» ≡ length (p .units) = ap (λ (q : Plan). q .«unit_count») (p .record-is) in
         let word : getD (reading bytes .plan .predecessors) u 0 ≡ predecessorsOf (p .edges) u =
-        ap (λ (q : Plan). getD (q .predecessors) u 0) (p .record-is) ∙ getD-tabulate 16 (predecessorsOf (p .edges)) u (omega arith) in
+        ap (λ (q : Plan). getD (q .predecessors) u 0) (p .record-is) ∙ getD-tabulate MAX_UNITS (predecessorsOf (p .edges)) u (omega arith) in
         let m = has-member (p .edges) (record { u = u; v = v }) (subst (λ (w : ℕ). Has w v) word h) in
         let g = member-good (length (p .units)) (p .edges) (record { u = u; v = v }) (p .within .good-edges) m in
         omega (arith, g .to-there)

@@ -7,22 +7,23 @@ use native.Mathlib.Decide.{ℕ-discrete}
 use native.Mathlib.Numerals.{add-one}
 use lib.ListN.{length, take, drop, getD, set, replicate, length-append, length-replicate, length-take, length-drop, replicate-append-replicate, List·getD-append, take-append-drop}
 use lib.Seq.{paste, take-all, take-append-le, take-append-seam, take-append-add, drop-append-add, drop-append-le, drop-append-seam, drop-drop, take-at, drop-at, getD-append-add, set-append-left, set-at}
+use Rattle.plan.specs.Limits.{LIST_WORDS}
 use Rattle.unit_search.specs.Listing.{padded}
 use Rattle.unit_lists.specs.Table.{runs, tally}
 
-pub padded-long : (xs : List ℕ) → length xs ≤ 256 → length (padded xs) ≡ 256
+pub padded-long : (xs : List ℕ) → length xs ≤ LIST_WORDS → length (padded xs) ≡ LIST_WORDS
 unfolding padded
 padded-long xs l =
-    length-append xs (replicate (256 - length xs) 0) ∙ ap (λ (n : ℕ). length xs + n) (length-replicate {A = ℕ} (256 - length xs) 0)
+    length-append xs (replicate (LIST_WORDS - length xs) 0) ∙ ap (λ (n : ℕ). length xs + n) (length-replicate {A = ℕ} (LIST_WORDS - length xs) 0)
     ∙ omega arith
 
 pub padded-at : (xs : List ℕ) (i : ℕ) → i < length xs → getD (padded xs) i 0 ≡ getD xs i 0
 unfolding padded
-padded-at xs i l = List·getD-append xs (replicate (256 - length xs) 0) 0 i l
+padded-at xs i l = List·getD-append xs (replicate (LIST_WORDS - length xs) 0) 0 i l
 
 -- ---- runs
 
-pub runs-long : (f : ℕ → List ℕ) (n : ℕ) → ((i : ℕ) → i < n → length (f i) ≡ 256) → length (runs f n) ≡ 256 * n
+pub runs-long : (f : ℕ → List ℕ) (n : ℕ) → ((i : ℕ) → i < n → length (f i) ≡ LIST_WORDS) → length (runs f n) ≡ LIST_WORDS * n
 unfolding runs
 runs-long f zero h = refl
 runs-long f (suc n) h =
@@ -33,80 +34,80 @@ unfolding runs
 runs-same f g zero h = refl
 runs-same f g (suc n) h = ap₂ _++_ (runs-same f g n (λ i l. h i (omega arith))) (h n (omega arith))
 
-pub runs-zero : (n : ℕ) → runs (λ i. replicate {A = ℕ} 256 0) n ≡ replicate (256 * n) 0
+pub runs-zero : (n : ℕ) → runs (λ i. replicate {A = ℕ} LIST_WORDS 0) n ≡ replicate (LIST_WORDS * n) 0
 unfolding runs
 runs-zero zero = refl
 runs-zero (suc n) =
-    let e : 256 * n + 256 ≡ 256 * suc n = omega arith in
-    ap (λ (l : List ℕ). l ++ replicate {A = ℕ} 256 0) (runs-zero n) ∙ replicate-append-replicate (256 * n) 256 0
+    let e : LIST_WORDS * n + LIST_WORDS ≡ LIST_WORDS * suc n = omega arith in
+    ap (λ (l : List ℕ). l ++ replicate {A = ℕ} LIST_WORDS 0) (runs-zero n) ∙ replicate-append-replicate (LIST_WORDS * n) LIST_WORDS 0
     ∙ ap (λ (k : ℕ). replicate {A = ℕ} k 0) e
 
 -- word i of run v
-pub runs-at : (f : ℕ → List ℕ) (n : ℕ) (rest : List ℕ) (v i : ℕ) → ((j : ℕ) → j < n → length (f j) ≡ 256) → v < n → i < 256
-    → getD (runs f n ++ rest) (256 * v + i) 0 ≡ getD (f v) i 0
+pub runs-at : (f : ℕ → List ℕ) (n : ℕ) (rest : List ℕ) (v i : ℕ) → ((j : ℕ) → j < n → length (f j) ≡ LIST_WORDS) → v < n → i < LIST_WORDS
+    → getD (runs f n ++ rest) (LIST_WORDS * v + i) 0 ≡ getD (f v) i 0
 unfolding runs
 runs-at f zero rest v i h l k = absurd (omega arith)
 runs-at f (suc n) rest v i h l k =
     go (ℕ-discrete v n) (λ m. runs-at f n (f n ++ rest) v i (λ j q. h j (omega arith)) m k)
   where
-    long : length (runs f n) ≡ 256 * n
+    long : length (runs f n) ≡ LIST_WORDS * n
     long = runs-long f n (λ j m. h j (omega arith))
 
     regroup : runs f n ++ f n ++ rest ≡ runs f n ++ (f n ++ rest)
     regroup = append-assoc (runs f n) (f n) rest
 
-    go : Dec (v ≡ n) → (v < n → getD (runs f n ++ (f n ++ rest)) (256 * v + i) 0 ≡ getD (f v) i 0)
-        → getD (runs f n ++ f n ++ rest) (256 * v + i) 0 ≡ getD (f v) i 0
+    go : Dec (v ≡ n) → (v < n → getD (runs f n ++ (f n ++ rest)) (LIST_WORDS * v + i) 0 ≡ getD (f v) i 0)
+        → getD (runs f n ++ f n ++ rest) (LIST_WORDS * v + i) 0 ≡ getD (f v) i 0
     go (yes e) r =
-        let p : 256 * v + i ≡ length (runs f n) + i = omega (arith, long) in
+        let p : LIST_WORDS * v + i ≡ length (runs f n) + i = omega (arith, long) in
         ap₂ (λ (l : List ℕ) (m : ℕ). getD l m 0) regroup p ∙ getD-append-add (runs f n) (f n ++ rest) i 0
         ∙ List·getD-append (f n) rest 0 i (omega (arith, h n (omega arith)))
         ∙ ap (λ (m : ℕ). getD (f m) i 0) (sym e)
-    go (no e) r = ap (λ (l : List ℕ). getD l (256 * v + i) 0) regroup ∙ r (omega arith)
+    go (no e) r = ap (λ (l : List ℕ). getD l (LIST_WORDS * v + i) 0) regroup ∙ r (omega arith)
 
 -- a list behind a prefix whose length is known
 behind : (xs ys : List ℕ) (k m : ℕ) → length xs ≡ k → drop (k + m) (xs ++ ys) ≡ drop m ys
 behind xs ys k m e = ap (λ (j : ℕ). drop (j + m) (xs ++ ys)) (sym e) ∙ drop-append-add xs ys m
 
 -- one run is replaced
-pub runs-paste : (f g : ℕ → List ℕ) (n : ℕ) (rest : List ℕ) (v : ℕ) → ((j : ℕ) → j < n → length (f j) ≡ 256)
-    → length (g v) ≡ 256 → ((j : ℕ) → j < n → ¬ (j ≡ v) → f j ≡ g j) → v < n
-    → paste (runs f n ++ rest) (256 * v) (g v) 256 ≡ runs g n ++ rest
+pub runs-paste : (f g : ℕ → List ℕ) (n : ℕ) (rest : List ℕ) (v : ℕ) → ((j : ℕ) → j < n → length (f j) ≡ LIST_WORDS)
+    → length (g v) ≡ LIST_WORDS → ((j : ℕ) → j < n → ¬ (j ≡ v) → f j ≡ g j) → v < n
+    → paste (runs f n ++ rest) (LIST_WORDS * v) (g v) LIST_WORDS ≡ runs g n ++ rest
 unfolding runs
 runs-paste f g zero rest v h k s l = absurd (omega arith)
 runs-paste f g (suc n) rest v h k s l =
     go (ℕ-discrete v n) (λ m. runs-paste f g n (f n ++ rest) v (λ j q. h j (omega arith)) k (λ j q d. s j (omega arith) d) m)
   where
-    long : length (runs f n) ≡ 256 * n
+    long : length (runs f n) ≡ LIST_WORDS * n
     long = runs-long f n (λ j m. h j (omega arith))
 
     regroup : (a : ℕ → List ℕ) → runs a n ++ a n ++ rest ≡ runs a n ++ (a n ++ rest)
     regroup a = append-assoc (runs a n) (a n) rest
 
-    last : v ≡ n → paste (runs f n ++ (f n ++ rest)) (256 * v) (g v) 256 ≡ runs g n ++ g n ++ rest
+    last : v ≡ n → paste (runs f n ++ (f n ++ rest)) (LIST_WORDS * v) (g v) LIST_WORDS ≡ runs g n ++ g n ++ rest
     last e =
-        let at : length (runs f n) ≡ 256 * v = omega (arith, long) in
-        ap₂ (λ (x y : List ℕ). x ++ take 256 (g v) ++ y) (take-at (runs f n) (f n ++ rest) (256 * v) at)
-        (behind (runs f n) (f n ++ rest) (256 * v) 256 at ∙ drop-at (f n) rest 256 (h n (omega arith)))
+        let at : length (runs f n) ≡ LIST_WORDS * v = omega (arith, long) in
+        ap₂ (λ (x y : List ℕ). x ++ take LIST_WORDS (g v) ++ y) (take-at (runs f n) (f n ++ rest) (LIST_WORDS * v) at)
+        (behind (runs f n) (f n ++ rest) (LIST_WORDS * v) LIST_WORDS at ∙ drop-at (f n) rest LIST_WORDS (h n (omega arith)))
         ∙ ap₂ (λ (x y : List ℕ). x ++ y ++ rest) (runs-same f g n (λ j m. s j (omega arith) (λ q. absurd (omega arith))))
-        (take-all 256 (g v) (omega (arith, k)) ∙ ap g e)
+        (take-all LIST_WORDS (g v) (omega (arith, k)) ∙ ap g e)
 
-    go : Dec (v ≡ n) → (v < n → paste (runs f n ++ (f n ++ rest)) (256 * v) (g v) 256 ≡ runs g n ++ (f n ++ rest))
-        → paste (runs f n ++ f n ++ rest) (256 * v) (g v) 256 ≡ runs g n ++ g n ++ rest
-    go (yes e) r = ap (λ (l : List ℕ). paste l (256 * v) (g v) 256) (regroup f) ∙ last e
+    go : Dec (v ≡ n) → (v < n → paste (runs f n ++ (f n ++ rest)) (LIST_WORDS * v) (g v) LIST_WORDS ≡ runs g n ++ (f n ++ rest))
+        → paste (runs f n ++ f n ++ rest) (LIST_WORDS * v) (g v) LIST_WORDS ≡ runs g n ++ g n ++ rest
+    go (yes e) r = ap (λ (l : List ℕ). paste l (LIST_WORDS * v) (g v) LIST_WORDS) (regroup f) ∙ last e
     go (no e) r =
-        ap (λ (l : List ℕ). paste l (256 * v) (g v) 256) (regroup f)
+        ap (λ (l : List ℕ). paste l (LIST_WORDS * v) (g v) LIST_WORDS) (regroup f)
         ∙ r (omega arith)
         ∙ ap (λ (x : List ℕ). runs g n ++ (x ++ rest)) (s n (omega arith) (λ q. e (sym q)))
         ∙ sym (regroup g)
 
 -- the run behind all the others is replaced
-pub paste-behind : (xs ys rest zs : List ℕ) (k : ℕ) → length xs ≡ k → length ys ≡ 256 → length zs ≡ 256
-    → paste (xs ++ (ys ++ rest)) k zs 256 ≡ xs ++ (zs ++ rest)
+pub paste-behind : (xs ys rest zs : List ℕ) (k : ℕ) → length xs ≡ k → length ys ≡ LIST_WORDS → length zs ≡ LIST_WORDS
+    → paste (xs ++ (ys ++ rest)) k zs LIST_WORDS ≡ xs ++ (zs ++ rest)
 paste-behind xs ys rest zs k a b c =
-    ap₂ (λ (x y : List ℕ). x ++ take 256 zs ++ y) (take-at xs (ys ++ rest) k a)
-    (behind xs (ys ++ rest) k 256 a ∙ drop-at ys rest 256 b)
-    ∙ ap (λ (z : List ℕ). xs ++ z ++ rest) (take-all 256 zs (omega (arith, c))) ∙ append-assoc xs zs rest
+    ap₂ (λ (x y : List ℕ). x ++ take LIST_WORDS zs ++ y) (take-at xs (ys ++ rest) k a)
+    (behind xs (ys ++ rest) k LIST_WORDS a ∙ drop-at ys rest LIST_WORDS b)
+    ∙ ap (λ (z : List ℕ). xs ++ z ++ rest) (take-all LIST_WORDS zs (omega (arith, c))) ∙ append-assoc xs zs rest
 
 -- ---- tallies
 

@@ -12,6 +12,7 @@ use borrow.Author.Tests.{lt-ltb, le-ltb}
 use Rattle.atoms.specs.Word.{Has, _∩_, _∪_, _∖_, atom, below}
 use Rattle.atoms.proofs.Sets.{lt-of-has, has-lt, cut-left, cut-right, below-lt}
 use Rattle.answer_sets.specs.Lent.{Lent, lent}
+use Rattle.plan.specs.Limits.{MAX_UNITS, LIST_WORDS}
 use Rattle.plan.specs.declared.fault.Fault.the-variants.{LongList}
 use Rattle.dependency_graph.specs.Units.{Units, Edge, GivenFree}
 use Rattle.dependency_graph.specs.Graph.{Passes}
@@ -52,16 +53,16 @@ pub order-end : (S : Units) (done : ℕ) → orderFrom S 0 done ≡ []
 unfolding orderFrom
 order-end S done = refl
 
-pub work-fits : (S : Units) (table : List ℕ) (u : ℕ) (us : List ℕ) → length (unitList S u) ≤ 256 → workFrom S table (u ∷ us) ≡ workFrom S table us
+pub work-fits : (S : Units) (table : List ℕ) (u : ℕ) (us : List ℕ) → length (unitList S u) ≤ LIST_WORDS → workFrom S table (u ∷ us) ≡ workFrom S table us
 unfolding workFrom
 work-fits S table u us l =
-    ap (λ (b : Bool). elim b [ true ↦ refuse (LongList u) (cleared table) | false ↦ workFrom S table us ]) (le-ltb 256 (length (unitList S u)) l)
+    ap (λ (b : Bool). elim b [ true ↦ refuse (LongList u) (cleared table) | false ↦ workFrom S table us ]) (le-ltb LIST_WORDS (length (unitList S u)) l)
 
-pub work-long : (S : Units) (table : List ℕ) (u : ℕ) (us : List ℕ) → 256 < length (unitList S u)
+pub work-long : (S : Units) (table : List ℕ) (u : ℕ) (us : List ℕ) → LIST_WORDS < length (unitList S u)
     → workFrom S table (u ∷ us) ≡ refuse (LongList u) (cleared table)
 unfolding workFrom
 work-long S table u us l =
-    ap (λ (b : Bool). elim b [ true ↦ refuse (LongList u) (cleared table) | false ↦ workFrom S table us ]) (lt-ltb 256 (length (unitList S u)) l)
+    ap (λ (b : Bool). elim b [ true ↦ refuse (LongList u) (cleared table) | false ↦ workFrom S table us ]) (lt-ltb LIST_WORDS (length (unitList S u)) l)
 
 first-ready : {S : Units} {done u : ℕ} {us : List ℕ} → InOrder S done (u ∷ us) → Ready S done u
 first-ready (next l r f rest) = r
@@ -92,7 +93,7 @@ module _ (S : Units) (pass : Passes S) (table₀ : List ℕ) where
         first-ready
         (subst (InOrder S done) (order-next S (left - 1) done l) (subst (λ (n : ℕ). InOrder S done (orderFrom S n done)) (sym left-is) (p .order)))
 
-    looping-next : (table′ counts′ : List ℕ) → nextUnit S done < S .units → length (unitList S (nextUnit S done)) ≤ 256
+    looping-next : (table′ counts′ : List ℕ) → nextUnit S done < S .units → length (unitList S (nextUnit S done)) ≤ LIST_WORDS
         → Working S (done ∪ atom (nextUnit S done)) table₀ table′ counts′
         → Looping S table₀ table′ counts′ (done ∪ atom (nextUnit S done)) (left - 1)
     looping-next table′ counts′ l small w = record {
@@ -104,7 +105,7 @@ module _ (S : Units) (pass : Passes S) (table₀ : List ℕ) where
           ∙ work-fits S table₀ (nextUnit S done) (orderFrom S (left - 1) (done ∪ atom (nextUnit S done))) small;
     }
 
-    looping-long : nextUnit S done < S .units → 256 < length (unitList S (nextUnit S done))
+    looping-long : nextUnit S done < S .units → LIST_WORDS < length (unitList S (nextUnit S done))
         → workFrom S table₀ (workingOrder S) ≡ refuse (LongList (nextUnit S done)) (cleared table₀)
     looping-long l long =
         p .rest ∙ ap (λ (n : ℕ). workFrom S table₀ (orderFrom S n done)) (sym left-is)
@@ -115,16 +116,16 @@ module _ (S : Units) (pass : Passes S) (table₀ : List ℕ) where
     pub next-ready-at : (u : ℕ) → u ≡ nextUnit S done → u < S .units → Ready S done u
     next-ready-at u e = subst (λ (x : ℕ). x < S .units → Ready S done x) (sym e) looping-ready
 
-    pub next-done-at : (u : ℕ) → u ≡ nextUnit S done → (table′ counts′ : List ℕ) → u < S .units → length (unitList S u) ≤ 256
+    pub next-done-at : (u : ℕ) → u ≡ nextUnit S done → (table′ counts′ : List ℕ) → u < S .units → length (unitList S u) ≤ LIST_WORDS
         → Working S (done ∪ atom u) table₀ table′ counts′ → Looping S table₀ table′ counts′ (done ∪ atom u) (left - 1)
     next-done-at u e table′ counts′ =
-        subst (λ (x : ℕ). x < S .units → length (unitList S x) ≤ 256 → Working S (done ∪ atom x) table₀ table′ counts′ → Looping S table₀ table′ counts′ (done ∪ atom x) (left - 1))
+        subst (λ (x : ℕ). x < S .units → length (unitList S x) ≤ LIST_WORDS → Working S (done ∪ atom x) table₀ table′ counts′ → Looping S table₀ table′ counts′ (done ∪ atom x) (left - 1))
         (sym e) (looping-next table′ counts′)
 
-    pub next-long-at : (u : ℕ) → u ≡ nextUnit S done → u < S .units → 256 < length (unitList S u)
+    pub next-long-at : (u : ℕ) → u ≡ nextUnit S done → u < S .units → LIST_WORDS < length (unitList S u)
         → workFrom S table₀ (workingOrder S) ≡ refuse (LongList u) (cleared table₀)
     next-long-at u e =
-        subst (λ (x : ℕ). x < S .units → 256 < length (unitList S x) → workFrom S table₀ (workingOrder S) ≡ refuse (LongList x) (cleared table₀))
+        subst (λ (x : ℕ). x < S .units → LIST_WORDS < length (unitList S x) → workFrom S table₀ (workingOrder S) ≡ refuse (LongList x) (cleared table₀))
         (sym e) looping-long
 
     -- no unit is ready: all are done
@@ -145,25 +146,25 @@ module _ (S : Units) (pass : Passes S) (table₀ : List ℕ) where
 
 -- the list of the unit is stored with its count, or it is above 256 and nothing is written
 pub data UnitDone (members : List ℕ) (base place : ℕ) (table counts table′ counts′ : List ℕ) : Bool → Type 0 where
-  unit-fits : length members ≤ 256 → table′ ≡ paste table base (padded members) 256 → counts′ ≡ set counts place (length members)
+  unit-fits : length members ≤ LIST_WORDS → table′ ≡ paste table base (padded members) LIST_WORDS → counts′ ≡ set counts place (length members)
       → UnitDone members base place table counts table′ counts′ true
-  unit-long : 256 < length members → table′ ≡ table → counts′ ≡ counts → UnitDone members base place table counts table′ counts′ false
+  unit-long : LIST_WORDS < length members → table′ ≡ table → counts′ ≡ counts → UnitDone members base place table counts table′ counts′ false
 
 pub done-fits : {members : List ℕ} {base place : ℕ} {table counts table′ counts′ : List ℕ} {b : Bool}
     → UnitDone members base place table counts table′ counts′ b → b ≡ true
-    → (length members ≤ 256) × (table′ ≡ paste table base (padded members) 256) × (counts′ ≡ set counts place (length members))
+    → (length members ≤ LIST_WORDS) × (table′ ≡ paste table base (padded members) LIST_WORDS) × (counts′ ≡ set counts place (length members))
 done-fits (unit-fits l t c) e = (l, t, c)
 done-fits (unit-long l t c) e = absurd (false≢true e)
 
 pub done-long : {members : List ℕ} {base place : ℕ} {table counts table′ counts′ : List ℕ} {b : Bool}
     → UnitDone members base place table counts table′ counts′ b → b ≡ false
-    → (256 < length members) × (table′ ≡ table) × (counts′ ≡ counts)
+    → (LIST_WORDS < length members) × (table′ ≡ table) × (counts′ ≡ counts)
 done-long (unit-fits l t c) e = absurd (true≢false e)
 done-long (unit-long l t c) e = (l, t, c)
 
 pub unit-done : (members : List ℕ) (rules heads′ : List ℕ) (unit : Unit) (within base place : ℕ) (table counts table′ counts′ : List ℕ) (b : Bool)
     → ((list : List ℕ) (r : ℕ)
-    → Gathered (Grown (replicate {A = ℕ} 256 0) 0 (Wanted rules table counts heads′ unit (record { up = 0; dropped = below 64 ∖ within }))) list r
+    → Gathered (Grown (replicate {A = ℕ} LIST_WORDS 0) 0 (Wanted rules table counts heads′ unit (record { up = 0; dropped = below 64 ∖ within }))) list r
     → UnitWorked members list r)
     → ListWorked rules heads′ unit within base place table counts table′ counts′ b
     → UnitDone members base place table counts table′ counts′ b
@@ -173,7 +174,7 @@ unit-done members rules heads′ unit within base place table counts table′ co
     go : UnitWorked members list r → UnitDone members base place table counts table′ counts′ true
     go w =
         let h = worked-count members list r w small in
-        unit-fits (h .0) (t ∙ ap (λ (l : List ℕ). paste table base l 256) (h .1)) (c ∙ ap (set counts place) (h .2))
+        unit-fits (h .0) (t ∙ ap (λ (l : List ℕ). paste table base l LIST_WORDS) (h .1)) (c ∙ ap (set counts place) (h .2))
 unit-done members rules heads′ unit within base place table counts table′ counts′ b f (too-long {list = list} {r = r} long g t c) =
     unit-long (worked-long members list r (f list r g) long) t c
 
@@ -186,22 +187,22 @@ module _ (rules : List ℕ) (n : ℕ) (units : List ℕ) (m : ℕ) (predecessors
     each = λ r h. let l : r < n = below-lt n (cut-right w (below n) h) in omega (arith, s .lent-words .rules-there);
   }
 
-  pub named-few : (u v : ℕ) → u < m → Has (getD predecessors u 0) v → v < 16
+  pub named-few : (u v : ℕ) → u < m → Has (getD predecessors u 0) v → v < MAX_UNITS
   unfolding unitsOf
   named-few u v l h = omega (arith, s .clean .there u v l h, s .lent-words .units-most)
 
   pub joinable : (done : ℕ) (table₀ table counts : List ℕ) (w : ℕ) → Working (unitsOf rules n units m predecessors) done table₀ table counts
-      → ((v : ℕ) → Has w v → v < 16) → Joinable table counts heads′ w
+      → ((v : ℕ) → Has w v → v < MAX_UNITS) → Joinable table counts heads′ w
   unfolding countsSoFar unitsOf
   joinable done table₀ table counts w p f = record {
     table-long = omega (arith, p .long, working-long (unitsOf rules n units m predecessors) (s .lent-words .units-most) done table₀ table counts p);
     counts-long = omega
-        (arith, ap length (p .counts-are), length-append (tally (λ i. length (listSoFar (unitsOf rules n units m predecessors) done i)) 16) (0 ∷ []), tally-long (λ i. length (listSoFar (unitsOf rules n units m predecessors) done i)) 16);
+        (arith, ap length (p .counts-are), length-append (tally (λ i. length (listSoFar (unitsOf rules n units m predecessors) done i)) MAX_UNITS) (0 ∷ []), tally-long (λ i. length (listSoFar (unitsOf rules n units m predecessors) done i)) MAX_UNITS);
     heads-long = s .heads-long;
-    few = lt-of-has w 16 f;
+    few = lt-of-has w MAX_UNITS f;
     small = λ v l.
-        subst (λ (k : ℕ). k ≤ 256)
-        (sym (ap (λ (c : List ℕ). getD c v 0) (p .counts-are) ∙ tally-at (λ i. length (listSoFar (unitsOf rules n units m predecessors) done i)) 16 (0 ∷ []) v l))
+        subst (λ (k : ℕ). k ≤ LIST_WORDS)
+        (sym (ap (λ (c : List ℕ). getD c v 0) (p .counts-are) ∙ tally-at (λ i. length (listSoFar (unitsOf rules n units m predecessors) done i)) MAX_UNITS (0 ∷ []) v l))
         (so-far-small (unitsOf rules n units m predecessors) done v (p .done-small));
   }
 
@@ -232,11 +233,11 @@ module _ (rules : List ℕ) (n : ℕ) (units : List ℕ) (m : ℕ) (predecessors
     -- what the search answers of the unit's list
     pub unit-answer : getD heads′ u 0 < 2 ^ 64 → (list : List ℕ) (r : ℕ)
         → Gathered
-        (Grown (replicate {A = ℕ} 256 0) 0 (Wanted rules table counts heads′ unit (record { up = 0; dropped = below 64 ∖ getD heads′ u 0 }))) list r
+        (Grown (replicate {A = ℕ} LIST_WORDS 0) 0 (Wanted rules table counts heads′ unit (record { up = 0; dropped = below 64 ∖ getD heads′ u 0 }))) list r
         → UnitWorked (unitList (unitsOf rules n units m predecessors) u) list r
     unfolding unitsOf
     unit-answer fit list r g =
         search-answer rules (unitsOf rules n units m predecessors) refl (s .passes) (given-free rules n units m predecessors) refl
         (s .lent-words .rules-most)
         u table counts heads′ unit unit-asked (subst (λ (h : ℕ). h < 2 ^ 64) (s .heads-are u l) fit) list r
-        (subst (λ (h : ℕ). Gathered (Grown (replicate {A = ℕ} 256 0) 0 (Wanted rules table counts heads′ unit (record { up = 0; dropped = below 64 ∖ h }))) list r) (s .heads-are u l) g)
+        (subst (λ (h : ℕ). Gathered (Grown (replicate {A = ℕ} LIST_WORDS 0) 0 (Wanted rules table counts heads′ unit (record { up = 0; dropped = below 64 ∖ h }))) list r) (s .heads-are u l) g)

@@ -6,9 +6,10 @@ use native.Mathlib.Omega.{arith}
 use native.Mathlib.Numerals.{add-one}
 use lib.ListN.{length, drop, getD, set, replicate, length-replicate}
 use lib.Seq.{paste, paste-suc}
+use Rattle.plan.specs.Limits.{LIST_WORDS, TABLE_WORDS}
 use Rattle.atoms.specs.Rising.{rising-nil}
 use Rattle.unit_search.specs.Listing.{Ordered}
-use Rattle.unit_lists.specs.Table.{TABLE_WORDS, cleared}
+use Rattle.unit_lists.specs.Table.{cleared}
 
 pub stored-next : (d : List ℕ) (at : ℕ) (s l : List ℕ) (i : ℕ) → at + length s ≤ length d → i < length s → l ≡ paste d at s i
     → set l (at + i) (getD s i 0) ≡ paste d at s (i + 1)
@@ -21,5 +22,5 @@ unfolding cleared
 cleared-is d l i e w = w ∙ ap (λ (n : ℕ). replicate {A = ℕ} n 0 ++ drop n d) e
 
 -- 256 zeros are a list with no members
-pub zeros-ordered : Ordered (replicate {A = ℕ} 256 0) 0
-zeros-ordered = record { long = length-replicate {A = ℕ} 256 0; small = omega arith; rising = rising-nil; zeros = refl }
+pub zeros-ordered : Ordered (replicate {A = ℕ} LIST_WORDS 0) 0
+zeros-ordered = record { long = length-replicate {A = ℕ} LIST_WORDS 0; small = omega arith; rising = rising-nil; zeros = refl }

@@ -5,6 +5,7 @@ use Prim.Native.Nat.{ℕ}
 use lib.Dec.{ltb}
 use lib.ListN.{length}
 use Rattle.reading.specs.Reading.{reading}
+use Rattle.plan.specs.Limits.{LIST_WORDS, TABLE_WORDS}
 use Rattle.plan.specs.declared.fault.Fault.{Fault}
 use Rattle.plan.specs.declared.fault.Fault.the-variants.{TableShort, RuleInNoUnit, HeadedRuleInSeveral, Cycle, NonmonotonicUnseen, MonotonicUnseen, LongList}
 use Rattle.plan.specs.declared.record.Plan.{Plan}
@@ -17,7 +18,7 @@ use Rattle.dependency_graph.specs.Order.{workingOrder}
 use Rattle.dependency_graph.specs.declared.Verdict.{Verdict}
 use Rattle.dependency_graph.specs.declared.Verdict.the-variants.{Passes as GraphPasses, Unplaced as RuleUnplaced, Shared as RuleShared, Cyclic as UnitCyclic, NonmonotonicUnseen as RuleClashing, MonotonicUnseen as RuleUncovered}
 use Rattle.unit_lists.specs.Lists.{unitList, lastList}
-use Rattle.unit_lists.specs.Table.{TABLE_WORDS, tableOf, cleared, countsOf, noCounts}
+use Rattle.unit_lists.specs.Table.{tableOf, cleared, countsOf, noCounts}
 
 -- the rules, units and edges of a read plan
 unfoldable pub planUnits : Plan → Units
@@ -36,12 +37,12 @@ refuse f table = record { outcome = Refused f; counts = noCounts; table = table 
 -- "list above 256 .. first such unit in working order"; where no unit's list is, the last list comes after all
 unfoldable pub workFrom : Units → List ℕ → List ℕ → Answer
 workFrom S table [] =
-    elim (ltb 256 (length (lastList S))) [
+    elim (ltb LIST_WORDS (length (lastList S))) [
       | true ↦ refuse (LongList (S .units)) (cleared table)
       | false ↦ record { outcome = Accepted; counts = countsOf S; table = tableOf S table }
     ]
 workFrom S table (u ∷ us) =
-    elim (ltb 256 (length (unitList S u))) [ true ↦ refuse (LongList u) (cleared table) | false ↦ workFrom S table us ]
+    elim (ltb LIST_WORDS (length (unitList S u))) [ true ↦ refuse (LongList u) (cleared table) | false ↦ workFrom S table us ]
 
 -- the graph place: rows 10 to 14
 unfoldable pub afterGraph : Units → List ℕ → Verdict → Answer

@@ -9,6 +9,7 @@ use Rattle.atoms.specs.Rising.{Rising}
 use Rattle.answer_sets.specs.AnswerSet.{AnswerSet}
 use Rattle.answer_sets.specs.Lent.{lent}
 use Rattle.reading.specs.Reading.{reading}
+use Rattle.plan.specs.Limits.{LIST_WORDS, LAST_LIST, TABLE_WORDS, LAST_COUNT}
 use Rattle.plan.specs.Faults.{number}
 use Rattle.plan.specs.declared.fault.Fault.{Fault}
 use Rattle.plan.specs.declared.fault.Fault.the-variants.{RuleInNoUnit, HeadedRuleInSeveral, Cycle, NonmonotonicUnseen, MonotonicUnseen, LongList}
@@ -22,7 +23,7 @@ use Rattle.dependency_graph.specs.Offenders.{Unplaced as BreaksA, Shared as Bre
 use Rattle.dependency_graph.specs.Order.{workingOrder}
 use Rattle.unit_lists.specs.Lists.{unitList, lastList}
 use Rattle.unit_lists.specs.Answer.{planUnits}
-use Rattle.unit_lists.specs.declared.Listing.{Listing}
+use Rattle.unit_lists.specs.declared.listing.Listing.{Listing}
 
 -- ---- demand 2: the graph
 
@@ -45,26 +46,26 @@ pub record GraphJudged (S : Units) (outcome : Outcome) : Type 0 where
 
 -- for every plan that reads, and every long enough table
 pub record Demand2 (bytes table : List ℕ) (r : Listing) : Type 0 where
-  pub judged : reading bytes .outcome ≡ Accepted → 4352 ≤ length table → GraphJudged (planUnits (reading bytes .plan)) (r .outcome)
+  pub judged : reading bytes .outcome ≡ Accepted → TABLE_WORDS ≤ length table → GraphJudged (planUnits (reading bytes .plan)) (r .outcome)
 
 -- ---- demand 3: the last list
 
 -- u's list is the first above 256, in working order; the last list, whose number is the count of units, comes after all
 pub data FirstLong (S : Units) : List ℕ → ℕ → Type 0 where
-  here : {u : ℕ} {us : List ℕ} → 256 < length (unitList S u) → FirstLong S (u ∷ us) u
-  later : {u w : ℕ} {us : List ℕ} → length (unitList S u) ≤ 256 → FirstLong S us w → FirstLong S (u ∷ us) w
-  last : 256 < length (lastList S) → FirstLong S [] (S .units)
+  here : {u : ℕ} {us : List ℕ} → LIST_WORDS < length (unitList S u) → FirstLong S (u ∷ us) u
+  later : {u w : ℕ} {us : List ℕ} → length (unitList S u) ≤ LIST_WORDS → FirstLong S us w → FirstLong S (u ∷ us) w
+  last : LIST_WORDS < length (lastList S) → FirstLong S [] (S .units)
 
 -- "The last list in the table is the words from 4,096 on, as many as the last count says"
 abbrev pub lastIn : Listing → List ℕ → List ℕ
-lastIn r table = take (getD (r .counts) 16 0) (drop 4096 table)
+lastIn r table = take (getD (r .counts) LAST_COUNT 0) (drop LAST_LIST table)
 
 -- the last list holds every answer set of all the plan's rules as one set, once each, rising, and nothing else; the last count is their number
 pub record ListsAll (p : Plan) (r : Listing) (table : List ℕ) : Type 0 where
   pub accepted : r .outcome ≡ Accepted
   pub rising : Rising (lastIn r table)
   pub members : (M : ℕ) → List·Memᴰ M (lastIn r table) ↔ AnswerSet (lent (p .rules)) (below (p .«rule_count»)) 0 M
-  pub counted : length (lastIn r table) ≡ getD (r .counts) 16 0
+  pub counted : length (lastIn r table) ≡ getD (r .counts) LAST_COUNT 0
 
 -- refusal 15 exactly at the first list above 256, and otherwise all answer sets
 pub record Complete (p : Plan) (r : Listing) (table : List ℕ) : Type 0 where
@@ -73,5 +74,5 @@ pub record Complete (p : Plan) (r : Listing) (table : List ℕ) : Type 0 where
 
 -- for every plan that passes reading and graph, and every long enough table
 pub record Demand3 (bytes table : List ℕ) (r : Listing) (table′ : List ℕ) : Type 0 where
-  pub complete : reading bytes .outcome ≡ Accepted → Passes (planUnits (reading bytes .plan)) → 4352 ≤ length table
+  pub complete : reading bytes .outcome ≡ Accepted → Passes (planUnits (reading bytes .plan)) → TABLE_WORDS ≤ length table
       → Complete (reading bytes .plan) r table′

@@ -10,6 +10,7 @@ use Rattle.atoms.specs.Bounded.{unionIn}
 use Rattle.unit_search.specs.Listing.{Gathered, Grown}
 use Rattle.unit_search.specs.Job.{Wanted, Joinable}
 use Rattle.unit_search.specs.declared.Unit.{Unit}
+use Rattle.plan.specs.Limits.{MAX_UNITS, LIST_WORDS, LAST_LIST, TABLE_WORDS, COUNTS}
 use Rattle.plan.specs.declared.fault.Fault.the-variants.{LongList}
 use Rattle.dependency_graph.specs.Units.{Units}
 use Rattle.dependency_graph.specs.Graph.{Passes}
@@ -39,12 +40,12 @@ pub record Told (n : ℕ) (units predecessors inputs : List ℕ) (u : ℕ) (r : 
 
 -- one list is searched for from the start: stored with its count where it fits, and nothing is written where it does not
 pub data ListWorked (rules heads : List ℕ) (unit : Unit) (within base place : ℕ) (table counts table′ counts′ : List ℕ) : Bool → Type 0 where
-  fitted : {list : List ℕ} {r : ℕ} → r ≤ 256
-      → Gathered (Grown (replicate {A = ℕ} 256 0) 0 (Wanted rules table counts heads unit (record { up = 0; dropped = below 64 ∖ within }))) list r
-      → table′ ≡ paste table base list 256 → counts′ ≡ set counts place r
+  fitted : {list : List ℕ} {r : ℕ} → r ≤ LIST_WORDS
+      → Gathered (Grown (replicate {A = ℕ} LIST_WORDS 0) 0 (Wanted rules table counts heads unit (record { up = 0; dropped = below 64 ∖ within }))) list r
+      → table′ ≡ paste table base list LIST_WORDS → counts′ ≡ set counts place r
       → ListWorked rules heads unit within base place table counts table′ counts′ true
-  too-long : {list : List ℕ} {r : ℕ} → 256 < r
-      → Gathered (Grown (replicate {A = ℕ} 256 0) 0 (Wanted rules table counts heads unit (record { up = 0; dropped = below 64 ∖ within }))) list r
+  too-long : {list : List ℕ} {r : ℕ} → LIST_WORDS < r
+      → Gathered (Grown (replicate {A = ℕ} LIST_WORDS 0) 0 (Wanted rules table counts heads unit (record { up = 0; dropped = below 64 ∖ within }))) list r
       → table′ ≡ table → counts′ ≡ counts → ListWorked rules heads unit within base place table counts table′ counts′ false
 
 -- what unit work is lent: a plan that passed the graph place, and the head atoms of its units
@@ -52,8 +53,8 @@ pub record Setting (rules : List ℕ) (n : ℕ) (units : List ℕ) (m : ℕ) (pr
   pub lent-words : GraphLent rules n units m predecessors
   pub passes : Passes (unitsOf rules n units m predecessors)
   pub clean : Clean (unitsOf rules n units m predecessors)
-  pub heads-long : 16 ≤ length heads′
-  pub inputs-long : 16 ≤ length inputs
+  pub heads-long : MAX_UNITS ≤ length heads′
+  pub inputs-long : MAX_UNITS ≤ length inputs
   pub heads-are : (v : ℕ) → v < m → getD heads′ v 0 ≡ heads (unitsOf rules n units m predecessors) v
   pub inputs-are : (v : ℕ) → v < m → getD inputs v 0 ≡ inputHeads (unitsOf rules n units m predecessors) v
 
@@ -61,9 +62,9 @@ pub record Setting (rules : List ℕ) (n : ℕ) (units : List ℕ) (m : ℕ) (pr
 pub record Working (S : Units) (done : ℕ) (table₀ table counts : List ℕ) : Type 0 where
   pub table-is : table ≡ tableSoFar S done table₀
   pub counts-are : counts ≡ countsSoFar S done
-  pub long : 4352 ≤ length table₀
+  pub long : TABLE_WORDS ≤ length table₀
   pub done-units : (v : ℕ) → Has done v → v < S .units
-  pub done-small : (v : ℕ) → Has done v → length (unitList S v) ≤ 256
+  pub done-small : (v : ℕ) → Has done v → length (unitList S v) ≤ LIST_WORDS
 
 -- all units are worked, or one whose list is above 256 is found, as the definition of the answer has it
 pub data UnitsWorked (S : Units) (table₀ table counts : List ℕ) : Work → Type 0 where
@@ -74,9 +75,9 @@ pub data UnitsWorked (S : Units) (table₀ table counts : List ℕ) : Work → T
 
 -- the lists of all units are there to be joined
 pub record LastLent (m : ℕ) (table counts heads′ : List ℕ) : Type 0 where
-  pub few : m ≤ 16
-  pub table-long : 4352 ≤ length table
-  pub counts-long : length counts ≡ 17
+  pub few : m ≤ MAX_UNITS
+  pub table-long : TABLE_WORDS ≤ length table
+  pub counts-long : length counts ≡ COUNTS
   pub joinable : Joinable table counts heads′ (below m)
 
 -- the last list, searched for from the start
@@ -85,11 +86,11 @@ pub record LastWorked (rules : List ℕ) (m : ℕ) (heads′ table counts table�
   pub is : input ≡ unionIn m (below m) (λ v. getD heads′ v 0)
   pub fits : input < 2 ^ 64
   pub near : ℕ
-  pub worked : ListWorked rules heads′ (record { rules = 0; inputs = input; predecessors = below m; nearest = near }) input 4096 16 table counts table′ counts′ r
+  pub worked : ListWorked rules heads′ (record { rules = 0; inputs = input; predecessors = below m; nearest = near }) input LAST_LIST MAX_UNITS table counts table′ counts′ r
 
 -- a plan that passed reading and graph, and a long enough table
 pub record Workable (rules : List ℕ) (n : ℕ) (units : List ℕ) (m : ℕ) (predecessors table : List ℕ) : Type 0 where
   pub lent-words : GraphLent rules n units m predecessors
   pub passes : Passes (unitsOf rules n units m predecessors)
   pub clean : Clean (unitsOf rules n units m predecessors)
-  pub long : 4352 ≤ length table
+  pub long : TABLE_WORDS ≤ length table

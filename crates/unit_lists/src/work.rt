@@ -1,24 +1,25 @@
 // Unit work: the list of each unit in working order, and the last list.
-use crate::COUNTS;
-use crate::LAST_COUNT;
-use crate::LAST_LIST;
-use crate::Listing;
-use crate::refuse;
+use crate::listing::Listing;
+use crate::listing::refuse;
 use crate::table::clear;
 use crate::table::store;
-use dependency_graph::MAX_UNITS;
 use dependency_graph::head_atoms::fill_head_atoms;
 use dependency_graph::words::union_of;
 use dependency_graph::working_order::next_unit;
+use plan::COUNTS;
 use plan::Fault;
+use plan::LAST_COUNT;
+use plan::LAST_LIST;
+use plan::LIST_WORDS;
+use plan::MAX_UNITS;
 use plan::Outcome;
-use unit_search::LIST_WORDS;
 use unit_search::Unit;
 use unit_search::join::nearest;
 use unit_search::search::search;
 ghost use mathlib.Core.Path.{_≡_};
 ghost use Prim.Native.Nat.{_+_, _≤_, _<_};
 ghost use lib.ListN.{length};
+ghost use Rattle.plan.specs.Limits.{MAX_RULES, MAX_UNITS, LIST_WORDS, TABLE_WORDS};
 ghost use Rattle.plan.specs.declared.fault.Fault.the-variants.{LongList};
 ghost use Rattle.unit_search.specs.Job.{Searchable};
 ghost use Rattle.dependency_graph.specs.Slices.{unitsOf};
@@ -35,7 +36,7 @@ pub enum Work {
 }
 
 // Lists one unit: its words go into the table from `base` on and its count to its place. Whether the list fits; if not, nothing is written.
-pub fn work_list(
+pub fn list_one(
     rules: &[u64],
     heads: &[u64],
     unit: Unit,
@@ -45,7 +46,7 @@ pub fn work_list(
     table: &mut [u64],
     counts: &mut [usize],
 ) -> bool
-    requires { ⌜ Searchable (now rules) (now table) (now counts) (now heads) unit × (base + 256 ≤ length (now table)) × (place < length (now counts)) ⌝ }
+    requires { ⌜ Searchable (now rules) (now table) (now counts) (now heads) unit × (base + LIST_WORDS ≤ length (now table)) × (place < length (now counts)) ⌝ }
     ensures { λ r. ⌜ ListWorked (now (rules .entry)) (now (heads .entry)) unit within base place (now (table .entry)) (now (counts .entry)) (now (table .exit)) (now (counts .exit)) r ⌝ }
 {
     let mut list = [0u64; LIST_WORDS];
@@ -68,7 +69,7 @@ fn unit_at(
     inputs: &[u64],
     u: usize,
 ) -> Unit
-    requires { ⌜ («rule_count» ≤ 64) × (u < length (now units)) × (u < length (now predecessors)) × (16 ≤ length (now heads)) × (u < length (now inputs)) ⌝ }
+    requires { ⌜ («rule_count» ≤ MAX_RULES) × (u < length (now units)) × (u < length (now predecessors)) × (MAX_UNITS ≤ length (now heads)) × (u < length (now inputs)) ⌝ }
     ensures { λ r. ⌜ Told «rule_count» (now (units .entry)) (now (predecessors .entry)) (now (inputs .entry)) u r ⌝ }
 {
     Unit {
@@ -80,7 +81,7 @@ fn unit_at(
 }
 
 // Works the units, lowest number first among those whose predecessors are done.
-pub fn work_units(
+pub fn list_units(
     rules: &[u64],
     rule_count: usize,
     units: &[u64],
@@ -102,7 +103,7 @@ pub fn work_units(
             return Work::Fits;
         }
         let unit = unit_at(rule_count, units, predecessors, heads, inputs, u);
-        if !work_list(
+        if !list_one(
             rules,
             heads,
             unit,
@@ -121,7 +122,7 @@ pub fn work_units(
 }
 
 // The last list: that of one more unit, with no rules and an edge to every unit.
-pub fn work_last(
+pub fn list_last(
     rules: &[u64],
     unit_count: usize,
     heads: &[u64],
@@ -139,7 +140,7 @@ pub fn work_last(
         predecessors: every,
         nearest: nearest(heads, every),
     };
-    work_list(
+    list_one(
         rules,
         heads,
         unit,
@@ -153,7 +154,7 @@ pub fn work_last(
 
 // Refuses by 15: the table's words 0 to 4,351 become zero.
 fn refuse_long(u: usize, table: &mut [u64]) -> Listing
-    requires { ⌜ 4352 ≤ length (now table) ⌝ }
+    requires { ⌜ TABLE_WORDS ≤ length (now table) ⌝ }
     ensures refused { λ r. ⌜ r ≡ refusal (LongList u) ⌝ }
     ensures emptied { λ _. ⌜ now (table .exit) ≡ cleared (now (table .entry)) ⌝ }
 {
@@ -162,7 +163,7 @@ fn refuse_long(u: usize, table: &mut [u64]) -> Listing
 }
 
 // Unit work where the head atoms of the units are known: all lists, or the first that is above 256.
-fn work_lists(
+fn list_all(
     rules: &[u64],
     rule_count: usize,
     units: &[u64],
@@ -172,12 +173,12 @@ fn work_lists(
     inputs: &[u64],
     table: &mut [u64],
 ) -> Listing
-    requires { ⌜ Setting (now rules) «rule_count» (now units) «unit_count» (now predecessors) (now heads) (now inputs) × (4352 ≤ length (now table)) ⌝ }
+    requires { ⌜ Setting (now rules) «rule_count» (now units) «unit_count» (now predecessors) (now heads) (now inputs) × (TABLE_WORDS ≤ length (now table)) ⌝ }
     ensures { λ r. ⌜ Handed (workFrom (unitsOf (now (rules .entry)) «rule_count» (now (units .entry)) «unit_count» (now (predecessors .entry))) (now (table .entry)) (workingOrder (unitsOf (now (rules .entry)) «rule_count» (now (units .entry)) «unit_count» (now (predecessors .entry))))) r (now (table .exit)) ⌝ }
 {
     clear(table);
     let mut counts = [0usize; COUNTS];
-    let worked = work_units(
+    let worked = list_units(
         rules,
         rule_count,
         units,
@@ -191,7 +192,7 @@ fn work_lists(
     if let Work::Long(u) = worked {
         return refuse_long(u, table);
     }
-    if !work_last(rules, unit_count, heads, table, &mut counts) {
+    if !list_last(rules, unit_count, heads, table, &mut counts) {
         return refuse_long(unit_count, table);
     }
     Listing {
@@ -201,7 +202,7 @@ fn work_lists(
 }
 
 // Unit work on a plan that passed the graph place.
-pub fn work_plan(
+pub fn unit_work(
     rules: &[u64],
     rule_count: usize,
     units: &[u64],
@@ -223,7 +224,7 @@ pub fn work_plan(
         &mut heads,
         &mut inputs,
     );
-    work_lists(
+    list_all(
         rules,
         rule_count,
         units,

@@ -6,16 +6,17 @@ use native.Mathlib.Omega.{arith}
 use denote.Ref.{now}
 use lib.ListN.{length, drop, replicate, set, length-set}
 use borrow.Author.Fill.{fill-none, fill-more}
+use Rattle.plan.specs.Limits.{TABLE_WORDS}
 use Rattle.unit_lists.proofs.Storing.{cleared-is}
 use Rattle.unit_lists.proofs.table.clear.Statement.{statement}
 use Rattle.unit_lists.proofs.table.clear.Tie as tie
 
 abbrev Inv-loop : tie.InvT-loop
 Inv-loop table₀ i₀ table i =
-    (i ≤ 4352) × (length table ≡ length table₀) × (table ≡ replicate i 0 ++ drop i table₀)
+    (i ≤ TABLE_WORDS) × (length table ≡ length table₀) × (table ≡ replicate i 0 ++ drop i table₀)
 
 abbrev μ-loop : tie.MeasureT-loop
-μ-loop table₀ i₀ table i = 4352 - i
+μ-loop table₀ i₀ table i = TABLE_WORDS - i
 
 loop-holds : tie.Need-loop-holds Inv-loop μ-loop
 loop-holds c = (omega arith, refl, fill-none (now (c .args .table)) 0)

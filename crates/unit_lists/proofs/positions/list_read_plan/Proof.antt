@@ -2,6 +2,7 @@
 use mathlib.Core.Path.{_≡_, refl, ap, sym, subst, _∙_}
 use Prim.Native.Nat.{ℕ}
 use denote.Ref.{now}
+use Rattle.plan.specs.Limits.{MAX_UNITS}
 use Rattle.plan.specs.declared.fault.Fault.the-variants.{RuleInNoUnit, HeadedRuleInSeveral, Cycle, NonmonotonicUnseen, MonotonicUnseen}
 use Rattle.dependency_graph.specs.Slices.{unitsOf, GraphLent}
 use Rattle.dependency_graph.specs.Check.{verdict}
@@ -13,8 +14,8 @@ use Rattle.unit_lists.proofs.Handing.{handed-refused}
 use native.Mathlib.Omega.{arith}
 use lib.ListN.{length}
 use borrow.Author.Needs.{needs}
-use Rattle.unit_lists.proofs.list_read_plan.Statement.{statement}
-use Rattle.unit_lists.proofs.list_read_plan.Tie as tie
+use Rattle.unit_lists.proofs.positions.list_read_plan.Statement.{statement}
+use Rattle.unit_lists.proofs.positions.list_read_plan.Tie as tie
 
 -- the words that the counts name are there
 graph-lent : (c : tie.After-predecessors2)
@@ -27,8 +28,8 @@ graph-lent c =
     let p = c .before .before .before .before .before .before .before .args .plan in
     let f = c .before .before .before .before .before .before .before .pre .0 in
     let rules : length (p .rules) ≡ 192 = search needs in
-    let units : length (p .units) ≡ 16 = search needs in
-    let predecessors : length (p .predecessors) ≡ 16 = search needs in
+    let units : length (p .units) ≡ MAX_UNITS = search needs in
+    let predecessors : length (p .predecessors) ≡ MAX_UNITS = search needs in
     record {
       rules-most = f .rules-fit;
       rules-there = omega (arith, f .rules-fit);
@@ -40,9 +41,9 @@ graph-lent c =
 check-graph-requires : tie.Need-check-graph-requires
 check-graph-requires c κs = graph-lent c
 
-work-plan-requires : tie.Need-work-plan-requires
+unit-work-requires : tie.Need-unit-work-requires
 unfolding planUnits
-work-plan-requires c κs =
+unit-work-requires c κs =
     let p = c .before .before .before .before .before .before .before .before .before .before .before .before .before .before .args .plan in
     record {
       lent-words = graph-lent (c .before .before .before .before .before .before .before);
@@ -60,8 +61,8 @@ returns c =
     let c17 = c9 .before .before .before .before .before .before .before .before in
     let p = c17 .args .plan in
     let table = now (c17 .args .table) in
-    subst (λ (v : Verdict). Handed (afterGraph (planUnits p) table v) (c .before .before .work-plan .result) (c .before .before .work-plan .last .1 .1 .1 .1 .1 .0))
-    (sym (sym (c9 .check-graph .ensures) ∙ c7 .enum-told .given .1)) (c .before .before .work-plan .ensures)
+    subst (λ (v : Verdict). Handed (afterGraph (planUnits p) table v) (c .before .before .unit-work .result) (c .before .before .unit-work .last .1 .1 .1 .1 .1 .0))
+    (sym (sym (c9 .check-graph .ensures) ∙ c7 .enum-told .given .1)) (c .before .before .unit-work .ensures)
 
 returns-2 : tie.Need-returns-2
 unfolding planUnits afterGraph
@@ -130,7 +131,7 @@ list-read-plan-spec =
     (λ c. search needs)
     (λ c. search needs)
     (λ c. search needs)
-    work-plan-requires
+    unit-work-requires
     (λ c. search needs)
     (λ c κs. search needs)
     (λ c. search needs)

@@ -5,19 +5,20 @@ use denote.Ref.{now}
 use borrow.Author.Needs.{needs}
 use borrow.Author.Tests.{not-true, not-false}
 use lib.ListN.{replicate}
+use Rattle.plan.specs.Limits.{COUNTS}
 use Rattle.dependency_graph.specs.Slices.{unitsOf}
 use Rattle.unit_lists.proofs.Handing.{cleared-start, handed-long, last-lent, handed-last-long, handed-all}
-use Rattle.unit_lists.proofs.work.work_lists.Statement.{statement}
-use Rattle.unit_lists.proofs.work.work_lists.Tie as tie
+use Rattle.unit_lists.proofs.work.list_all.Statement.{statement}
+use Rattle.unit_lists.proofs.work.list_all.Tie as tie
 
-work-units-requires : tie.Need-work-units-requires
-work-units-requires c κs =
+list-units-requires : tie.Need-list-units-requires
+list-units-requires c κs =
     let c4 = c .before .before .before .before in
     let c12 = c4 .before .before .before .before .before .before .before .before in
     let at = c12 .args in (
       c12 .pre .0,
       cleared-start (unitsOf (now (at .rules)) (at .rule-count) (now (at .units)) (at .unit-count) (now (at .predecessors))) (now (at .table))
-          (c4 .clear .last .0) (replicate {A = ℕ} 17 0) (c12 .pre .1) (c4 .clear .kept .0) (c4 .clear .ensures) refl,
+          (c4 .clear .last .0) (replicate {A = ℕ} COUNTS 0) (c12 .pre .1) (c4 .clear .kept .0) (c4 .clear .ensures) refl,
     )
 
 returns : tie.Need-returns
@@ -29,21 +30,21 @@ returns c =
     let at = c23 .args in
     handed-long (now (at .rules)) (at .rule-count) (now (at .units)) (at .unit-count) (now (at .predecessors)) (now (at .heads)) (now (at .inputs))
     (c23 .pre .0) (now (at .table)) (c15 .clear .last .0) (c15 .clear .ensures)
-    (c10 .work-units .last .1 .1 .1 .1 .1 .1 .1 .0) (c10 .work-units .last .1 .1 .1 .1 .1 .1 .1 .1 .0) (c10 .work-units .result)
-    (c10 .work-units .ensures)
+    (c10 .list-units .last .1 .1 .1 .1 .1 .1 .1 .0) (c10 .list-units .last .1 .1 .1 .1 .1 .1 .1 .1 .0) (c10 .list-units .result)
+    (c10 .list-units .ensures)
     (c5 .worked .given .0 .0) (c .before .before .refuse-long .result) (c .before .before .refuse-long .last .1 .0) (c5 .worked .given .1)
     (c .before .before .refuse-long .ensures .0) (c .before .before .refuse-long .ensures .1)
 
-work-last-requires : tie.Need-work-last-requires
-work-last-requires c κs =
+list-last-requires : tie.Need-list-last-requires
+list-last-requires c κs =
     let c7 = c .before .before .before .before .before .before .before in
     let c12 = c7 .before .before .before .before .before in
     let c20 = c12 .before .before .before .before .before .before .before .before in
     let at = c20 .args in
     last-lent (now (at .rules)) (at .rule-count) (now (at .units)) (at .unit-count) (now (at .predecessors)) (now (at .heads)) (now (at .inputs))
     (c20 .pre .0) (now (at .table)) (c12 .clear .last .0) (c12 .clear .ensures)
-    (c7 .work-units .last .1 .1 .1 .1 .1 .1 .1 .0) (c7 .work-units .last .1 .1 .1 .1 .1 .1 .1 .1 .0) (c7 .work-units .result)
-    (c7 .work-units .ensures) (c .before .before .enum-told .given .1)
+    (c7 .list-units .last .1 .1 .1 .1 .1 .1 .1 .0) (c7 .list-units .last .1 .1 .1 .1 .1 .1 .1 .1 .0) (c7 .list-units .result)
+    (c7 .list-units .ensures) (c .before .before .enum-told .given .1)
 
 returns-2 : tie.Need-returns-2
 returns-2 c =
@@ -56,10 +57,10 @@ returns-2 c =
     let at = c29 .args in
     handed-last-long (now (at .rules)) (at .rule-count) (now (at .units)) (at .unit-count) (now (at .predecessors)) (now (at .heads))
     (now (at .inputs)) (c29 .pre .0) (now (at .table)) (c21 .clear .last .0) (c21 .clear .ensures)
-    (c16 .work-units .last .1 .1 .1 .1 .1 .1 .1 .0) (c16 .work-units .last .1 .1 .1 .1 .1 .1 .1 .1 .0) (c16 .work-units .result)
-    (c16 .work-units .ensures) (c11 .enum-told .given .1)
-    (c8 .work-last .last .1 .1 .1 .0) (c8 .work-last .last .1 .1 .1 .1 .0) (c8 .work-last .result) (c8 .work-last .ensures)
-    (c .before .before .refuse-long2 .result) (c .before .before .refuse-long2 .last .1 .0) (not-true (c8 .work-last .result) (c4 .if1 .taken))
+    (c16 .list-units .last .1 .1 .1 .1 .1 .1 .1 .0) (c16 .list-units .last .1 .1 .1 .1 .1 .1 .1 .1 .0) (c16 .list-units .result)
+    (c16 .list-units .ensures) (c11 .enum-told .given .1)
+    (c8 .list-last .last .1 .1 .1 .0) (c8 .list-last .last .1 .1 .1 .1 .0) (c8 .list-last .result) (c8 .list-last .ensures)
+    (c .before .before .refuse-long2 .result) (c .before .before .refuse-long2 .last .1 .0) (not-true (c8 .list-last .result) (c4 .if1 .taken))
     (c .before .before .refuse-long2 .ensures .0) (c .before .before .refuse-long2 .ensures .1)
 
 returns-3 : tie.Need-returns-3
@@ -72,25 +73,25 @@ returns-3 c =
     let at = c25 .args in
     handed-all (now (at .rules)) (at .rule-count) (now (at .units)) (at .unit-count) (now (at .predecessors)) (now (at .heads)) (now (at .inputs))
     (c25 .pre .0) (now (at .table)) (c17 .clear .last .0) (c17 .clear .ensures)
-    (c12 .work-units .last .1 .1 .1 .1 .1 .1 .1 .0) (c12 .work-units .last .1 .1 .1 .1 .1 .1 .1 .1 .0) (c12 .work-units .result)
-    (c12 .work-units .ensures) (c7 .enum-told .given .1)
-    (c4 .work-last .last .1 .1 .1 .0) (c4 .work-last .last .1 .1 .1 .1 .0) (c4 .work-last .result) (c4 .work-last .ensures)
-    (not-false (c4 .work-last .result) (c .if1 .left))
+    (c12 .list-units .last .1 .1 .1 .1 .1 .1 .1 .0) (c12 .list-units .last .1 .1 .1 .1 .1 .1 .1 .1 .0) (c12 .list-units .result)
+    (c12 .list-units .ensures) (c7 .enum-told .given .1)
+    (c4 .list-last .last .1 .1 .1 .0) (c4 .list-last .last .1 .1 .1 .1 .0) (c4 .list-last .result) (c4 .list-last .ensures)
+    (not-false (c4 .list-last .result) (c .if1 .left))
 
-pub work-lists-spec : {M : Type 1} → statement M
-work-lists-spec =
+pub list-all-spec : {M : Type 1} → statement M
+list-all-spec =
     tie.close
     (tie.spec
     (λ c κs. search needs)
     (λ c. search needs)
-    work-units-requires
+    list-units-requires
     (λ c. search needs)
     (λ c κs. search needs)
     (λ c. search needs)
     returns
     (λ c. search needs)
     (λ c. search needs)
-    work-last-requires
+    list-last-requires
     (λ c κs. search needs)
     (λ c. search needs)
     returns-2

@@ -14,14 +14,14 @@ use Rattle.splitting.specs.UnitList.{Clean}
 use Rattle.unit_lists.specs.Answer.{Answer, planUnits, afterGraph, answer}
 use Rattle.unit_lists.specs.Handed.{Handed}
 use Rattle.unit_lists.specs.Demands.{Demand2, Demand3}
-use Rattle.unit_lists.specs.declared.Listing.{Listing}
+use Rattle.unit_lists.specs.declared.listing.Listing.{Listing}
 use Rattle.unit_lists.proofs.Handing.{handed-refused, short-answer, refused-answer, read-answer}
 use Rattle.unit_lists.proofs.Reading.{plan-clean}
 use Rattle.unit_lists.proofs.Demand2.{demand-2}
 use Rattle.unit_lists.proofs.Demand3.{demand-3}
 use borrow.Author.Needs.{needs}
-use Rattle.unit_lists.proofs.list_positions.Statement.{statement}
-use Rattle.unit_lists.proofs.list_positions.Tie as tie
+use Rattle.unit_lists.proofs.positions.list_positions.Statement.{statement}
+use Rattle.unit_lists.proofs.positions.list_positions.Tie as tie
 
 -- what is handed back has all parts of the contract
 promised : (bytes table : List ℕ) → All IsByte bytes → (r : Listing) (table′ : List ℕ) → Handed (answer bytes table) r table′

@@ -4,16 +4,17 @@ use Prim.Native.Nat.{ℕ}
 use native.Mathlib.Omega.{arith}
 use denote.Ref.{now}
 use lib.ListN.{getD}
+use Rattle.plan.specs.Limits.{MAX_UNITS, LAST_LIST}
 use Rattle.atoms.specs.Bounded.{unionIn}
 use Rattle.atoms.proofs.Sets.{has-none}
 use Rattle.unit_search.specs.Job.{Joinable}
 use Rattle.unit_lists.specs.Work.{ListWorked}
 use borrow.Author.Needs.{needs}
-use Rattle.unit_lists.proofs.work.work_last.Statement.{statement}
-use Rattle.unit_lists.proofs.work.work_last.Tie as tie
+use Rattle.unit_lists.proofs.work.list_last.Statement.{statement}
+use Rattle.unit_lists.proofs.work.list_last.Tie as tie
 
-work-list-requires : tie.Need-work-list-requires
-work-list-requires c κs =
+list-one-requires : tie.Need-list-one-requires
+list-one-requires c κs =
     let c9 = c .before .before .before .before .before .before .before .before .before in
     let at = c9 .args in
     let pre = c9 .pre in
@@ -43,18 +44,18 @@ returns c =
       fits = union .ok;
       near = c7 .nearest .result;
       worked = subst
-          (λ (w : ℕ). ListWorked (now (at .rules)) (now (at .heads)) (record { rules = 0; inputs = union .result; predecessors = w; nearest = c7 .nearest .result }) (union .result) 4096 16 (now (at .table)) (now (at .counts)) (c4 .work-list .last .1 .1 .1 .1 .1 .1 .0) (c4 .work-list .last .1 .1 .1 .1 .1 .1 .1 .0) (c4 .work-list .result))
-          (first .ensures) (c4 .work-list .ensures);
+          (λ (w : ℕ). ListWorked (now (at .rules)) (now (at .heads)) (record { rules = 0; inputs = union .result; predecessors = w; nearest = c7 .nearest .result }) (union .result) LAST_LIST MAX_UNITS (now (at .table)) (now (at .counts)) (c4 .list-one .last .1 .1 .1 .1 .1 .1 .0) (c4 .list-one .last .1 .1 .1 .1 .1 .1 .1 .0) (c4 .list-one .result))
+          (first .ensures) (c4 .list-one .ensures);
     }
 
-pub work-last-spec : {M : Type 1} → statement M
-work-last-spec =
+pub list-last-spec : {M : Type 1} → statement M
+list-last-spec =
     tie.close
     (tie.spec
     (λ c κs. search needs)
     (λ c κs. search needs)
     (λ c κs. search needs)
-    work-list-requires
+    list-one-requires
     (λ c. search needs)
     (λ c. search needs)
     returns)

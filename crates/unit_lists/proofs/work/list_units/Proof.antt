@@ -7,6 +7,7 @@ use borrow.Author.Needs.{needs}
 use borrow.Author.Tests.{not-true, not-false}
 use denote.Ref.{now}
 use lib.ListN.{getD}
+use Rattle.plan.specs.Limits.{LIST_WORDS}
 use Rattle.atoms.specs.Word.{_∪_}
 use Rattle.dependency_graph.specs.Slices.{unitsOf}
 use Rattle.dependency_graph.specs.Order.{nextUnit, Ready}
@@ -17,8 +18,8 @@ use Rattle.unit_lists.specs.Lists.{unitList}
 use Rattle.unit_lists.specs.Work.{all-fit, one-long, Working}
 use Rattle.unit_lists.proofs.Working.{working-next, working-long, counts-long}
 use Rattle.unit_lists.proofs.Stepping.{Looping, looping-start, next-ready-at, next-done-at, next-long-at, looping-stop, looping-end, UnitDone, done-fits, done-long, unit-done, rules-lent, named-few, joinable, unit-answer}
-use Rattle.unit_lists.proofs.work.work_units.Statement.{statement}
-use Rattle.unit_lists.proofs.work.work_units.Tie as tie
+use Rattle.unit_lists.proofs.work.list_units.Statement.{statement}
+use Rattle.unit_lists.proofs.work.list_units.Tie as tie
 
 abbrev Inv-loop : tie.InvT-loop
 Inv-loop rules rule-count units unit-count predecessors heads inputs table₀ counts₀ done₀ left₀ table counts done left =
@@ -105,24 +106,24 @@ unit-at-requires c κs =
       omega (arith, next-small c, s .lent-words, s .inputs-long),
     )
 
-mul-work-list : tie.Need-mul-work-list Inv-loop μ-loop
-mul-work-list c =
+mul-list-one : tie.Need-mul-list-one Inv-loop μ-loop
+mul-list-one c =
     let c12 = c .before .before .before .before .before .before .before .before .before .before .before .before in
     omega (arith, next-small (c .before), c12 .pre .0 .lent-words)
 
-shared-slice-read-work-list : tie.Need-shared-slice-read-work-list Inv-loop μ-loop
-shared-slice-read-work-list c =
+shared-slice-read-list-one : tie.Need-shared-slice-read-list-one Inv-loop μ-loop
+shared-slice-read-list-one c =
     let c13 = c .before .before .before .before .before .before .before .before .before .before .before .before .before in
     omega (arith, next-small (c .before .before), c13 .pre .0 .lent-words, c13 .pre .0 .heads-long)
 
-mul-work-list-2 : tie.Need-mul-work-list-2 Inv-loop μ-loop
-mul-work-list-2 c =
+mul-list-one-2 : tie.Need-mul-list-one-2 Inv-loop μ-loop
+mul-list-one-2 c =
     let c13 = c .before .before .before .before .before .before .before .before .before .before .before .before .before in
     omega (arith, next-small (c .before .before), c13 .pre .0 .lent-words)
 
-work-list-requires : tie.Need-work-list-requires Inv-loop μ-loop
+list-one-requires : tie.Need-list-one-requires Inv-loop μ-loop
 unfolding unitsOf
-work-list-requires c κs =
+list-one-requires c κs =
     let c4 = c .before .before .before .before in
     let c5 = c4 .before in
     let c7 = c5 .before .before in
@@ -148,14 +149,14 @@ work-list-requires c κs =
     )
 
 -- what the unit's list has come to
-worked : (c : tie.After-work-list Inv-loop μ-loop)
+worked : (c : tie.After-list-one Inv-loop μ-loop)
     → UnitDone
     (unitList (unitsOf (now (c .before .before .before .before .before .before .before .before .before .before .before .before .before .before .before .before .args .rules)) (c .before .before .before .before .before .before .before .before .before .before .before .before .before .before .before .before .args .rule-count) (now (c .before .before .before .before .before .before .before .before .before .before .before .before .before .before .before .before .args .units)) (c .before .before .before .before .before .before .before .before .before .before .before .before .before .before .before .before .args .unit-count) (now (c .before .before .before .before .before .before .before .before .before .before .before .before .before .before .before .before .args .predecessors))) (c .before .before .before .before .before .before .next-unit .result))
-    (256 * c .before .before .before .before .before .before .next-unit .result)
+    (LIST_WORDS * c .before .before .before .before .before .before .next-unit .result)
     (c .before .before .before .before .before .before .next-unit .result)
     (c .before .before .before .before .before .before .before .before .loop .table)
-    (c .before .before .before .before .before .before .before .before .loop .counts) (c .work-list .last .1 .1 .1 .1 .1 .1 .0)
-    (c .work-list .last .1 .1 .1 .1 .1 .1 .1 .0) (c .work-list .result)
+    (c .before .before .before .before .before .before .before .before .loop .counts) (c .list-one .last .1 .1 .1 .1 .1 .1 .0)
+    (c .list-one .last .1 .1 .1 .1 .1 .1 .1 .0) (c .list-one .result)
 unfolding unitsOf
 worked c =
     let c4 = c .before .before .before .before in
@@ -169,12 +170,12 @@ worked c =
     let unit = c4 .unit-at .result in
     let e = c4 .unit-at .ensures .is in
     unit-done (unitList (unitsOf (now (at .rules)) (at .rule-count) (now (at .units)) (at .unit-count) (now (at .predecessors))) u)
-    (now (at .rules)) (now (at .heads)) unit (getD (now (at .heads)) u 0) (256 * u) u (l .table) (l .counts)
-    (c .work-list .last .1 .1 .1 .1 .1 .1 .0) (c .work-list .last .1 .1 .1 .1 .1 .1 .1 .0) (c .work-list .result)
+    (now (at .rules)) (now (at .heads)) unit (getD (now (at .heads)) u 0) (LIST_WORDS * u) u (l .table) (l .counts)
+    (c .list-one .last .1 .1 .1 .1 .1 .1 .0) (c .list-one .last .1 .1 .1 .1 .1 .1 .1 .0) (c .list-one .result)
     (unit-answer (now (at .rules)) (at .rule-count) (now (at .units)) (at .unit-count) (now (at .predecessors)) (now (at .heads)) (now (at .inputs)) (c16 .pre .0) (l .done) (now (at .table)) (l .table) (l .counts) (l .inv .working) u (next-small c5) (ready c5) unit
     (ap (λ (x : Unit). x .rules) e) (ap (λ (x : Unit). x .inputs) e) (ap (λ (x : Unit). x .predecessors) e)
     (c .before .before .before .shared-slice-known6 .given u .fits))
-    (c .work-list .ensures)
+    (c .list-one .ensures)
 
 same-length-3 : tie.Need-same-length-3 Inv-loop μ-loop
 unfolding unitsOf
@@ -183,7 +184,7 @@ same-length-3 c =
     let c13 = c5 .before .before .before .before .before .before .before .before in
     let c21 = c13 .before .before .before .before .before .before .before .before in
     let at = c21 .args in
-    c5 .work-list .kept .1 .1 .1 .1 .1 .1 .0
+    c5 .list-one .kept .1 .1 .1 .1 .1 .1 .0
     ∙ working-long (unitsOf (now (at .rules)) (at .rule-count) (now (at .units)) (at .unit-count) (now (at .predecessors)))
     (c21 .pre .0 .lent-words .units-most) (c13 .loop .done) (now (at .table)) (c13 .loop .table) (c13 .loop .counts) (c13 .loop .inv .working)
 
@@ -193,7 +194,7 @@ same-length-4 c =
     let c13 = c5 .before .before .before .before .before .before .before .before in
     let c21 = c13 .before .before .before .before .before .before .before .before in
     let at = c21 .args in
-    c5 .work-list .kept .1 .1 .1 .1 .1 .1 .1 .0
+    c5 .list-one .kept .1 .1 .1 .1 .1 .1 .1 .0
     ∙ counts-long (unitsOf (now (at .rules)) (at .rule-count) (now (at .units)) (at .unit-count) (now (at .predecessors))) (c13 .loop .done)
     (now (at .table)) (c13 .loop .table) (c13 .loop .counts) (c13 .loop .inv .working)
     ∙ sym (counts-long (unitsOf (now (at .rules)) (at .rule-count) (now (at .units)) (at .unit-count) (now (at .predecessors))) 0 (now (at .table)) (now (at .table)) (now (at .counts)) (c21 .pre .1))
@@ -210,7 +211,7 @@ returns-2 c =
     let at = c21 .args in
     let l = c13 .loop in
     let u = c11 .next-unit .result in
-    let w = done-long (worked c5) (not-true (c5 .work-list .result) (c .if2 .taken)) in
+    let w = done-long (worked c5) (not-true (c5 .list-one .result) (c .if2 .taken)) in
     one-long
     (next-long-at (unitsOf (now (at .rules)) (at .rule-count) (now (at .units)) (at .unit-count) (now (at .predecessors))) (c21 .pre .0 .passes) (now (at .table)) (l .table) (l .counts) (l .done) (l .left) (l .inv) (c12 .loop-test .taken) u (next-is c11) (next-small c10) (w .0))
     (subst₂ (Working (unitsOf (now (at .rules)) (at .rule-count) (now (at .units)) (at .unit-count) (now (at .predecessors))) (l .done) (now (at .table))) (sym (w .1)) (sym (w .2)) (l .inv .working))
@@ -233,13 +234,13 @@ loop-again c =
     let at = c23 .args in
     let l = c15 .loop in
     let u = c13 .next-unit .result in
-    let w = done-fits (worked c7) (not-false (c7 .work-list .result) (c .before .before .if2 .left)) in
+    let w = done-fits (worked c7) (not-false (c7 .list-one .result) (c .before .before .if2 .left)) in
     let small = next-small c12 in
-    subst (λ (d : ℕ). Looping (unitsOf (now (at .rules)) (at .rule-count) (now (at .units)) (at .unit-count) (now (at .predecessors))) (now (at .table)) (c7 .work-list .last .1 .1 .1 .1 .1 .1 .0) (c7 .work-list .last .1 .1 .1 .1 .1 .1 .1 .0) d (l .left - 1))
+    subst (λ (d : ℕ). Looping (unitsOf (now (at .rules)) (at .rule-count) (now (at .units)) (at .unit-count) (now (at .predecessors))) (now (at .table)) (c7 .list-one .last .1 .1 .1 .1 .1 .1 .0) (c7 .list-one .last .1 .1 .1 .1 .1 .1 .1 .0) d (l .left - 1))
     (sym (c .union .ensures ∙ ap (λ (w : ℕ). l .done ∪ w) (c .before .single .ensures)))
     (next-done-at (unitsOf (now (at .rules)) (at .rule-count) (now (at .units)) (at .unit-count) (now (at .predecessors))) (c23 .pre .0 .passes) (now (at .table)) (l .table) (l .counts) (l .done) (l .left) (l .inv) (c14 .loop-test .taken) u (next-is c13)
-    (c7 .work-list .last .1 .1 .1 .1 .1 .1 .0) (c7 .work-list .last .1 .1 .1 .1 .1 .1 .1 .0) small (w .0)
-    (working-next (unitsOf (now (at .rules)) (at .rule-count) (now (at .units)) (at .unit-count) (now (at .predecessors))) (c23 .pre .0 .lent-words .units-most) (l .done) (now (at .table)) (l .table) (l .counts) (l .inv .working) u (c7 .work-list .last .1 .1 .1 .1 .1 .1 .0) (c7 .work-list .last .1 .1 .1 .1 .1 .1 .1 .0) small (w .0) (w .1) (w .2)))
+    (c7 .list-one .last .1 .1 .1 .1 .1 .1 .0) (c7 .list-one .last .1 .1 .1 .1 .1 .1 .1 .0) small (w .0)
+    (working-next (unitsOf (now (at .rules)) (at .rule-count) (now (at .units)) (at .unit-count) (now (at .predecessors))) (c23 .pre .0 .lent-words .units-most) (l .done) (now (at .table)) (l .table) (l .counts) (l .inv .working) u (c7 .list-one .last .1 .1 .1 .1 .1 .1 .0) (c7 .list-one .last .1 .1 .1 .1 .1 .1 .1 .0) small (w .0) (w .1) (w .2)))
 
 same-length-5 : tie.Need-same-length-5 Inv-loop μ-loop
 unfolding unitsOf
@@ -268,8 +269,8 @@ returns-3 c =
     (c9 .pre .0 .passes) (now (at .table)) (l .table) (l .counts) (l .done) (l .left) (l .inv) (omega arith) in
     all-fit (stop .0) (stop .1) (l .inv .working)
 
-pub work-units-spec : {M : Type 1} → statement M
-work-units-spec =
+pub list-units-spec : {M : Type 1} → statement M
+list-units-spec =
     tie.close
     (tie.spec
     Inv-loop
@@ -280,10 +281,10 @@ work-units-spec =
     same-length-2
     returns
     unit-at-requires
-    mul-work-list
-    shared-slice-read-work-list
-    mul-work-list-2
-    work-list-requires
+    mul-list-one
+    shared-slice-read-list-one
+    mul-list-one-2
+    list-one-requires
     same-length-3
     same-length-4
     returns-2

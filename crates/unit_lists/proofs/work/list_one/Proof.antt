@@ -4,6 +4,7 @@ use Prim.Native.Nat.{ℕ}
 use denote.Ref.{now}
 use lib.ListN.{length, replicate}
 use lib.Seq.{paste}
+use Rattle.plan.specs.Limits.{LIST_WORDS}
 use Rattle.atoms.specs.Word.{_∖_}
 use Rattle.unit_search.specs.Listing.{Gathered, Grown}
 use Rattle.unit_search.specs.Job.{Wanted}
@@ -11,8 +12,8 @@ use Rattle.unit_search.proofs.Gathering.{gathered-ordered}
 use Rattle.unit_lists.specs.Work.{fitted, too-long}
 use Rattle.unit_lists.proofs.Storing.{zeros-ordered}
 use borrow.Author.Needs.{needs}
-use Rattle.unit_lists.proofs.work.work_list.Statement.{statement}
-use Rattle.unit_lists.proofs.work.work_list.Tie as tie
+use Rattle.unit_lists.proofs.work.list_one.Statement.{statement}
+use Rattle.unit_lists.proofs.work.list_one.Tie as tie
 
 search-requires : tie.Need-search-requires
 search-requires c κs = (c .before .before .before .before .before .before .before .before .before .pre .0, zeros-ordered)
@@ -24,7 +25,7 @@ returns c =
     let c12 = c7 .before .before .before .before .before in
     let at = c12 .args in
     too-long (c .if1 .taken)
-    (subst (λ (w : ℕ). Gathered (Grown (replicate {A = ℕ} 256 0) 0 (Wanted (now (at .rules)) (now (at .table)) (now (at .counts)) (now (at .heads)) (at .unit) (record { up = 0; dropped = w }))) (c .before .before .search .last .1 .1 .1 .1 .1 .0) (c .before .before .search .result))
+    (subst (λ (w : ℕ). Gathered (Grown (replicate {A = ℕ} LIST_WORDS 0) 0 (Wanted (now (at .rules)) (now (at .table)) (now (at .counts)) (now (at .heads)) (at .unit) (record { up = 0; dropped = w }))) (c .before .before .search .last .1 .1 .1 .1 .1 .0) (c .before .before .search .result))
     (c6 .without .ensures ∙ ap (λ (w : ℕ). w ∖ at .within) (c7 .first .ensures)) (c .before .before .search .ensures))
     refl refl
 
@@ -37,14 +38,14 @@ returns-2 c =
     let c17 = c12 .before .before .before .before .before in
     let at = c17 .args in
     let list = c7 .search .last .1 .1 .1 .1 .1 .0 in
-    let long : length list ≡ 256 = gathered-ordered (c5 .if1 .left) (c7 .search .ensures) .long in
+    let long : length list ≡ LIST_WORDS = gathered-ordered (c5 .if1 .left) (c7 .search .ensures) .long in
     fitted (c5 .if1 .left)
-    (subst (λ (w : ℕ). Gathered (Grown (replicate {A = ℕ} 256 0) 0 (Wanted (now (at .rules)) (now (at .table)) (now (at .counts)) (now (at .heads)) (at .unit) (record { up = 0; dropped = w }))) (c7 .search .last .1 .1 .1 .1 .1 .0) (c7 .search .result))
+    (subst (λ (w : ℕ). Gathered (Grown (replicate {A = ℕ} LIST_WORDS 0) 0 (Wanted (now (at .rules)) (now (at .table)) (now (at .counts)) (now (at .heads)) (at .unit) (record { up = 0; dropped = w }))) (c7 .search .last .1 .1 .1 .1 .1 .0) (c7 .search .result))
     (c11 .without .ensures ∙ ap (λ (w : ℕ). w ∖ at .within) (c12 .first .ensures)) (c7 .search .ensures))
     (c .before .before .store .ensures ∙ ap (paste (now (at .table)) (at .base) list) long) refl
 
-pub work-list-spec : {M : Type 1} → statement M
-work-list-spec =
+pub list-one-spec : {M : Type 1} → statement M
+list-one-spec =
     tie.close
     (tie.spec
     (λ c κs. search needs)
