@@ -1,6 +1,6 @@
 // One lent rule: its words, its body and whether a position satisfies it.
 ghost use mathlib.Core.Path.{_≡_};
-ghost use Rattle.answer_sets.specs.Lent.{lent, IsLent, negative};
+ghost use Rattle.answer_sets.specs.Lent.{lent, IsLent, negative, looks};
 ghost use Rattle.answer_sets.specs.Test.{body, satisfies as satisfiesAt};
 
 // The head's atoms.
@@ -25,6 +25,14 @@ pub fn negative_body(rules: &[u64], rule: usize) -> u64
     ensures { λ r. ⌜ r ≡ negative (now (rules .entry)) rule ⌝ }
 {
     rules[3 * rule + 2]
+}
+
+// The atoms that the rest of the body looks at.
+pub fn looks(rules: &[u64], rule: usize) -> u64
+    requires { ⌜ IsLent (now rules) rule ⌝ }
+    ensures { λ r. ⌜ r ≡ looks (now (rules .entry)) rule ⌝ }
+{
+    negative_body(rules, rule)
 }
 
 // Whether the body holds at the position.

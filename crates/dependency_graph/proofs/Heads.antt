@@ -1,18 +1,21 @@
 -- The laws of reach and of head atoms. Reach is the paths' relation, by Warshall's recursion over the highest middle unit;
 -- along an edge it shrinks, so reach read as a number is the rank of an acyclic graph.
-use mathlib.Core.Path.{_≡_, refl, subst}
+use mathlib.Core.Path.{_≡_, refl, sym, ap, _∙_, subst}
 use mathlib.Core.Bool.{Bool, true, false}
 use mathlib.Core.Logic.{_⊎_, inl, inr}
-use Prim.Native.Nat.{ℕ, zero, suc, _<_}
+use mathlib.Core.List.{List}
+use Prim.Native.Nat.{ℕ, zero, suc, _+_, _<_}
 use native.Mathlib.Omega.{arith}
 use native.Mathlib.Decide.{ℕ-discrete}
+use native.Mathlib.Numerals.{add-one}
+use lib.ListN.{getD}
 use Rattle.atoms.specs.Word.{Has, has, _∪_, below}
 use Rattle.atoms.specs.Bounded.{unionIn}
 use Rattle.atoms.proofs.Sets.{decides-has, has-cut, cut-left, cut-right, has-left, has-right, union-cases, has-below, below-lt, subset-lt}
 use Rattle.atoms.proofs.Bounded.{union-has, union-at}
 use Rattle.dependency_graph.specs.Units.{Units, Holds, Edge, Path, one, more}
 use Rattle.dependency_graph.specs.Graph.{Acyclic}
-use Rattle.dependency_graph.specs.Heads.{reachVia, reach, own, heads, inputHeads}
+use Rattle.dependency_graph.specs.Heads.{through, reachVia, reach, own, heads, inputHeads}
 
 -- ---- paths
 
@@ -27,6 +30,22 @@ path-end S (more e p) = path-end S p
 pub path-append : (S : Units) {u v w : ℕ} → Path S u v → Path S v w → Path S u w
 path-append S (one e) q = more e q
 path-append S (more e p) q = more e (path-append S p q)
+
+-- ---- one middle unit more
+
+pub through-miss : (w k m : ℕ) → has w k ≡ false → w ≡ through w k m
+unfolding through
+through-miss w k m e = rw (e, through)
+
+pub through-hit : (w k m : ℕ) → has w k ≡ true → w ∪ m ≡ through w k m
+unfolding through
+through-hit w k m e = rw (e, through)
+
+-- in a table of what the units reach
+pub via-next : (S : Units) (n k : ℕ) (table : List ℕ) → k < n → ((u : ℕ) → u < n → getD table u 0 ≡ reachVia S k u) → (u : ℕ) → u < n
+    → through (getD table u 0) k (getD table k 0) ≡ reachVia S (k + 1) u
+unfolding reachVia
+via-next S n k table l f u h = rw (f u h, f k l, add-one)
 
 -- ---- reach over middle units below k
 
@@ -43,7 +62,7 @@ edge-via S u v l h = record {
 }
 
 via-suc : (S : Units) (k u v : ℕ) → Has (reachVia S k u) v → Has (reachVia S (suc k) u) v
-unfolding reachVia
+unfolding reachVia through
 via-suc S k u v h = go (has (reachVia S k u) k)
   where
     go : (b : Bool)
@@ -52,7 +71,7 @@ via-suc S k u v h = go (has (reachVia S k u) k)
     go false = h
 
 via-middle : (S : Units) (k u v : ℕ) → Has (reachVia S k u) k → Has (reachVia S k k) v → Has (reachVia S (suc k) u) v
-unfolding reachVia
+unfolding reachVia through
 via-middle S k u v m h = go (has (reachVia S k u) k) refl
   where
     go : (b : Bool) → has (reachVia S k u) k ≡ b
@@ -62,7 +81,7 @@ via-middle S k u v m h = go (has (reachVia S k u) k) refl
 
 via-cases : (S : Units) (k u v : ℕ) → Has (reachVia S (suc k) u) v
     → Has (reachVia S k u) v ⊎ (Has (reachVia S k u) k × Has (reachVia S k k) v)
-unfolding reachVia
+unfolding reachVia through
 via-cases S k u v h = go (has (reachVia S k u) k) refl h
   where
     met : Has (reachVia S k u) k → Has (reachVia S k u) v ⊎ Has (reachVia S k k) v

@@ -11,10 +11,10 @@ use Rattle.atoms.specs.Bounded.{unionIn, wordBelow}
 use Rattle.atoms.proofs.Tests.{decides-and, decides-not, decides-equal, decided-true}
 use Rattle.atoms.proofs.Sets.{decides-has, decides-apart, has-dec, has-cut, cut-left, cut-right, has-left, has-right, union-cases, has-without, without-left, without-right, has-none, has-below, below-lt, some-atom, empty, apart-of-cut, shared-atom}
 use Rattle.atoms.proofs.Bounded.{union-has, union-at, word-has, word-at}
-use Rattle.dependency_graph.specs.Units.{Units, Holds, Path}
+use Rattle.dependency_graph.specs.Units.{Units, Holds}
 use Rattle.dependency_graph.specs.Graph.{Share, Nonmonotonic, Monotonic, Sees, ConditionA, ConditionB, Acyclic, ConditionC, ConditionD}
 use Rattle.dependency_graph.specs.Heads.{reach}
-use Rattle.dependency_graph.specs.Offenders.{Unplaced, Shared, NonmonotonicUnseen, MonotonicUnseen, unionBelow, twiceBelow, seen, unseenHeads, clashing, covered, unplaced, shared, cyclic, nonmonotonicUnseen, monotonicUnseen}
+use Rattle.dependency_graph.specs.Offenders.{RuleInNoUnit, HeadedRuleInSeveral, Cycle, NonmonotonicUnseen, MonotonicUnseen, unionBelow, twiceBelow, seen, unseenHeads, nonmonotonicUnseenIn, monotonicSeenIn, ruleInNoUnit, headedRuleInSeveral, cycle, nonmonotonicUnseen, monotonicUnseen}
 use Rattle.dependency_graph.proofs.Heads.{path-start, reach-path, path-reach}
 
 -- ---- unions below a bound
@@ -110,8 +110,8 @@ module _ (S : Units) where
 
   -- ---- (a)
 
-  pub unplaced-at : (r : ℕ) → Has (unplaced S) r → Unplaced S r
-  unfolding unplaced
+  pub unplaced-at : (r : ℕ) → Has (ruleInNoUnit S) r → RuleInNoUnit S r
+  unfolding ruleInNoUnit
   unplaced-at r h = record {
     is-rule = below-lt (S .rules) (without-left (below (S .rules)) (unionBelow (S .units) (λ u. S .unit u)) h);
     nowhere =
@@ -119,13 +119,13 @@ module _ (S : Units) where
         (union-below-has (S .units) (λ v. S .unit v) u r (k .is-unit) (k .holds));
   }
 
-  pub unplaced-has : (r : ℕ) → Unplaced S r → Has (unplaced S) r
-  unfolding unplaced
+  pub unplaced-has : (r : ℕ) → RuleInNoUnit S r → Has (ruleInNoUnit S) r
+  unfolding ruleInNoUnit
   unplaced-has r h =
       has-without (below (S .rules)) (unionBelow (S .units) (λ u. S .unit u)) (has-below (S .rules) r (h .is-rule))
       (λ p. let s = union-below-at (S .units) (λ u. S .unit u) r p in h .nowhere (s .0) (record { is-unit = s .1; is-rule = h .is-rule; holds = s .2 }))
 
-  pub a-of-empty : unplaced S ≡ 0 → ConditionA S
+  pub a-of-empty : ruleInNoUnit S ≡ 0 → ConditionA S
   a-of-empty e = record { placed = λ r l. go r l (has-dec (unionBelow (S .units) (λ u. S .unit u)) r) }
     where
       go : (r : ℕ) → r < S .rules → Dec (Has (unionBelow (S .units) (λ u. S .unit u)) r) → (u : ℕ) × Holds S u r
@@ -138,13 +138,13 @@ module _ (S : Units) where
             nowhere = λ u k. p (union-below-has (S .units) (λ v. S .unit v) u r (k .is-unit) (k .holds));
           }))))
 
-  pub empty-of-a : ConditionA S → unplaced S ≡ 0
-  empty-of-a c = empty (unplaced S) (λ r h. let o = unplaced-at r h in let s = c .placed r (o .is-rule) in o .nowhere (s .0) (s .1))
+  pub empty-of-a : ConditionA S → ruleInNoUnit S ≡ 0
+  empty-of-a c = empty (ruleInNoUnit S) (λ r h. let o = unplaced-at r h in let s = c .placed r (o .is-rule) in o .nowhere (s .0) (s .1))
 
   -- ---- (b)
 
-  pub shared-at : (r : ℕ) → Has (shared S) r → Shared S r
-  unfolding shared
+  pub shared-at : (r : ℕ) → Has (headedRuleInSeveral S) r → HeadedRuleInSeveral S r
+  unfolding headedRuleInSeveral
   shared-at r h =
       let headed = word-at (S .rules) (λ s. not (eqb (S .program .head s) 0)) r (cut-left (wordBelow (S .rules) (λ s. not (eqb (S .program .head s) 0))) (twiceBelow (S .units) (λ u. S .unit u)) h) in
       let t = twice-at (S .units) (λ u. S .unit u) r (cut-right (wordBelow (S .rules) (λ s. not (eqb (S .program .head s) 0))) (twiceBelow (S .units) (λ u. S .unit u)) h) in
@@ -159,8 +159,8 @@ module _ (S : Units) where
         two = λ e. absurd (omega (arith, t .2, e));
       }
 
-  pub shared-has : (r : ℕ) → Shared S r → Has (shared S) r
-  unfolding shared
+  pub shared-has : (r : ℕ) → HeadedRuleInSeveral S r → Has (headedRuleInSeveral S) r
+  unfolding headedRuleInSeveral
   shared-has r h =
       has-cut (wordBelow (S .rules) (λ s. not (eqb (S .program .head s) 0))) (twiceBelow (S .units) (λ u. S .unit u))
       (word-has (S .rules) (λ s. not (eqb (S .program .head s) 0)) r (h .in-first .is-rule)
@@ -174,7 +174,7 @@ module _ (S : Units) where
           let n : ¬ (h .first ≡ h .second) = h .two in
           twice-has (S .units) (λ u. S .unit u) (h .second) (h .first) r (omega arith) (h .in-first .is-unit) (h .in-second .holds) (h .in-first .holds)
 
-  pub b-of-empty : shared S ≡ 0 → ConditionB S
+  pub b-of-empty : headedRuleInSeveral S ≡ 0 → ConditionB S
   b-of-empty e = record { one = λ r a u v h p q. go r a u v h p q (ℕ-discrete u v) }
     where
       go : (r a u v : ℕ) → Has (S .program .head r) a → Holds S u r → Holds S v r → Dec (u ≡ v) → u ≡ v
@@ -190,33 +190,33 @@ module _ (S : Units) where
             two = k;
           }))))
 
-  pub empty-of-b : ConditionB S → shared S ≡ 0
+  pub empty-of-b : ConditionB S → headedRuleInSeveral S ≡ 0
   empty-of-b c =
-      empty (shared S) (λ r h. let o = shared-at r h in o .two (c .one r (o .atom) (o .first) (o .second) (o .headed) (o .in-first) (o .in-second)))
+      empty (headedRuleInSeveral S) (λ r h. let o = shared-at r h in o .two (c .one r (o .atom) (o .first) (o .second) (o .headed) (o .in-first) (o .in-second)))
 
   -- ---- acyclic
 
-  pub cyclic-at : (u : ℕ) → Has (cyclic S) u → Path S u u
-  unfolding cyclic
+  pub cyclic-at : (u : ℕ) → Has (cycle S) u → Cycle S u
+  unfolding cycle
   cyclic-at u h =
       let t = word-at (S .units) (λ v. has (reach S v) v) u h in
-      reach-path S u u (t .0) (decides-has (reach S u) u .yes (t .1))
+      record { returns = reach-path S u u (t .0) (decides-has (reach S u) u .yes (t .1)) }
 
-  pub cyclic-has : (u : ℕ) → Path S u u → Has (cyclic S) u
-  unfolding cyclic
+  pub cyclic-has : (u : ℕ) → Cycle S u → Has (cycle S) u
+  unfolding cycle
   cyclic-has u p =
-      word-has (S .units) (λ v. has (reach S v) v) u (path-start S p) (decided-true (decides-has (reach S u) u) (path-reach S u u p))
+      word-has (S .units) (λ v. has (reach S v) v) u (path-start S (p .returns)) (decided-true (decides-has (reach S u) u) (path-reach S u u (p .returns)))
 
-  pub acyclic-of-empty : cyclic S ≡ 0 → Acyclic S
-  acyclic-of-empty e = record { no-return = λ u p. has-none {i = u} (subst (λ (w : ℕ). Has w u) e (cyclic-has u p)) }
+  pub acyclic-of-empty : cycle S ≡ 0 → Acyclic S
+  acyclic-of-empty e = record { no-return = λ u p. has-none {i = u} (subst (λ (w : ℕ). Has w u) e (cyclic-has u (record { returns = p }))) }
 
-  pub empty-of-acyclic : Acyclic S → cyclic S ≡ 0
-  empty-of-acyclic a = empty (cyclic S) (λ u h. a .no-return u (cyclic-at u h))
+  pub empty-of-acyclic : Acyclic S → cycle S ≡ 0
+  empty-of-acyclic a = empty (cycle S) (λ u h. a .no-return u (cyclic-at u h .returns))
 
   -- ---- (c)
 
-  clashing-at : (u r : ℕ) → u < S .units → Has (clashing S u) r → NonmonotonicUnseen S r
-  unfolding clashing
+  clashing-at : (u r : ℕ) → u < S .units → Has (nonmonotonicUnseenIn S u) r → NonmonotonicUnseen S r
+  unfolding nonmonotonicUnseenIn
   clashing-at u r l h =
       let t = word-at (S .rules) (λ s. has (S .unit u) s && not (apart (S .looks s) (unseenHeads S u))) r h in
       let d = decides-and (decides-has (S .unit u) r) (decides-not (decides-apart (S .looks r) (unseenHeads S u))) .yes (t .1) in
@@ -232,8 +232,8 @@ module _ (S : Units) where
         unseen = s .2;
       }
 
-  clashing-has : (r : ℕ) (o : NonmonotonicUnseen S r) → Has (clashing S (o .unit)) r
-  unfolding clashing
+  clashing-has : (r : ℕ) (o : NonmonotonicUnseen S r) → Has (nonmonotonicUnseenIn S (o .unit)) r
+  unfolding nonmonotonicUnseenIn
   clashing-has r o =
       word-has (S .rules) (λ s. has (S .unit (o .unit)) s && not (apart (S .looks s) (unseenHeads S (o .unit)))) r (o .held .is-rule)
       (decided-true (decides-and (decides-has (S .unit (o .unit)) r) (decides-not (decides-apart (S .looks r) (unseenHeads S (o .unit)))))
@@ -241,11 +241,11 @@ module _ (S : Units) where
 
   pub nonmonotonic-at : (r : ℕ) → Has (nonmonotonicUnseen S) r → NonmonotonicUnseen S r
   unfolding nonmonotonicUnseen
-  nonmonotonic-at r h = let t = union-below-at (S .units) (clashing S) r h in clashing-at (t .0) r (t .1) (t .2)
+  nonmonotonic-at r h = let t = union-below-at (S .units) (nonmonotonicUnseenIn S) r h in clashing-at (t .0) r (t .1) (t .2)
 
   pub nonmonotonic-has : (r : ℕ) → NonmonotonicUnseen S r → Has (nonmonotonicUnseen S) r
   unfolding nonmonotonicUnseen
-  nonmonotonic-has r o = union-below-has (S .units) (clashing S) (o .unit) r (o .held .is-unit) (clashing-has r o)
+  nonmonotonic-has r o = union-below-has (S .units) (nonmonotonicUnseenIn S) (o .unit) r (o .held .is-unit) (clashing-has r o)
 
   pub c-of-empty : nonmonotonicUnseen S ≡ 0 → ConditionC S
   c-of-empty e = record { seen = λ r s u l n h. go r s u l n h (sees-dec u s (h .is-unit) l) }
@@ -269,9 +269,9 @@ module _ (S : Units) where
 
   -- ---- (d)
 
-  covered-at : (u r : ℕ) → u < S .units → Has (covered S u) r
+  covered-at : (u r : ℕ) → u < S .units → Has (monotonicSeenIn S u) r
       → Holds S u r × ((s : ℕ) → s < S .rules → Monotonic S r s → Sees S u s)
-  unfolding covered
+  unfolding monotonicSeenIn
   covered-at u r l h = (held, λ s k m. go s k (m .shared) (sees-dec u s l k))
     where
       tested : (r < S .rules) × (has (S .unit u) r && apart (S .program .positive r ∪ S .program .head r) (unseenHeads S u) ≡ true)
@@ -294,8 +294,8 @@ module _ (S : Units) where
       go s k (inr m) (no p) =
           absurd (both .1 .none (m .atom) (has-right (S .program .positive r) (S .program .head r) (m .left)) (unseen-has u s (m .atom) l k p (m .right)))
 
-  covered-has : (u r : ℕ) → Holds S u r → ((s : ℕ) → s < S .rules → Monotonic S r s → Sees S u s) → Has (covered S u) r
-  unfolding covered
+  covered-has : (u r : ℕ) → Holds S u r → ((s : ℕ) → s < S .rules → Monotonic S r s → Sees S u s) → Has (monotonicSeenIn S u) r
+  unfolding monotonicSeenIn
   covered-has u r h f =
       word-has (S .rules) (λ s. has (S .unit u) s && apart (S .program .positive s ∪ S .program .head s) (unseenHeads S u)) r (h .is-rule)
       (decided-true (decides-and (decides-has (S .unit u) r) (decides-apart (S .program .positive r ∪ S .program .head r) (unseenHeads S u)))
@@ -311,31 +311,31 @@ module _ (S : Units) where
   pub monotonic-at : (r : ℕ) → Has (monotonicUnseen S) r → MonotonicUnseen S r
   unfolding monotonicUnseen
   monotonic-at r h = record {
-    is-rule = below-lt (S .rules) (without-left (below (S .rules)) (unionBelow (S .units) (covered S)) h);
+    is-rule = below-lt (S .rules) (without-left (below (S .rules)) (unionBelow (S .units) (monotonicSeenIn S)) h);
     nowhere =
-        λ u k f. without-right (below (S .rules)) (unionBelow (S .units) (covered S)) h
-        (union-below-has (S .units) (covered S) u r (k .is-unit) (covered-has u r k f));
+        λ u k f. without-right (below (S .rules)) (unionBelow (S .units) (monotonicSeenIn S)) h
+        (union-below-has (S .units) (monotonicSeenIn S) u r (k .is-unit) (covered-has u r k f));
   }
 
   pub monotonic-has : (r : ℕ) → MonotonicUnseen S r → Has (monotonicUnseen S) r
   unfolding monotonicUnseen
   monotonic-has r o =
-      has-without (below (S .rules)) (unionBelow (S .units) (covered S)) (has-below (S .rules) r (o .is-rule))
-      (λ p. let t = union-below-at (S .units) (covered S) r p in let k = covered-at (t .0) r (t .1) (t .2) in o .nowhere (t .0) (k .0) (k .1))
+      has-without (below (S .rules)) (unionBelow (S .units) (monotonicSeenIn S)) (has-below (S .rules) r (o .is-rule))
+      (λ p. let t = union-below-at (S .units) (monotonicSeenIn S) r p in let k = covered-at (t .0) r (t .1) (t .2) in o .nowhere (t .0) (k .0) (k .1))
 
   pub d-of-empty : monotonicUnseen S ≡ 0 → ConditionD S
-  d-of-empty e = record { covered = λ r l. go r l (has-dec (unionBelow (S .units) (covered S)) r) }
+  d-of-empty e = record { covered = λ r l. go r l (has-dec (unionBelow (S .units) (monotonicSeenIn S)) r) }
     where
-      go : (r : ℕ) → r < S .rules → Dec (Has (unionBelow (S .units) (covered S)) r)
+      go : (r : ℕ) → r < S .rules → Dec (Has (unionBelow (S .units) (monotonicSeenIn S)) r)
           → (u : ℕ) × Holds S u r × ((s : ℕ) → s < S .rules → Monotonic S r s → Sees S u s)
       go r l (yes p) =
-          let t = union-below-at (S .units) (covered S) r p in
+          let t = union-below-at (S .units) (monotonicSeenIn S) r p in
           let k = covered-at (t .0) r (t .1) (t .2) in
           (t .0, k .0, k .1)
       go r l (no p) =
           absurd (has-none {i = r} (subst (λ (w : ℕ). Has w r) e (monotonic-has r (record {
             is-rule = l;
-            nowhere = λ u k f. p (union-below-has (S .units) (covered S) u r (k .is-unit) (covered-has u r k f));
+            nowhere = λ u k f. p (union-below-has (S .units) (monotonicSeenIn S) u r (k .is-unit) (covered-has u r k f));
           }))))
 
   pub empty-of-d : ConditionD S → monotonicUnseen S ≡ 0

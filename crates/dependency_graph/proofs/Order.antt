@@ -1,7 +1,7 @@
 -- The working order: the next unit is the lowest that is ready; on an acyclic graph some unit is ready as long as one is not
 -- done, since a unit of the least rank that is not done is; so every unit is worked, once, after its predecessors.
 use mathlib.Core.Path.{_≡_, refl, sym, subst}
-use mathlib.Core.Bool.{Bool, true, false, not}
+use mathlib.Core.Bool.{Bool, true, false, not, _&&_}
 use mathlib.Core.Logic.{_⊎_, inl, inr}
 use mathlib.Core.List.{List, [], _∷_, _++_, List·Memᴰ, List·Memᴰ·head, List·Memᴰ·tail, List·Memᴰ·not-nil, List·Memᴰ·cases-cons}
 use Prim.Native.Nat.{ℕ, zero, suc, _+_, _≤_, _<_}
@@ -10,18 +10,18 @@ use native.Mathlib.Decide.{ℕ-discrete}
 use lib.Count.{ones, ones-le}
 use lib.Dec.{ltb}
 use borrow.Author.Tests.{ltb-true, ltb-false}
-use Rattle.atoms.specs.Word.{Has, has, _∩_, _∪_, _∖_, atom, below}
+use Rattle.atoms.specs.Word.{Has, has, _∩_, _∪_, _∖_, atom, below, subset}
 use Rattle.atoms.specs.Bounded.{Decides}
 use Rattle.atoms.proofs.Tests.{decides-iff, decides-and, decides-not, decided}
 use Rattle.atoms.proofs.Sets.{decides-has, decides-subset, has-dec, has-cut, cut-left, cut-right, has-left, has-right, union-cases, has-without, without-left, without-right, has-atom, atom-only, has-none, has-below, below-lt, lt-of-has, some-atom}
 use Rattle.atoms.proofs.Counting.{count-lt}
+use Rattle.atoms.specs.Collected.{lowest}
+use Rattle.atoms.proofs.Collected.{lowest-le, lowest-here, lowest-least, lowest-is, lowest-none}
 use Rattle.dependency_graph.specs.Units.{Units, Edge}
 use Rattle.dependency_graph.specs.Graph.{Acyclic}
 use Rattle.dependency_graph.specs.Heads.{reach}
-use Rattle.dependency_graph.specs.Lowest.{lowest}
 use Rattle.dependency_graph.specs.Order.{Ready, ready, nextUnit, orderFrom, workingOrder, InOrder, all-done, next}
 use Rattle.dependency_graph.proofs.Heads.{edge-rank}
-use Rattle.dependency_graph.proofs.Lowest.{lowest-le, lowest-here, lowest-least}
 
 -- ---- ready units
 
@@ -41,6 +41,25 @@ decides-ready S done u l =
       },
     ))
     (decides-and (decides-not (decides-has done u)) (decides-subset (S .predecessors u ∩ below (S .units)) done))
+
+-- the two parts of the test
+pub done-not-ready : (S : Units) (done u : ℕ) → has done u ≡ true → false ≡ ready S done u
+unfolding ready
+done-not-ready S done u e = rw (e, _&&_)
+
+pub ready-of-waiting : (S : Units) (done u : ℕ) → has done u ≡ false → subset (S .predecessors u ∩ below (S .units)) done ≡ ready S done u
+unfolding ready
+ready-of-waiting S done u e = rw (e, _&&_)
+
+-- the search for the unit that is worked next: no unit passed is ready
+pub next-found : (S : Units) (done u : ℕ) → u < S .units → ready S done u ≡ true → ((j : ℕ) → j < u → ready S done j ≡ false)
+    → u ≡ nextUnit S done
+unfolding nextUnit
+next-found S done u l e f = sym (lowest-is (S .units) (ready S done) u l e f)
+
+pub next-missing : (S : Units) (done u : ℕ) → S .units ≤ u → ((j : ℕ) → j < u → ready S done j ≡ false) → S .units ≡ nextUnit S done
+unfolding nextUnit
+next-missing S done u l f = sym (lowest-none (S .units) (ready S done) (λ j k. f j (omega arith)))
 
 -- a unit that is not done and not ready has a predecessor that is not done
 waiting-predecessor : (S : Units) (done u : ℕ) → u < S .units → ¬ Has done u → ¬ Ready S done u

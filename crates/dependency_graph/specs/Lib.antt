@@ -1,9 +1,8 @@
 pub mod Units
 pub mod Graph
 pub mod Heads
-pub mod Lowest
 pub mod Order
-pub mod Slices
-pub mod Steps
+pub mod PlanUnits
+pub mod Filled
 pub mod Offenders
 pub mod Check

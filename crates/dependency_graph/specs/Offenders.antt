@@ -6,17 +6,17 @@ use Prim.Native.Nat.{ℕ, zero, suc, _<_}
 use lib.Dec.{eqb}
 use Rattle.atoms.specs.Word.{Has, has, _∩_, _∪_, _∖_, below, apart}
 use Rattle.atoms.specs.Bounded.{unionIn, wordBelow}
-use Rattle.dependency_graph.specs.Units.{Units, Holds}
+use Rattle.dependency_graph.specs.Units.{Units, Holds, Path}
 use Rattle.dependency_graph.specs.Graph.{Nonmonotonic, Monotonic, Sees}
-use Rattle.dependency_graph.specs.Heads.{reach}
+use Rattle.dependency_graph.specs.Heads.{reach, ruleHeads}
 
 -- "(a) broken": rule r is in no unit
-pub record Unplaced (S : Units) (r : ℕ) : Type 0 where
+pub record RuleInNoUnit (S : Units) (r : ℕ) : Type 0 where
   pub is-rule : r < S .rules
   pub nowhere : (u : ℕ) → ¬ Holds S u r
 
 -- "(b) broken": rule r has a head and is in two units
-pub record Shared (S : Units) (r : ℕ) : Type 0 where
+pub record HeadedRuleInSeveral (S : Units) (r : ℕ) : Type 0 where
   pub atom : ℕ
   pub headed : Has (S .program .head r) atom
   pub first : ℕ
@@ -24,6 +24,10 @@ pub record Shared (S : Units) (r : ℕ) : Type 0 where
   pub in-first : Holds S first r
   pub in-second : Holds S second r
   pub two : ¬ (first ≡ second)
+
+-- "(acyclic) broken": a path along edges returns to unit u
+pub record Cycle (S : Units) (u : ℕ) : Type 0 where
+  pub returns : Path S u u
 
 -- "(c) broken": rule r depends nonmonotonically on a rule that some unit with r does not see
 pub record NonmonotonicUnseen (S : Units) (r : ℕ) : Type 0 where
@@ -55,34 +59,42 @@ seen S u = S .unit u ∪ unionIn (S .units) (S .predecessors u) (λ v. S .unit v
 
 -- the head atoms of the rules that u does not see
 unfoldable pub unseenHeads : Units → ℕ → ℕ
-unseenHeads S u = unionIn (S .rules) (below (S .rules) ∖ seen S u) (λ s. S .program .head s)
+unseenHeads S u = ruleHeads S (below (S .rules) ∖ seen S u)
 
 -- the rules of u that depend nonmonotonically on a rule that u does not see
-unfoldable pub clashing : Units → ℕ → ℕ
-clashing S u = wordBelow (S .rules) (λ r. has (S .unit u) r && not (apart (S .looks r) (unseenHeads S u)))
+unfoldable pub nonmonotonicUnseenIn : Units → ℕ → ℕ
+nonmonotonicUnseenIn S u = wordBelow (S .rules) (λ r. has (S .unit u) r && not (apart (S .looks r) (unseenHeads S u)))
 
 -- the rules of u all of whose monotonic dependences u sees
-unfoldable pub covered : Units → ℕ → ℕ
-covered S u =
+unfoldable pub monotonicSeenIn : Units → ℕ → ℕ
+monotonicSeenIn S u =
     wordBelow (S .rules)
     (λ r. has (S .unit u) r && apart (S .program .positive r ∪ S .program .head r) (unseenHeads S u))
 
 -- the rules that break (a)
-unfoldable pub unplaced : Units → ℕ
-unplaced S = below (S .rules) ∖ unionBelow (S .units) (λ u. S .unit u)
+unfoldable pub ruleInNoUnit : Units → ℕ
+ruleInNoUnit S = below (S .rules) ∖ unionBelow (S .units) (λ u. S .unit u)
+
+-- the rules with a head
+abbrev pub headed : Units → ℕ
+headed S = wordBelow (S .rules) (λ r. not (eqb (S .program .head r) 0))
+
+-- the rules in more than one unit
+abbrev pub repeated : Units → ℕ
+repeated S = twiceBelow (S .units) (λ u. S .unit u)
 
 -- the rules that break (b)
-unfoldable pub shared : Units → ℕ
-shared S = wordBelow (S .rules) (λ r. not (eqb (S .program .head r) 0)) ∩ twiceBelow (S .units) (λ u. S .unit u)
+unfoldable pub headedRuleInSeveral : Units → ℕ
+headedRuleInSeveral S = headed S ∩ repeated S
 
 -- the units on a cycle
-unfoldable pub cyclic : Units → ℕ
-cyclic S = wordBelow (S .units) (λ u. has (reach S u) u)
+unfoldable pub cycle : Units → ℕ
+cycle S = wordBelow (S .units) (λ u. has (reach S u) u)
 
 -- the rules that break (c)
 unfoldable pub nonmonotonicUnseen : Units → ℕ
-nonmonotonicUnseen S = unionBelow (S .units) (clashing S)
+nonmonotonicUnseen S = unionBelow (S .units) (nonmonotonicUnseenIn S)
 
 -- the rules that break (d)
 unfoldable pub monotonicUnseen : Units → ℕ
-monotonicUnseen S = below (S .rules) ∖ unionBelow (S .units) (covered S)
+monotonicUnseen S = below (S .rules) ∖ unionBelow (S .units) (monotonicSeenIn S)

@@ -4,8 +4,8 @@ use mathlib.Core.List.{List, [], _∷_}
 use Prim.Native.Nat.{ℕ, zero, suc, _<_}
 use lib.Dec.{ltb}
 use Rattle.atoms.specs.Word.{Has, has, _∩_, _∪_, atom, below, subset}
+use Rattle.atoms.specs.Collected.{lowest}
 use Rattle.dependency_graph.specs.Units.{Units, Edge}
-use Rattle.dependency_graph.specs.Lowest.{lowest}
 
 -- u is not done and its predecessors are
 pub record Ready (S : Units) (done u : ℕ) : Type 0 where

@@ -1,43 +1,46 @@
 // Head atoms of units: own, H(u) and Hp(u).
-use crate::MAX_UNITS;
 use crate::reach::fill_reach;
-use crate::words::heads_of;
-use crate::words::union_of;
+use crate::rule_heads::rule_heads;
+use plan::MAX_UNITS;
+use plan::Plan;
 ghost use mathlib.Core.Path.{_≡_};
-ghost use mathlib.Core.List.{[]};
-ghost use Prim.Native.Nat.{_*_, _≤_, _<_};
+ghost use Prim.Native.Nat.{_≤_, _<_};
 ghost use lib.ListN.{length, getD};
-ghost use Rattle.atoms.specs.Word.{_∪_};
+ghost use Rattle.atoms.specs.Word.{ATOMS, _∪_};
 ghost use Rattle.atoms.specs.Bounded.{unionIn};
-ghost use Rattle.dependency_graph.specs.Heads.{own as ownOf, heads as headsOf, inputHeads};
-ghost use Rattle.dependency_graph.specs.Slices.{unitsOf, GraphLent, Filled};
+ghost use Rattle.plan.specs.Record.{Fitting};
+ghost use Rattle.dependency_graph.specs.Heads.{own as ownOf, heads as headsOf};
+ghost use Rattle.dependency_graph.specs.PlanUnits.{unitsOf, HeadsOf};
+ghost use Rattle.dependency_graph.specs.Filled.{Filled};
+
+// H(u) and Hp(u) of each unit u, zeros behind.
+pub struct HeadAtoms {
+    pub heads: [u64; MAX_UNITS],
+    pub inputs: [u64; MAX_UNITS],
+}
 
 // Fills the table with each unit's own head atoms.
-pub fn fill_own(
-    rules: &[u64],
-    rule_count: usize,
-    units: &[u64],
-    unit_count: usize,
-    table: &mut [u64],
-)
-    requires { ⌜ («rule_count» ≤ 64) × (3 * «rule_count» ≤ length (now rules)) × («unit_count» ≤ length (now units)) × («unit_count» ≤ length (now table)) ⌝ }
-    ensures { λ _. ⌜ Filled «unit_count» (ownOf (unitsOf (now (rules .entry)) «rule_count» (now (units .entry)) «unit_count» [])) (now (table .entry)) (now (table .exit)) ⌝ }
+fn fill_own(plan: Plan, table: &mut [u64])
+    requires { ⌜ Fitting plan × (plan .«unit_count» ≤ length (now table)) ⌝ }
+    ensures { λ _. ⌜ Filled (plan .«unit_count») (ownOf (unitsOf plan)) (now (table .entry)) (now (table .exit)) ⌝ }
 {
     let mut u = 0;
-    while u < unit_count {
-        table[u] = heads_of(rules, rule_count, units[u]);
+    while u < plan.unit_count {
+        table[u] = rule_heads(plan, plan.units[u]);
         u += 1;
     }
 }
 
 // Fills the table with the union of the words whose numbers are in each unit's `which`.
-pub fn fill_unions(words: &[u64], which: &[u64], unit_count: usize, table: &mut [u64])
-    requires { ⌜ («unit_count» ≤ 64) × («unit_count» ≤ length (now words)) × («unit_count» ≤ length (now which)) × («unit_count» ≤ length (now table)) ⌝ }
-    ensures { λ _. ⌜ Filled «unit_count» (λ u. unionIn «unit_count» (getD (now (which .entry)) u 0) (λ v. getD (now (words .entry)) v 0)) (now (table .entry)) (now (table .exit)) ⌝ }
+fn fill_unions(words: &[u64], which: &[u64], unit_count: usize, table: &mut [u64])
+    requires { ⌜ («unit_count» ≤ ATOMS) × («unit_count» ≤ length (now words)) × («unit_count» ≤ length (now which))
+        × («unit_count» ≤ length (now table)) ⌝ }
+    ensures { λ _. ⌜ Filled «unit_count» (λ u. unionIn «unit_count» (getD (now (which .entry)) u 0) (λ v. getD (now (words .entry)) v 0))
+        (now (table .entry)) (now (table .exit)) ⌝ }
 {
     let mut u = 0;
     while u < unit_count {
-        table[u] = union_of(words, unit_count, which[u]);
+        table[u] = atoms::union_of(words, unit_count, which[u]);
         u += 1;
     }
 }
@@ -45,7 +48,8 @@ pub fn fill_unions(words: &[u64], which: &[u64], unit_count: usize, table: &mut 
 // Adds to each word of the table the one of the same number.
 fn add_words(words: &[u64], unit_count: usize, table: &mut [u64])
     requires { ⌜ («unit_count» ≤ length (now words)) × («unit_count» ≤ length (now table)) ⌝ }
-    ensures { λ _. ⌜ Filled «unit_count» (λ u. getD (now (words .entry)) u 0 ∪ getD (now (table .entry)) u 0) (now (table .entry)) (now (table .exit)) ⌝ }
+    ensures { λ _. ⌜ Filled «unit_count» (λ u. getD (now (words .entry)) u 0 ∪ getD (now (table .entry)) u 0)
+        (now (table .entry)) (now (table .exit)) ⌝ }
 {
     let mut u = 0;
     while u < unit_count {
@@ -55,38 +59,30 @@ fn add_words(words: &[u64], unit_count: usize, table: &mut [u64])
 }
 
 // Fills the table with H(u) for each unit u.
-pub fn fill_heads(
-    rules: &[u64],
-    rule_count: usize,
-    units: &[u64],
-    unit_count: usize,
-    predecessors: &[u64],
-    table: &mut [u64],
-)
-    requires { ⌜ GraphLent (now rules) «rule_count» (now units) «unit_count» (now predecessors) × («unit_count» ≤ length (now table)) ⌝ }
-    ensures { λ _. ⌜ Filled «unit_count» (headsOf (unitsOf (now (rules .entry)) «rule_count» (now (units .entry)) «unit_count» (now (predecessors .entry)))) (now (table .entry)) (now (table .exit)) ⌝ }
+fn fill_heads(plan: Plan, table: &mut [u64])
+    requires { ⌜ Fitting plan × (plan .«unit_count» ≤ length (now table)) ⌝ }
+    ensures { λ _. ⌜ Filled (plan .«unit_count») (headsOf (unitsOf plan)) (now (table .entry)) (now (table .exit)) ⌝ }
 {
+    let unit_count = plan.unit_count;
     let mut own = [0u64; MAX_UNITS];
     let mut reached = [0u64; MAX_UNITS];
-    fill_own(rules, rule_count, units, unit_count, &mut own);
-    fill_reach(predecessors, unit_count, &mut reached);
+    fill_own(plan, &mut own);
+    fill_reach(plan, &mut reached);
     fill_unions(&own, &reached, unit_count, table);
     add_words(&own, unit_count, table);
 }
 
-// Fills one table with H(u) and the other with Hp(u), for each unit u.
-pub fn fill_head_atoms(
-    rules: &[u64],
-    rule_count: usize,
-    units: &[u64],
-    unit_count: usize,
-    predecessors: &[u64],
-    heads: &mut [u64],
-    inputs: &mut [u64],
-)
-    requires { ⌜ GraphLent (now rules) «rule_count» (now units) «unit_count» (now predecessors) × («unit_count» ≤ length (now heads)) × («unit_count» ≤ length (now inputs)) ⌝ }
-    ensures { λ _. ⌜ Filled «unit_count» (headsOf (unitsOf (now (rules .entry)) «rule_count» (now (units .entry)) «unit_count» (now (predecessors .entry)))) (now (heads .entry)) (now (heads .exit)) × Filled «unit_count» (inputHeads (unitsOf (now (rules .entry)) «rule_count» (now (units .entry)) «unit_count» (now (predecessors .entry)))) (now (inputs .entry)) (now (inputs .exit)) ⌝ }
+// H(u) and Hp(u) of each unit u of the plan.
+pub fn head_atoms(plan: Plan) -> HeadAtoms
+    requires { ⌜ Fitting plan ⌝ }
+    ensures { λ r. ⌜ HeadsOf plan r ⌝ }
 {
-    fill_heads(rules, rule_count, units, unit_count, predecessors, heads);
-    fill_unions(heads, predecessors, unit_count, inputs);
+    let mut heads = [0u64; MAX_UNITS];
+    let mut inputs = [0u64; MAX_UNITS];
+    fill_heads(plan, &mut heads);
+    fill_unions(&heads, &plan.predecessors, plan.unit_count, &mut inputs);
+    HeadAtoms {
+        heads: heads,
+        inputs: inputs,
+    }
 }

@@ -1,14 +1,17 @@
 // Reach, by Warshall's recursion over the highest middle unit.
+use plan::Plan;
 ghost use mathlib.Core.Path.{_≡_};
 ghost use Prim.Native.Nat.{_≤_, _<_};
 ghost use lib.ListN.{length, getD};
-ghost use Rattle.dependency_graph.specs.Heads.{reachVia, reach as reachOf};
-ghost use Rattle.dependency_graph.specs.Slices.{edgesOf, Filled};
-ghost use Rattle.dependency_graph.specs.Steps.{through as throughUnit};
+ghost use Rattle.atoms.specs.Word.{ATOMS};
+ghost use Rattle.plan.specs.Record.{Fitting};
+ghost use Rattle.dependency_graph.specs.Heads.{reachVia, reach as reachOf, through as throughUnit};
+ghost use Rattle.dependency_graph.specs.PlanUnits.{unitsOf};
+ghost use Rattle.dependency_graph.specs.Filled.{Filled};
 
 // What a unit reaches once its paths may lead through unit k, which reaches `middle`.
 fn through(reached: u64, k: usize, middle: u64) -> u64
-    requires { ⌜ k < 64 ⌝ }
+    requires { ⌜ k < ATOMS ⌝ }
     ensures { λ r. ⌜ r ≡ throughUnit reached k middle ⌝ }
 {
     if atoms::are_apart(reached, atoms::single(k)) {
@@ -18,22 +21,23 @@ fn through(reached: u64, k: usize, middle: u64) -> u64
 }
 
 // Fills the table with each unit's direct predecessors.
-fn fill_direct(predecessors: &[u64], unit_count: usize, table: &mut [u64])
-    requires { ⌜ («unit_count» ≤ 16) × («unit_count» ≤ length (now predecessors)) × («unit_count» ≤ length (now table)) ⌝ }
-    ensures { λ _. ⌜ Filled «unit_count» (reachVia (edgesOf «unit_count» (now (predecessors .entry))) 0) (now (table .entry)) (now (table .exit)) ⌝ }
+fn fill_direct(plan: Plan, table: &mut [u64])
+    requires { ⌜ Fitting plan × (plan .«unit_count» ≤ length (now table)) ⌝ }
+    ensures { λ _. ⌜ Filled (plan .«unit_count») (reachVia (unitsOf plan) 0) (now (table .entry)) (now (table .exit)) ⌝ }
 {
-    let all = atoms::first(unit_count);
+    let all = atoms::first(plan.unit_count);
     let mut u = 0;
-    while u < unit_count {
-        table[u] = atoms::cut(predecessors[u], all);
+    while u < plan.unit_count {
+        table[u] = atoms::cut(plan.predecessors[u], all);
         u += 1;
     }
 }
 
 // Lets the paths in the table lead through unit k.
 fn open_middle(unit_count: usize, k: usize, table: &mut [u64])
-    requires { ⌜ («unit_count» ≤ 16) × (k < «unit_count») × («unit_count» ≤ length (now table)) ⌝ }
-    ensures { λ _. ⌜ Filled «unit_count» (λ u. throughUnit (getD (now (table .entry)) u 0) k (getD (now (table .entry)) k 0)) (now (table .entry)) (now (table .exit)) ⌝ }
+    requires { ⌜ («unit_count» ≤ ATOMS) × (k < «unit_count») × («unit_count» ≤ length (now table)) ⌝ }
+    ensures { λ _. ⌜ Filled «unit_count» (λ u. throughUnit (getD (now (table .entry)) u 0) k (getD (now (table .entry)) k 0))
+        (now (table .entry)) (now (table .exit)) ⌝ }
 {
     let middle = table[k];
     let mut u = 0;
@@ -44,14 +48,14 @@ fn open_middle(unit_count: usize, k: usize, table: &mut [u64])
 }
 
 // Fills the table with what each unit reaches.
-pub fn fill_reach(predecessors: &[u64], unit_count: usize, table: &mut [u64])
-    requires { ⌜ («unit_count» ≤ 16) × («unit_count» ≤ length (now predecessors)) × («unit_count» ≤ length (now table)) ⌝ }
-    ensures { λ _. ⌜ Filled «unit_count» (reachOf (edgesOf «unit_count» (now (predecessors .entry)))) (now (table .entry)) (now (table .exit)) ⌝ }
+pub fn fill_reach(plan: Plan, table: &mut [u64])
+    requires { ⌜ Fitting plan × (plan .«unit_count» ≤ length (now table)) ⌝ }
+    ensures { λ _. ⌜ Filled (plan .«unit_count») (reachOf (unitsOf plan)) (now (table .entry)) (now (table .exit)) ⌝ }
 {
-    fill_direct(predecessors, unit_count, table);
+    fill_direct(plan, table);
     let mut k = 0;
-    while k < unit_count {
-        open_middle(unit_count, k, table);
+    while k < plan.unit_count {
+        open_middle(plan.unit_count, k, table);
         k += 1;
     }
 }

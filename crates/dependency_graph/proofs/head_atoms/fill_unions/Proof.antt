@@ -1,10 +1,10 @@
--- The table is filled from the front (Filling).
+-- The table is filled from the front (Filled).
 use Prim.Native.Nat.{_-_}
 use native.Mathlib.Omega.{arith}
 use lib.ListN.{getD}
-use borrow.Author.Needs.{needs}
 use Rattle.atoms.specs.Bounded.{unionIn}
-use Rattle.dependency_graph.proofs.Filling.{Filling, filling-start, filling-more, filling-end}
+use Rattle.dependency_graph.proofs.Filled.{Filling, filling-start, filling-more, filling-end}
+use borrow.Author.Needs.{needs}
 use Rattle.dependency_graph.proofs.head_atoms.fill_unions.Statement.{statement}
 use Rattle.dependency_graph.proofs.head_atoms.fill_unions.Tie as tie
 
@@ -16,37 +16,20 @@ abbrev μ-loop : tie.MeasureT-loop
 μ-loop words which unit-count table₀ u₀ table u = unit-count - u
 
 loop-holds : tie.Need-loop-holds Inv-loop μ-loop
-loop-holds c = filling-start (omega arith)
-
-mul-union-of : tie.Need-mul-union-of Inv-loop μ-loop
-mul-union-of c = search needs
-
-shared-slice-read-union-of : tie.Need-shared-slice-read-union-of Inv-loop μ-loop
-shared-slice-read-union-of c = search needs
-
-union-of-requires : tie.Need-union-of-requires Inv-loop μ-loop
-union-of-requires c κs = search needs
-
-mul-table : tie.Need-mul-table Inv-loop μ-loop
-mul-table c = search needs
-
-slice-write-table : tie.Need-slice-write-table Inv-loop μ-loop
-slice-write-table c = search needs
-
-add-u : tie.Need-add-u Inv-loop μ-loop
-add-u c = search needs
-
-loop-less : tie.Need-loop-less Inv-loop μ-loop
-loop-less c = search needs
+loop-holds c =
+    filling-start (omega arith)
 
 loop-again : tie.Need-loop-again Inv-loop μ-loop
-loop-again c = filling-more (c .before .before .before .loop .inv) (c .before .before .loop-test .taken) (c .union-of .ensures)
+loop-again c =
+    filling-more (c .before .before .before .loop .inv) (c .before .before .loop-test .taken) (c .union-of .ensures)
 
 same-length : tie.Need-same-length Inv-loop μ-loop
-same-length c = c .before .loop .inv .so-far .same-length
+same-length c =
+    c .before .loop .inv .so-far .same-length
 
 returns : tie.Need-returns Inv-loop μ-loop
-returns c = filling-end (c .before .loop .inv) (c .loop-test .left)
+returns c =
+    filling-end (c .before .loop .inv) (c .loop-test .left)
 
 pub fill-unions-spec : {M : Type 1} → statement M
 fill-unions-spec =
@@ -55,13 +38,13 @@ fill-unions-spec =
     Inv-loop
     μ-loop
     loop-holds
-    mul-union-of
-    shared-slice-read-union-of
-    union-of-requires
-    mul-table
-    slice-write-table
-    add-u
-    loop-less
+    (λ c. search needs)
+    (λ c. search needs)
+    (λ c κs. search needs)
+    (λ c. search needs)
+    (λ c. search needs)
+    (λ c. search needs)
+    (λ c. search needs)
     loop-again
     same-length
     returns)

@@ -1,55 +1,45 @@
 -- After k turns the table has the paths whose middle units are below k: Warshall's recursion.
-use mathlib.Core.Path.{_∙_}
-use Prim.Native.Nat.{_-_, _≤_}
+use mathlib.Core.Path.{_≡_, ap, _∙_}
+use Prim.Native.Nat.{ℕ, _-_, _≤_}
 use native.Mathlib.Omega.{arith}
+use Rattle.dependency_graph.specs.Heads.{reachVia, reach}
+use Rattle.dependency_graph.specs.PlanUnits.{unitsOf}
+use Rattle.dependency_graph.specs.Filled.{Filled}
+use Rattle.dependency_graph.proofs.Heads.{via-next}
+use Rattle.dependency_graph.proofs.Filled.{filled-itself, filled-same, filled-again}
 use borrow.Author.Needs.{needs}
-use Rattle.dependency_graph.specs.Heads.{reachVia}
-use Rattle.dependency_graph.specs.Slices.{edgesOf, Filled}
-use Rattle.dependency_graph.proofs.Slices.{open-next, reach-end}
-use Rattle.dependency_graph.proofs.Filling.{filled-itself, filled-same, filled-again}
 use Rattle.dependency_graph.proofs.reach.fill_reach.Statement.{statement}
 use Rattle.dependency_graph.proofs.reach.fill_reach.Tie as tie
 
 abbrev Inv-loop : tie.InvT-loop
-Inv-loop predecessors unit-count table₀ k₀ table k =
-    Filled unit-count (reachVia (edgesOf unit-count predecessors) k) table₀ table × (k ≤ unit-count)
+Inv-loop plan table₀ k₀ table k =
+    Filled (plan .«unit_count») (reachVia (unitsOf plan) k) table₀ table × (k ≤ plan .«unit_count»)
 
 abbrev μ-loop : tie.MeasureT-loop
-μ-loop predecessors unit-count table₀ k₀ table k = unit-count - k
-
-fill-direct-requires : tie.Need-fill-direct-requires Inv-loop μ-loop
-fill-direct-requires c κs = search needs
+μ-loop plan table₀ k₀ table k = plan .«unit_count» - k
 
 loop-holds : tie.Need-loop-holds Inv-loop μ-loop
-loop-holds c = (filled-itself (c .before .before .fill-direct .ensures), omega arith)
-
-open-middle-requires : tie.Need-open-middle-requires Inv-loop μ-loop
-open-middle-requires c κs = search needs
-
-add-k : tie.Need-add-k Inv-loop μ-loop
-add-k c = search needs
-
-loop-less : tie.Need-loop-less Inv-loop μ-loop
-loop-less c = search needs
+loop-holds c =
+    (filled-itself (c .before .before .fill-direct .ensures), omega arith)
 
 loop-again : tie.Need-loop-again Inv-loop μ-loop
 loop-again c =
-    let c4 = c .before .before .before .before in
-    let old = c4 .before .loop in (
+    let old = c .before .before .before .before .before .before .loop in (
       filled-same (filled-again (old .inv .0) (c .before .before .open-middle .ensures)) _
-          (open-next _ _ _ (old .table) (c4 .loop-test .taken) (old .inv .0 .filled)),
+          (via-next _ _ _ (old .table) (c .before .before .before .before .if1 .taken) (old .inv .0 .filled)),
       omega arith,
     )
 
 same-length : tie.Need-same-length Inv-loop μ-loop
 same-length c =
-    let c4 = c .before .before .before .before in
-    c .before .loop .inv .0 .same-length ∙ c4 .fill-direct .ensures .same-length
+    c .before .before .loop .inv .0 .same-length ∙ c .before .before .before .before .before .fill-direct .ensures .same-length
 
 returns : tie.Need-returns Inv-loop μ-loop
+unfolding reach unitsOf
 returns c =
-    filled-same (filled-again (c .before .before .before .before .fill-direct .ensures) (c .before .loop .inv .0)) _
-    (λ u l. reach-end _ _ _ _ (omega arith))
+    let all : c .before .before .loop .k ≡ c .before .before .before .before .before .before .before .before .args .plan .«unit_count» = omega arith in
+    filled-same (filled-again (c .before .before .before .before .before .fill-direct .ensures) (c .before .before .loop .inv .0)) _
+    (λ u l. ap (λ (k : ℕ). reachVia (unitsOf (c .before .before .before .before .before .before .before .before .args .plan)) k u) all)
 
 pub fill-reach-spec : {M : Type 1} → statement M
 fill-reach-spec =
@@ -57,11 +47,11 @@ fill-reach-spec =
     (tie.spec
     Inv-loop
     μ-loop
-    fill-direct-requires
+    (λ c κs. search needs)
     loop-holds
-    open-middle-requires
-    add-k
-    loop-less
+    (λ c κs. search needs)
+    (λ c. search needs)
+    (λ c. search needs)
     loop-again
     same-length
     returns)

@@ -1,10 +1,10 @@
--- The table is filled from the front (Filling); words not yet reached are as they came.
+-- The table is filled from the front; words not yet reached are as they came (Filled).
 use Prim.Native.Nat.{_-_}
 use native.Mathlib.Omega.{arith}
 use lib.ListN.{getD}
+use Rattle.dependency_graph.specs.Heads.{through}
+use Rattle.dependency_graph.proofs.Filled.{Filling, filling-start, unreached, filling-more, filling-end}
 use borrow.Author.Needs.{needs}
-use Rattle.dependency_graph.specs.Steps.{through}
-use Rattle.dependency_graph.proofs.Filling.{Filling, filling-start, unreached, filling-more, filling-end}
 use Rattle.dependency_graph.proofs.reach.open_middle.Statement.{statement}
 use Rattle.dependency_graph.proofs.reach.open_middle.Tie as tie
 
@@ -15,35 +15,9 @@ Inv-loop unit-count k table₀ middle u₀ table u =
 abbrev μ-loop : tie.MeasureT-loop
 μ-loop unit-count k table₀ middle u₀ table u = unit-count - u
 
-mul-middle : tie.Need-mul-middle Inv-loop μ-loop
-mul-middle c = search needs
-
-slice-read-middle : tie.Need-slice-read-middle Inv-loop μ-loop
-slice-read-middle c = search needs
-
 loop-holds : tie.Need-loop-holds Inv-loop μ-loop
-loop-holds c = filling-start (omega arith)
-
-mul-through : tie.Need-mul-through Inv-loop μ-loop
-mul-through c = search needs
-
-slice-read-through : tie.Need-slice-read-through Inv-loop μ-loop
-slice-read-through c = search needs
-
-through-requires : tie.Need-through-requires Inv-loop μ-loop
-through-requires c κs = search needs
-
-mul-table : tie.Need-mul-table Inv-loop μ-loop
-mul-table c = search needs
-
-slice-write-table : tie.Need-slice-write-table Inv-loop μ-loop
-slice-write-table c = search needs
-
-add-u : tie.Need-add-u Inv-loop μ-loop
-add-u c = search needs
-
-loop-less : tie.Need-loop-less Inv-loop μ-loop
-loop-less c = search needs
+loop-holds c =
+    filling-start (omega arith)
 
 loop-again : tie.Need-loop-again Inv-loop μ-loop
 loop-again c =
@@ -51,10 +25,12 @@ loop-again c =
     filling-more inv (c .before .before .loop-test .taken) (rw (unreached inv) at (c .through .ensures))
 
 same-length : tie.Need-same-length Inv-loop μ-loop
-same-length c = c .before .loop .inv .so-far .same-length
+same-length c =
+    c .before .loop .inv .so-far .same-length
 
 returns : tie.Need-returns Inv-loop μ-loop
-returns c = filling-end (c .before .loop .inv) (c .loop-test .left)
+returns c =
+    filling-end (c .before .loop .inv) (c .loop-test .left)
 
 pub open-middle-spec : {M : Type 1} → statement M
 open-middle-spec =
@@ -62,16 +38,16 @@ open-middle-spec =
     (tie.spec
     Inv-loop
     μ-loop
-    mul-middle
-    slice-read-middle
+    (λ c. search needs)
+    (λ c. search needs)
     loop-holds
-    mul-through
-    slice-read-through
-    through-requires
-    mul-table
-    slice-write-table
-    add-u
-    loop-less
+    (λ c. search needs)
+    (λ c. search needs)
+    (λ c κs. search needs)
+    (λ c. search needs)
+    (λ c. search needs)
+    (λ c. search needs)
+    (λ c. search needs)
     loop-again
     same-length
     returns)

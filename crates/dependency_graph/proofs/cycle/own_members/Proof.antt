@@ -1,0 +1,50 @@
+-- The word is built number by number (Built).
+use Prim.Native.Nat.{_-_}
+use native.Mathlib.Omega.{arith}
+use lib.ListN.{getD}
+use Rattle.atoms.specs.Word.{has}
+use Rattle.atoms.specs.Bounded.{wordBelow}
+use Rattle.atoms.proofs.Singles.{has-is-test}
+use Rattle.dependency_graph.proofs.Built.{Built, built-end, word-start, word-more}
+use borrow.Author.Needs.{needs}
+use Rattle.dependency_graph.proofs.cycle.own_members.Statement.{statement}
+use Rattle.dependency_graph.proofs.cycle.own_members.Tie as tie
+
+abbrev Inv-loop : tie.InvT-loop
+Inv-loop words n found₀ i₀ found i =
+    Built (λ k. wordBelow k (λ j. has (getD words j 0) j)) n i found
+
+abbrev μ-loop : tie.MeasureT-loop
+μ-loop words n found₀ i₀ found i = n - i
+
+loop-holds : tie.Need-loop-holds Inv-loop μ-loop
+loop-holds c =
+    word-start _
+
+loop-again : tie.Need-loop-again Inv-loop μ-loop
+loop-again c =
+    word-more _ (c .before .before .before .before .before .before .loop .inv) (c .before .before .before .before .before .loop-test .taken)
+    (rw (has-is-test _ _ (c .before .before .before .single .ensures) (c .before .before .are-apart .ensures)) at (c .before .single-if .ensures))
+    (c .union .ensures)
+
+returns : tie.Need-returns Inv-loop μ-loop
+returns c =
+    built-end (c .before .loop .inv) (c .loop-test .left)
+
+pub own-members-spec : {M : Type 1} → statement M
+own-members-spec =
+    tie.close
+    (tie.spec
+    Inv-loop
+    μ-loop
+    loop-holds
+    (λ c. search needs)
+    (λ c. search needs)
+    (λ c κs. search needs)
+    (λ c κs. search needs)
+    (λ c κs. search needs)
+    (λ c κs. search needs)
+    (λ c. search needs)
+    (λ c. search needs)
+    loop-again
+    returns)

@@ -1,0 +1,73 @@
+-- The rules of which the test holds are picked one by one (Gathering).
+use native.Mathlib.Omega.{arith}
+use lib.Count.{ones}
+use Rattle.atoms.specs.Word.{apart, _∪_}
+use Rattle.atoms.proofs.Counting.{taken-less}
+use Rattle.atoms.proofs.Gathering.{Picks, picks-start, picks-lt, picks-next, picks-end}
+use Rattle.dependency_graph.specs.PlanUnits.{unitsOf}
+use Rattle.dependency_graph.specs.Offenders.{monotonicSeenIn}
+use borrow.Author.Needs.{needs}
+use Rattle.dependency_graph.proofs.dependences.monotonic_seen_in.Statement.{statement}
+use Rattle.dependency_graph.proofs.dependences.monotonic_seen_in.Tie as tie
+
+abbrev Inv-loop : tie.InvT-loop
+Inv-loop u plan unseen found₀ rest₀ found rest =
+    Picks (unitsOf plan .rules) (λ r. apart (unitsOf plan .program .positive r ∪ unitsOf plan .program .head r) unseen)
+    (unitsOf plan .unit u) found rest
+
+abbrev μ-loop : tie.MeasureT-loop
+μ-loop u plan unseen found₀ rest₀ found rest = ones rest
+
+loop-holds : tie.Need-loop-holds Inv-loop μ-loop
+unfolding unitsOf
+loop-holds c =
+    picks-start (c .before .first .ensures) (c .cut .ensures)
+
+positive-body-requires : tie.Need-positive-body-requires Inv-loop μ-loop
+unfolding unitsOf
+positive-body-requires c κs =
+    omega (arith, picks-lt (c .before .before .before .before .before .loop .inv) (c .before .before .before .lowest .ensures .0))
+
+head-requires : tie.Need-head-requires Inv-loop μ-loop
+unfolding unitsOf
+head-requires c κs =
+    omega (arith, picks-lt (c .before .before .before .before .before .before .before .before .before .loop .inv) (c .before .before .before .before .before .before .before .lowest .ensures .0))
+
+loop-less : tie.Need-loop-less Inv-loop μ-loop
+loop-less c =
+    taken-less (c .before .before .before .before .before .before .before .before .before .before .before .before .before .lowest .ensures .0) (c .drop .ensures)
+
+loop-again : tie.Need-loop-again Inv-loop μ-loop
+unfolding unitsOf
+loop-again c =
+    picks-next (c .before .before .before .before .before .before .before .before .before .before .before .before .before .before .before .loop .inv) (c .before .before .before .before .before .before .before .before .before .before .before .before .before .lowest .ensures .0) (c .drop .ensures)
+    (rw (c .before .before .before .before .union .ensures, c .before .before .before .before .before .before .before .before .before .positive-body .ensures, c .before .before .before .before .before .head .ensures) at (c .before .before .before .are-apart .ensures)) (c .before .before .single-if .ensures) (c .before .union2 .ensures)
+
+returns : tie.Need-returns Inv-loop μ-loop
+unfolding monotonicSeenIn
+returns c =
+    rw (c .before .before .before .before .before .unseen-heads .ensures) at (picks-end (c .before .loop .inv) (c .loop-test .left))
+
+pub monotonic-seen-in-spec : {M : Type 1} → statement M
+monotonic-seen-in-spec =
+    tie.close
+    (tie.spec
+    Inv-loop
+    μ-loop
+    (λ c κs. search needs)
+    (λ c. search needs)
+    (λ c. search needs)
+    (λ c κs. search needs)
+    (λ c κs. search needs)
+    loop-holds
+    (λ c κs. search needs)
+    positive-body-requires
+    head-requires
+    (λ c κs. search needs)
+    (λ c κs. search needs)
+    (λ c κs. search needs)
+    (λ c κs. search needs)
+    (λ c κs. search needs)
+    loop-less
+    loop-again
+    returns)

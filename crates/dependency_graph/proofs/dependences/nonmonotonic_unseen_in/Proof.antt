@@ -1,0 +1,67 @@
+-- The rules of which the test holds are picked one by one (Gathering).
+use mathlib.Core.Path.{ap}
+use mathlib.Core.Bool.{not}
+use native.Mathlib.Omega.{arith}
+use lib.Count.{ones}
+use Rattle.atoms.specs.Word.{apart}
+use Rattle.atoms.proofs.Counting.{taken-less}
+use Rattle.atoms.proofs.Gathering.{Picks, picks-start, picks-lt, picks-next, picks-end}
+use Rattle.dependency_graph.specs.PlanUnits.{unitsOf}
+use Rattle.dependency_graph.specs.Offenders.{nonmonotonicUnseenIn}
+use borrow.Author.Needs.{needs}
+use Rattle.dependency_graph.proofs.dependences.nonmonotonic_unseen_in.Statement.{statement}
+use Rattle.dependency_graph.proofs.dependences.nonmonotonic_unseen_in.Tie as tie
+
+abbrev Inv-loop : tie.InvT-loop
+Inv-loop u plan unseen found₀ rest₀ found rest =
+    Picks (unitsOf plan .rules) (λ r. not (apart (unitsOf plan .looks r) unseen)) (unitsOf plan .unit u) found rest
+
+abbrev μ-loop : tie.MeasureT-loop
+μ-loop u plan unseen found₀ rest₀ found rest = ones rest
+
+loop-holds : tie.Need-loop-holds Inv-loop μ-loop
+unfolding unitsOf
+loop-holds c =
+    picks-start (c .before .first .ensures) (c .cut .ensures)
+
+looks-requires : tie.Need-looks-requires Inv-loop μ-loop
+unfolding unitsOf
+looks-requires c κs =
+    omega (arith, picks-lt (c .before .before .before .before .before .loop .inv) (c .before .before .before .lowest .ensures .0))
+
+loop-less : tie.Need-loop-less Inv-loop μ-loop
+loop-less c =
+    taken-less (c .before .before .before .before .before .before .before .before .lowest .ensures .0) (c .drop .ensures)
+
+loop-again : tie.Need-loop-again Inv-loop μ-loop
+unfolding unitsOf
+loop-again c =
+    picks-next (c .before .before .before .before .before .before .before .before .before .before .loop .inv) (c .before .before .before .before .before .before .before .before .lowest .ensures .0) (c .drop .ensures)
+    (ap not (rw (c .before .before .before .before .looks .ensures) at (c .before .before .before .are-apart .ensures))) (c .before .before .single-if .ensures) (c .before .union .ensures)
+
+returns : tie.Need-returns Inv-loop μ-loop
+unfolding nonmonotonicUnseenIn
+returns c =
+    rw (c .before .before .before .before .before .unseen-heads .ensures) at (picks-end (c .before .loop .inv) (c .loop-test .left))
+
+pub nonmonotonic-unseen-in-spec : {M : Type 1} → statement M
+nonmonotonic-unseen-in-spec =
+    tie.close
+    (tie.spec
+    Inv-loop
+    μ-loop
+    (λ c κs. search needs)
+    (λ c. search needs)
+    (λ c. search needs)
+    (λ c κs. search needs)
+    (λ c κs. search needs)
+    loop-holds
+    (λ c κs. search needs)
+    looks-requires
+    (λ c κs. search needs)
+    (λ c κs. search needs)
+    (λ c κs. search needs)
+    (λ c κs. search needs)
+    loop-less
+    loop-again
+    returns)

@@ -1,0 +1,55 @@
+-- What is in one unit and what is in two, unit by unit (Built).
+use Prim.Native.Nat.{_-_}
+use native.Mathlib.Omega.{arith}
+use mathlib.Core.Path.{refl}
+use lib.ListN.{getD}
+use Rattle.dependency_graph.specs.PlanUnits.{unitsOf}
+use Rattle.dependency_graph.specs.Offenders.{unionBelow, twiceBelow}
+use Rattle.dependency_graph.proofs.Built.{Built, built-end, union-start, union-more, twice-start, twice-more}
+use borrow.Author.Needs.{needs}
+use Rattle.dependency_graph.proofs.placement.repeated_rules.Statement.{statement}
+use Rattle.dependency_graph.proofs.placement.repeated_rules.Tie as tie
+
+abbrev Inv-loop : tie.InvT-loop
+Inv-loop plan once₀ twice₀ u₀ once twice u =
+    Built (λ k. unionBelow k (λ i. getD (plan .units) i 0)) (plan .«unit_count») u once
+    × Built (λ k. twiceBelow k (λ i. getD (plan .units) i 0)) (plan .«unit_count») u twice
+
+abbrev μ-loop : tie.MeasureT-loop
+μ-loop plan once₀ twice₀ u₀ once twice u = plan .«unit_count» - u
+
+loop-holds : tie.Need-loop-holds Inv-loop μ-loop
+loop-holds c =
+    (union-start _, twice-start _)
+
+loop-again : tie.Need-loop-again Inv-loop μ-loop
+loop-again c =
+    let inv = c .before .before .before .before .before .before .loop .inv in
+    let turn = c .before .before .before .before .before .loop-test .taken in (
+      union-more _ (inv .0) turn refl (c .union2 .ensures),
+      twice-more _ (inv .0) (inv .1) turn (c .before .before .before .cut .ensures) (c .before .before .union .ensures),
+    )
+
+returns : tie.Need-returns Inv-loop μ-loop
+unfolding unitsOf
+returns c =
+    built-end (c .before .loop .inv .1) (c .loop-test .left)
+
+pub repeated-rules-spec : {M : Type 1} → statement M
+repeated-rules-spec =
+    tie.close
+    (tie.spec
+    Inv-loop
+    μ-loop
+    loop-holds
+    (λ c. search needs)
+    (λ c. search needs)
+    (λ c κs. search needs)
+    (λ c κs. search needs)
+    (λ c. search needs)
+    (λ c. search needs)
+    (λ c κs. search needs)
+    (λ c. search needs)
+    (λ c. search needs)
+    loop-again
+    returns)
