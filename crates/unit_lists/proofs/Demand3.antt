@@ -1,49 +1,46 @@
 -- Demand 3, from the answer that the function hands back and the theorem of the splitting theory.
 use mathlib.Core.Path.{_≡_, sym, ap, ap₂, _∙_, subst}
-use mathlib.Core.Bool.{Bool, true, false}
 use mathlib.Core.Logic.{_↔_, _⊎_, inl, inr}
 use mathlib.Core.List.{List, [], _∷_, _++_, append-assoc, List·Memᴰ, List·Memᴰ·not-nil, List·Memᴰ·cases-cons}
 use Prim.Native.Nat.{ℕ, _-_, _≤_, _<_}
 use native.Mathlib.Omega.{arith}
-use native.Mathlib.Decide.{decLt}
-use lib.Dec.{ltb}
+use native.Mathlib.Decide.{ℕ-discrete, decLt}
 use lib.ListN.{length, take, drop, getD, replicate}
-use lib.Seq.{take-at, drop-at, getD-at}
-use borrow.Author.Tests.{lt-ltb, le-ltb}
+use lib.Seq.{take-at, drop-at}
 use Rattle.atoms.specs.Word.{below}
+use Rattle.atoms.specs.Lists.{padded}
 use Rattle.atoms.specs.Rising.{Rising}
+use Rattle.atoms.proofs.Lists.{padded-long}
 use Rattle.answer_sets.specs.AnswerSet.{AnswerSet}
 use Rattle.answer_sets.specs.Lent.{lent}
-use Rattle.reading.specs.Reading.{reading}
-use Rattle.reading.specs.Layout.{IsByte, All}
 use Rattle.plan.specs.Limits.{MAX_RULES, MAX_UNITS, LIST_WORDS, LAST_LIST, TABLE_WORDS, LAST_COUNT}
 use Rattle.plan.specs.declared.fault.Fault.the-variants.{LongList}
 use Rattle.plan.specs.declared.fault.Outcome.the-variants.{Accepted, Refused}
+use Rattle.reading.specs.Reading.{reading}
+use Rattle.reading.specs.Layout.{IsByte, All}
 use Rattle.reading.proofs.Limits.{record-fits}
 use Rattle.dependency_graph.specs.Units.{Units, GivenFree, LooksOnly}
 use Rattle.dependency_graph.specs.Graph.{Passes, Acyclic}
 use Rattle.dependency_graph.specs.Order.{workingOrder}
-use Rattle.dependency_graph.specs.Slices.{unitsOf}
-use Rattle.dependency_graph.specs.Check.{verdict}
+use Rattle.dependency_graph.specs.PlanUnits.{unitsOf}
 use Rattle.dependency_graph.proofs.Order.{order-each}
-use Rattle.dependency_graph.proofs.Slices.{given-free, looks-only}
+use Rattle.dependency_graph.proofs.PlanUnits.{given-free, looks-only}
 use Rattle.dependency_graph.proofs.Verdicts.{verdict-of-passes}
 use Rattle.splitting.specs.UnitList.{Clean, withLast}
 use Rattle.splitting.proofs.Last.{last-list, last-passes, last-free}
-use Rattle.unit_search.specs.Listing.{padded}
 use Rattle.unit_lists.specs.Lists.{unitList, lastList}
-use Rattle.unit_lists.specs.Table.{runs, tally, listAt, tableOf, countsOf}
-use Rattle.unit_lists.specs.Answer.{Answer, refuse, workFrom, planUnits, afterGraph, answer}
+use Rattle.unit_lists.specs.Table.{listAt, runs, tableWith, tableOf, countsOf}
+use Rattle.unit_lists.specs.Answer.{Answer, workFrom, unitWork, answer}
 use Rattle.unit_lists.specs.Handed.{Handed}
 use Rattle.unit_lists.specs.Demands.{FirstLong, here, later, last, lastIn, ListsAll, Complete, Demand3}
 use Rattle.unit_lists.specs.declared.listing.Listing.{Listing}
 use Rattle.unit_lists.proofs.Decided.{unit-list-at, unit-list-has}
 use Rattle.unit_lists.proofs.Joined.{unit-list-rising}
-use Rattle.unit_lists.proofs.Runs.{padded-long, runs-long, tally-long}
-use Rattle.unit_lists.proofs.Handing.{read-answer}
-use Rattle.unit_lists.proofs.Stepping.{work-fits, work-long}
-use Rattle.unit_lists.proofs.LastList.{last-fits, last-long}
-use Rattle.unit_lists.proofs.Reading.{plan-clean}
+use Rattle.unit_lists.proofs.Runs.{runs-long, runs-snoc}
+use Rattle.unit_lists.proofs.WorkedUnits.{list-there, list-absent, list-last}
+use Rattle.unit_lists.proofs.Answers.{read-answer, unless-accepted, work-fits, work-long, last-fits, last-long}
+use Rattle.unit_lists.proofs.CleanPlan.{plan-clean}
+use Rattle.unit_lists.proofs.LastCount.{last-count}
 use Rattle.unit_lists.proofs.Demand2.{not-accepted}
 
 -- ---- refusal 15
@@ -100,29 +97,24 @@ order-small S (v ∷ vs) f u m =
     go l (inl e) r = subst (λ (x : ℕ). length (unitList S x) ≤ LIST_WORDS) (sym e) l
     go l (inr k) r = r k
 
-module _ (S : Units) (acyclic : Acyclic S) (table : List ℕ) (none : (u : ℕ) → ¬ FirstLong S (workingOrder S) u) where
+module _ (S : Units) (few : S .units ≤ MAX_UNITS) (acyclic : Acyclic S) (table : List ℕ) (none : (u : ℕ) → ¬ FirstLong S (workingOrder S) u) where
   list-small : (i : ℕ) → length (listAt S i) ≤ LIST_WORDS
-  unfolding listAt
-  list-small i = go (decLt i (S .units))
+  list-small i = go (ℕ-discrete i LAST_COUNT) (decLt i (S .units))
     where
-      picked : Bool → List ℕ
-      picked b = elim b [ true ↦ unitList S i | false ↦ [] ]
+      go : Dec (i ≡ LAST_COUNT) → Dec (i < S .units) → length (listAt S i) ≤ LIST_WORDS
+      go (yes e) d = rw (e, list-last S) (none-long-small S (workingOrder S) none)
+      go (no n) (yes l) = rw (list-there S i few l) (order-small S (workingOrder S) none i (order-each S acyclic i l))
+      go (no n) (no m) = rw (list-absent S i n (omega arith)) (omega arith)
 
-      go : Dec (i < S .units) → length (picked (ltb i (S .units))) ≤ LIST_WORDS
-      go (yes l) =
-          subst (λ (b : Bool). length (picked b) ≤ LIST_WORDS) (sym (lt-ltb i (S .units) l))
-          (order-small S (workingOrder S) none i (order-each S acyclic i l))
-      go (no n) = subst (λ (b : Bool). length (picked b) ≤ LIST_WORDS) (sym (le-ltb i (S .units) (omega arith))) (omega arith)
-
-  last-words : drop LAST_LIST (tableOf S table) ≡ padded (lastList S) ++ drop TABLE_WORDS table
-  unfolding tableOf
+  last-words : drop LAST_LIST (tableOf S table) ≡ padded LIST_WORDS (lastList S) ++ drop TABLE_WORDS table
+  unfolding tableWith
   last-words =
-      drop-at (runs (λ i. padded (listAt S i)) MAX_UNITS) (padded (lastList S) ++ drop TABLE_WORDS table) LAST_LIST
-      (runs-long (λ i. padded (listAt S i)) MAX_UNITS (λ i l. padded-long (listAt S i) (list-small i)))
-
-  last-count : getD (countsOf S) LAST_COUNT 0 ≡ length (lastList S)
-  unfolding countsOf
-  last-count = getD-at (tally (λ i. length (listAt S i)) MAX_UNITS) (length (lastList S)) [] 0 MAX_UNITS (tally-long (λ i. length (listAt S i)) MAX_UNITS)
+      ap (λ (l : List ℕ). drop LAST_LIST (l ++ drop TABLE_WORDS table)) (runs-snoc MAX_UNITS (λ i. padded LIST_WORDS (listAt S i)))
+      ∙ ap (drop LAST_LIST)
+      (append-assoc (runs MAX_UNITS (λ i. padded LIST_WORDS (listAt S i))) (padded LIST_WORDS (listAt S LAST_COUNT)) (drop TABLE_WORDS table))
+      ∙ drop-at (runs MAX_UNITS (λ i. padded LIST_WORDS (listAt S i))) (padded LIST_WORDS (listAt S LAST_COUNT) ++ drop TABLE_WORDS table) LAST_LIST
+      (runs-long MAX_UNITS (λ i. padded LIST_WORDS (listAt S i)) (λ i. padded-long LIST_WORDS (listAt S i) (list-small i)))
+      ∙ ap (λ (l : List ℕ). padded LIST_WORDS l ++ drop TABLE_WORDS table) (list-last S)
 
   -- the words from 4,096 on, as many as the last count says
   pub last-in-table : take (getD (countsOf S) LAST_COUNT 0) (drop LAST_LIST (tableOf S table)) ≡ lastList S
@@ -130,7 +122,8 @@ module _ (S : Units) (acyclic : Acyclic S) (table : List ℕ) (none : (u : ℕ) 
   last-in-table =
       ap (take (getD (countsOf S) LAST_COUNT 0))
       (last-words ∙ append-assoc (lastList S) (replicate {A = ℕ} (LIST_WORDS - length (lastList S)) 0) (drop TABLE_WORDS table))
-      ∙ take-at (lastList S) (replicate {A = ℕ} (LIST_WORDS - length (lastList S)) 0 ++ drop TABLE_WORDS table) (getD (countsOf S) LAST_COUNT 0) (sym last-count)
+      ∙ take-at (lastList S) (replicate {A = ℕ} (LIST_WORDS - length (lastList S)) 0 ++ drop TABLE_WORDS table) (getD (countsOf S) LAST_COUNT 0)
+      (sym (last-count S))
 
 -- the last list is the list of the answer sets of the whole program
 last-answer-sets : (S : Units) → Passes S → LooksOnly S → GivenFree S → Clean S → S .rules ≤ MAX_RULES → (M : ℕ)
@@ -149,46 +142,47 @@ last-rising S = unit-list-rising (withLast S) (S .units)
 
 -- ---- the demand
 
-module _ (bytes table : List ℕ) (all : All IsByte bytes) (r : Listing) (table′ : List ℕ) (h : Handed (answer bytes table) r table′) where
-  module _ (read : reading bytes .outcome ≡ Accepted) (pass : Passes (planUnits (reading bytes .plan))) (long : TABLE_WORDS ≤ length table) where
-    worked : answer bytes table ≡ workFrom (planUnits (reading bytes .plan)) table (workingOrder (planUnits (reading bytes .plan)))
-    unfolding afterGraph
-    worked =
-        read-answer bytes table long read
-        ∙ ap (afterGraph (planUnits (reading bytes .plan)) table) (verdict-of-passes (planUnits (reading bytes .plan)) pass)
+module _ (bytes table : List ℕ) (all : All IsByte bytes) (r : Listing) (table′ : List ℕ) (h : Handed (answer bytes table) r table′)
+    (read : reading bytes .outcome ≡ Accepted) (pass : Passes (unitsOf (reading bytes .plan))) (long : TABLE_WORDS ≤ length table) where
+  worked : answer bytes table ≡ unitWork (unitsOf (reading bytes .plan)) table
+  worked =
+      read-answer bytes table long read
+      ∙ unless-accepted table (unitWork (unitsOf (reading bytes .plan)) table) (verdict-of-passes (unitsOf (reading bytes .plan)) pass)
 
-    outcome-is : r .outcome ≡ workFrom (planUnits (reading bytes .plan)) table (workingOrder (planUnits (reading bytes .plan))) .outcome
-    outcome-is = h .outcome-is ∙ ap (λ (a : Answer). a .outcome) worked
+  outcome-is : r .outcome ≡ unitWork (unitsOf (reading bytes .plan)) table .outcome
+  outcome-is = h .outcome-is ∙ ap (λ (a : Answer). a .outcome) worked
 
-    lists-all : ((u : ℕ) → ¬ FirstLong (planUnits (reading bytes .plan)) (workingOrder (planUnits (reading bytes .plan))) u)
-        → ListsAll (reading bytes .plan) r table′
-    unfolding planUnits unitsOf
-    lists-all none =
-        let p = reading bytes .plan in
-        let S = planUnits p in
-        let e = worked ∙ none-long S table (workingOrder S) none in
-        let counts : r .counts ≡ countsOf S = h .counts-are ∙ ap (λ (a : Answer). a .counts) e in
-        let words : table′ ≡ tableOf S table = h .table-is ∙ ap (λ (a : Answer). a .table) e in
-        let last : lastIn r table′ ≡ lastList S =
-        ap₂ (λ (c t : List ℕ). take (getD c LAST_COUNT 0) (drop LAST_LIST t)) counts words ∙ last-in-table S (pass .acyclic) table none in
-        let sets = last-answer-sets S pass (looks-only (p .rules) (p .«rule_count») (p .units) (p .«unit_count») (p .predecessors))
-        (given-free (p .rules) (p .«rule_count») (p .units) (p .«unit_count») (p .predecessors)) (plan-clean bytes all read)
-        (record-fits bytes .rules-fit) in
-        record {
-          accepted = h .outcome-is ∙ ap (λ (a : Answer). a .outcome) e;
-          rising = subst Rising (sym last) (last-rising S);
-          members = λ M. subst (λ (l : List ℕ). List·Memᴰ M l ↔ AnswerSet (lent (p .rules)) (below (p .«rule_count»)) 0 M) (sym last) (sets M);
-          counted = ap length last ∙ sym (ap (λ (c : List ℕ). getD c LAST_COUNT 0) counts ∙ last-count S (pass .acyclic) table none);
-        }
+  lists-all : ((u : ℕ) → ¬ FirstLong (unitsOf (reading bytes .plan)) (workingOrder (unitsOf (reading bytes .plan))) u)
+      → ListsAll (reading bytes .plan) r table′
+  unfolding unitsOf
+  lists-all none =
+      let p = reading bytes .plan in
+      let S = unitsOf p in
+      let e = worked ∙ none-long S table (workingOrder S) none in
+      let counts : r .counts ≡ countsOf S = h .counts-are ∙ ap (λ (a : Answer). a .counts) e in
+      let words : table′ ≡ tableOf S table = h .table-is ∙ ap (λ (a : Answer). a .table) e in
+      let last : lastIn r table′ ≡ lastList S =
+      ap₂ (λ (c t : List ℕ). take (getD c LAST_COUNT 0) (drop LAST_LIST t)) counts words
+      ∙ last-in-table S (record-fits bytes .units-fit) (pass .acyclic) table none in
+      let sets = last-answer-sets S pass (looks-only p) (given-free p) (plan-clean bytes all read) (record-fits bytes .rules-fit) in
+      record {
+        accepted = h .outcome-is ∙ ap (λ (a : Answer). a .outcome) e;
+        rising = subst Rising (sym last) (last-rising S);
+        members = λ M. subst (λ (l : List ℕ). List·Memᴰ M l ↔ AnswerSet (lent (p .rules)) (below (p .«rule_count»)) 0 M) (sym last) (sets M);
+        counted = ap length last ∙ sym (ap (λ (c : List ℕ). getD c LAST_COUNT 0) counts ∙ last-count S);
+      }
 
-    complete : Complete (reading bytes .plan) r table′
-    complete = record {
-      fifteen = λ u. (
-        λ e. refused-long (planUnits (reading bytes .plan)) table (workingOrder (planUnits (reading bytes .plan))) u (sym outcome-is ∙ e),
-        λ f. outcome-is ∙ long-refused (planUnits (reading bytes .plan)) table (workingOrder (planUnits (reading bytes .plan))) u f,
-      );
-      otherwise = lists-all;
-    }
+  complete : Complete (reading bytes .plan) r table′
+  complete =
+      let S = unitsOf (reading bytes .plan) in
+      record {
+        fifteen = λ u. (
+          λ e. refused-long S table (workingOrder S) u (sym outcome-is ∙ e),
+          λ f. outcome-is ∙ long-refused S table (workingOrder S) u f,
+        );
+        otherwise = lists-all;
+      }
 
-  pub demand-3 : Demand3 bytes table r table′
-  demand-3 = record { complete = complete }
+pub demand-3 : (bytes table : List ℕ) → All IsByte bytes → (r : Listing) (table′ : List ℕ) → Handed (answer bytes table) r table′
+    → Demand3 bytes table r table′
+demand-3 bytes table all r table′ h = record { complete = complete bytes table all r table′ h }

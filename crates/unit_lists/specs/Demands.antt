@@ -6,23 +6,23 @@ use Prim.Native.Nat.{ℕ, _≤_, _<_}
 use lib.ListN.{length, take, drop, getD}
 use Rattle.atoms.specs.Word.{below}
 use Rattle.atoms.specs.Rising.{Rising}
+use Rattle.atoms.specs.Collected.{Least}
 use Rattle.answer_sets.specs.AnswerSet.{AnswerSet}
 use Rattle.answer_sets.specs.Lent.{lent}
 use Rattle.reading.specs.Reading.{reading}
 use Rattle.plan.specs.Limits.{LIST_WORDS, LAST_LIST, TABLE_WORDS, LAST_COUNT}
 use Rattle.plan.specs.Faults.{number}
 use Rattle.plan.specs.declared.fault.Fault.{Fault}
-use Rattle.plan.specs.declared.fault.Fault.the-variants.{RuleInNoUnit, HeadedRuleInSeveral, Cycle, NonmonotonicUnseen, MonotonicUnseen, LongList}
+use Rattle.plan.specs.declared.fault.Fault.the-variants.{LongList}
 use Rattle.plan.specs.declared.record.Plan.{Plan}
 use Rattle.plan.specs.declared.fault.Outcome.{Outcome}
 use Rattle.plan.specs.declared.fault.Outcome.the-variants.{Accepted, Refused}
-use Rattle.dependency_graph.specs.Units.{Units, Path}
+use Rattle.dependency_graph.specs.Units.{Units}
+use Rattle.dependency_graph.specs.PlanUnits.{unitsOf}
 use Rattle.dependency_graph.specs.Graph.{ConditionA, ConditionB, Acyclic, ConditionC, Passes}
-use Rattle.dependency_graph.specs.Lowest.{Least}
-use Rattle.dependency_graph.specs.Offenders.{Unplaced as BreaksA, Shared as BreaksB, NonmonotonicUnseen as BreaksC, MonotonicUnseen as BreaksD}
+use Rattle.dependency_graph.specs.Offenders.{RuleInNoUnit, HeadedRuleInSeveral, Cycle, NonmonotonicUnseen, MonotonicUnseen}
 use Rattle.dependency_graph.specs.Order.{workingOrder}
 use Rattle.unit_lists.specs.Lists.{unitList, lastList}
-use Rattle.unit_lists.specs.Answer.{planUnits}
 use Rattle.unit_lists.specs.declared.listing.Listing.{Listing}
 
 -- ---- demand 2: the graph
@@ -37,16 +37,17 @@ pub record GraphRefused (outcome : Outcome) : Type 0 where
 -- a graph passes exactly if the conditions hold; otherwise the first row that fits counts, at its lowest rule or unit
 pub record GraphJudged (S : Units) (outcome : Outcome) : Type 0 where
   pub passes : (¬ GraphRefused outcome) ↔ Passes S
-  pub ten : (r : ℕ) → (outcome ≡ Refused (RuleInNoUnit r)) ↔ Least (BreaksA S) r
-  pub eleven : (r : ℕ) → (outcome ≡ Refused (HeadedRuleInSeveral r)) ↔ (ConditionA S × Least (BreaksB S) r)
-  pub twelve : (u : ℕ) → (outcome ≡ Refused (Cycle u)) ↔ (ConditionA S × ConditionB S × Least (λ v. Path S v v) u)
-  pub thirteen : (r : ℕ) → (outcome ≡ Refused (NonmonotonicUnseen r)) ↔ (ConditionA S × ConditionB S × Acyclic S × Least (BreaksC S) r)
+  pub ten : (r : ℕ) → (outcome ≡ Refused (Fault.RuleInNoUnit r)) ↔ Least (RuleInNoUnit S) r
+  pub eleven : (r : ℕ) → (outcome ≡ Refused (Fault.HeadedRuleInSeveral r)) ↔ (ConditionA S × Least (HeadedRuleInSeveral S) r)
+  pub twelve : (u : ℕ) → (outcome ≡ Refused (Fault.Cycle u)) ↔ (ConditionA S × ConditionB S × Least (Cycle S) u)
+  pub thirteen : (r : ℕ)
+      → (outcome ≡ Refused (Fault.NonmonotonicUnseen r)) ↔ (ConditionA S × ConditionB S × Acyclic S × Least (NonmonotonicUnseen S) r)
   pub fourteen : (r : ℕ)
-      → (outcome ≡ Refused (MonotonicUnseen r)) ↔ (ConditionA S × ConditionB S × Acyclic S × ConditionC S × Least (BreaksD S) r)
+      → (outcome ≡ Refused (Fault.MonotonicUnseen r)) ↔ (ConditionA S × ConditionB S × Acyclic S × ConditionC S × Least (MonotonicUnseen S) r)
 
 -- for every plan that reads, and every long enough table
 pub record Demand2 (bytes table : List ℕ) (r : Listing) : Type 0 where
-  pub judged : reading bytes .outcome ≡ Accepted → TABLE_WORDS ≤ length table → GraphJudged (planUnits (reading bytes .plan)) (r .outcome)
+  pub judged : reading bytes .outcome ≡ Accepted → TABLE_WORDS ≤ length table → GraphJudged (unitsOf (reading bytes .plan)) (r .outcome)
 
 -- ---- demand 3: the last list
 
@@ -69,10 +70,10 @@ pub record ListsAll (p : Plan) (r : Listing) (table : List ℕ) : Type 0 where
 
 -- refusal 15 exactly at the first list above 256, and otherwise all answer sets
 pub record Complete (p : Plan) (r : Listing) (table : List ℕ) : Type 0 where
-  pub fifteen : (u : ℕ) → (r .outcome ≡ Refused (LongList u)) ↔ FirstLong (planUnits p) (workingOrder (planUnits p)) u
-  pub otherwise : ((u : ℕ) → ¬ FirstLong (planUnits p) (workingOrder (planUnits p)) u) → ListsAll p r table
+  pub fifteen : (u : ℕ) → (r .outcome ≡ Refused (LongList u)) ↔ FirstLong (unitsOf p) (workingOrder (unitsOf p)) u
+  pub otherwise : ((u : ℕ) → ¬ FirstLong (unitsOf p) (workingOrder (unitsOf p)) u) → ListsAll p r table
 
 -- for every plan that passes reading and graph, and every long enough table
 pub record Demand3 (bytes table : List ℕ) (r : Listing) (table′ : List ℕ) : Type 0 where
-  pub complete : reading bytes .outcome ≡ Accepted → Passes (planUnits (reading bytes .plan)) → TABLE_WORDS ≤ length table
+  pub complete : reading bytes .outcome ≡ Accepted → Passes (unitsOf (reading bytes .plan)) → TABLE_WORDS ≤ length table
       → Complete (reading bytes .plan) r table′

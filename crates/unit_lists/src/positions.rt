@@ -2,7 +2,6 @@
 use crate::listing::Listing;
 use crate::listing::refuse;
 use crate::work::unit_work;
-use dependency_graph::Verdict;
 use dependency_graph::check::check_graph;
 use plan::Fault;
 use plan::Outcome;
@@ -14,31 +13,22 @@ ghost use Prim.Native.Nat.{_≤_};
 ghost use lib.ListN.{length};
 ghost use Rattle.plan.specs.Limits.{TABLE_WORDS};
 ghost use Rattle.plan.specs.Record.{Fitting};
-ghost use Rattle.dependency_graph.specs.Check.{verdict as verdictOf};
+ghost use Rattle.dependency_graph.specs.PlanUnits.{unitsOf};
 ghost use Rattle.splitting.specs.UnitList.{Clean};
-ghost use Rattle.unit_lists.specs.Answer.{answer, afterGraph, planUnits};
+ghost use Rattle.unit_lists.specs.Answer.{afterGraph, answer};
 ghost use Rattle.unit_lists.specs.Demands.{Demand2, Demand3};
 ghost use Rattle.unit_lists.specs.Handed.{Handed};
 
 // The graph place and, where it passes, unit work on a read plan.
 fn list_read_plan(plan: Plan, table: &mut [u64]) -> Listing
-    requires { ⌜ Fitting plan × Clean (planUnits plan) × (TABLE_WORDS ≤ length (now table)) ⌝ }
-    ensures { λ r. ⌜ Handed (afterGraph (planUnits plan) (now (table .entry)) (verdictOf (planUnits plan))) r (now (table .exit)) ⌝ }
+    requires { ⌜ Fitting plan × Clean (unitsOf plan) × (TABLE_WORDS ≤ length (now table)) ⌝ }
+    ensures { λ r. ⌜ Handed (afterGraph (unitsOf plan) (now (table .entry))) r (now (table .exit)) ⌝ }
 {
-    let rules = plan.rules;
-    let units = plan.units;
-    let predecessors = plan.predecessors;
-    let rule_count = plan.rule_count;
-    let unit_count = plan.unit_count;
-    let verdict = check_graph(&rules, rule_count, &units, unit_count, &predecessors);
-    match verdict {
-        Verdict::Passes => unit_work(&rules, rule_count, &units, unit_count, &predecessors, table),
-        Verdict::Unplaced(r) => refuse(Fault::RuleInNoUnit(r)),
-        Verdict::Shared(r) => refuse(Fault::HeadedRuleInSeveral(r)),
-        Verdict::Cyclic(u) => refuse(Fault::Cycle(u)),
-        Verdict::NonmonotonicUnseen(r) => refuse(Fault::NonmonotonicUnseen(r)),
-        Verdict::MonotonicUnseen(r) => refuse(Fault::MonotonicUnseen(r)),
+    let verdict = check_graph(plan);
+    if let Outcome::Refused(fault) = verdict {
+        return refuse(fault);
     }
+    unit_work(plan, table)
 }
 
 // Lists every settled position of the plan in the lent table, or refuses it by the first fault in document 01's order.

@@ -5,7 +5,7 @@ use native.Mathlib.Omega.{arith}
 use denote.Ref.{now}
 use lib.ListN.{length, getD, length-set}
 use lib.Seq.{paste, paste-zero}
-use Rattle.unit_lists.proofs.Storing.{stored-next}
+use Rattle.unit_lists.proofs.Runs.{stored-next}
 use Rattle.unit_lists.proofs.table.store.Statement.{statement}
 use Rattle.unit_lists.proofs.table.store.Tie as tie
 

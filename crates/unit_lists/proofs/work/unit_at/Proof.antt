@@ -1,27 +1,22 @@
--- The unit's rules are those that the counts name.
-use mathlib.Core.Path.{ap, _∙_}
+-- The unit's rules are those that the count names.
+use mathlib.Core.Path.{refl, ap, _∙_}
 use Prim.Native.Nat.{ℕ}
-use denote.Ref.{now}
 use borrow.Author.Needs.{needs}
 use lib.ListN.{getD}
 use Rattle.atoms.specs.Word.{_∩_}
-use Rattle.unit_search.specs.declared.Unit.{Unit}
+use Rattle.dependency_graph.specs.PlanUnits.{unitsOf}
 use Rattle.unit_lists.proofs.work.unit_at.Statement.{statement}
 use Rattle.unit_lists.proofs.work.unit_at.Tie as tie
 
 returns : tie.Need-returns
+unfolding unitsOf
 returns c =
-    let c4 = c .before .before .before .before in
-    let at = c4 .before .before .before .before .before .before .before .args in
-    let of : ℕ → Unit =
-    λ w. record {
-      rules = w;
-      inputs = getD (now (at .inputs)) (at .u) 0;
-      predecessors = getD (now (at .predecessors)) (at .u) 0;
-      nearest = c .nearest .result;
-    } in
+    let done = c .before .before .before .before .before .before .before in
+    let start = done .before .before .before in
     record {
-      is = ap of (c4 .cut .ensures ∙ ap (λ (w : ℕ). getD (now (at .units)) (at .u) 0 ∩ w) (c4 .before .first .ensures));
+      rules-are = done .cut .ensures ∙ ap (λ (w : ℕ). getD (start .args .t1 .units) (start .args .u) 0 ∩ w) (done .before .first .ensures);
+      inputs-are = start .pre .0 .heads-of .inputs-are (start .args .u) (start .pre .1);
+      predecessors-are = refl;
       near = c .nearest .ensures;
     }
 

@@ -15,17 +15,16 @@ use Rattle.plan.specs.declared.fault.Outcome.the-variants.{Accepted}
 use Rattle.reading.proofs.Records.{getD-tabulate, has-member}
 use Rattle.reading.proofs.Accepted.{accepted-is-plan}
 use Rattle.reading.proofs.Limits.{record-fits}
-use Rattle.dependency_graph.specs.Slices.{unitsOf}
+use Rattle.dependency_graph.specs.PlanUnits.{unitsOf}
 use Rattle.splitting.specs.UnitList.{Clean}
-use Rattle.unit_lists.specs.Answer.{planUnits}
 
 member-good : (n : ℕ) (edges : List UnitPair) (e : UnitPair) → All (GoodEdge n) edges → Member e edges → GoodEdge n e
 member-good n [] e a m = absurd m
 member-good n (x ∷ xs) e (g, a) (inl q) = subst (GoodEdge n) (sym q) g
 member-good n (x ∷ xs) e (g, a) (inr m) = member-good n xs e a m
 
-pub plan-clean : (bytes : List ℕ) → All IsByte bytes → reading bytes .outcome ≡ Accepted → Clean (planUnits (reading bytes .plan))
-unfolding planUnits unitsOf recordOf
+pub plan-clean : (bytes : List ℕ) → All IsByte bytes → reading bytes .outcome ≡ Accepted → Clean (unitsOf (reading bytes .plan))
+unfolding unitsOf recordOf
 plan-clean bytes b e = record { there = go (accepted-is-plan bytes b e) }
   where
     go : IsPlan bytes (reading bytes .plan) → (u v : ℕ) → u < reading bytes .plan .«unit_count» → Has (getD (reading bytes .plan .predecessors) u 0) v
