@@ -1,8 +1,8 @@
 // A plan of data/ and its sheet, as settle prints it.
 use libc::STDOUT_FILENO;
+use plan::TABLE_WORDS;
 use plan_sheet::SHEET_BYTES;
 use plan_sheet::plan_sheet;
-use unit_lists::TABLE_WORDS;
 
 // Writes the sheet of a plan.
 fn write_sheet(plan: &[u8]) {

@@ -6,7 +6,7 @@ use lib.ListN.{length, take, drop, replicate}
 use Rattle.plan.specs.declared.fault.Outcome.{Outcome}
 use Rattle.plan.specs.declared.fault.Outcome.the-variants.{Accepted, Refused}
 use Rattle.plan.specs.Faults.{refusalCode}
-use Rattle.unit_lists.specs.Table.{TABLE_WORDS}
+use Rattle.plan.specs.Limits.{TABLE_WORDS}
 use Rattle.unit_lists.specs.Answer.{answer}
 use Rattle.sheet.specs.Lent.{answer as written, filled}
 use Rattle.sheet.specs.declared.Written.{Written}

@@ -1,11 +1,11 @@
 // The functions that other languages call: a slice passes as a pointer and a length.
 use judge::answer_code;
+use plan::COUNTS;
 use plan::Outcome;
+use plan::TABLE_WORDS;
 use plan::refusal_code;
 use plan_sheet::write_plan_sheet;
 use sheet::Written;
-use unit_lists::COUNTS;
-use unit_lists::TABLE_WORDS;
 use unit_lists::list_positions;
 ghost use mathlib.Core.Path.{_≡_};
 ghost use Rattle.judge.specs.Answers.{judged, code};

@@ -6,6 +6,7 @@ use native.Mathlib.Omega.{arith}
 use native.Mathlib.Decide.{decLt}
 use lib.ListN.{length, take, drop, getD, length-take, length-drop}
 use lib.Seq.{take-all}
+use Rattle.plan.specs.Limits.{LIST_WORDS, LAST_LIST, TABLE_WORDS, LAST_COUNT}
 use Rattle.plan.specs.Faults.{number, spot}
 use Rattle.plan.specs.declared.fault.Fault.{Fault}
 use Rattle.plan.specs.declared.fault.Fault.the-variants.{TableShort}
@@ -17,7 +18,7 @@ use Rattle.sheet.specs.declared.Written.{Written}
 use Rattle.sheet.proofs.Sheets.{positions-at-most, refusal-at-most}
 use Rattle.sheet.proofs.Writing.{part-filled}
 use Rattle.unit_lists.specs.Answer.{Answer, answer}
-use Rattle.unit_lists.proofs.Handing.{short-answer}
+use Rattle.unit_lists.proofs.Answers.{short-answer}
 use Rattle.unit_lists.proofs.LastCount.{last-count-at-most}
 use Rattle.plan_sheet.specs.Sheets.{sheetFor, sheetOf, SHEET_BYTES, Printed}
 
@@ -25,28 +26,28 @@ pub sheet-refused : (a : Answer) (f : Fault) → a .outcome ≡ Refused f → re
 unfolding sheetOf sheetFor
 sheet-refused a f e = sym (ap (λ (o : Outcome). sheetFor o (a .counts) (a .table)) e)
 
-sheet-listed : (a : Answer) → a .outcome ≡ Accepted → positionsSheet (take (getD (a .counts) 16 0) (drop 4096 (a .table))) ≡ sheetOf a
+sheet-listed : (a : Answer) → a .outcome ≡ Accepted → positionsSheet (take (getD (a .counts) LAST_COUNT 0) (drop LAST_LIST (a .table))) ≡ sheetOf a
 unfolding sheetOf sheetFor
 sheet-listed a e = sym (ap (λ (o : Outcome). sheetFor o (a .counts) (a .table)) e)
 
 not-accepted : (f : Fault) → Refused f ≡ Accepted → ⊥
 not-accepted f e = let z : _≡_ {A = ℕ} 0 1 = cc in omega arith
 
-pub accepted-long : (bytes table : List ℕ) → answer bytes table .outcome ≡ Accepted → 4352 ≤ length table
-accepted-long bytes table e = go (decLt (length table) 4352)
+pub accepted-long : (bytes table : List ℕ) → answer bytes table .outcome ≡ Accepted → TABLE_WORDS ≤ length table
+accepted-long bytes table e = go (decLt (length table) TABLE_WORDS)
   where
-    go : Dec (length table < 4352) → 4352 ≤ length table
+    go : Dec (length table < TABLE_WORDS) → TABLE_WORDS ≤ length table
     go (yes l) =
         absurd (not-accepted (TableShort (length table)) (sym (ap (λ (a : Answer). a .outcome) (short-answer bytes table l)) ∙ e))
     go (no n) = omega arith
 
 -- the part of the table from 4,096 on
-part-is : (table : List ℕ) → take (length table - 4096) (drop 4096 table) ≡ drop 4096 table
-part-is table = take-all (length table - 4096) (drop 4096 table) (omega (arith, length-drop 4096 table))
+part-is : (table : List ℕ) → take (length table - LAST_LIST) (drop LAST_LIST table) ≡ drop LAST_LIST table
+part-is table = take-all (length table - LAST_LIST) (drop LAST_LIST table) (omega (arith, length-drop LAST_LIST table))
 
 -- the sheet of what an accepted plan gets
 pub sheet-of-part : (a : Answer) (counts table : List ℕ) → counts ≡ a .counts → table ≡ a .table → a .outcome ≡ Accepted
-    → positionsSheet (take (getD counts 16 0) (take (length table - 4096) (drop 4096 table))) ≡ sheetOf a
+    → positionsSheet (take (getD counts LAST_COUNT 0) (take (length table - LAST_LIST) (drop LAST_LIST table))) ≡ sheetOf a
 sheet-of-part a counts table e f h = rw (part-is table, e, f) (sheet-listed a h)
 
 -- ---- no sheet is longer than SHEET_BYTES
@@ -58,8 +59,8 @@ refused-at-most a number spot h l e = omega (arith, ap length e, refusal-at-most
 pub listed-at-most : (bytes table : List ℕ) → answer bytes table .outcome ≡ Accepted → length (sheetOf (answer bytes table)) ≤ SHEET_BYTES
 listed-at-most bytes table e =
     let a = answer bytes table in
-    let words : List ℕ = take (getD (a .counts) 16 0) (drop 4096 (a .table)) in
-    let few : length words ≤ 256 = omega (arith, length-take (getD (a .counts) 16 0) (drop 4096 (a .table)), last-count-at-most bytes table) in
+    let words : List ℕ = take (getD (a .counts) LAST_COUNT 0) (drop LAST_LIST (a .table)) in
+    let few : length words ≤ LIST_WORDS = omega (arith, length-take (getD (a .counts) LAST_COUNT 0) (drop LAST_LIST (a .table)), last-count-at-most bytes table) in
     omega (arith, ap length (sheet-listed a e), positions-at-most words few)
 
 -- what is shown of a buffer of SHEET_BYTES or more is the sheet

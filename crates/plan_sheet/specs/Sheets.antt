@@ -3,6 +3,7 @@ use mathlib.Core.Path.{_≡_}
 use mathlib.Core.List.{List}
 use Prim.Native.Nat.{ℕ, _≤_}
 use lib.ListN.{length, take, drop, getD}
+use Rattle.plan.specs.Limits.{LAST_LIST, LAST_COUNT}
 use Rattle.plan.specs.Faults.{number, spot}
 use Rattle.plan.specs.declared.fault.Outcome.{Outcome}
 use Rattle.plan.specs.declared.fault.Outcome.the-variants.{Accepted, Refused}
@@ -14,7 +15,7 @@ use Rattle.unit_lists.specs.Answer.{Answer, answer}
 -- by outcome: the last list's positions, or the refusal
 unfoldable pub sheetFor : Outcome → List ℕ → List ℕ → List ℕ
 sheetFor (Refused f) counts table = refusalSheet (number f) (spot f)
-sheetFor Accepted counts table = positionsSheet (take (getD counts 16 0) (drop 4096 table))
+sheetFor Accepted counts table = positionsSheet (take (getD counts LAST_COUNT 0) (drop LAST_LIST table))
 
 unfoldable pub sheetOf : Answer → List ℕ
 sheetOf a = sheetFor (a .outcome) (a .counts) (a .table)

@@ -1,4 +1,6 @@
 // A plan's sheet in a lent buffer.
+use plan::LAST_COUNT;
+use plan::LAST_LIST;
 use plan::Outcome;
 use plan::fault_number;
 use plan::fault_spot;
@@ -6,8 +8,6 @@ use sheet::Written;
 use sheet::write_positions;
 use sheet::write_refusal;
 use sheet::written_part;
-use unit_lists::LAST_COUNT;
-use unit_lists::LAST_LIST;
 use unit_lists::list_positions;
 ghost use Prim.Native.Nat.{_≤_};
 ghost use mathlib.Core.Path.{_≡_};

@@ -1,9 +1,9 @@
 // settle: reads a plan from standard input and writes its sheet.
 use libc::STDIN_FILENO;
 use libc::STDOUT_FILENO;
+use plan::TABLE_WORDS;
 use plan_sheet::SHEET_BYTES;
 use plan_sheet::plan_sheet;
-use unit_lists::TABLE_WORDS;
 
 fn main() {
     // The first 4,096 bytes are kept, and they decide the sheet: every reading fault shows within 2,467.

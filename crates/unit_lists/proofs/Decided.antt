@@ -4,6 +4,7 @@ use mathlib.Core.Bool.{Bool, true, false, _&&_}
 use mathlib.Core.List.{List, List·Memᴰ}
 use Prim.Native.Nat.{ℕ, zero, suc, _^_, _≤_, _<_}
 use native.Mathlib.Omega.{arith}
+use Rattle.plan.specs.Limits.{MAX_RULES}
 use Rattle.atoms.specs.Word.{Has, _⊆_, subset, _∩_, below}
 use Rattle.atoms.specs.Bounded.{Decides, allIn, someBelow}
 use Rattle.atoms.specs.Rising.{members}
@@ -23,7 +24,7 @@ use Rattle.splitting.proofs.Form.{Member, listed-member}
 use Rattle.unit_lists.specs.Lists.{isInput, inList, unitList}
 
 -- a rule number is a bit of a word
-pub numbers-fit : (S : Units) (u : ℕ) → S .rules ≤ 64 → S .unit u ∩ below (S .rules) < 2 ^ 64
+pub numbers-fit : (S : Units) (u : ℕ) → S .rules ≤ MAX_RULES → S .unit u ∩ below (S .rules) < 2 ^ 64
 numbers-fit S u small =
     lt-of-has (S .unit u ∩ below (S .rules)) 64
     (λ r h. let l : r < S .rules = below-lt (S .rules) (cut-right (S .unit u) (below (S .rules)) h) in omega arith)
@@ -57,7 +58,7 @@ decides-input S u J inListOf l d =
     from i = (i .given-up, (i .within, λ v k h. i .inputs v (record { is-unit = l; is-predecessor = k; edge = h })))
 
 -- one step of the definition
-decides-step : (S : Units) (u M : ℕ) (inListOf : ℕ → ℕ → Bool) → S .rules ≤ 64 → u < S .units
+decides-step : (S : Units) (u M : ℕ) (inListOf : ℕ → ℕ → Bool) → S .rules ≤ MAX_RULES → u < S .units
     → ((v N : ℕ) → Edge S u v → Decides (Listed S v N) (inListOf v N))
     → Decides (Listed S u M)
     (someBelow (suc (inputHeads S u)) (λ J. elim (answerSet (S .program) (S .unit u ∩ below (S .rules)) J M) [ true ↦ isInput S inListOf u J | false ↦ false ]))
@@ -80,7 +81,7 @@ decides-step S u M inListOf small l d =
     from (listed {J = J} g w f a) =
         (J, omega (arith, subset-le w), (a, record { given-up = g; within = w; inputs = f }))
 
-module _ (S : Units) (pass : Passes S) (free : GivenFree S) (small : S .rules ≤ 64) where
+module _ (S : Units) (pass : Passes S) (free : GivenFree S) (small : S .rules ≤ MAX_RULES) where
   decides-depth : (depth u M : ℕ) → u < S .units → reach S u < depth → Decides (Listed S u M) (inList S depth u M)
   unfolding inList
   decides-depth zero u M l k = absurd (omega arith)

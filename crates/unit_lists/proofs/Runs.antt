@@ -1,161 +1,81 @@
--- Runs of 256 words one behind the other, and tallies: what stands at an index, and what a store changes.
-use mathlib.Core.Path.{_≡_, refl, sym, ap, ap₂, _∙_, subst}
-use mathlib.Core.List.{List, [], _∷_, _++_, append-assoc}
-use Prim.Native.Nat.{ℕ, zero, suc, _+_, _-_, _*_, _≤_, _<_}
+-- Runs of 256 words one behind the other: their length, what stands at an index, and what a store changes.
+use mathlib.Core.Path.{_≡_, refl, sym, ap, ap₂, _∙_}
+use mathlib.Core.List.{List, [], _++_, append-assoc, append-nil}
+use Prim.Native.Nat.{ℕ, zero, suc, _+_, _*_, _≤_, _<_}
 use native.Mathlib.Omega.{arith}
-use native.Mathlib.Decide.{ℕ-discrete}
 use native.Mathlib.Numerals.{add-one}
-use lib.ListN.{length, take, drop, getD, set, replicate, length-append, length-replicate, length-take, length-drop, replicate-append-replicate, List·getD-append, take-append-drop}
-use lib.Seq.{paste, take-all, take-append-le, take-append-seam, take-append-add, drop-append-add, drop-append-le, drop-append-seam, drop-drop, take-at, drop-at, getD-append-add, set-append-left, set-at}
-use Rattle.unit_search.specs.Listing.{padded}
-use Rattle.unit_lists.specs.Table.{runs, tally}
+use lib.ListN.{length, take, drop, getD, set, replicate, length-append, replicate-append-replicate, List·getD-append}
+use lib.Seq.{paste, paste-suc, take-all, take-append-add, drop-append-add, drop-at, getD-append-add}
+use Rattle.plan.specs.Limits.{LIST_WORDS}
+use Rattle.unit_lists.specs.Table.{runs}
 
-pub padded-long : (xs : List ℕ) → length xs ≤ 256 → length (padded xs) ≡ 256
-unfolding padded
-padded-long xs l =
-    length-append xs (replicate (256 - length xs) 0) ∙ ap (λ (n : ℕ). length xs + n) (length-replicate {A = ℕ} (256 - length xs) 0)
-    ∙ omega arith
-
-pub padded-at : (xs : List ℕ) (i : ℕ) → i < length xs → getD (padded xs) i 0 ≡ getD xs i 0
-unfolding padded
-padded-at xs i l = List·getD-append xs (replicate (256 - length xs) 0) 0 i l
-
--- ---- runs
-
-pub runs-long : (f : ℕ → List ℕ) (n : ℕ) → ((i : ℕ) → i < n → length (f i) ≡ 256) → length (runs f n) ≡ 256 * n
+pub runs-long : (n : ℕ) (f : ℕ → List ℕ) → ((i : ℕ) → length (f i) ≡ LIST_WORDS) → length (runs n f) ≡ LIST_WORDS * n
 unfolding runs
-runs-long f zero h = refl
-runs-long f (suc n) h =
-    length-append (runs f n) (f n) ∙ omega (arith, runs-long f n (λ i l. h i (omega arith)), h n (omega arith))
+runs-long zero f h = refl
+runs-long (suc n) f h =
+    length-append (f 0) (runs n (λ i. f (suc i))) ∙ omega (arith, h 0, runs-long n (λ i. f (suc i)) (λ i. h (suc i)))
 
-pub runs-same : (f g : ℕ → List ℕ) (n : ℕ) → ((i : ℕ) → i < n → f i ≡ g i) → runs f n ≡ runs g n
+pub runs-same : (n : ℕ) (f g : ℕ → List ℕ) → ((i : ℕ) → f i ≡ g i) → runs n f ≡ runs n g
 unfolding runs
-runs-same f g zero h = refl
-runs-same f g (suc n) h = ap₂ _++_ (runs-same f g n (λ i l. h i (omega arith))) (h n (omega arith))
+runs-same zero f g h = refl
+runs-same (suc n) f g h = ap₂ _++_ (h 0) (runs-same n (λ i. f (suc i)) (λ i. g (suc i)) (λ i. h (suc i)))
 
-pub runs-zero : (n : ℕ) → runs (λ i. replicate {A = ℕ} 256 0) n ≡ replicate (256 * n) 0
+-- one more at the end
+pub runs-snoc : (n : ℕ) (f : ℕ → List ℕ) → runs (suc n) f ≡ runs n f ++ f n
+unfolding runs
+runs-snoc zero f = append-nil (f 0)
+runs-snoc (suc n) f = ap (λ (l : List ℕ). f 0 ++ l) (runs-snoc n (λ i. f (suc i))) ∙ sym (append-assoc (f 0) (runs n (λ i. f (suc i))) (f (suc n)))
+
+pub runs-zero : (n : ℕ) → runs n (λ i. replicate {A = ℕ} LIST_WORDS 0) ≡ replicate (LIST_WORDS * n) 0
 unfolding runs
 runs-zero zero = refl
 runs-zero (suc n) =
-    let e : 256 * n + 256 ≡ 256 * suc n = omega arith in
-    ap (λ (l : List ℕ). l ++ replicate {A = ℕ} 256 0) (runs-zero n) ∙ replicate-append-replicate (256 * n) 256 0
+    let e : LIST_WORDS + LIST_WORDS * n ≡ LIST_WORDS * suc n = omega arith in
+    ap (λ (l : List ℕ). replicate {A = ℕ} LIST_WORDS 0 ++ l) (runs-zero n) ∙ replicate-append-replicate LIST_WORDS (LIST_WORDS * n) 0
     ∙ ap (λ (k : ℕ). replicate {A = ℕ} k 0) e
 
 -- word i of run v
-pub runs-at : (f : ℕ → List ℕ) (n : ℕ) (rest : List ℕ) (v i : ℕ) → ((j : ℕ) → j < n → length (f j) ≡ 256) → v < n → i < 256
-    → getD (runs f n ++ rest) (256 * v + i) 0 ≡ getD (f v) i 0
+pub runs-at : (n : ℕ) (f : ℕ → List ℕ) (rest : List ℕ) (v i : ℕ) → ((j : ℕ) → length (f j) ≡ LIST_WORDS) → v < n → i < LIST_WORDS
+    → getD (runs n f ++ rest) (LIST_WORDS * v + i) 0 ≡ getD (f v) i 0
 unfolding runs
-runs-at f zero rest v i h l k = absurd (omega arith)
-runs-at f (suc n) rest v i h l k =
-    go (ℕ-discrete v n) (λ m. runs-at f n (f n ++ rest) v i (λ j q. h j (omega arith)) m k)
-  where
-    long : length (runs f n) ≡ 256 * n
-    long = runs-long f n (λ j m. h j (omega arith))
+runs-at zero f rest v i h l k = absurd (omega arith)
+runs-at (suc n) f rest zero i h l k =
+    let e : LIST_WORDS * 0 + i ≡ i = omega arith in
+    rw (append-assoc, e) (List·getD-append (f 0) (runs n (λ j. f (suc j)) ++ rest) 0 i (omega (arith, h 0)))
+runs-at (suc n) f rest (suc v) i h l k =
+    let e : LIST_WORDS * suc v + i ≡ length (f 0) + (LIST_WORDS * v + i) = omega (arith, h 0) in
+    rw (append-assoc, e, getD-append-add) (runs-at n (λ j. f (suc j)) rest v i (λ j. h (suc j)) (omega arith) k)
 
-    regroup : runs f n ++ f n ++ rest ≡ runs f n ++ (f n ++ rest)
-    regroup = append-assoc (runs f n) (f n) rest
+-- a list is stored at the front, or behind some words
+paste-front : (xs ys zs : List ℕ) (k : ℕ) → length xs ≡ k → length zs ≡ k → paste (xs ++ ys) 0 zs k ≡ zs ++ ys
+paste-front xs ys zs k e h =
+    let z : 0 + k ≡ k = omega arith in
+    let all : length zs ≤ k = omega arith in
+    rw (z, take-all, drop-at xs ys k e)
 
-    go : Dec (v ≡ n) → (v < n → getD (runs f n ++ (f n ++ rest)) (256 * v + i) 0 ≡ getD (f v) i 0)
-        → getD (runs f n ++ f n ++ rest) (256 * v + i) 0 ≡ getD (f v) i 0
-    go (yes e) r =
-        let p : 256 * v + i ≡ length (runs f n) + i = omega (arith, long) in
-        ap₂ (λ (l : List ℕ) (m : ℕ). getD l m 0) regroup p ∙ getD-append-add (runs f n) (f n ++ rest) i 0
-        ∙ List·getD-append (f n) rest 0 i (omega (arith, h n (omega arith)))
-        ∙ ap (λ (m : ℕ). getD (f m) i 0) (sym e)
-    go (no e) r = ap (λ (l : List ℕ). getD l (256 * v + i) 0) regroup ∙ r (omega arith)
-
--- a list behind a prefix whose length is known
-behind : (xs ys : List ℕ) (k m : ℕ) → length xs ≡ k → drop (k + m) (xs ++ ys) ≡ drop m ys
-behind xs ys k m e = ap (λ (j : ℕ). drop (j + m) (xs ++ ys)) (sym e) ∙ drop-append-add xs ys m
+paste-behind : (xs ys zs : List ℕ) (b k : ℕ) → paste (xs ++ ys) (length xs + b) zs k ≡ xs ++ paste ys b zs k
+paste-behind xs ys zs b k =
+    let e : length xs + b + k ≡ length xs + (b + k) = omega arith in
+    rw (take-append-add, e, drop-append-add) (simp append-assoc)
 
 -- one run is replaced
-pub runs-paste : (f g : ℕ → List ℕ) (n : ℕ) (rest : List ℕ) (v : ℕ) → ((j : ℕ) → j < n → length (f j) ≡ 256)
-    → length (g v) ≡ 256 → ((j : ℕ) → j < n → ¬ (j ≡ v) → f j ≡ g j) → v < n
-    → paste (runs f n ++ rest) (256 * v) (g v) 256 ≡ runs g n ++ rest
+pub runs-paste : (n : ℕ) (f g : ℕ → List ℕ) (rest : List ℕ) (v : ℕ) → ((j : ℕ) → length (f j) ≡ LIST_WORDS) → length (g v) ≡ LIST_WORDS
+    → ((j : ℕ) → ¬ (j ≡ v) → f j ≡ g j) → v < n → paste (runs n f ++ rest) (LIST_WORDS * v) (g v) LIST_WORDS ≡ runs n g ++ rest
 unfolding runs
-runs-paste f g zero rest v h k s l = absurd (omega arith)
-runs-paste f g (suc n) rest v h k s l =
-    go (ℕ-discrete v n) (λ m. runs-paste f g n (f n ++ rest) v (λ j q. h j (omega arith)) k (λ j q d. s j (omega arith) d) m)
-  where
-    long : length (runs f n) ≡ 256 * n
-    long = runs-long f n (λ j m. h j (omega arith))
+runs-paste zero f g rest v h k s l = absurd (omega arith)
+runs-paste (suc n) f g rest zero h k s l =
+    rw (append-assoc (f 0), append-assoc (g 0), runs-same n (λ j. f (suc j)) (λ j. g (suc j)) (λ j. s (suc j) (λ e. omega arith)))
+    (paste-front (f 0) (runs n (λ j. g (suc j)) ++ rest) (g 0) LIST_WORDS (h 0) k)
+runs-paste (suc n) f g rest (suc v) h k s l =
+    let e : LIST_WORDS * suc v ≡ length (f 0) + LIST_WORDS * v = omega (arith, h 0) in
+    rw (append-assoc (f 0), append-assoc (g 0), ← s 0 (λ q. omega arith), e) (
+    paste-behind (f 0) (runs n (λ j. f (suc j)) ++ rest) (g (suc v)) (LIST_WORDS * v) LIST_WORDS
+    ∙ ap (λ (l : List ℕ). f 0 ++ l)
+    (runs-paste n (λ j. f (suc j)) (λ j. g (suc j)) rest v (λ j. h (suc j)) k (λ j d. s (suc j) (λ q. d (omega arith))) (omega arith))
+    )
 
-    regroup : (a : ℕ → List ℕ) → runs a n ++ a n ++ rest ≡ runs a n ++ (a n ++ rest)
-    regroup a = append-assoc (runs a n) (a n) rest
+-- ---- a list that is stored word by word
 
-    last : v ≡ n → paste (runs f n ++ (f n ++ rest)) (256 * v) (g v) 256 ≡ runs g n ++ g n ++ rest
-    last e =
-        let at : length (runs f n) ≡ 256 * v = omega (arith, long) in
-        ap₂ (λ (x y : List ℕ). x ++ take 256 (g v) ++ y) (take-at (runs f n) (f n ++ rest) (256 * v) at)
-        (behind (runs f n) (f n ++ rest) (256 * v) 256 at ∙ drop-at (f n) rest 256 (h n (omega arith)))
-        ∙ ap₂ (λ (x y : List ℕ). x ++ y ++ rest) (runs-same f g n (λ j m. s j (omega arith) (λ q. absurd (omega arith))))
-        (take-all 256 (g v) (omega (arith, k)) ∙ ap g e)
-
-    go : Dec (v ≡ n) → (v < n → paste (runs f n ++ (f n ++ rest)) (256 * v) (g v) 256 ≡ runs g n ++ (f n ++ rest))
-        → paste (runs f n ++ f n ++ rest) (256 * v) (g v) 256 ≡ runs g n ++ g n ++ rest
-    go (yes e) r = ap (λ (l : List ℕ). paste l (256 * v) (g v) 256) (regroup f) ∙ last e
-    go (no e) r =
-        ap (λ (l : List ℕ). paste l (256 * v) (g v) 256) (regroup f)
-        ∙ r (omega arith)
-        ∙ ap (λ (x : List ℕ). runs g n ++ (x ++ rest)) (s n (omega arith) (λ q. e (sym q)))
-        ∙ sym (regroup g)
-
--- the run behind all the others is replaced
-pub paste-behind : (xs ys rest zs : List ℕ) (k : ℕ) → length xs ≡ k → length ys ≡ 256 → length zs ≡ 256
-    → paste (xs ++ (ys ++ rest)) k zs 256 ≡ xs ++ (zs ++ rest)
-paste-behind xs ys rest zs k a b c =
-    ap₂ (λ (x y : List ℕ). x ++ take 256 zs ++ y) (take-at xs (ys ++ rest) k a)
-    (behind xs (ys ++ rest) k 256 a ∙ drop-at ys rest 256 b)
-    ∙ ap (λ (z : List ℕ). xs ++ z ++ rest) (take-all 256 zs (omega (arith, c))) ∙ append-assoc xs zs rest
-
--- ---- tallies
-
-pub tally-long : (f : ℕ → ℕ) (n : ℕ) → length (tally f n) ≡ n
-unfolding tally
-tally-long f zero = refl
-tally-long f (suc n) = length-append (tally f n) (f n ∷ []) ∙ omega (arith, tally-long f n)
-
-pub tally-same : (f g : ℕ → ℕ) (n : ℕ) → ((i : ℕ) → i < n → f i ≡ g i) → tally f n ≡ tally g n
-unfolding tally
-tally-same f g zero h = refl
-tally-same f g (suc n) h = ap₂ (λ (l : List ℕ) (x : ℕ). l ++ (x ∷ [])) (tally-same f g n (λ i l. h i (omega arith))) (h n (omega arith))
-
-pub tally-zero : (n : ℕ) → tally (λ i. 0) n ≡ replicate n 0
-unfolding tally
-tally-zero zero = refl
-tally-zero (suc n) =
-    ap (λ (l : List ℕ). l ++ (0 ∷ [])) (tally-zero n) ∙ replicate-append-replicate n 1 0
-    ∙ ap (λ (k : ℕ). replicate {A = ℕ} k 0) (add-one n)
-
-pub tally-at : (f : ℕ → ℕ) (n : ℕ) (rest : List ℕ) (v : ℕ) → v < n → getD (tally f n ++ rest) v 0 ≡ f v
-unfolding tally
-tally-at f zero rest v l = absurd (omega arith)
-tally-at f (suc n) rest v l = go (ℕ-discrete v n) (tally-at f n (f n ∷ rest) v)
-  where
-    go : Dec (v ≡ n) → (v < n → getD (tally f n ++ (f n ∷ rest)) v 0 ≡ f v) → getD (tally f n ++ (f n ∷ []) ++ rest) v 0 ≡ f v
-    go (yes e) r =
-        let p : v ≡ length (tally f n) + 0 = omega (arith, tally-long f n) in
-        ap₂ (λ (l : List ℕ) (m : ℕ). getD l m 0) (append-assoc (tally f n) (f n ∷ []) rest) p
-        ∙ getD-append-add (tally f n) (f n ∷ rest) 0 0 ∙ ap f (sym e)
-    go (no e) r = ap (λ (l : List ℕ). getD l v 0) (append-assoc (tally f n) (f n ∷ []) rest) ∙ r (omega arith)
-
-pub tally-set : (f g : ℕ → ℕ) (n : ℕ) (rest : List ℕ) (v : ℕ) → ((j : ℕ) → j < n → ¬ (j ≡ v) → f j ≡ g j) → v < n
-    → set (tally f n ++ rest) v (g v) ≡ tally g n ++ rest
-unfolding tally
-tally-set f g zero rest v s l = absurd (omega arith)
-tally-set f g (suc n) rest v s l =
-    go (ℕ-discrete v n) (tally-set f g n (f n ∷ rest) v (λ j m q. s j (omega arith) q))
-  where
-    regroup : (a : ℕ → ℕ) → tally a n ++ (a n ∷ []) ++ rest ≡ tally a n ++ (a n ∷ rest)
-    regroup a = append-assoc (tally a n) (a n ∷ []) rest
-
-    go : Dec (v ≡ n) → (v < n → set (tally f n ++ (f n ∷ rest)) v (g v) ≡ tally g n ++ (f n ∷ rest))
-        → set (tally f n ++ (f n ∷ []) ++ rest) v (g v) ≡ tally g n ++ (g n ∷ []) ++ rest
-    go (yes e) r =
-        ap (λ (l : List ℕ). set l v (g v)) (regroup f)
-        ∙ set-at (tally f n) (f n) rest (g v) v (tally-long f n ∙ sym e)
-        ∙ ap₂ (λ (l : List ℕ) (x : ℕ). l ++ (x ∷ rest)) (tally-same f g n (λ j m. s j (omega arith) (λ q. absurd (omega arith)))) (ap g e)
-        ∙ sym (regroup g)
-    go (no e) r =
-        ap (λ (l : List ℕ). set l v (g v)) (regroup f) ∙ r (omega arith)
-        ∙ ap (λ (x : ℕ). tally g n ++ (x ∷ rest)) (s n (omega arith) (λ q. e (sym q))) ∙ sym (regroup g)
+pub stored-next : (d : List ℕ) (at : ℕ) (s l : List ℕ) (i : ℕ) → at + length s ≤ length d → i < length s → l ≡ paste d at s i
+    → set l (at + i) (getD s i 0) ≡ paste d at s (i + 1)
+stored-next d at s l i fits k e = rw (e, add-one) (paste-suc d at s i 0 (omega arith) k)

@@ -6,7 +6,7 @@ use Rattle.plan.specs.declared.fault.Fault.{Fault}
 use Rattle.plan.specs.declared.fault.Outcome.the-variants.{Refused}
 use Rattle.unit_lists.specs.Table.{noCounts}
 use Rattle.unit_lists.specs.Answer.{Answer}
-use Rattle.unit_lists.specs.declared.Listing.{Listing}
+use Rattle.unit_lists.specs.declared.listing.Listing.{Listing}
 
 -- "A refusal gives its number and spot, and counts all 0."
 unfoldable pub refusal : Fault → Listing

@@ -1,7 +1,6 @@
 pub mod Lists
 pub mod Table
 pub mod Answer
-pub mod Stored
 pub mod Work
 pub mod Handed
 pub mod Demands

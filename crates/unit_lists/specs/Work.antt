@@ -1,95 +1,113 @@
--- What the functions of unit work say to each other.
+-- Inner: what the functions of unit work say to each other.
 use mathlib.Core.Path.{_≡_}
 use mathlib.Core.Bool.{Bool, true, false}
 use mathlib.Core.List.{List, []}
-use Prim.Native.Nat.{ℕ, _^_, _≤_, _<_}
+use Prim.Native.Nat.{ℕ, _+_, _*_, _^_, _≤_, _<_}
 use lib.ListN.{length, getD, set, replicate}
 use lib.Seq.{paste}
-use Rattle.atoms.specs.Word.{Has, _⊆_, _∩_, _∖_, below}
-use Rattle.atoms.specs.Bounded.{unionIn}
-use Rattle.unit_search.specs.Listing.{Gathered, Grown}
-use Rattle.unit_search.specs.Job.{Wanted, Joinable}
-use Rattle.unit_search.specs.declared.unit.Unit.{Unit}
+use Rattle.atoms.specs.Word.{ATOMS, Has, has, _⊆_, _∩_, below, outside}
+use Rattle.atoms.specs.Lists.{padded}
+use Rattle.answer_sets.specs.declared.state.State.{State}
+use Rattle.plan.specs.Limits.{MAX_UNITS, LIST_WORDS, TABLE_WORDS, COUNTS}
+use Rattle.plan.specs.Record.{Fitting}
+use Rattle.plan.specs.declared.record.Plan.{Plan}
 use Rattle.plan.specs.declared.fault.Fault.the-variants.{LongList}
 use Rattle.dependency_graph.specs.Units.{Units}
 use Rattle.dependency_graph.specs.Graph.{Passes}
-use Rattle.dependency_graph.specs.Heads.{heads, inputHeads}
-use Rattle.dependency_graph.specs.Slices.{unitsOf, GraphLent}
-use Rattle.dependency_graph.specs.Order.{workingOrder}
+use Rattle.dependency_graph.specs.Heads.{inputHeads}
+use Rattle.dependency_graph.specs.PlanUnits.{unitsOf, HeadsOf}
+use Rattle.dependency_graph.specs.declared.head_atoms.HeadAtoms.{HeadAtoms}
 use Rattle.splitting.specs.UnitList.{Clean}
+use Rattle.unit_search.specs.Listing.{Gathered, Grown}
+use Rattle.unit_search.specs.declared.unit.Unit.{Unit}
 use Rattle.unit_lists.specs.Lists.{unitList}
-use Rattle.unit_lists.specs.Table.{tableSoFar, countsSoFar, cleared}
-use Rattle.unit_lists.specs.Answer.{refuse, workFrom}
+use Rattle.unit_lists.specs.Table.{tableWith, countsWith, cleared}
+use Rattle.unit_lists.specs.Answer.{Answer, refuse, workFrom, unitWork}
 use Rattle.unit_lists.specs.declared.work.Work.{Work}
 use Rattle.unit_lists.specs.declared.work.Work.the-variants.{Fits, Long}
 
--- what the search is told of unit u, where its join pass looks at the predecessors of `near`
-abbrev pub searched : ℕ → List ℕ → List ℕ → List ℕ → ℕ → ℕ → Unit
-searched n units predecessors inputs near u = record {
-  rules = getD units u 0 ∩ below n;
-  inputs = getD inputs u 0;
-  predecessors = getD predecessors u 0;
-  nearest = near;
-}
+-- ---- one list
 
--- and that these are direct predecessors
-pub record Told (n : ℕ) (units predecessors inputs : List ℕ) (u : ℕ) (r : Unit) : Type 0 where
-  pub is : r ≡ searched n units predecessors inputs (r .nearest) u
-  pub near : r .nearest ⊆ getD predecessors u 0
+-- what the search is told of unit u
+pub record Told (T : Units) (u : ℕ) (unit : Unit) : Type 0 where
+  pub rules-are : unit .rules ≡ T .unit u ∩ below (T .rules)
+  pub inputs-are : unit .inputs ≡ inputHeads T u
+  pub predecessors-are : unit .predecessors ≡ T .predecessors u
+  pub near : unit .nearest ⊆ unit .predecessors
 
--- one list is searched for from the start: stored with its count where it fits, and nothing is written where it does not
-pub data ListWorked (rules heads : List ℕ) (unit : Unit) (within base place : ℕ) (table counts table′ counts′ : List ℕ) : Bool → Type 0 where
-  fitted : {list : List ℕ} {r : ℕ} → r ≤ 256
-      → Gathered (Grown (replicate {A = ℕ} 256 0) 0 (Wanted rules table counts heads unit (record { up = 0; dropped = below 64 ∖ within }))) list r
-      → table′ ≡ paste table base list 256 → counts′ ≡ set counts place r
-      → ListWorked rules heads unit within base place table counts table′ counts′ true
-  too-long : {list : List ℕ} {r : ℕ} → 256 < r
-      → Gathered (Grown (replicate {A = ℕ} 256 0) 0 (Wanted rules table counts heads unit (record { up = 0; dropped = below 64 ∖ within }))) list r
-      → table′ ≡ table → counts′ ≡ counts → ListWorked rules heads unit within base place table counts table′ counts′ false
+-- a search starts where all atoms but those of `within` are dropped
+abbrev pub startWithin : ℕ → State
+startWithin within = record { up = 0; dropped = outside within }
 
--- what unit work is lent: a plan that passed the graph place, and the head atoms of its units
-pub record Setting (rules : List ℕ) (n : ℕ) (units : List ℕ) (m : ℕ) (predecessors heads′ inputs : List ℕ) : Type 0 where
-  pub lent-words : GraphLent rules n units m predecessors
-  pub passes : Passes (unitsOf rules n units m predecessors)
-  pub clean : Clean (unitsOf rules n units m predecessors)
-  pub heads-long : 16 ≤ length heads′
-  pub inputs-long : 16 ≤ length inputs
-  pub heads-are : (v : ℕ) → v < m → getD heads′ v 0 ≡ heads (unitsOf rules n units m predecessors) v
-  pub inputs-are : (v : ℕ) → v < m → getD inputs v 0 ≡ inputHeads (unitsOf rules n units m predecessors) v
+-- what is wanted within these atoms is gathered from nothing: stored with its count where it fits, and nothing is written where it does not
+pub record ListStored (Wanted : State → ℕ → Type 0) (within place : ℕ) (table counts table′ counts′ : List ℕ) (fits : Bool) : Type 0 where
+  pub list : List ℕ
+  pub count : ℕ
+  pub gathered : Gathered (Grown (replicate {A = ℕ} LIST_WORDS 0) 0 (Wanted (startWithin within))) list count
+  pub word : within < 2 ^ ATOMS
+  pub when-fits : fits ≡ true
+      → (count ≤ LIST_WORDS) × (table′ ≡ paste table (LIST_WORDS * place) list LIST_WORDS) × (counts′ ≡ set counts place count)
+  pub when-long : fits ≡ false → (LIST_WORDS < count) × (table′ ≡ table) × (counts′ ≡ counts)
 
--- the units of `done` are worked: their lists fit and are in the table
+-- the same of a list whose members are known
+pub record MembersStored (members : List ℕ) (place : ℕ) (table counts table′ counts′ : List ℕ) (fits : Bool) : Type 0 where
+  pub when-fits : fits ≡ true
+      → (length members ≤ LIST_WORDS) × (table′ ≡ paste table (LIST_WORDS * place) (padded LIST_WORDS members) LIST_WORDS)
+      × (counts′ ≡ set counts place (length members))
+  pub when-long : fits ≡ false → (LIST_WORDS < length members) × (table′ ≡ table) × (counts′ ≡ counts)
+
+-- ---- the lists in the table
+
+-- the list of unit v is in the table, and its count beside it
+pub record Stored (S : Units) (table counts : List ℕ) (v : ℕ) : Type 0 where
+  pub counted : getD counts v 0 ≡ length (unitList S v)
+  pub words : (i : ℕ) → i < length (unitList S v) → getD table (LIST_WORDS * v + i) 0 ≡ getD (unitList S v) i 0
+
+-- the lists of the named units are where a search looks for them
+pub record ListsThere (S : Units) (Named : ℕ → Type 0) (table counts : List ℕ) : Type 0 where
+  pub table-long : TABLE_WORDS ≤ length table
+  pub counts-long : length counts ≡ COUNTS
+  pub small : (v : ℕ) → v < MAX_UNITS → getD counts v 0 ≤ LIST_WORDS
+  pub stored : (v : ℕ) → Named v → Stored S table counts v
+
+-- the table and the counts hold these lists, each of at most 256 members
+pub record Holding (lists : ℕ → List ℕ) (table₀ table counts : List ℕ) : Type 0 where
+  pub table-is : table ≡ tableWith lists table₀
+  pub counts-are : counts ≡ countsWith lists
+  pub small : (i : ℕ) → length (lists i) ≤ LIST_WORDS
+  pub long : TABLE_WORDS ≤ length table₀
+
+-- ---- the units in working order
+
+-- a plan that passed the graph place
+pub record Workable (p : Plan) : Type 0 where
+  pub fits : Fitting p
+  pub passes : Passes (unitsOf p)
+  pub clean : Clean (unitsOf p)
+
+-- and the head atoms of its units
+pub record Setting (p : Plan) (h : HeadAtoms) : Type 0 where
+  pub workable : Workable p
+  pub heads-of : HeadsOf p h
+
+-- the lists so far, where the units of `done` are worked
+unfoldable pub listSoFar : Units → ℕ → ℕ → List ℕ
+listSoFar S done i = elim (has done i) [ true ↦ unitList S i | false ↦ [] ]
+
+-- they are in the table
 pub record Working (S : Units) (done : ℕ) (table₀ table counts : List ℕ) : Type 0 where
-  pub table-is : table ≡ tableSoFar S done table₀
-  pub counts-are : counts ≡ countsSoFar S done
-  pub long : 4352 ≤ length table₀
+  pub few : S .units ≤ MAX_UNITS
+  pub holding : Holding (listSoFar S done) table₀ table counts
   pub done-units : (v : ℕ) → Has done v → v < S .units
-  pub done-small : (v : ℕ) → Has done v → length (unitList S v) ≤ 256
 
--- all units are worked, or one whose list is above 256 is found, as the definition of the answer has it
-pub data UnitsWorked (S : Units) (table₀ table counts : List ℕ) : Work → Type 0 where
-  all-fit : {done : ℕ} → workFrom S table₀ (workingOrder S) ≡ workFrom S table₀ [] → ((u : ℕ) → u < S .units → Has done u)
-      → Working S done table₀ table counts → UnitsWorked S table₀ table counts Fits
-  one-long : {u done : ℕ} → workFrom S table₀ (workingOrder S) ≡ refuse (LongList u) (cleared table₀)
-      → Working S done table₀ table counts → UnitsWorked S table₀ table counts (Long u)
+-- what is left of the answer behind the units
+abbrev pub afterUnits : Units → List ℕ → Work → Answer
+afterUnits S table Fits = workFrom S table []
+afterUnits S table (Long u) = refuse (LongList u) (cleared table)
 
--- the lists of all units are there to be joined
-pub record LastLent (m : ℕ) (table counts heads′ : List ℕ) : Type 0 where
-  pub few : m ≤ 16
-  pub table-long : 4352 ≤ length table
-  pub counts-long : length counts ≡ 17
-  pub joinable : Joinable table counts heads′ (below m)
-
--- the last list, searched for from the start
-pub record LastWorked (rules : List ℕ) (m : ℕ) (heads′ table counts table′ counts′ : List ℕ) (r : Bool) : Type 0 where
-  pub input : ℕ
-  pub is : input ≡ unionIn m (below m) (λ v. getD heads′ v 0)
-  pub fits : input < 2 ^ 64
-  pub near : ℕ
-  pub worked : ListWorked rules heads′ (record { rules = 0; inputs = input; predecessors = below m; nearest = near }) input 4096 16 table counts table′ counts′ r
-
--- a plan that passed reading and graph, and a long enough table
-pub record Workable (rules : List ℕ) (n : ℕ) (units : List ℕ) (m : ℕ) (predecessors table : List ℕ) : Type 0 where
-  pub lent-words : GraphLent rules n units m predecessors
-  pub passes : Passes (unitsOf rules n units m predecessors)
-  pub clean : Clean (unitsOf rules n units m predecessors)
-  pub long : 4352 ≤ length table
+-- all units are worked, or one whose list is above 256 is found
+pub record UnitsWorked (S : Units) (table₀ table counts : List ℕ) (worked : Work) : Type 0 where
+  pub done : ℕ
+  pub working : Working S done table₀ table counts
+  pub answer-is : unitWork S table₀ ≡ afterUnits S table₀ worked
+  pub all-done : worked ≡ Fits → (u : ℕ) → u < S .units → Has done u

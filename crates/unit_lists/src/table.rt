@@ -1,9 +1,10 @@
 // The lent table: its words 0 to 4,351.
-use crate::TABLE_WORDS;
+use plan::TABLE_WORDS;
 ghost use mathlib.Core.Path.{_≡_};
 ghost use Prim.Native.Nat.{_+_, _≤_};
 ghost use lib.ListN.{length};
 ghost use lib.Seq.{paste};
+ghost use Rattle.plan.specs.Limits.{TABLE_WORDS};
 ghost use Rattle.unit_lists.specs.Table.{cleared};
 
 // Writes the words of a list into the table from `base` on.
@@ -20,7 +21,7 @@ pub fn store(list: &[u64], table: &mut [u64], base: usize)
 
 // Makes words 0 to 4,351 zero.
 pub fn clear(table: &mut [u64])
-    requires { ⌜ 4352 ≤ length (now table) ⌝ }
+    requires { ⌜ TABLE_WORDS ≤ length (now table) ⌝ }
     ensures { λ _. ⌜ now (table .exit) ≡ cleared (now (table .entry)) ⌝ }
 {
     let mut i = 0;

@@ -1,33 +1,35 @@
 // Unit work: the list of each unit in working order, and the last list.
-use crate::COUNTS;
-use crate::LAST_COUNT;
-use crate::LAST_LIST;
-use crate::Listing;
-use crate::refuse;
+use crate::listing::Listing;
+use crate::listing::refuse;
 use crate::table::clear;
 use crate::table::store;
 use answer_sets::State;
-use dependency_graph::MAX_UNITS;
-use dependency_graph::head_atoms::fill_head_atoms;
-use dependency_graph::words::union_of;
+use dependency_graph::head_atoms::HeadAtoms;
+use dependency_graph::head_atoms::head_atoms;
 use dependency_graph::working_order::next_unit;
+use plan::COUNTS;
 use plan::Fault;
+use plan::LAST_COUNT;
 use plan::LIST_WORDS;
 use plan::Outcome;
+use plan::Plan;
 use unit_search::Unit;
 use unit_search::nearest::nearest;
 use unit_search::search::search;
 ghost use mathlib.Core.Path.{_≡_};
-ghost use Prim.Native.Nat.{_+_, _≤_, _<_};
+ghost use Prim.Native.Nat.{_+_, _*_, _≤_, _<_};
 ghost use lib.ListN.{length};
+ghost use Rattle.plan.specs.Limits.{LIST_WORDS, TABLE_WORDS, LAST_COUNT};
 ghost use Rattle.plan.specs.declared.fault.Fault.the-variants.{LongList};
-ghost use Rattle.unit_search.specs.Job.{Searchable};
-ghost use Rattle.dependency_graph.specs.Slices.{unitsOf};
-ghost use Rattle.dependency_graph.specs.Order.{workingOrder};
-ghost use Rattle.unit_lists.specs.Answer.{workFrom};
-ghost use Rattle.unit_lists.specs.Handed.{refusal, Handed};
+ghost use Rattle.dependency_graph.specs.Units.{Edge};
+ghost use Rattle.dependency_graph.specs.PlanUnits.{unitsOf};
+ghost use Rattle.splitting.specs.UnitList.{withLast};
+ghost use Rattle.unit_search.specs.Job.{Searchable, Wanted};
+ghost use Rattle.unit_lists.specs.Lists.{unitList, lastList};
 ghost use Rattle.unit_lists.specs.Table.{cleared};
-ghost use Rattle.unit_lists.specs.Work.{Told, ListWorked, Setting, Working, UnitsWorked, LastLent, LastWorked, Workable};
+ghost use Rattle.unit_lists.specs.Answer.{unitWork};
+ghost use Rattle.unit_lists.specs.Handed.{refusal, Handed};
+ghost use Rattle.unit_lists.specs.Work.{Told, ListStored, MembersStored, ListsThere, Workable, Setting, Working, UnitsWorked};
 
 // Whether all lists fit, or the first unit whose list does not.
 pub enum Work {
@@ -35,22 +37,23 @@ pub enum Work {
     Long(usize),
 }
 
-// Lists one unit: its words go into the table from `base` on and its count to its place. Whether the list fits; if not, nothing is written.
-pub fn work_list(
+// Searches one list: its words and its count go to their place. Whether the list fits; if not, nothing is written.
+fn list_one(
     rules: &[u64],
     heads: &[u64],
     unit: Unit,
     within: u64,
-    base: usize,
     place: usize,
     table: &mut [u64],
     counts: &mut [usize],
 ) -> bool
-    requires { ⌜ Searchable (now rules) (now table) (now counts) (now heads) unit × (base + 256 ≤ length (now table)) × (place < length (now counts)) ⌝ }
-    ensures { λ r. ⌜ ListWorked (now (rules .entry)) (now (heads .entry)) unit within base place (now (table .entry)) (now (counts .entry)) (now (table .exit)) (now (counts .exit)) r ⌝ }
+    requires { ⌜ Searchable (now rules) (now table) (now counts) (now heads) unit
+        × (LIST_WORDS * place + LIST_WORDS ≤ length (now table)) × (place < length (now counts)) ⌝ }
+    ensures { λ r. ⌜ ListStored (Wanted (now (rules .entry)) (now (table .entry)) (now (counts .entry)) (now (heads .entry)) unit)
+        within place (now (table .entry)) (now (counts .entry)) (now (table .exit)) (now (counts .exit)) r ⌝ }
 {
     let mut list = [0u64; LIST_WORDS];
-    let outside = atoms::without(atoms::first(64), within);
+    let outside = atoms::outside(within);
     let count = search(
         rules,
         table,
@@ -67,64 +70,56 @@ pub fn work_list(
     if LIST_WORDS < count {
         return false;
     }
-    store(&list, table, base);
+    store(&list, table, LIST_WORDS * place);
     counts[place] = count;
     true
 }
 
 // What the search is told of unit u.
-fn unit_at(
-    rule_count: usize,
-    units: &[u64],
-    predecessors: &[u64],
-    heads: &[u64],
-    inputs: &[u64],
-    u: usize,
-) -> Unit
-    requires { ⌜ («rule_count» ≤ 64) × (u < length (now units)) × (u < length (now predecessors)) × (16 ≤ length (now heads)) × (u < length (now inputs)) ⌝ }
-    ensures { λ r. ⌜ Told «rule_count» (now (units .entry)) (now (predecessors .entry)) (now (inputs .entry)) u r ⌝ }
+fn unit_at(plan: Plan, head_atoms: HeadAtoms, u: usize) -> Unit
+    requires { ⌜ Setting plan «head_atoms» × (u < plan .«unit_count») ⌝ }
+    ensures { λ r. ⌜ Told (unitsOf plan) u r ⌝ }
 {
     Unit {
-        rules: atoms::cut(units[u], atoms::first(rule_count)),
-        inputs: inputs[u],
-        predecessors: predecessors[u],
-        nearest: nearest(heads, predecessors[u]),
+        rules: atoms::cut(plan.units[u], atoms::first(plan.rule_count)),
+        inputs: head_atoms.inputs[u],
+        predecessors: plan.predecessors[u],
+        nearest: nearest(&head_atoms.heads, plan.predecessors[u]),
     }
 }
 
-// Works the units, lowest number first among those whose predecessors are done.
-pub fn work_units(
-    rules: &[u64],
-    rule_count: usize,
-    units: &[u64],
-    unit_count: usize,
-    predecessors: &[u64],
-    heads: &[u64],
-    inputs: &[u64],
+// Lists unit u, whose predecessors are listed. Whether its list fits.
+fn list_unit(
+    plan: Plan,
+    head_atoms: HeadAtoms,
+    u: usize,
     table: &mut [u64],
     counts: &mut [usize],
-) -> Work
-    requires { ⌜ Setting (now rules) «rule_count» (now units) «unit_count» (now predecessors) (now heads) (now inputs) × Working (unitsOf (now rules) «rule_count» (now units) «unit_count» (now predecessors)) 0 (now table) (now table) (now counts) ⌝ }
-    ensures { λ r. ⌜ UnitsWorked (unitsOf (now (rules .entry)) «rule_count» (now (units .entry)) «unit_count» (now (predecessors .entry))) (now (table .entry)) (now (table .exit)) (now (counts .exit)) r ⌝ }
+) -> bool
+    requires { ⌜ Setting plan «head_atoms» × (u < plan .«unit_count») × ListsThere (unitsOf plan) (Edge (unitsOf plan) u) (now table) (now counts) ⌝ }
+    ensures { λ r. ⌜ MembersStored (unitList (unitsOf plan) u) u
+        (now (table .entry)) (now (counts .entry)) (now (table .exit)) (now (counts .exit)) r ⌝ }
+{
+    let rules = plan.rules;
+    let heads = head_atoms.heads;
+    let within = heads[u];
+    let unit = unit_at(plan, head_atoms, u);
+    list_one(&rules, &heads, unit, within, u, table, counts)
+}
+
+// Lists the units, lowest number first among those whose predecessors are done.
+fn list_units(plan: Plan, head_atoms: HeadAtoms, table: &mut [u64], counts: &mut [usize]) -> Work
+    requires { ⌜ Setting plan «head_atoms» × Working (unitsOf plan) 0 (now table) (now table) (now counts) ⌝ }
+    ensures { λ r. ⌜ UnitsWorked (unitsOf plan) (now (table .entry)) (now (table .exit)) (now (counts .exit)) r ⌝ }
 {
     let mut done = 0;
-    let mut left = unit_count;
+    let mut left = plan.unit_count;
     while 0 < left {
-        let u = next_unit(predecessors, unit_count, done);
-        if unit_count <= u {
+        let u = next_unit(plan, done);
+        if plan.unit_count <= u {
             return Work::Fits;
         }
-        let unit = unit_at(rule_count, units, predecessors, heads, inputs, u);
-        if !work_list(
-            rules,
-            heads,
-            unit,
-            heads[u],
-            LIST_WORDS * u,
-            u,
-            table,
-            counts,
-        ) {
+        if !list_unit(plan, head_atoms, u, table, counts) {
             return Work::Long(u);
         }
         done = atoms::union(done, atoms::single(u));
@@ -133,40 +128,36 @@ pub fn work_units(
     Work::Fits
 }
 
-// The last list: that of one more unit, with no rules and an edge to every unit.
-pub fn work_last(
-    rules: &[u64],
-    unit_count: usize,
-    heads: &[u64],
-    table: &mut [u64],
-    counts: &mut [usize],
-) -> bool
-    requires { ⌜ LastLent «unit_count» (now table) (now counts) (now heads) ⌝ }
-    ensures { λ r. ⌜ LastWorked (now (rules .entry)) «unit_count» (now (heads .entry)) (now (table .entry)) (now (counts .entry)) (now (table .exit)) (now (counts .exit)) r ⌝ }
+// What the search is told of the one more unit, with no rules and an edge to every unit.
+fn last_unit(plan: Plan, head_atoms: HeadAtoms) -> Unit
+    requires { ⌜ Setting plan «head_atoms» ⌝ }
+    ensures { λ r. ⌜ Told (withLast (unitsOf plan)) (plan .«unit_count») r ⌝ }
 {
-    let every = atoms::first(unit_count);
-    let inputs = union_of(heads, unit_count, every);
-    let unit = Unit {
+    let heads = head_atoms.heads;
+    let every = atoms::first(plan.unit_count);
+    Unit {
         rules: 0,
-        inputs,
+        inputs: atoms::union_of(&heads, plan.unit_count, every),
         predecessors: every,
-        nearest: nearest(heads, every),
-    };
-    work_list(
-        rules,
-        heads,
-        unit,
-        inputs,
-        LAST_LIST,
-        LAST_COUNT,
-        table,
-        counts,
-    )
+        nearest: nearest(&heads, every),
+    }
+}
+
+// The last list, where all units are listed. Whether it fits.
+fn list_last(plan: Plan, head_atoms: HeadAtoms, table: &mut [u64], counts: &mut [usize]) -> bool
+    requires { ⌜ Setting plan «head_atoms» × ListsThere (unitsOf plan) (λ v. v < plan .«unit_count») (now table) (now counts) ⌝ }
+    ensures { λ r. ⌜ MembersStored (lastList (unitsOf plan)) LAST_COUNT
+        (now (table .entry)) (now (counts .entry)) (now (table .exit)) (now (counts .exit)) r ⌝ }
+{
+    let rules = plan.rules;
+    let heads = head_atoms.heads;
+    let unit = last_unit(plan, head_atoms);
+    list_one(&rules, &heads, unit, unit.inputs, LAST_COUNT, table, counts)
 }
 
 // Refuses by 15: the table's words 0 to 4,351 become zero.
 fn refuse_long(u: usize, table: &mut [u64]) -> Listing
-    requires { ⌜ 4352 ≤ length (now table) ⌝ }
+    requires { ⌜ TABLE_WORDS ≤ length (now table) ⌝ }
     ensures refused { λ r. ⌜ r ≡ refusal (LongList u) ⌝ }
     ensures emptied { λ _. ⌜ now (table .exit) ≡ cleared (now (table .entry)) ⌝ }
 {
@@ -174,76 +165,23 @@ fn refuse_long(u: usize, table: &mut [u64]) -> Listing
     refuse(Fault::LongList(u))
 }
 
-// Unit work where the head atoms of the units are known: all lists, or the first that is above 256.
-fn work_lists(
-    rules: &[u64],
-    rule_count: usize,
-    units: &[u64],
-    unit_count: usize,
-    predecessors: &[u64],
-    heads: &[u64],
-    inputs: &[u64],
-    table: &mut [u64],
-) -> Listing
-    requires { ⌜ Setting (now rules) «rule_count» (now units) «unit_count» (now predecessors) (now heads) (now inputs) × (4352 ≤ length (now table)) ⌝ }
-    ensures { λ r. ⌜ Handed (workFrom (unitsOf (now (rules .entry)) «rule_count» (now (units .entry)) «unit_count» (now (predecessors .entry))) (now (table .entry)) (workingOrder (unitsOf (now (rules .entry)) «rule_count» (now (units .entry)) «unit_count» (now (predecessors .entry))))) r (now (table .exit)) ⌝ }
+// Unit work on a plan that passed the graph place: all lists, or the first that is above 256.
+pub fn unit_work(plan: Plan, table: &mut [u64]) -> Listing
+    requires { ⌜ Workable plan × (TABLE_WORDS ≤ length (now table)) ⌝ }
+    ensures { λ r. ⌜ Handed (unitWork (unitsOf plan) (now (table .entry))) r (now (table .exit)) ⌝ }
 {
     clear(table);
+    let head_atoms = head_atoms(plan);
     let mut counts = [0usize; COUNTS];
-    let worked = work_units(
-        rules,
-        rule_count,
-        units,
-        unit_count,
-        predecessors,
-        heads,
-        inputs,
-        table,
-        &mut counts,
-    );
+    let worked = list_units(plan, head_atoms, table, &mut counts);
     if let Work::Long(u) = worked {
         return refuse_long(u, table);
     }
-    if !work_last(rules, unit_count, heads, table, &mut counts) {
-        return refuse_long(unit_count, table);
+    if !list_last(plan, head_atoms, table, &mut counts) {
+        return refuse_long(plan.unit_count, table);
     }
     Listing {
         outcome: Outcome::Accepted,
         counts,
     }
-}
-
-// Unit work on a plan that passed the graph place.
-pub fn work_plan(
-    rules: &[u64],
-    rule_count: usize,
-    units: &[u64],
-    unit_count: usize,
-    predecessors: &[u64],
-    table: &mut [u64],
-) -> Listing
-    requires { ⌜ Workable (now rules) «rule_count» (now units) «unit_count» (now predecessors) (now table) ⌝ }
-    ensures { λ r. ⌜ Handed (workFrom (unitsOf (now (rules .entry)) «rule_count» (now (units .entry)) «unit_count» (now (predecessors .entry))) (now (table .entry)) (workingOrder (unitsOf (now (rules .entry)) «rule_count» (now (units .entry)) «unit_count» (now (predecessors .entry))))) r (now (table .exit)) ⌝ }
-{
-    let mut heads = [0u64; MAX_UNITS];
-    let mut inputs = [0u64; MAX_UNITS];
-    fill_head_atoms(
-        rules,
-        rule_count,
-        units,
-        unit_count,
-        predecessors,
-        &mut heads,
-        &mut inputs,
-    );
-    work_lists(
-        rules,
-        rule_count,
-        units,
-        unit_count,
-        predecessors,
-        &heads,
-        &inputs,
-        table,
-    )
 }

@@ -2,15 +2,16 @@
 use Prim.Native.Nat.{_-_}
 use borrow.Author.Needs.{needs}
 use borrow.Author.Tests.{ltb-true, ltb-false}
+use Rattle.plan.specs.Limits.{COUNTS}
 use Rattle.exports.proofs.Copying.{Copying, copying-start, copying-more, copying-all, copying-full}
 use Rattle.exports.proofs.copy_counts.Statement.{statement}
 use Rattle.exports.proofs.copy_counts.Tie as tie
 
 abbrev Inv-loop : tie.InvT-loop
-Inv-loop counts₀ from i₀ counts i = Copying 17 from counts₀ counts i
+Inv-loop counts₀ from i₀ counts i = Copying COUNTS from counts₀ counts i
 
 abbrev μ-loop : tie.MeasureT-loop
-μ-loop counts₀ from i₀ counts i = 17 - i
+μ-loop counts₀ from i₀ counts i = COUNTS - i
 
 loop-holds : tie.Need-loop-holds Inv-loop μ-loop
 loop-holds c = copying-start (search needs)

@@ -5,6 +5,7 @@ use native.Mathlib.Omega.{arith}
 use denote.Ref.{now}
 use lib.ListN.{length}
 use Rattle.sheet.specs.Sheet.{refusalSheet}
+use Rattle.plan.specs.Limits.{TABLE_WORDS}
 use Rattle.plan.specs.declared.fault.Outcome.the-variants.{Accepted}
 use Rattle.unit_lists.specs.Answer.{Answer, answer}
 use Rattle.plan_sheet.specs.Sheets.{sheetOf}
@@ -27,7 +28,7 @@ accepted : (c : tie.After-enum-told) → answered (listed c) .outcome ≡ Accept
 accepted c = sym (listed c .list-positions .ensures .0 .outcome-is) ∙ c .enum-told .given .1
 
 -- a plan that is listed came with a long enough table
-long : (c : tie.After-enum-told) → 4352 ≤ length (listed c .list-positions .last .1 .0)
+long : (c : tie.After-enum-told) → TABLE_WORDS ≤ length (listed c .list-positions .last .1 .0)
 long c = omega (arith, accepted-long _ (now (start (listed c) .args .table)) (accepted c), listed c .list-positions .kept .1 .0)
 
 returns : tie.Need-returns

@@ -6,31 +6,20 @@ use native.Mathlib.Omega.{arith}
 use denote.Ref.{now}
 use lib.ListN.{length, drop, replicate, set, length-set}
 use borrow.Author.Fill.{fill-none, fill-more}
-use Rattle.unit_lists.proofs.Storing.{cleared-is}
+use Rattle.plan.specs.Limits.{TABLE_WORDS}
+use Rattle.unit_lists.proofs.HeldLists.{cleared-is}
 use Rattle.unit_lists.proofs.table.clear.Statement.{statement}
 use Rattle.unit_lists.proofs.table.clear.Tie as tie
 
 abbrev Inv-loop : tie.InvT-loop
 Inv-loop table₀ i₀ table i =
-    (i ≤ 4352) × (length table ≡ length table₀) × (table ≡ replicate i 0 ++ drop i table₀)
+    (i ≤ TABLE_WORDS) × (length table ≡ length table₀) × (table ≡ replicate i 0 ++ drop i table₀)
 
 abbrev μ-loop : tie.MeasureT-loop
-μ-loop table₀ i₀ table i = 4352 - i
+μ-loop table₀ i₀ table i = TABLE_WORDS - i
 
 loop-holds : tie.Need-loop-holds Inv-loop μ-loop
 loop-holds c = (omega arith, refl, fill-none (now (c .args .table)) 0)
-
-mul-table : tie.Need-mul-table Inv-loop μ-loop
-mul-table c = omega arith
-
-slice-write-table : tie.Need-slice-write-table Inv-loop μ-loop
-slice-write-table c = omega arith
-
-add-i : tie.Need-add-i Inv-loop μ-loop
-add-i c = omega arith
-
-loop-less : tie.Need-loop-less Inv-loop μ-loop
-loop-less c = omega arith
 
 loop-again : tie.Need-loop-again Inv-loop μ-loop
 loop-again c =
@@ -56,10 +45,10 @@ clear-spec =
     Inv-loop
     μ-loop
     loop-holds
-    mul-table
-    slice-write-table
-    add-i
-    loop-less
+    (λ c. omega arith)
+    (λ c. omega arith)
+    (λ c. omega arith)
+    (λ c. omega arith)
     loop-again
     same-length
     returns)

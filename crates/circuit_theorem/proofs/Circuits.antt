@@ -5,6 +5,7 @@ use mathlib.Core.Path.{_≡_, refl}
 use mathlib.Core.List.{List, [], _∷_, _++_, map}
 use Rattle.atoms.specs.Word.{has, subset, apart, _∩_, _∪_, _∖_, atom, below}
 use Rattle.atoms.specs.Bounded.{allBelow, someBelow, wordBelow, unionIn}
+use Rattle.atoms.specs.Collected.{lowest, lowestOf}
 use Rattle.atoms.specs.Rising.{members}
 use Rattle.answer_sets.specs.Lent.{lent}
 use Rattle.answer_sets.specs.Test.{body, satisfies, satisfiesAll, kept, keptIf, someSmaller, answerSet}
@@ -16,16 +17,15 @@ use Rattle.plan.specs.declared.fault.Fault.the-variants.{Cycle, NonmonotonicUns
 use Rattle.plan.specs.declared.record.Plan.{Plan}
 use Rattle.plan.specs.declared.fault.Outcome.{Outcome}
 use Rattle.plan.specs.declared.fault.Outcome.the-variants.{Accepted, Refused}
-use Rattle.dependency_graph.specs.Heads.{reachVia, reach, own, heads, inputHeads}
-use Rattle.dependency_graph.specs.Lowest.{lowest, lowestOf}
+use Rattle.dependency_graph.specs.Heads.{through, reachVia, reach, own, heads, inputHeads}
 use Rattle.dependency_graph.specs.Order.{ready, nextUnit, orderFrom, workingOrder}
-use Rattle.dependency_graph.specs.Slices.{unitsOf}
-use Rattle.dependency_graph.specs.Offenders.{unionBelow, twiceBelow, seen, unseenHeads, clashing, covered}
-use Rattle.dependency_graph.specs.Offenders.{unplaced, shared, cyclic, nonmonotonicUnseen, monotonicUnseen}
-use Rattle.dependency_graph.specs.Check.{row, dependenceRows, verdict}
+use Rattle.dependency_graph.specs.PlanUnits.{unitsOf}
+use Rattle.dependency_graph.specs.Offenders.{unionBelow, twiceBelow, seen, unseenHeads, nonmonotonicUnseenIn, monotonicSeenIn}
+use Rattle.dependency_graph.specs.Offenders.{ruleInNoUnit, headedRuleInSeveral, cycle, nonmonotonicUnseen, monotonicUnseen}
+use Rattle.dependency_graph.specs.Check.{row, verdict}
 use Rattle.splitting.specs.UnitList.{withLast}
 use Rattle.unit_lists.specs.Lists.{isInput, inList, unitList, lastList}
-use Rattle.unit_lists.specs.Answer.{planUnits, workFrom, afterGraph, afterReading}
+use Rattle.unit_lists.specs.Answer.{unlessRefused, workFrom, afterGraph}
 
 -- a word below 256 in a plan
 abbrev word : ℕ → List ℕ
@@ -83,16 +83,17 @@ results =
 -- an outcome, with the last list where the plan is accepted
 unfoldable pub withLastList : Plan → Outcome → Outcome × List ℕ
 withLastList p (Refused f) = (Refused f, [])
-withLastList p Accepted = (Accepted, lastList (planUnits p))
+withLastList p Accepted = (Accepted, lastList (unitsOf p))
 
 -- what `answer` says of the bytes, where the table is long enough: its outcome, and the list that goes to word 4,096
 unfoldable pub shown : List ℕ → Outcome × List ℕ
-shown bytes = withLastList (reading bytes .plan) (afterReading (reading bytes .plan) [] (reading bytes .outcome) .outcome)
+shown bytes =
+    withLastList (reading bytes .plan) (unlessRefused (reading bytes .outcome) [] (afterGraph (unitsOf (reading bytes .plan)) []) .outcome)
 
 pub circuits : map shown plans ≡ results
 unfolding shown withLastList reading walk commandAt ofKind kindOf carrying lateRule lateUnit emptyRule absentRule badEdge emptyPlan withRule withUnit
-    withEdge number wordAt planUnits afterReading afterGraph workFrom lastList unitList inList isInput members allBelow someBelow wordBelow unionIn
-    unionBelow twiceBelow heads inputHeads own reach reachVia withLast unitsOf lent answerSet someSmaller satisfiesAll satisfies body kept keptIf has
-    subset apart _∩_ _∪_ _∖_ atom below verdict dependenceRows row unplaced shared cyclic nonmonotonicUnseen monotonicUnseen clashing covered
+    withEdge number wordAt unlessRefused workFrom lastList unitList inList isInput members allBelow someBelow wordBelow unionIn
+    unionBelow twiceBelow heads inputHeads own reach reachVia through withLast unitsOf lent answerSet someSmaller satisfiesAll satisfies body kept keptIf has
+    subset apart _∩_ _∪_ _∖_ atom below verdict row ruleInNoUnit headedRuleInSeveral cycle nonmonotonicUnseen monotonicUnseen nonmonotonicUnseenIn monotonicSeenIn
     seen unseenHeads lowestOf lowest workingOrder orderFrom nextUnit ready
 circuits = refl

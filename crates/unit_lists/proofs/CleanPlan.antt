@@ -6,10 +6,9 @@ use Rattle.reading.specs.Reading.{reading}
 use Rattle.reading.specs.Layout.{IsByte, All}
 use Rattle.reading.proofs.Accepted.{predecessors-there}
 use Rattle.plan.specs.declared.fault.Outcome.the-variants.{Accepted}
-use Rattle.dependency_graph.specs.Slices.{unitsOf}
+use Rattle.dependency_graph.specs.PlanUnits.{unitsOf}
 use Rattle.splitting.specs.UnitList.{Clean}
-use Rattle.unit_lists.specs.Answer.{planUnits}
 
-pub plan-clean : (bytes : List ℕ) → All IsByte bytes → reading bytes .outcome ≡ Accepted → Clean (planUnits (reading bytes .plan))
-unfolding planUnits unitsOf
+pub plan-clean : (bytes : List ℕ) → All IsByte bytes → reading bytes .outcome ≡ Accepted → Clean (unitsOf (reading bytes .plan))
+unfolding unitsOf
 plan-clean bytes b e = record { there = predecessors-there bytes b e }

@@ -2,8 +2,8 @@
 use borrow.Author.Needs.{needs}
 use Rattle.unit_lists.specs.Handed.{refusal}
 use Rattle.unit_lists.specs.Table.{noCounts}
-use Rattle.unit_lists.proofs.refuse.Statement.{statement}
-use Rattle.unit_lists.proofs.refuse.Tie as tie
+use Rattle.unit_lists.proofs.listing.refuse.Statement.{statement}
+use Rattle.unit_lists.proofs.listing.refuse.Tie as tie
 
 returns : tie.Need-returns
 unfolding refusal noCounts

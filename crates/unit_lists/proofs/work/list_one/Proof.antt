@@ -1,0 +1,69 @@
+-- The search from the start, and the store of what it found.
+use mathlib.Core.Path.{refl, ap, _∙_}
+use mathlib.Core.Bool.{true≢false, false≢true}
+use denote.Ref.{now}
+use lib.Seq.{paste}
+use borrow.Author.Needs.{needs}
+use Prim.Native.Nat.{_*_}
+use Rattle.plan.specs.Limits.{LIST_WORDS}
+use Rattle.unit_search.proofs.Gathered.{gathered-ordered}
+use Rattle.unit_lists.proofs.RisingLists.{zeros-ordered}
+use Rattle.unit_lists.proofs.work.list_one.Statement.{statement}
+use Rattle.unit_lists.proofs.work.list_one.Tie as tie
+
+abbrev start : tie.After-search → tie.Start
+start c = c .before .before .before .before .before .before .before .before .before
+
+search-requires : tie.Need-search-requires
+search-requires c κs = (c .before .before .before .before .before .before .before .before .pre .0, zeros-ordered)
+
+returns : tie.Need-returns
+returns c =
+    let done = c .before .before in
+    record {
+      list = done .search .last .1 .1 .1 .1 .1 .0;
+      count = done .search .result;
+      gathered = rw (done .before .before .before .before .outside .ensures) at (done .search .ensures);
+      word = start done .fits .within .fits;
+      when-fits = λ e. absurd (false≢true e);
+      when-long = λ e. (c .if1 .taken, refl, refl);
+    }
+
+returns-2 : tie.Need-returns-2
+returns-2 c =
+    let stored = c .before .before in
+    let few = stored .before .before .before in
+    let done = few .before .before in
+    let list = done .search .last .1 .1 .1 .1 .1 .0 in
+    record {
+      list = list;
+      count = done .search .result;
+      gathered = rw (done .before .before .before .before .outside .ensures) at (done .search .ensures);
+      word = start done .fits .within .fits;
+      when-fits = λ e. (
+        few .if1 .left,
+        stored .store .ensures ∙ ap (paste (now (start done .args .table)) (LIST_WORDS * start done .args .place) list)
+            (gathered-ordered (few .if1 .left) (done .search .ensures) .long),
+        refl,
+      );
+      when-long = λ e. absurd (true≢false e);
+    }
+
+pub list-one-spec : {M : Type 1} → statement M
+list-one-spec =
+    tie.close
+    (tie.spec
+    (λ c κs. search needs)
+    (λ c. search needs)
+    search-requires
+    (λ c. search needs)
+    (λ c. search needs)
+    returns
+    (λ c. search needs)
+    (λ c. search needs)
+    (λ c κs. search needs)
+    (λ c. search needs)
+    (λ c. search needs)
+    (λ c. search needs)
+    (λ c. search needs)
+    returns-2)

@@ -1,0 +1,57 @@
+-- What the search finds of the unit is its list.
+use mathlib.Core.Path.{_≡_}
+use native.Mathlib.Omega.{arith}
+use borrow.Author.Needs.{needs}
+use denote.Ref.{now}
+use lib.ListN.{length, getD}
+use Rattle.plan.specs.Limits.{MAX_RULES, MAX_UNITS}
+use Rattle.dependency_graph.specs.PlanUnits.{unitsOf}
+use Rattle.unit_lists.proofs.Joined.{Listable, searchable, unit-stored}
+use Rattle.unit_lists.proofs.LastUnit.{unit-listable}
+use Rattle.unit_lists.proofs.work.list_unit.Statement.{statement}
+use Rattle.unit_lists.proofs.work.list_unit.Tie as tie
+
+abbrev start : tie.After-unit-at → tie.Start
+start c = c .before .before .before .before .before
+
+listable : (c : tie.After-unit-at)
+    → Listable (unitsOf (start c .args .plan)) (start c .args .u) (start c .args .plan .rules) (start c .args .head-atoms .heads)
+    (now (start c .args .table)) (now (start c .args .counts))
+listable c =
+    let at = start c .args in
+    let pre = start c .pre in
+    let rules : length (at .plan .rules) ≡ 192 = search needs in
+    let heads : length (at .head-atoms .heads) ≡ MAX_UNITS = search needs in
+    unit-listable (pre .0) (at .u) (omega (arith, pre .0 .workable .fits .rules-fit)) (omega arith) (pre .1) (pre .2)
+
+list-one-requires : tie.Need-list-one-requires
+list-one-requires c κs =
+    let told = c .before .before .before .before in
+    let pre = start told .pre in (
+      searchable (listable told) (told .unit-at .ensures),
+      omega (arith, pre .1, pre .2 .table-long, pre .0 .workable .fits .units-fit),
+      omega (arith, pre .1, pre .2 .counts-long, pre .0 .workable .fits .units-fit),
+    )
+
+returns : tie.Need-returns
+returns c =
+    let done = c .before .before .before .before in
+    let told = done .before .before .before .before .before in
+    let at = start told .args in
+    let pre = start told .pre in
+    unit-stored (listable told) (told .unit-at .ensures) (getD (at .head-atoms .heads) (at .u) 0) (at .u)
+    (pre .0 .heads-of .heads-are (at .u) (pre .1)) (done .list-one .ensures)
+
+pub list-unit-spec : {M : Type 1} → statement M
+list-unit-spec =
+    tie.close
+    (tie.spec
+    (λ c. search needs)
+    (λ c. search needs)
+    (λ c κs. search needs)
+    (λ c. search needs)
+    (λ c. search needs)
+    list-one-requires
+    (λ c. search needs)
+    (λ c. search needs)
+    returns)

@@ -1,0 +1,113 @@
+-- The lists of the units that are done are in the table, and the work that is left is the same (Turn).
+use mathlib.Core.Path.{_≡_, sym, _∙_}
+use Prim.Native.Nat.{_<_}
+use native.Mathlib.Omega.{arith}
+use borrow.Author.Needs.{needs}
+use denote.Ref.{now}
+use lib.ListN.{length}
+use borrow.Author.Tests.{not-true, not-false}
+use Rattle.dependency_graph.specs.PlanUnits.{unitsOf}
+use Rattle.unit_lists.proofs.HeldLists.{held-long, held-counts-long}
+use Rattle.unit_lists.proofs.WorkOrder.{Turn, turn-start, turn-there, turn-next, turn-too-long, turn-stop, turn-end}
+use Rattle.unit_lists.proofs.work.list_units.Statement.{statement}
+use Rattle.unit_lists.proofs.work.list_units.Tie as tie
+
+abbrev Inv-loop : tie.InvT-loop
+Inv-loop plan head-atoms table₀ counts₀ done₀ left₀ table counts done left = Turn (unitsOf plan) table₀ table counts done left
+
+abbrev μ-loop : tie.MeasureT-loop
+μ-loop plan head-atoms table₀ counts₀ done₀ left₀ table counts done left = left
+
+abbrev start : tie.At-loop Inv-loop μ-loop → tie.Start Inv-loop μ-loop
+start c = c .before .before .before
+
+abbrev turn : tie.After-next-unit Inv-loop μ-loop → tie.At-loop Inv-loop μ-loop
+turn c = c .before .before
+
+-- a unit is found that is ready
+abbrev found : tie.Else1 Inv-loop μ-loop → tie.After-next-unit Inv-loop μ-loop
+found c = c .before .before
+
+abbrev listed : tie.After-list-unit Inv-loop μ-loop → tie.Else1 Inv-loop μ-loop
+listed c = c .before .before .before
+
+there : (c : tie.Else1 Inv-loop μ-loop) → found c .next-unit .result < start (turn (found c)) .args .plan .«unit_count»
+there c = omega arith
+
+counts-kept : (c : tie.At-loop Inv-loop μ-loop) → length (c .loop .counts) ≡ length (now (start c .args .counts))
+counts-kept c = held-counts-long (c .loop .inv .working .holding) ∙ sym (held-counts-long (start c .pre .1 .holding))
+
+loop-holds : tie.Need-loop-holds Inv-loop μ-loop
+unfolding unitsOf
+loop-holds c = turn-start (c .before .before .pre .0 .workable .passes .acyclic) (c .before .before .pre .1)
+
+next-unit-requires : tie.Need-next-unit-requires Inv-loop μ-loop
+next-unit-requires c κs = start (c .before) .pre .0 .workable .fits
+
+returns : tie.Need-returns Inv-loop μ-loop
+unfolding unitsOf
+returns c =
+    let next = c .before .before in
+    turn-stop (turn next .loop .inv) (rw (next .next-unit .ensures) at (c .if1 .taken))
+
+list-unit-requires : tie.Need-list-unit-requires Inv-loop μ-loop
+unfolding unitsOf
+list-unit-requires c κs =
+    let next = found (c .before .before) in (
+      start (turn next) .pre .0,
+      there (c .before .before),
+      turn-there (turn next .loop .inv) (next .before .loop-test .taken) (next .next-unit .ensures) (there (c .before .before)),
+    )
+
+returns-2 : tie.Need-returns-2 Inv-loop μ-loop
+unfolding unitsOf
+returns-2 c =
+    let done = c .before .before .before .before .before in
+    let next = found (listed done) in
+    turn-too-long (turn next .loop .inv) (next .before .loop-test .taken) (next .next-unit .ensures) (there (listed done)) (done .list-unit .ensures)
+    (not-true (done .list-unit .result) (c .if2 .taken))
+
+single-requires : tie.Need-single-requires Inv-loop μ-loop
+single-requires c κs =
+    let next = listed (c .before .before .before .before .before) in
+    omega (arith, there next, start (turn (found next)) .pre .0 .workable .fits .units-fit)
+
+loop-again : tie.Need-loop-again Inv-loop μ-loop
+unfolding unitsOf
+loop-again c =
+    let done = c .before .before .before .before .before .before .before in
+    let next = found (listed done) in
+    rw (c .union .ensures, c .before .single .ensures)
+    (turn-next (turn next .loop .inv) (next .before .loop-test .taken) (next .next-unit .ensures) (there (listed done)) (done .list-unit .ensures)
+    (not-false (done .list-unit .result) (c .before .before .if2 .left)))
+
+returns-3 : tie.Need-returns-3 Inv-loop μ-loop
+returns-3 c = turn-end (c .before .loop .inv) (omega arith)
+
+pub list-units-spec : {M : Type 1} → statement M
+list-units-spec =
+    tie.close
+    (tie.spec
+    Inv-loop
+    μ-loop
+    loop-holds
+    next-unit-requires
+    (λ c. held-long (turn (c .before .before) .loop .inv .working .holding))
+    (λ c. counts-kept (turn (c .before .before)))
+    returns
+    list-unit-requires
+    (λ c.
+    let done = c .before .before .before .before .before in
+    done .list-unit .kept .1 .1 .1 .0 ∙ held-long (turn (found (listed done)) .loop .inv .working .holding))
+    (λ c.
+    let done = c .before .before .before .before .before in
+    done .list-unit .kept .1 .1 .1 .1 .0 ∙ counts-kept (turn (found (listed done))))
+    returns-2
+    single-requires
+    (λ c κs. search needs)
+    (λ c. omega arith)
+    (λ c. omega arith)
+    loop-again
+    (λ c. held-long (c .before .loop .inv .working .holding))
+    (λ c. counts-kept (c .before))
+    returns-3)
