@@ -94,6 +94,6 @@ pub circuits : map shown plans ≡ results
 unfolding shown withLastList reading walk commandAt ofKind kindOf carrying lateRule lateUnit emptyRule absentRule badEdge emptyPlan withRule withUnit
     withEdge number wordAt unlessRefused workFrom lastList unitList inList isInput members allBelow someBelow wordBelow unionIn
     unionBelow twiceBelow heads inputHeads own reach reachVia through withLast unitsOf lent answerSet someSmaller satisfiesAll satisfies body kept keptIf has
-    subset apart _∩_ _∪_ _∖_ atom below verdict row ruleInNoUnit headedRuleInSeveral cycle nonmonotonicUnseen monotonicUnseen nonmonotonicUnseenIn monotonicSeenIn
-    seen unseenHeads lowestOf lowest workingOrder orderFrom nextUnit ready
+    subset apart _∩_ _∪_ _∖_ atom below verdict row ruleInNoUnit headedRuleInSeveral cycle nonmonotonicUnseen monotonicUnseen nonmonotonicUnseenIn
+    monotonicSeenIn seen unseenHeads lowestOf lowest workingOrder orderFrom nextUnit ready
 circuits = refl

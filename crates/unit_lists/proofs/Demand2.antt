@@ -89,7 +89,8 @@ said-14 (row-14 a b y c l) = (a, b, y, c, l)
 refused : (f : Fault) → 10 ≤ number f → number f ≤ 14 → GraphRefused (Refused f)
 refused f a b = record { fault = f; is = refl; from-10 = a; to-14 = b }
 
-right-refused : {S : Units} {v : Outcome} (table : List ℕ) (next : Answer) → Right S v → ¬ GraphRefused (unlessRefused v table next .outcome) → Passes S
+right-refused : {S : Units} {v : Outcome} (table : List ℕ) (next : Answer) → Right S v
+    → ¬ GraphRefused (unlessRefused v table next .outcome) → Passes S
 unfolding unlessRefused
 right-refused table next (passes p) n = p
 right-refused table next (row-10 l) n = absurd (n (refused _ (omega arith) (omega arith)))

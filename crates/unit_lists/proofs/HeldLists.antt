@@ -89,7 +89,8 @@ module _ {lists : ℕ → List ℕ} {table₀ table counts : List ℕ} (h : Hold
       ∙ drop-at (runs COUNTS (λ i. padded LIST_WORDS (lists i))) (drop TABLE_WORDS table₀) TABLE_WORDS all-runs)
 
   -- one list is stored at its place, and the others stay
-  pub holding-next : (lists′ : ℕ → List ℕ) (v : ℕ) {table′ counts′ : List ℕ} → v < COUNTS → ((j : ℕ) → ¬ (j ≡ v) → lists j ≡ lists′ j)
+  pub holding-next : (lists′ : ℕ → List ℕ) (v : ℕ) {table′ counts′ : List ℕ} → v < COUNTS
+      → ((j : ℕ) → ¬ (j ≡ v) → lists j ≡ lists′ j)
       → length (lists′ v) ≤ LIST_WORDS → table′ ≡ paste table (LIST_WORDS * v) (padded LIST_WORDS (lists′ v)) LIST_WORDS
       → counts′ ≡ set counts v (length (lists′ v)) → Holding lists′ table₀ table′ counts′
   unfolding tableWith countsWith

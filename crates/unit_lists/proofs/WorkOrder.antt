@@ -57,7 +57,8 @@ pub record Turn (S : Units) (table₀ table counts : List ℕ) (done left : ℕ)
   pub order : InOrder S done (orderFrom S left done)
   pub rest : unitWork S table₀ ≡ workFrom S table₀ (orderFrom S left done)
 
-pub turn-start : {S : Units} {table₀ table counts : List ℕ} → Acyclic S → Working S 0 table₀ table counts → Turn S table₀ table counts 0 (S .units)
+pub turn-start : {S : Units} {table₀ table counts : List ℕ} → Acyclic S → Working S 0 table₀ table counts
+    → Turn S table₀ table counts 0 (S .units)
 unfolding workingOrder
 turn-start {S} a w = record { working = w; order = order-right S a; rest = refl }
 
