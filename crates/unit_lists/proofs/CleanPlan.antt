@@ -7,9 +7,8 @@ use native.Mathlib.Omega.{arith}
 use lib.ListN.{length, getD}
 use Rattle.atoms.specs.Word.{Has}
 use Rattle.plan.specs.Limits.{MAX_UNITS}
-use Rattle.plan.specs.Record.{Fitting}
 use Rattle.reading.specs.Reading.{reading}
-use Rattle.reading.specs.Layout.{UnitPair, predecessorsOf, tabulate, recordOf, IsByte, All, GoodEdge, Member, IsPlan}
+use Rattle.reading.specs.Layout.{UnitPair, predecessorsOf, recordOf, IsByte, All, GoodEdge, Member, IsPlan}
 use Rattle.plan.specs.declared.record.Plan.{Plan}
 use Rattle.plan.specs.declared.fault.Outcome.the-variants.{Accepted}
 use Rattle.reading.proofs.Records.{getD-tabulate, has-member}

@@ -1,13 +1,12 @@
 -- The computing lists are those of `Listed`: along edges, since a unit reaches more than any unit it has an edge to.
-use mathlib.Core.Path.{_≡_, refl, sym, ap, _∙_, subst}
-use mathlib.Core.Bool.{Bool, true, false, _&&_}
-use mathlib.Core.List.{List, List·Memᴰ}
+use mathlib.Core.Path.{refl}
+use mathlib.Core.Bool.{Bool, true, false}
+use mathlib.Core.List.{List·Memᴰ}
 use Prim.Native.Nat.{ℕ, zero, suc, _^_, _≤_, _<_}
 use native.Mathlib.Omega.{arith}
 use Rattle.plan.specs.Limits.{MAX_RULES}
-use Rattle.atoms.specs.Word.{Has, _⊆_, subset, _∩_, below}
+use Rattle.atoms.specs.Word.{Has, _⊆_, _∩_, below}
 use Rattle.atoms.specs.Bounded.{Decides, allIn, someBelow}
-use Rattle.atoms.specs.Rising.{members}
 use Rattle.atoms.proofs.Tests.{decides, decides-iff, decides-and, decided-true, not-both}
 use Rattle.atoms.proofs.Sets.{decides-subset, subset-le, lt-of-has, cut-right, below-lt}
 use Rattle.atoms.proofs.Bounded.{decides-some, all-in-at, all-in-intro}
@@ -20,7 +19,7 @@ use Rattle.dependency_graph.specs.Graph.{Passes}
 use Rattle.dependency_graph.specs.Heads.{reach, heads, inputHeads}
 use Rattle.dependency_graph.proofs.Heads.{edge-rank}
 use Rattle.splitting.specs.UnitList.{Listed, listed}
-use Rattle.splitting.proofs.Form.{Member, listed-member}
+use Rattle.splitting.proofs.Form.{listed-member}
 use Rattle.unit_lists.specs.Lists.{isInput, inList, unitList}
 
 -- a rule number is a bit of a word

@@ -6,7 +6,7 @@ use native.Mathlib.Omega.{arith}
 use native.Mathlib.Decide.{ℕ-discrete}
 use lib.ListN.{length, drop, getD, set, replicate, length-append, length-drop, length-replicate}
 use lib.Seq.{paste, drop-at}
-use Rattle.atoms.specs.Lists.{padded, tabulate}
+use Rattle.atoms.specs.Lists.{padded}
 use Rattle.atoms.proofs.Lists.{padded-nil, padded-long, padded-at, tabulate-long, tabulate-same, tabulate-zero, getD-tabulate, set-tabulate}
 use Rattle.plan.specs.Limits.{LIST_WORDS, TABLE_WORDS, COUNTS}
 use Rattle.unit_lists.specs.Table.{runs, tableWith, countsWith, cleared, noCounts}
