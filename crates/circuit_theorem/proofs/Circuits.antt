@@ -20,7 +20,7 @@ use Rattle.plan.specs.declared.fault.Outcome.the-variants.{Accepted, Refused}
 use Rattle.dependency_graph.specs.Heads.{through, reachVia, reach, own, heads, inputHeads}
 use Rattle.dependency_graph.specs.Order.{ready, nextUnit, orderFrom, workingOrder}
 use Rattle.dependency_graph.specs.PlanUnits.{unitsOf}
-use Rattle.dependency_graph.specs.Offenders.{unionBelow, twiceBelow, seen, unseenHeads, nonmonotonicUnseenIn, monotonicSeenIn}
+use Rattle.dependency_graph.specs.Offenders.{twiceBelow, seen, unseenHeads, nonmonotonicUnseenIn, monotonicSeenIn}
 use Rattle.dependency_graph.specs.Offenders.{ruleInNoUnit, headedRuleInSeveral, cycle, nonmonotonicUnseen, monotonicUnseen}
 use Rattle.dependency_graph.specs.Check.{row, verdict}
 use Rattle.splitting.specs.UnitList.{withLast}
@@ -93,7 +93,7 @@ shown bytes =
 pub circuits : map shown plans ≡ results
 unfolding shown withLastList reading walk commandAt ofKind kindOf carrying lateRule lateUnit emptyRule absentRule badEdge emptyPlan withRule withUnit
     withEdge number wordAt unlessRefused workFrom lastList unitList inList isInput members allBelow someBelow wordBelow unionIn
-    unionBelow twiceBelow heads inputHeads own reach reachVia through withLast unitsOf lent answerSet someSmaller satisfiesAll satisfies body kept keptIf has
-    subset apart _∩_ _∪_ _∖_ atom below verdict row ruleInNoUnit headedRuleInSeveral cycle nonmonotonicUnseen monotonicUnseen nonmonotonicUnseenIn monotonicSeenIn
-    seen unseenHeads lowestOf lowest workingOrder orderFrom nextUnit ready
+    twiceBelow heads inputHeads own reach reachVia through withLast unitsOf lent answerSet someSmaller satisfiesAll satisfies body kept keptIf has
+    subset apart _∩_ _∪_ _∖_ atom below verdict row ruleInNoUnit headedRuleInSeveral cycle nonmonotonicUnseen monotonicUnseen nonmonotonicUnseenIn
+    monotonicSeenIn seen unseenHeads lowestOf lowest workingOrder orderFrom nextUnit ready
 circuits = refl

@@ -60,7 +60,8 @@ pub listed-at-most : (bytes table : List ℕ) → answer bytes table .outcome �
 listed-at-most bytes table e =
     let a = answer bytes table in
     let words : List ℕ = take (getD (a .counts) LAST_COUNT 0) (drop LAST_LIST (a .table)) in
-    let few : length words ≤ LIST_WORDS = omega (arith, length-take (getD (a .counts) LAST_COUNT 0) (drop LAST_LIST (a .table)), last-count-at-most bytes table) in
+    let few : length words ≤ LIST_WORDS =
+    omega (arith, length-take (getD (a .counts) LAST_COUNT 0) (drop LAST_LIST (a .table)), last-count-at-most bytes table) in
     omega (arith, ap length (sheet-listed a e), positions-at-most words few)
 
 -- what is shown of a buffer of SHEET_BYTES or more is the sheet

@@ -1,13 +1,12 @@
 -- The computing lists are those of `Listed`: along edges, since a unit reaches more than any unit it has an edge to.
-use mathlib.Core.Path.{_≡_, refl, sym, ap, _∙_, subst}
-use mathlib.Core.Bool.{Bool, true, false, _&&_}
-use mathlib.Core.List.{List, List·Memᴰ}
+use mathlib.Core.Path.{refl}
+use mathlib.Core.Bool.{Bool, true, false}
+use mathlib.Core.List.{List·Memᴰ}
 use Prim.Native.Nat.{ℕ, zero, suc, _^_, _≤_, _<_}
 use native.Mathlib.Omega.{arith}
 use Rattle.plan.specs.Limits.{MAX_RULES}
-use Rattle.atoms.specs.Word.{Has, _⊆_, subset, _∩_, below}
+use Rattle.atoms.specs.Word.{Has, _⊆_, _∩_, below}
 use Rattle.atoms.specs.Bounded.{Decides, allIn, someBelow}
-use Rattle.atoms.specs.Rising.{members}
 use Rattle.atoms.proofs.Tests.{decides, decides-iff, decides-and, decided-true, not-both}
 use Rattle.atoms.proofs.Sets.{decides-subset, subset-le, lt-of-has, cut-right, below-lt}
 use Rattle.atoms.proofs.Bounded.{decides-some, all-in-at, all-in-intro}
@@ -20,7 +19,7 @@ use Rattle.dependency_graph.specs.Graph.{Passes}
 use Rattle.dependency_graph.specs.Heads.{reach, heads, inputHeads}
 use Rattle.dependency_graph.proofs.Heads.{edge-rank}
 use Rattle.splitting.specs.UnitList.{Listed, listed}
-use Rattle.splitting.proofs.Form.{Member, listed-member}
+use Rattle.splitting.proofs.Form.{listed-member}
 use Rattle.unit_lists.specs.Lists.{isInput, inList, unitList}
 
 -- a rule number is a bit of a word
@@ -42,12 +41,17 @@ decides-input S u J inListOf l d =
     decides-iff into from
     (decides-and (decides-subset (S .given) J) (decides-and (decides-subset J (inputHeads S u)) each))
   where
-    each : Decides ((v : ℕ) → v < S .units → Has (S .predecessors u) v → Listed S v (J ∩ heads S v))
-        (allIn (S .units) (S .predecessors u) (λ v. inListOf v (J ∩ heads S v)))
+    to : {v : ℕ} → v < S .units → Has (S .predecessors u) v → Edge S u v
+    to k h = record { is-unit = l; is-predecessor = k; edge = h }
+
+    test : ℕ → Bool
+    test v = inListOf v (J ∩ heads S v)
+
+    each : Decides ((v : ℕ) → v < S .units → Has (S .predecessors u) v → Listed S v (J ∩ heads S v)) (allIn (S .units) (S .predecessors u) test)
     each =
-        decides (allIn (S .units) (S .predecessors u) (λ v. inListOf v (J ∩ heads S v)))
-        (λ e v k h. d v (J ∩ heads S v) (record { is-unit = l; is-predecessor = k; edge = h }) .yes (all-in-at (S .units) (S .predecessors u) (λ w. inListOf w (J ∩ heads S w)) e v k h))
-        (λ f. all-in-intro (S .units) (S .predecessors u) (λ w. inListOf w (J ∩ heads S w)) (λ v k h. decided-true (d v (J ∩ heads S v) (record { is-unit = l; is-predecessor = k; edge = h })) (f v k h)))
+        decides (allIn (S .units) (S .predecessors u) test)
+        (λ e v k h. d v (J ∩ heads S v) (to k h) .yes (all-in-at (S .units) (S .predecessors u) test e v k h))
+        (λ f. all-in-intro (S .units) (S .predecessors u) test (λ v k h. decided-true (d v (J ∩ heads S v) (to k h)) (f v k h)))
 
     into : (S .given ⊆ J) × ((J ⊆ inputHeads S u) × ((v : ℕ) → v < S .units → Has (S .predecessors u) v → Listed S v (J ∩ heads S v)))
         → Input S u J
@@ -55,16 +59,19 @@ decides-input S u J inListOf l d =
 
     from : Input S u J
         → (S .given ⊆ J) × ((J ⊆ inputHeads S u) × ((v : ℕ) → v < S .units → Has (S .predecessors u) v → Listed S v (J ∩ heads S v)))
-    from i = (i .given-up, (i .within, λ v k h. i .inputs v (record { is-unit = l; is-predecessor = k; edge = h })))
+    from i = (i .given-up, (i .within, λ v k h. i .inputs v (to k h)))
 
--- one step of the definition
+-- one step of the definition: M is an answer set for the input J
+abbrev fromInput : Units → (ℕ → ℕ → Bool) → ℕ → ℕ → ℕ → Bool
+fromInput S inListOf u M J =
+    elim (answerSet (S .program) (S .unit u ∩ below (S .rules)) J M) [ true ↦ isInput S inListOf u J | false ↦ false ]
+
 decides-step : (S : Units) (u M : ℕ) (inListOf : ℕ → ℕ → Bool) → S .rules ≤ MAX_RULES → u < S .units
     → ((v N : ℕ) → Edge S u v → Decides (Listed S v N) (inListOf v N))
-    → Decides (Listed S u M)
-    (someBelow (suc (inputHeads S u)) (λ J. elim (answerSet (S .program) (S .unit u ∩ below (S .rules)) J M) [ true ↦ isInput S inListOf u J | false ↦ false ]))
+    → Decides (Listed S u M) (someBelow (suc (inputHeads S u)) (fromInput S inListOf u M))
 decides-step S u M inListOf small l d =
     decides-iff into from
-    (decides-some (suc (inputHeads S u)) (λ J. elim (answerSet (S .program) (S .unit u ∩ below (S .rules)) J M) [ true ↦ isInput S inListOf u J | false ↦ false ])
+    (decides-some (suc (inputHeads S u)) (fromInput S inListOf u M)
     (λ J k.
     lazily (decides-answer-set (S .program) (S .unit u ∩ below (S .rules)) J M (numbers-fit S u small)) (decides-input S u J inListOf l d)))
   where

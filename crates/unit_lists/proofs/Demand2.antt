@@ -7,7 +7,7 @@ use native.Mathlib.Omega.{arith}
 use native.Mathlib.Decide.{decLt}
 use lib.ListN.{length}
 use Rattle.atoms.specs.Collected.{Least}
-use Rattle.plan.specs.Limits.{MAX_RULES, LIST_WORDS, TABLE_WORDS}
+use Rattle.plan.specs.Limits.{MAX_RULES, LIST_WORDS}
 use Rattle.plan.specs.Faults.{number}
 use Rattle.plan.specs.declared.fault.Fault.{Fault}
 use Rattle.plan.specs.declared.fault.Fault.the-variants.{LongList}
@@ -21,7 +21,7 @@ use Rattle.dependency_graph.specs.Offenders.{RuleInNoUnit, HeadedRuleInSeveral,
 use Rattle.dependency_graph.specs.Order.{workingOrder}
 use Rattle.dependency_graph.specs.PlanUnits.{unitsOf}
 use Rattle.dependency_graph.specs.Check.{verdict, Right, passes, row-10, row-11, row-12, row-13, row-14}
-use Rattle.dependency_graph.proofs.Verdicts.{passes-of-verdict, verdict-of-passes, verdict-right, verdict-only}
+use Rattle.dependency_graph.proofs.Verdicts.{verdict-of-passes, verdict-right, verdict-only}
 use Rattle.unit_lists.specs.Lists.{unitList, lastList}
 use Rattle.unit_lists.specs.Answer.{Answer, unlessRefused, workFrom, unitWork, afterGraph, answer}
 use Rattle.unit_lists.specs.Handed.{Handed}
@@ -89,7 +89,8 @@ said-14 (row-14 a b y c l) = (a, b, y, c, l)
 refused : (f : Fault) → 10 ≤ number f → number f ≤ 14 → GraphRefused (Refused f)
 refused f a b = record { fault = f; is = refl; from-10 = a; to-14 = b }
 
-right-refused : {S : Units} {v : Outcome} (table : List ℕ) (next : Answer) → Right S v → ¬ GraphRefused (unlessRefused v table next .outcome) → Passes S
+right-refused : {S : Units} {v : Outcome} (table : List ℕ) (next : Answer) → Right S v
+    → ¬ GraphRefused (unlessRefused v table next .outcome) → Passes S
 unfolding unlessRefused
 right-refused table next (passes p) n = p
 right-refused table next (row-10 l) n = absurd (n (refused _ (omega arith) (omega arith)))

@@ -93,7 +93,8 @@ order-small S (v ∷ vs) f u m =
     let small : length (unitList S v) ≤ LIST_WORDS = omega arith in
     go small (List·Memᴰ·cases-cons m) (order-small S vs (λ w g. f w (later small g)) u)
   where
-    go : length (unitList S v) ≤ LIST_WORDS → (u ≡ v) ⊎ List·Memᴰ u vs → (List·Memᴰ u vs → length (unitList S u) ≤ LIST_WORDS) → length (unitList S u) ≤ LIST_WORDS
+    go : length (unitList S v) ≤ LIST_WORDS → (u ≡ v) ⊎ List·Memᴰ u vs → (List·Memᴰ u vs → length (unitList S u) ≤ LIST_WORDS)
+        → length (unitList S u) ≤ LIST_WORDS
     go l (inl e) r = subst (λ (x : ℕ). length (unitList S x) ≤ LIST_WORDS) (sym e) l
     go l (inr k) r = r k
 

@@ -6,7 +6,7 @@ use native.Mathlib.Omega.{arith}
 use native.Mathlib.Decide.{ℕ-discrete}
 use lib.ListN.{length, drop, getD, set, replicate, length-append, length-drop, length-replicate}
 use lib.Seq.{paste, drop-at}
-use Rattle.atoms.specs.Lists.{padded, tabulate}
+use Rattle.atoms.specs.Lists.{padded}
 use Rattle.atoms.proofs.Lists.{padded-nil, padded-long, padded-at, tabulate-long, tabulate-same, tabulate-zero, getD-tabulate, set-tabulate}
 use Rattle.plan.specs.Limits.{LIST_WORDS, TABLE_WORDS, COUNTS}
 use Rattle.unit_lists.specs.Table.{runs, tableWith, countsWith, cleared, noCounts}
@@ -89,7 +89,8 @@ module _ {lists : ℕ → List ℕ} {table₀ table counts : List ℕ} (h : Hold
       ∙ drop-at (runs COUNTS (λ i. padded LIST_WORDS (lists i))) (drop TABLE_WORDS table₀) TABLE_WORDS all-runs)
 
   -- one list is stored at its place, and the others stay
-  pub holding-next : (lists′ : ℕ → List ℕ) (v : ℕ) {table′ counts′ : List ℕ} → v < COUNTS → ((j : ℕ) → ¬ (j ≡ v) → lists j ≡ lists′ j)
+  pub holding-next : (lists′ : ℕ → List ℕ) (v : ℕ) {table′ counts′ : List ℕ} → v < COUNTS
+      → ((j : ℕ) → ¬ (j ≡ v) → lists j ≡ lists′ j)
       → length (lists′ v) ≤ LIST_WORDS → table′ ≡ paste table (LIST_WORDS * v) (padded LIST_WORDS (lists′ v)) LIST_WORDS
       → counts′ ≡ set counts v (length (lists′ v)) → Holding lists′ table₀ table′ counts′
   unfolding tableWith countsWith

@@ -1,5 +1,5 @@
 -- What the search looks for in the table is what document 01 lists: form A of the splitting theory, told from the stored lists.
-use mathlib.Core.Path.{_≡_, refl, sym, ap, _∙_, subst}
+use mathlib.Core.Path.{_≡_, sym, _∙_, subst}
 use mathlib.Core.Bool.{Bool, true}
 use mathlib.Core.List.{List, List·Memᴰ}
 use Prim.Native.Nat.{ℕ, suc, _+_, _*_, _^_, _≤_, _<_}
@@ -13,7 +13,7 @@ use Rattle.atoms.proofs.Tests.{decided-true}
 use Rattle.atoms.proofs.Sets.{has-dec, has-none, has-lt, lt-of-has, has-outside, outside-lacks, subset-le, cut-right, below-lt}
 use Rattle.atoms.proofs.Bounded.{some-at, some-intro, all-in-at, all-in-intro}
 use Rattle.atoms.proofs.Rising.{members-rising}
-use Rattle.answer_sets.specs.Lent.{lent, Lent}
+use Rattle.answer_sets.specs.Lent.{lent}
 use Rattle.answer_sets.specs.State.{Completes}
 use Rattle.answer_sets.proofs.Judged.{decides-answer-set}
 use Rattle.plan.specs.Limits.{MAX_RULES, MAX_UNITS, RULE_WORDS, LIST_WORDS}
@@ -21,9 +21,9 @@ use Rattle.dependency_graph.specs.Units.{Units, Edge, GivenFree}
 use Rattle.dependency_graph.specs.Graph.{Passes}
 use Rattle.dependency_graph.specs.Heads.{reach, heads, inputHeads}
 use Rattle.splitting.specs.UnitList.{Listed}
-use Rattle.splitting.proofs.Form.{Member, listed-member}
+use Rattle.splitting.proofs.Form.{listed-member}
 use Rattle.unit_search.specs.Listing.{isListed}
-use Rattle.unit_search.specs.Job.{joins, Belongs, Joinable, Searchable, Wanted}
+use Rattle.unit_search.specs.Job.{joins, Belongs, Searchable, Wanted}
 use Rattle.unit_search.specs.declared.unit.Unit.{Unit}
 use Rattle.unit_lists.specs.Lists.{inList, unitList}
 use Rattle.unit_lists.specs.Work.{Told, startWithin, ListStored, MembersStored, Stored, ListsThere}

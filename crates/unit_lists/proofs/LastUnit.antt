@@ -23,9 +23,8 @@ use Rattle.dependency_graph.proofs.Heads.{own-at, heads-cases, heads-input, inp
 use Rattle.dependency_graph.proofs.PlanUnits.{given-free}
 use Rattle.splitting.specs.UnitList.{Clean, withLast}
 use Rattle.splitting.proofs.Last.{last-unit, last-predecessors, holds-old, edge-from-last, old-heads, old-list, last-passes, last-free}
-use Rattle.unit_search.specs.declared.unit.Unit.{Unit}
 use Rattle.unit_lists.specs.Lists.{inList, unitList}
-use Rattle.unit_lists.specs.Work.{Told, Stored, ListsThere, Setting}
+use Rattle.unit_lists.specs.Work.{Told, ListsThere, Setting}
 use Rattle.unit_lists.proofs.Decided.{decides-listed}
 use Rattle.unit_lists.proofs.Joined.{Listable}
 

@@ -1,10 +1,10 @@
 -- Runs of 256 words one behind the other: their length, what stands at an index, and what a store changes.
 use mathlib.Core.Path.{_≡_, refl, sym, ap, ap₂, _∙_}
-use mathlib.Core.List.{List, [], _++_, append-assoc, append-nil}
+use mathlib.Core.List.{List, _++_, append-assoc, append-nil}
 use Prim.Native.Nat.{ℕ, zero, suc, _+_, _*_, _≤_, _<_}
 use native.Mathlib.Omega.{arith}
 use native.Mathlib.Numerals.{add-one}
-use lib.ListN.{length, take, drop, getD, set, replicate, length-append, replicate-append-replicate, List·getD-append}
+use lib.ListN.{length, getD, set, replicate, length-append, replicate-append-replicate, List·getD-append}
 use lib.Seq.{paste, paste-suc, take-all, take-append-add, drop-append-add, drop-at, getD-append-add}
 use Rattle.plan.specs.Limits.{LIST_WORDS}
 use Rattle.unit_lists.specs.Table.{runs}

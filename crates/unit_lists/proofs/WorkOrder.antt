@@ -1,25 +1,19 @@
 -- The units in their order: what is worked is in the table, and what is left of the work stays the same.
-use mathlib.Core.Path.{_≡_, refl, sym, ap, _∙_, subst}
+use mathlib.Core.Path.{_≡_, refl, sym, _∙_, subst}
 use mathlib.Core.Bool.{Bool, true, false}
 use mathlib.Core.List.{List, [], _∷_}
 use Prim.Native.Nat.{ℕ, zero, suc, _-_, _≤_, _<_}
 use native.Mathlib.Omega.{arith}
-use lib.ListN.{length}
 use borrow.Author.Tests.{lt-ltb, le-ltb}
 use Rattle.atoms.specs.Word.{Has, _∪_, atom}
-use Rattle.plan.specs.Limits.{LIST_WORDS}
-use Rattle.plan.specs.declared.fault.Fault.the-variants.{LongList}
 use Rattle.dependency_graph.specs.Units.{Units, Edge}
 use Rattle.dependency_graph.specs.Graph.{Acyclic}
 use Rattle.dependency_graph.specs.Order.{nextUnit, orderFrom, workingOrder, Ready, InOrder, all-done, next}
 use Rattle.dependency_graph.proofs.Order.{next-ready, order-right}
 use Rattle.unit_lists.specs.Lists.{unitList}
-use Rattle.unit_lists.specs.Table.{cleared}
-use Rattle.unit_lists.specs.Answer.{Answer, refuse, workFrom, unitWork}
+use Rattle.unit_lists.specs.Answer.{workFrom, unitWork}
 use Rattle.unit_lists.specs.Work.{MembersStored, ListsThere, Working, UnitsWorked}
-use Rattle.unit_lists.specs.declared.work.Work.{Work}
 use Rattle.unit_lists.specs.declared.work.Work.the-variants.{Fits, Long}
-use Rattle.unit_lists.proofs.HeldLists.{held-long, held-counts-long}
 use Rattle.unit_lists.proofs.WorkedUnits.{working-there, working-next}
 use Rattle.unit_lists.proofs.Answers.{work-fits, work-long}
 
@@ -57,14 +51,12 @@ pub record Turn (S : Units) (table₀ table counts : List ℕ) (done left : ℕ)
   pub order : InOrder S done (orderFrom S left done)
   pub rest : unitWork S table₀ ≡ workFrom S table₀ (orderFrom S left done)
 
-pub turn-start : {S : Units} {table₀ table counts : List ℕ} → Acyclic S → Working S 0 table₀ table counts → Turn S table₀ table counts 0 (S .units)
+pub turn-start : {S : Units} {table₀ table counts : List ℕ} → Acyclic S → Working S 0 table₀ table counts
+    → Turn S table₀ table counts 0 (S .units)
 unfolding workingOrder
 turn-start {S} a w = record { working = w; order = order-right S a; rest = refl }
 
 module _ {S : Units} {table₀ table counts : List ℕ} {done left : ℕ} (t : Turn S table₀ table counts done left) where
-  pub turn-long : length table ≡ length table₀
-  turn-long = held-long (t .working .holding)
-
   -- all is worked
   turn-over : orderFrom S left done ≡ [] → UnitsWorked S table₀ table counts Fits
   turn-over e = record {

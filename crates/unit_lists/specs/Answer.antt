@@ -7,7 +7,6 @@ use lib.ListN.{length}
 use Rattle.plan.specs.Limits.{LIST_WORDS, TABLE_WORDS}
 use Rattle.plan.specs.declared.fault.Fault.{Fault}
 use Rattle.plan.specs.declared.fault.Fault.the-variants.{TableShort, LongList}
-use Rattle.plan.specs.declared.record.Plan.{Plan}
 use Rattle.plan.specs.declared.fault.Outcome.{Outcome}
 use Rattle.plan.specs.declared.fault.Outcome.the-variants.{Accepted, Refused}
 use Rattle.reading.specs.Reading.{reading}

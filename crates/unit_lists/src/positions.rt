@@ -8,7 +8,6 @@ use plan::Outcome;
 use plan::Plan;
 use plan::TABLE_WORDS;
 use reading::read_plan;
-ghost use mathlib.Core.Path.{_≡_};
 ghost use Prim.Native.Nat.{_≤_};
 ghost use lib.ListN.{length};
 ghost use Rattle.plan.specs.Limits.{TABLE_WORDS};

@@ -4,7 +4,7 @@ use native.Mathlib.Omega.{arith}
 use borrow.Author.Needs.{needs}
 use denote.Ref.{now}
 use lib.ListN.{length, getD}
-use Rattle.plan.specs.Limits.{MAX_RULES, MAX_UNITS}
+use Rattle.plan.specs.Limits.{MAX_UNITS}
 use Rattle.dependency_graph.specs.PlanUnits.{unitsOf}
 use Rattle.unit_lists.proofs.Joined.{Listable, searchable, unit-stored}
 use Rattle.unit_lists.proofs.LastUnit.{unit-listable}
