@@ -1,9 +1,12 @@
 // A plan's sheet in a lent buffer.
 use plan::LAST_COUNT;
 use plan::LAST_LIST;
+use plan::LIST_WORDS;
 use plan::Outcome;
 use plan::fault_number;
 use plan::fault_spot;
+use sheet::LINE;
+use sheet::POSITIONS_FRAME;
 use sheet::Written;
 use sheet::write_positions;
 use sheet::write_refusal;
@@ -15,8 +18,11 @@ ghost use lib.ListN.{length};
 ghost use Rattle.unit_lists.specs.Answer.{answer};
 ghost use Rattle.plan_sheet.specs.Sheets.{sheetOf, SHEET_BYTES, Printed};
 
-// The length of the longest sheet, with 256 positions: 14 bytes and 256 lines of 17. The contract says that none is longer.
-pub const SHEET_BYTES: usize = 4366;
+// Decimal digits of the greatest count of a list.
+const COUNT_DIGITS: usize = 3;
+
+// The length of the longest sheet: its first line, and a line for each member of a full list. The contract says that none is longer.
+pub const SHEET_BYTES: usize = POSITIONS_FRAME + COUNT_DIGITS + LINE * LIST_WORDS;
 
 // Lists the plan in the lent table and writes its sheet into the lent buffer.
 pub fn write_plan_sheet(plan: &[u8], table: &mut [u64], sheet: &mut [u8]) -> Written

@@ -4,7 +4,8 @@ use mathlib.Core.Path.{_≡_, subst}
 use mathlib.Core.Logic.{_⊎_, inl, inr}
 use Prim.Native.Nat.{ℕ, _<_}
 use Rattle.atoms.specs.Word.{Has, _⊆_, _∩_, _∪_, _∖_, below}
-use Rattle.atoms.proofs.Sets.{ext, has-dec, has-cut, cut-left, cut-right, has-left, has-right, union-cases, has-without, without-left, without-right, has-below, below-lt, subset-refl}
+use Rattle.atoms.proofs.Sets.{ext, has-dec, has-cut, cut-left, cut-right, has-left, has-right}
+use Rattle.atoms.proofs.Sets.{union-cases, has-without, without-left, without-right, has-below, below-lt, subset-refl}
 use Rattle.answer_sets.specs.Program.{Body, Satisfies}
 use Rattle.answer_sets.specs.AnswerSet.{Kept, ReductModel, AnswerSet}
 use Rattle.answer_sets.proofs.Support.{Supported, supported, satisfied, least, of-least}
