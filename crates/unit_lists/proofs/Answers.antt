@@ -23,10 +23,10 @@ use Rattle.unit_lists.proofs.HeldLists.{cleared-again, with-cleared}
 
 -- ---- what is handed back
 
-pub handed-refused : {a : Answer} {f : Fault} {r : Listing} {table table′ : List ℕ} → a ≡ refuse f table → r ≡ refusal f → table′ ≡ table
+pub handed-refused : (f : Fault) {a : Answer} {r : Listing} {table table′ : List ℕ} → a ≡ refuse f table → r ≡ refusal f → table′ ≡ table
     → Handed a r table′
 unfolding refusal
-handed-refused e h t = record {
+handed-refused f e h t = record {
   outcome-is = ap (λ (x : Listing). x .outcome) h ∙ sym (ap (λ (x : Answer). x .outcome) e);
   counts-are = ap (λ (x : Listing). x .counts) h ∙ sym (ap (λ (x : Answer). x .counts) e);
   table-is = t ∙ sym (ap (λ (x : Answer). x .table) e);

@@ -16,7 +16,7 @@ returns : tie.Need-returns
 returns c =
     let checked = c .before .before .before .before in
     let table = now (start checked .args .table) in
-    handed-refused
+    handed-refused (c .before .before .verdict .given .0 .0)
     (unless-refused table (unitWork (unitsOf (start checked .args .plan)) table)
     (sym (checked .check-graph .ensures) ∙ c .before .before .verdict .given .1)) (c .refuse .ensures) refl
 
