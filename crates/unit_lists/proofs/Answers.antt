@@ -23,10 +23,10 @@ use Rattle.unit_lists.proofs.HeldLists.{cleared-again, with-cleared}
 
 -- ---- what is handed back
 
-pub handed-refused : {a : Answer} {f : Fault} {r : Listing} {table table′ : List ℕ} → a ≡ refuse f table → r ≡ refusal f → table′ ≡ table
+pub handed-refused : (f : Fault) {a : Answer} {r : Listing} {table table′ : List ℕ} → a ≡ refuse f table → r ≡ refusal f → table′ ≡ table
     → Handed a r table′
 unfolding refusal
-handed-refused e h t = record {
+handed-refused f e h t = record {
   outcome-is = ap (λ (x : Listing). x .outcome) h ∙ sym (ap (λ (x : Answer). x .outcome) e);
   counts-are = ap (λ (x : Listing). x .counts) h ∙ sym (ap (λ (x : Answer). x .counts) e);
   table-is = t ∙ sym (ap (λ (x : Answer). x .table) e);
@@ -34,9 +34,9 @@ handed-refused e h t = record {
 
 -- ---- the places before unit work
 
-pub unless-refused : {o : Outcome} {f : Fault} (table : List ℕ) (next : Answer) → o ≡ Refused f → unlessRefused o table next ≡ refuse f table
+pub unless-refused : {o : Outcome} (f : Fault) (table : List ℕ) (next : Answer) → o ≡ Refused f → unlessRefused o table next ≡ refuse f table
 unfolding unlessRefused
-unless-refused table next e = ap (λ (x : Outcome). unlessRefused x table next) e
+unless-refused f table next e = ap (λ (x : Outcome). unlessRefused x table next) e
 
 pub unless-accepted : {o : Outcome} (table : List ℕ) (next : Answer) → o ≡ Accepted → unlessRefused o table next ≡ next
 unfolding unlessRefused
@@ -48,7 +48,7 @@ read bytes table = unlessRefused (reading bytes .outcome) table (afterGraph (uni
 
 pub short-answer : (bytes table : List ℕ) → length table < TABLE_WORDS → answer bytes table ≡ refuse (TableShort (length table)) table
 unfolding answer tableOutcome
-short-answer bytes table l = unless-refused table (read bytes table) (rw (lt-ltb (length table) TABLE_WORDS l, tableOutcome))
+short-answer bytes table l = unless-refused (TableShort (length table)) table (read bytes table) (rw (lt-ltb (length table) TABLE_WORDS l, tableOutcome))
 
 long-answer : (bytes table : List ℕ) → TABLE_WORDS ≤ length table → answer bytes table ≡ read bytes table
 unfolding answer tableOutcome
@@ -56,7 +56,7 @@ long-answer bytes table l = unless-accepted table (read bytes table) (rw (le-ltb
 
 pub refused-answer : (bytes table : List ℕ) (f : Fault) → TABLE_WORDS ≤ length table → reading bytes .outcome ≡ Refused f
     → answer bytes table ≡ refuse f table
-refused-answer bytes table f l e = long-answer bytes table l ∙ unless-refused table (afterGraph (unitsOf (reading bytes .plan)) table) e
+refused-answer bytes table f l e = long-answer bytes table l ∙ unless-refused f table (afterGraph (unitsOf (reading bytes .plan)) table) e
 
 pub read-answer : (bytes table : List ℕ) → TABLE_WORDS ≤ length table → reading bytes .outcome ≡ Accepted
     → answer bytes table ≡ afterGraph (unitsOf (reading bytes .plan)) table

@@ -3,6 +3,8 @@ use mathlib.Core.Path.{_≡_, refl, ap, sym, _∙_}
 use Prim.Native.Nat.{ℕ}
 use denote.Ref.{now}
 use mathlib.Core.List.{List}
+use lib.ListN.{length}
+use Rattle.plan.specs.declared.fault.Fault.the-variants.{TableShort}
 use Rattle.plan.specs.declared.fault.Outcome.{Outcome}
 use Rattle.reading.specs.Reading.{reading}
 use Rattle.reading.specs.Layout.{IsByte, All}
@@ -42,7 +44,8 @@ returns : tie.Need-returns
 returns c =
     let known = c .before .before .before in
     let at = start known .args in
-    promised (bytes known) (handed-refused (short-answer (now (at .plan)) (now (at .table)) (c .before .if1 .taken)) (c .refuse .ensures) refl)
+    promised (bytes known)
+    (handed-refused (TableShort (length (now (at .table)))) (short-answer (now (at .plan)) (now (at .table)) (c .before .if1 .taken)) (c .refuse .ensures) refl)
 
 returns-2 : tie.Need-returns-2
 returns-2 c =
@@ -50,7 +53,8 @@ returns-2 c =
     let at = start (begun read) .args in
     let fault = c .before .before .outcome in
     promised (bytes (begun read))
-    (handed-refused (refused-answer (now (at .plan)) (now (at .table)) (fault .given .0 .0) (read .before .if1 .left) (outcome-is read _ (fault .given .1)))
+    (handed-refused (fault .given .0 .0)
+    (refused-answer (now (at .plan)) (now (at .table)) (fault .given .0 .0) (read .before .if1 .left) (outcome-is read _ (fault .given .1)))
     (c .refuse2 .ensures) refl)
 
 list-read-plan-requires : tie.Need-list-read-plan-requires

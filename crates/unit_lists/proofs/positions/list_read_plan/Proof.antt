@@ -16,8 +16,8 @@ returns : tie.Need-returns
 returns c =
     let checked = c .before .before .before .before in
     let table = now (start checked .args .table) in
-    handed-refused
-    (unless-refused table (unitWork (unitsOf (start checked .args .plan)) table)
+    handed-refused (c .before .before .verdict .given .0 .0)
+    (unless-refused (c .before .before .verdict .given .0 .0) table (unitWork (unitsOf (start checked .args .plan)) table)
     (sym (checked .check-graph .ensures) ∙ c .before .before .verdict .given .1)) (c .refuse .ensures) refl
 
 unit-work-requires : tie.Need-unit-work-requires

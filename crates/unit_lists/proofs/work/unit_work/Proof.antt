@@ -4,6 +4,7 @@ use mathlib.Core.List.{[]}
 use borrow.Author.Needs.{needs}
 use borrow.Author.Tests.{not-true, not-false}
 use denote.Ref.{now}
+use Rattle.plan.specs.declared.fault.Fault.the-variants.{LongList}
 use Rattle.dependency_graph.specs.Order.{workingOrder}
 use Rattle.dependency_graph.specs.PlanUnits.{unitsOf}
 use Rattle.unit_lists.specs.Table.{cleared, noCounts}
@@ -49,7 +50,8 @@ returns c =
     let long = refused .before .before .before in
     let units = long .before .before .before .before .before in
     let w = units .list-units .ensures in
-    handed-refused (same-work (prepared units) ∙ w .answer-is ∙ ap (afterUnits _ _) (long .worked .given .1)) (refused .refuse-long .ensures .0)
+    handed-refused (LongList (long .worked .given .0 .0))
+    (same-work (prepared units) ∙ w .answer-is ∙ ap (afterUnits _ _) (long .worked .given .1)) (refused .refuse-long .ensures .0)
     (refused .refuse-long .ensures .1 ∙ held-cleared (w .working .holding))
 
 list-last-requires : tie.Need-list-last-requires
@@ -77,7 +79,8 @@ returns-2 c =
     let last = refused .before .before .before .before .before .before in
     let w = units last .list-units .ensures in
     let long = last .list-last .ensures .when-long (not-true (last .list-last .result) (refused .before .before .if1 .taken)) in
-    handed-refused (answer-left last ∙ last-long _ _ (long .0)) (refused .refuse-long2 .ensures .0)
+    handed-refused (LongList (start (prepared (units last)) .args .plan .«unit_count»))
+    (answer-left last ∙ last-long _ _ (long .0)) (refused .refuse-long2 .ensures .0)
     (refused .refuse-long2 .ensures .1 ∙ ap cleared (long .1) ∙ held-cleared (w .working .holding))
 
 returns-3 : tie.Need-returns-3
