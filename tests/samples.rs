@@ -23,6 +23,9 @@ macro_rules! samples {
     };
 }
 
+/// Samples with too many atoms in heads for the lister; what their sheets are held against says tests/README.md.
+const NOT_BY_FORCE: [&str; 1] = ["clingo-default-misses-ten"];
+
 samples!(
     "circuit-01-end-only",
     "circuit-01-no-bytes",
@@ -40,6 +43,7 @@ samples!(
     "circuit-12-nine-pairs",
     "circuit-12-nine-units",
     "clingo-default-misses-one",
+    "clingo-default-misses-ten",
     "inner-list-wider",
     "plan-p",
     "plan-p-without-edge",
@@ -50,9 +54,17 @@ samples!(
     "several-positive-unseen",
 );
 
-/// The text gives the bytes, the bytes survive the way to text and back, and the lister agrees.
+/// Can the lister list the sample?
+pub fn by_force(name: &str) -> bool {
+    !NOT_BY_FORCE.contains(&name)
+}
+
+/// The text gives the bytes, the bytes survive the way to text and back, and the lister agrees, where it can list the plan.
 pub fn check_text(sample: &Sample) -> Result<(), String> {
     same("bytes of the text", Ok(sample.plan.clone()), text::to_bytes(sample.text))?;
     same("bytes to text and back", Ok(sample.plan.clone()), text::to_bytes(&text::to_text(&sample.plan)))?;
+    if !by_force(sample.name) {
+        return Ok(());
+    }
     same("known sheet", &sample.sheet, &lister::sheet(&lister::list(&sample.plan, lister::TABLE_WORDS)))
 }

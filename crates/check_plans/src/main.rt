@@ -25,6 +25,7 @@ fn show_sheets() {
     show(b"circuit-12-nine-pairs.plan");
     show(b"circuit-12-nine-units.plan");
     show(b"clingo-default-misses-one.plan");
+    show(b"clingo-default-misses-ten.plan");
     show(b"inner-list-wider.plan");
     show(b"plan-p.plan");
     show(b"plan-p-without-edge.plan");

@@ -2,16 +2,13 @@
 use mathlib.Core.Path.{_≡_}
 use mathlib.Core.List.{List, _++_}
 use Prim.Native.Nat.{ℕ, _≤_}
-use lib.ListN.{length, take, drop, replicate}
+use lib.ListN.{length, take, drop}
 use Rattle.plan.specs.declared.fault.Outcome.{Outcome}
 use Rattle.plan.specs.declared.fault.Outcome.the-variants.{Accepted, Refused}
 use Rattle.plan.specs.Faults.{refusalCode}
-use Rattle.plan.specs.Limits.{TABLE_WORDS}
 use Rattle.unit_lists.specs.Answer.{answer}
 use Rattle.sheet.specs.Lent.{answer as written, filled}
-use Rattle.sheet.specs.declared.Written.{Written}
-use Rattle.sheet.specs.declared.Written.the-variants.{Bytes, TooShort}
-use Rattle.plan_sheet.specs.Sheets.{sheetOf, SHEET_BYTES}
+use Rattle.plan_sheet.specs.Sheets.{SHEET_BYTES, writtenBytes, planSheet}
 
 -- the outcome of a listing as one number
 abbrev pub outcomeCode : Outcome → ℕ
@@ -27,15 +24,6 @@ pub record ListHanded (bytes table table′ counts counts′ : List ℕ) (r : �
   pub code-is : r ≡ outcomeCode (answer bytes table .outcome)
   pub table-is : table′ ≡ answer bytes table .table
   pub counts-are : counts′ ≡ copied (answer bytes table .counts) counts
-
--- how many bytes were written, none where the buffer is too short
-abbrev pub writtenBytes : Written → ℕ
-writtenBytes (Bytes n) = n
-writtenBytes TooShort = 0
-
--- the sheet of a plan; the table is the function's own, and no host sees it
-unfoldable pub planSheet : List ℕ → List ℕ
-planSheet bytes = sheetOf (answer bytes (replicate {A = ℕ} TABLE_WORDS 0))
 
 -- a sheet: its bytes where the buffer has room for all of them, and their number; SHEET_BYTES are always enough
 pub record SheetHanded (bytes sheet sheet′ : List ℕ) (r : ℕ) : Type 0 where

@@ -1,15 +1,17 @@
 -- The sheet of an answer (document 01, The sheet it prints).
 use mathlib.Core.Path.{_≡_}
 use mathlib.Core.List.{List}
-use Prim.Native.Nat.{ℕ, _+_, _*_, _≤_}
-use lib.ListN.{length, take, drop, getD}
-use Rattle.plan.specs.Limits.{LIST_WORDS, LAST_LIST, LAST_COUNT}
+use Prim.Native.Nat.{ℕ, _+_, _-_, _*_, _≤_}
+use lib.ListN.{length, take, drop, getD, replicate}
+use Rattle.plan.specs.Limits.{LIST_WORDS, LAST_LIST, LAST_COUNT, TABLE_WORDS}
 use Rattle.plan.specs.Faults.{number, spot}
 use Rattle.plan.specs.declared.fault.Outcome.{Outcome}
 use Rattle.plan.specs.declared.fault.Outcome.the-variants.{Accepted, Refused}
 use Rattle.sheet.specs.Sheet.{lineLength, positionsSheet, refusalSheet}
 use Rattle.sheet.specs.Lent.{answer as written, filled}
 use Rattle.sheet.specs.declared.Written.{Written}
+use Rattle.sheet.specs.declared.Written.the-variants.{Bytes, TooShort}
+use Rattle.plan_sheet.specs.declared.Sheet.{Sheet}
 use Rattle.unit_lists.specs.Answer.{Answer, answer}
 
 -- by outcome: the last list's positions, or the refusal
@@ -30,3 +32,24 @@ pub record Printed (bytes table table′ sheet sheet′ : List ℕ) (r : Written
   pub written-is : r ≡ written (sheetOf (answer bytes table)) sheet
   pub sheet-is : sheet′ ≡ filled (sheetOf (answer bytes table)) sheet
   pub at-most : length (sheetOf (answer bytes table)) ≤ SHEET_BYTES
+
+-- how many bytes were written, none where the buffer is too short
+abbrev pub writtenBytes : Written → ℕ
+writtenBytes (Bytes n) = n
+writtenBytes TooShort = 0
+
+-- the sheet of a plan; the table is the function's own
+unfoldable pub planSheet : List ℕ → List ℕ
+planSheet bytes = sheetOf (answer bytes (replicate {A = ℕ} TABLE_WORDS 0))
+
+-- "It keeps the first 4,096 bytes"
+abbrev pub KEPT_BYTES : ℕ
+KEPT_BYTES = 4096
+
+-- the sheet of what was read into the area, and of every input that begins with it: one of at most KEPT_BYTES bytes that was read whole, or
+-- a longer one that was read up to there; zeros behind it
+pub record SheetKept (area : List ℕ) (read : ℕ) (r : Sheet) : Type 0 where
+  pub fits : r .length ≤ length (r .bytes)
+  pub is : take (r .length) (r .bytes) ≡ planSheet (take read area)
+  pub of-all : (bytes : List ℕ) → take KEPT_BYTES bytes ≡ take read area → take (r .length) (r .bytes) ≡ planSheet bytes
+  pub behind : drop (r .length) (r .bytes) ≡ replicate {A = ℕ} (SHEET_BYTES - r .length) 0

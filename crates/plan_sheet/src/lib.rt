@@ -3,6 +3,7 @@ use plan::LAST_COUNT;
 use plan::LAST_LIST;
 use plan::LIST_WORDS;
 use plan::Outcome;
+use plan::TABLE_WORDS;
 use plan::fault_number;
 use plan::fault_spot;
 use sheet::LINE;
@@ -12,11 +13,11 @@ use sheet::write_positions;
 use sheet::write_refusal;
 use sheet::written_part;
 use unit_lists::list_positions;
-ghost use Prim.Native.Nat.{_≤_};
+ghost use Prim.Native.Nat.{_≤_, min};
 ghost use mathlib.Core.Path.{_≡_};
 ghost use lib.ListN.{length};
 ghost use Rattle.unit_lists.specs.Answer.{answer};
-ghost use Rattle.plan_sheet.specs.Sheets.{sheetOf, SHEET_BYTES, Printed};
+ghost use Rattle.plan_sheet.specs.Sheets.{sheetOf, SHEET_BYTES, Printed, writtenBytes, KEPT_BYTES as Sheets·KEPT_BYTES, SheetKept};
 
 // Decimal digits of the greatest count of a list.
 const COUNT_DIGITS: usize = 3;
@@ -45,4 +46,44 @@ pub fn plan_sheet<'a>(plan: &[u8], table: &mut [u64], sheet: &'a mut [u8]) -> &'
 {
     let written = write_plan_sheet(plan, table, sheet);
     written_part(sheet, written)
+}
+
+// How many bytes of its input a program keeps. No plan is longer, so what follows them changes nothing.
+pub const KEPT_BYTES: usize = 4096;
+
+// A sheet by value: its first `length` bytes, and zeros behind them.
+pub struct Sheet {
+    pub bytes: [u8; SHEET_BYTES],
+    pub length: usize,
+}
+
+// How many bytes were written, none where the buffer is too short.
+pub fn written_bytes(written: Written) -> usize
+    ensures { λ r. ⌜ r ≡ writtenBytes written ⌝ }
+{
+    match written {
+        Written::Bytes(n) => n,
+        Written::TooShort => 0,
+    }
+}
+
+// How many of the bytes read are kept.
+fn kept_count(read: usize) -> usize
+    ensures { λ r. ⌜ r ≡ min read Sheets·KEPT_BYTES ⌝ }
+{
+    if KEPT_BYTES < read {
+        return KEPT_BYTES;
+    }
+    read
+}
+
+// The sheet of an input whose first bytes, as many as were read, are those of the area: all of it, or its first KEPT_BYTES.
+pub fn kept_sheet(area: [u8; KEPT_BYTES], read: usize) -> Sheet
+    ensures { λ r. ⌜ SheetKept area read r ⌝ }
+{
+    let count = kept_count(read);
+    let mut table = [0u64; TABLE_WORDS];
+    let mut bytes = [0u8; SHEET_BYTES];
+    let length = written_bytes(write_plan_sheet(&area[0..count], &mut table, &mut bytes));
+    Sheet { bytes, length }
 }

@@ -1,18 +1,16 @@
 // settle: reads a plan from standard input and writes its sheet.
+use libc::STDERR_FILENO;
 use libc::STDIN_FILENO;
 use libc::STDOUT_FILENO;
-use plan::TABLE_WORDS;
-use plan_sheet::SHEET_BYTES;
-use plan_sheet::plan_sheet;
+use plan_sheet::kept_sheet;
 
 fn main() {
-    // The first 4,096 bytes are kept, and they decide the sheet: every reading fault shows within 2,467.
     let mut plan = io::buffer();
-    let n = io::read_full(STDIN_FILENO, &mut plan);
-    let mut table = [0u64; TABLE_WORDS];
-    let mut sheet = [0u8; SHEET_BYTES];
-    io::write_all(
-        STDOUT_FILENO,
-        plan_sheet(&plan[0..n], &mut table, &mut sheet),
-    );
+    let read = io::read_full(STDIN_FILENO, &mut plan);
+    let sheet = kept_sheet(plan, read);
+    let bytes = sheet.bytes;
+    let length = sheet.length;
+    if !io::write_all(STDOUT_FILENO, &bytes[0..length]) {
+        io::write_all(STDERR_FILENO, b"the sheet was not written in full\n");
+    }
 }
