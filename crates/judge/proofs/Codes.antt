@@ -1,21 +1,30 @@
--- Answers as numbers: for a plan of at most WIDEST_SPOT bytes a code has the fault's spot whole.
+-- Answers as numbers: a code has the fault's number and its spot, for plans of any length, since the first bytes decide.
 use mathlib.Core.Path.{_≡_, ap, _∙_}
 use mathlib.Core.List.{List}
 use Prim.Native.Nat.{ℕ, _+_, _*_, _≤_, min}
 use native.Mathlib.Omega.{arith}
-use lib.ListN.{length}
+use lib.ListN.{length, take, length-take}
 use Rattle.plan.specs.Faults.{CODE_STEP, WIDEST_SPOT, number, spot}
-use Rattle.reading.specs.Reading.{reading}
+use Rattle.reading.specs.Reading.{reading, DECIDING_BYTES}
+use Rattle.reading.specs.declared.reader.Reading.{Reading}
+use Rattle.reading.proofs.Prefix.{reading-prefix}
 use Rattle.plan.specs.declared.fault.Outcome.the-variants.{Refused as RefusedWith}
 use Rattle.plan.specs.declared.fault.Fault.{Fault}
 use Rattle.judge.specs.Answers.{judged, code}
 use Rattle.judge.proofs.Settled.{judged-refused}
 use Rattle.judge.proofs.Spots.{spot-within}
 
+-- "every reading fault .. shows within 2,467"
+pub spot-at-most : (bytes : List ℕ) (f : Fault) → reading bytes .outcome ≡ RefusedWith f → spot f ≤ DECIDING_BYTES
+spot-at-most bytes f e =
+    let same : reading (take DECIDING_BYTES bytes) ≡ reading bytes = reading-prefix DECIDING_BYTES bytes (omega arith) in
+    let within : spot f ≤ length (take DECIDING_BYTES bytes) =
+    spot-within (take DECIDING_BYTES bytes) f (ap (λ (r : Reading). r .outcome) same ∙ e) in
+    omega (arith, length-take DECIDING_BYTES bytes)
+
 -- the code of a refused plan has the fault's number and its spot
-pub code-exact : (bytes : List ℕ) (position : ℕ) (f : Fault) → length bytes ≤ WIDEST_SPOT → reading bytes .outcome ≡ RefusedWith f
+pub code-exact : (bytes : List ℕ) (position : ℕ) (f : Fault) → reading bytes .outcome ≡ RefusedWith f
     → code (judged bytes position) ≡ CODE_STEP * number f + spot f
-code-exact bytes position f l e =
-    let within : spot f ≤ length bytes = spot-within bytes f e in
-    let least : min WIDEST_SPOT (spot f) ≡ spot f = omega arith in
+code-exact bytes position f e =
+    let least : min WIDEST_SPOT (spot f) ≡ spot f = omega (arith, spot-at-most bytes f e) in
     ap code (judged-refused bytes position f e) ∙ ap (λ (x : ℕ). CODE_STEP * number f + x) least
