@@ -11,3 +11,4 @@ pub mod Elements
 pub mod RoundTrip
 pub mod Accepted
 pub mod Prefix
+pub mod Longest
