@@ -24,6 +24,8 @@ use Rattle.dependency_graph.specs.Offenders.{twiceBelow, seen, unseenHeads, non
 use Rattle.dependency_graph.specs.Offenders.{ruleInNoUnit, headedRuleInSeveral, cycle, nonmonotonicUnseen, monotonicUnseen}
 use Rattle.dependency_graph.specs.Check.{row, verdict}
 use Rattle.splitting.specs.UnitList.{withLast}
+use Rattle.judge.specs.Answers.{judged}
+use Rattle.judge.specs.declared.Answer.the-variants.{NotSettled}
 use Rattle.unit_lists.specs.Lists.{isInput, inList, unitList, lastList}
 use Rattle.unit_lists.specs.Answer.{unlessRefused, workFrom, afterGraph}
 
@@ -47,10 +49,13 @@ end = 0 ∷ []
 abbrev diamond : List ℕ
 diamond = edge 1 0 ++ (edge 2 0 ++ (edge 3 1 ++ (edge 3 2 ++ end)))
 
+abbrev pub circuit-2 : List ℕ
+circuit-2 = rule 3 0 0 ++ (unit 1 ++ end)
+
 -- circuits 2 to 11, plan P, and P without its EDGE
 abbrev pub plans : List (List ℕ)
 plans =
-    (rule 3 0 0 ++ (unit 1 ++ end))
+    circuit-2
     ∷ (rule 1 1 0 ++ (unit 1 ++ end))
     ∷ (rule 1 0 1 ++ (unit 1 ++ end))
     ∷ (rule 1 0 2 ++ (rule 2 0 1 ++ (unit 3 ++ end)))
@@ -90,10 +95,11 @@ unfoldable pub shown : List ℕ → Outcome × List ℕ
 shown bytes =
     withLastList (reading bytes .plan) (unlessRefused (reading bytes .outcome) [] (afterGraph (unitsOf (reading bytes .plan)) []) .outcome)
 
-pub circuits : map shown plans ≡ results
-unfolding shown withLastList reading walk commandAt ofKind kindOf carrying lateRule lateUnit emptyRule absentRule badEdge emptyPlan withRule withUnit
+-- the results of all of them; and of circuit 2: "Position 3 isn't settled."
+pub circuits : (map shown plans ≡ results) × (judged circuit-2 3 ≡ NotSettled)
+unfolding judged shown withLastList reading walk commandAt ofKind kindOf carrying lateRule lateUnit emptyRule absentRule badEdge emptyPlan withRule withUnit
     withEdge number wordAt unlessRefused workFrom lastList unitList inList isInput members allBelow someBelow wordBelow unionIn
     twiceBelow heads inputHeads own reach reachVia through withLast unitsOf lent answerSet someSmaller satisfiesAll satisfies body kept keptIf has
     subset apart _∩_ _∪_ _∖_ atom below verdict row ruleInNoUnit headedRuleInSeveral cycle nonmonotonicUnseen monotonicUnseen nonmonotonicUnseenIn
     monotonicSeenIn seen unseenHeads lowestOf lowest workingOrder orderFrom nextUnit ready
-circuits = refl
+circuits = (refl, refl)
