@@ -13,7 +13,7 @@ use Rattle.atoms.specs.Bounded.{Decides}
 use Rattle.atoms.proofs.Tests.{decides, decides-iff, decides-same, decided-true}
 use Rattle.atoms.proofs.Sets.{decides-apart, has-dec, has-lt, subset-refl, subset-trans, subset-antisym, has-left, has-right, has-outside}
 use Rattle.atoms.proofs.Sets.{outside-lacks, has-atom}
-use Rattle.atoms.proofs.Counting.{count-lt, count-proper}
+use Rattle.atoms.proofs.Counts.{count-lt, count-proper}
 use Rattle.answer_sets.specs.Program.{Program, Body, Satisfies, SatisfiesAll}
 use Rattle.answer_sets.specs.Lent.{lent, negative}
 use Rattle.answer_sets.specs.State.{Completes, Narrows, undecided}

@@ -8,7 +8,7 @@ use Rattle.atoms.specs.Bounded.{Decides}
 use Rattle.atoms.proofs.Tests.{decides-iff, decides-and, decides-not, decides-implies, decided-true, and-true, not-both}
 use Rattle.atoms.proofs.Sets.{ext, decides-has, decides-subset, decides-apart, has-lt, lt-of-has, subset-lt, subset-le, apart-of-cut, shared-atom}
 use Rattle.atoms.proofs.Bounded.{decides-all-in, decides-some, word-has, word-at}
-use Rattle.atoms.proofs.Taking.{Sifts, sifts-keep, sifts-drop}
+use Rattle.atoms.proofs.TakenNumbers.{Sifts, sifts-keep, sifts-drop}
 use native.Mathlib.Omega.{arith}
 use Rattle.plan.specs.Limits.{MAX_RULES}
 use Rattle.answer_sets.specs.Program.{Program, Body, Satisfies, SatisfiesAll}

@@ -1,12 +1,12 @@
 pub mod Digits
 pub mod Tests
 pub mod Sets
-pub mod Counting
+pub mod Counts
 pub mod Bounded
 pub mod Singles
 pub mod MoreSets
 pub mod Collected
-pub mod Taking
-pub mod Gathering
+pub mod TakenNumbers
+pub mod GatheredWords
 pub mod Rising
 pub mod Lists

@@ -8,7 +8,7 @@ use Rattle.atoms.specs.Word.{_∩_, _∪_}
 use Rattle.atoms.specs.Bounded.{wordBelow, unionIn, singleIf}
 use Rattle.atoms.proofs.Sets.{ext}
 use Rattle.atoms.proofs.Bounded.{word-has, word-at}
-use Rattle.atoms.proofs.Gathering.{word-suc}
+use Rattle.atoms.proofs.GatheredWords.{word-suc}
 use Rattle.dependency_graph.specs.Offenders.{unionBelow, twiceBelow}
 use Rattle.dependency_graph.proofs.Offenders.{union-below-suc}
 

@@ -15,7 +15,7 @@ use Rattle.atoms.specs.Bounded.{Decides}
 use Rattle.atoms.specs.Collected.{Collects}
 use Rattle.atoms.proofs.Tests.{decides-iff, decides-and, decides-not, decided}
 use Rattle.atoms.proofs.Sets.{decides-has, decides-subset, has-dec, has-left, has-right, union-cases, has-atom, atom-only, has-none, lt-of-has}
-use Rattle.atoms.proofs.Counting.{count-lt}
+use Rattle.atoms.proofs.Counts.{count-lt}
 use Rattle.atoms.proofs.Collected.{collects-none, collects-some, collects-has, collects-below, collects-without}
 use Rattle.atoms.proofs.Collected.{lowest-le, lowest-here, lowest-least, lowest-is, lowest-none}
 use Rattle.dependency_graph.specs.Units.{Units, Edge}

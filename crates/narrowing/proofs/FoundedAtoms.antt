@@ -15,7 +15,7 @@ use Rattle.answer_sets.proofs.Narrows.{down-narrows}
 use Rattle.narrowing.specs.Inputs.{AnswersInputs}
 use Rattle.narrowing.specs.Founded.{Closed, ClosedAll, Closes, Founded}
 use Rattle.narrowing.proofs.Supports.{negative-down}
-use Rattle.atoms.proofs.Taking.{none-done, done-cases}
+use Rattle.atoms.proofs.TakenNumbers.{none-done, done-cases}
 
 module _ (rules : List ℕ) (dropped : ℕ) where
   -- ---- one rule

@@ -15,7 +15,7 @@ use Rattle.narrowing.specs.Support.{Supports, MaySupport, Tallied, Holds
 use Rattle.atoms.specs.Collected.{Collects}
 use Rattle.narrowing.specs.declared.support.Supporters.{Supporters}
 use Rattle.narrowing.proofs.Supports.{supporter, may-support, negative-down}
-use Rattle.atoms.proofs.Taking.{none-done, all-done, done-cases}
+use Rattle.atoms.proofs.TakenNumbers.{none-done, all-done, done-cases}
 
 module _ (rules : List ℕ) (s : State) where
   -- ---- the count

@@ -16,7 +16,7 @@ use Rattle.sheet.specs.Sheet.{positionsSheet, refusalSheet}
 use Rattle.sheet.specs.Lent.{part}
 use Rattle.sheet.specs.declared.Written.{Written}
 use Rattle.sheet.proofs.Sheets.{positions-at-most, refusal-at-most}
-use Rattle.sheet.proofs.Writing.{part-filled}
+use Rattle.sheet.proofs.WrittenBytes.{part-filled}
 use Rattle.unit_lists.specs.Answer.{Answer, answer}
 use Rattle.unit_lists.proofs.Answers.{short-answer}
 use Rattle.unit_lists.proofs.LastCount.{last-count-at-most}

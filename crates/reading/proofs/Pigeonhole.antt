@@ -9,7 +9,7 @@ use lib.Count.{ones, ones-le}
 use lib.ListN.{length}
 use Rattle.atoms.specs.Word.{Has, _∪_, atom}
 use Rattle.atoms.proofs.Sets.{has-none, has-left, has-right, has-atom, atom-only, union-cases, lt-of-has}
-use Rattle.atoms.proofs.Counting.{count-lt}
+use Rattle.atoms.proofs.Counts.{count-lt}
 use Rattle.plan.specs.Limits.{MAX_UNITS, MAX_EDGES}
 use Rattle.reading.specs.Layout.{UnitPair, All, Distinct, GoodEdge}
 use Rattle.reading.proofs.Predecessors.{pair-is}

@@ -1,4 +1,4 @@
-pub mod Writing
+pub mod WrittenBytes
 pub mod Digits
 pub mod Sheets
 pub mod Examples

@@ -12,7 +12,7 @@ use Rattle.sheet.specs.Sheet.{lineEnd, positionsWord, refusedWord, atWor
 use Rattle.sheet.specs.Sheet.{positionLine, positionLines, positionsSheet, refusalSheet}
 use Rattle.sheet.specs.Lent.{Put}
 use Rattle.sheet.proofs.Digits.{decimal-at-most, length-hexadecimal}
-use Rattle.sheet.proofs.Writing.{put-append, put-nothing}
+use Rattle.sheet.proofs.WrittenBytes.{put-append, put-nothing}
 
 pub length-positionLine : (w : ℕ) → length (positionLine w) ≡ lineLength
 unfolding positionLine lineEnd

@@ -19,7 +19,7 @@ use Rattle.plan.specs.Limits.{MAX_UNITS, LIST_WORDS}
 use Rattle.answer_sets.specs.State.{Completes, Narrows, clashed}
 use Rattle.answer_sets.specs.declared.state.State.{State}
 use Rattle.answer_sets.proofs.Narrows.{clash-narrows}
-use Rattle.atoms.proofs.Taking.{none-done, all-done, done-cases}
+use Rattle.atoms.proofs.TakenNumbers.{none-done, all-done, done-cases}
 use Rattle.unit_search.specs.Listing.{isListed}
 use Rattle.unit_search.specs.Job.{joins, Joinable}
 use Rattle.unit_search.specs.JoinPass.{Agrees, Spans, TakenIn, SpansAll, JoinsOne, JoinsAll}

@@ -1,4 +1,4 @@
-use Rattle.atoms.proofs.Counting.{counts-small}
+use Rattle.atoms.proofs.Counts.{counts-small}
 use native.Mathlib.Omega.{arith}
 use borrow.Author.Needs.{needs}
 use Rattle.atoms.proofs.count.Statement.{statement}

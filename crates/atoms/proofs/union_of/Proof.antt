@@ -4,8 +4,8 @@ use native.Mathlib.Omega.{arith}
 use lib.ListN.{getD}
 use lib.Count.{ones}
 use borrow.Author.Needs.{needs}
-use Rattle.atoms.proofs.Counting.{taken-less}
-use Rattle.atoms.proofs.Gathering.{Gathers, gathers-start, gathers-lt, gathers-next, gathers-end}
+use Rattle.atoms.proofs.Counts.{taken-less}
+use Rattle.atoms.proofs.GatheredWords.{Gathers, gathers-start, gathers-lt, gathers-next, gathers-end}
 use Rattle.atoms.proofs.union_of.Statement.{statement}
 use Rattle.atoms.proofs.union_of.Tie as tie
 

@@ -3,7 +3,7 @@ use Prim.Native.Nat.{_-_}
 use borrow.Author.Needs.{needs}
 use borrow.Author.Tests.{ltb-true, ltb-false}
 use Rattle.plan.specs.Limits.{COUNTS}
-use Rattle.exports.proofs.Copying.{Copying, copying-start, copying-more, copying-all, copying-full}
+use Rattle.exports.proofs.CopiedCounts.{Copying, copying-start, copying-more, copying-all, copying-full}
 use Rattle.exports.proofs.copy_counts.Statement.{statement}
 use Rattle.exports.proofs.copy_counts.Tie as tie
 

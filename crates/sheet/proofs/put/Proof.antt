@@ -8,7 +8,7 @@ use borrow.Author.Needs.{needs}
 use lib.ListN.{length, take, length-set}
 use lib.Seq.{take-all}
 use Rattle.sheet.specs.Lent.{Put}
-use Rattle.sheet.proofs.Writing.{put-nothing, put-next}
+use Rattle.sheet.proofs.WrittenBytes.{put-nothing, put-next}
 use Rattle.sheet.proofs.put.Statement.{statement}
 use Rattle.sheet.proofs.put.Tie as tie
 

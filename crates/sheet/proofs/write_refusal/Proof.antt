@@ -2,7 +2,7 @@
 use native.Mathlib.Omega.{arith}
 use borrow.Author.Needs.{needs}
 use Rattle.sheet.specs.Sheet.{refusedWord, atWord, lineEnd}
-use Rattle.sheet.proofs.Writing.{put-fills, too-short-keeps}
+use Rattle.sheet.proofs.WrittenBytes.{put-fills, too-short-keeps}
 use Rattle.sheet.proofs.Sheets.{length-refusalSheet, put-refusalSheet}
 use Rattle.sheet.proofs.write_refusal.Statement.{statement}
 use Rattle.sheet.proofs.write_refusal.Tie as tie

@@ -2,8 +2,8 @@
 use mathlib.Core.Path.{sym, _∙_}
 use lib.Count.{ones}
 use borrow.Author.Tests.{not-true, not-false}
-use Rattle.atoms.proofs.Counting.{taken-less}
-use Rattle.atoms.proofs.Taking.{Taking, taking-start, taking-next, taking-end, taken-lent}
+use Rattle.atoms.proofs.Counts.{taken-less}
+use Rattle.atoms.proofs.TakenNumbers.{Taking, taking-start, taking-next, taking-end, taken-lent}
 use Rattle.answer_sets.specs.Program.{Satisfies}
 use Rattle.answer_sets.specs.Lent.{lent}
 use Rattle.answer_sets.proofs.Judged.{decides-satisfies}

@@ -1,7 +1,7 @@
 -- The loop drops from the word the rules whose body fails. The measure is how many are left.
 use lib.Count.{ones}
-use Rattle.atoms.proofs.Counting.{taken-less}
-use Rattle.atoms.proofs.Taking.{Sifts, sifts-start, sifts-end, taken-lent}
+use Rattle.atoms.proofs.Counts.{taken-less}
+use Rattle.atoms.proofs.TakenNumbers.{Sifts, sifts-start, sifts-end, taken-lent}
 use Rattle.answer_sets.specs.Program.{Body}
 use Rattle.answer_sets.specs.Lent.{lent}
 use Rattle.answer_sets.proofs.Judged.{sifts-kept-if, kept-collected}

@@ -3,8 +3,8 @@ use native.Mathlib.Omega.{arith}
 use lib.Count.{ones}
 use borrow.Author.Needs.{needs}
 use Rattle.atoms.specs.Word.{apart, _∪_}
-use Rattle.atoms.proofs.Counting.{taken-less}
-use Rattle.atoms.proofs.Gathering.{Picks, picks-start, picks-lt, picks-next, picks-end}
+use Rattle.atoms.proofs.Counts.{taken-less}
+use Rattle.atoms.proofs.GatheredWords.{Picks, picks-start, picks-lt, picks-next, picks-end}
 use Rattle.dependency_graph.specs.PlanUnits.{unitsOf}
 use Rattle.dependency_graph.specs.Offenders.{monotonicSeenIn}
 use Rattle.dependency_graph.proofs.dependences.monotonic_seen_in.Statement.{statement}

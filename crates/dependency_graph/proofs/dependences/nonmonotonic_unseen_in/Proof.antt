@@ -5,8 +5,8 @@ use native.Mathlib.Omega.{arith}
 use lib.Count.{ones}
 use borrow.Author.Needs.{needs}
 use Rattle.atoms.specs.Word.{apart}
-use Rattle.atoms.proofs.Counting.{taken-less}
-use Rattle.atoms.proofs.Gathering.{Picks, picks-start, picks-lt, picks-next, picks-end}
+use Rattle.atoms.proofs.Counts.{taken-less}
+use Rattle.atoms.proofs.GatheredWords.{Picks, picks-start, picks-lt, picks-next, picks-end}
 use Rattle.dependency_graph.specs.PlanUnits.{unitsOf}
 use Rattle.dependency_graph.specs.Offenders.{nonmonotonicUnseenIn}
 use Rattle.dependency_graph.proofs.dependences.nonmonotonic_unseen_in.Statement.{statement}

@@ -2,8 +2,8 @@
 use native.Mathlib.Omega.{arith}
 use lib.Count.{ones}
 use borrow.Author.Needs.{needs}
-use Rattle.atoms.proofs.Counting.{taken-less}
-use Rattle.atoms.proofs.Gathering.{Gathers, gathers-start, gathers-lt, gathers-next, gathers-end}
+use Rattle.atoms.proofs.Counts.{taken-less}
+use Rattle.atoms.proofs.GatheredWords.{Gathers, gathers-start, gathers-lt, gathers-next, gathers-end}
 use Rattle.dependency_graph.specs.PlanUnits.{unitsOf}
 use Rattle.dependency_graph.proofs.rule_heads.rule_heads.Statement.{statement}
 use Rattle.dependency_graph.proofs.rule_heads.rule_heads.Tie as tie

@@ -2,8 +2,8 @@
 use mathlib.Core.Path.{_≡_, refl, _∙_}
 use lib.Count.{ones}
 use lib.ListN.{length}
-use Rattle.atoms.proofs.Counting.{taken-less}
-use Rattle.atoms.proofs.Taking.{Carrying, carrying-start, carrying-next, taken-lent}
+use Rattle.atoms.proofs.Counts.{taken-less}
+use Rattle.atoms.proofs.TakenNumbers.{Carrying, carrying-start, carrying-next, taken-lent}
 use borrow.Author.Needs.{needs}
 use Rattle.narrowing.proofs.choice.count_rules.Statement.{statement}
 use Rattle.narrowing.proofs.choice.count_rules.Tie as tie

@@ -5,9 +5,9 @@ use denote.Ref.{now}
 use Rattle.atoms.specs.Word.{_⊆_, _∖_}
 use lib.Count.{ones}
 use Rattle.atoms.proofs.Sets.{subset-refl}
-use Rattle.atoms.proofs.Counting.{taken-less, taken-within}
+use Rattle.atoms.proofs.Counts.{taken-less, taken-within}
 use Rattle.narrowing.specs.Founded.{ClosedAll, Closes}
-use Rattle.atoms.proofs.Taking.{all-done}
+use Rattle.atoms.proofs.TakenNumbers.{all-done}
 use Rattle.narrowing.proofs.FoundedAtoms.{round-start, round-next}
 use Rattle.narrowing.proofs.founded.found_round.Statement.{statement}
 use Rattle.narrowing.proofs.founded.found_round.Tie as tie

@@ -5,7 +5,7 @@ use native.Mathlib.Omega.{arith}
 use lib.Count.{ones}
 use Rattle.atoms.specs.Word.{ATOMS, _⊆_}
 use Rattle.atoms.proofs.Sets.{subset-refl, subset-trans}
-use Rattle.atoms.proofs.Counting.{count-proper, counts-small}
+use Rattle.atoms.proofs.Counts.{count-proper, counts-small}
 use Rattle.narrowing.specs.Founded.{ClosedAll, Closes}
 use Rattle.narrowing.proofs.founded.founded_atoms.Statement.{statement}
 use Rattle.narrowing.proofs.founded.founded_atoms.Tie as tie

@@ -1,7 +1,7 @@
 -- The loop carries that what is left out so far may be left out. The measure is how many rules are left to try.
 use lib.Count.{ones}
-use Rattle.atoms.proofs.Counting.{taken-less}
-use Rattle.atoms.proofs.Taking.{Carrying, carrying-start, carrying-next, taken-lent}
+use Rattle.atoms.proofs.Counts.{taken-less}
+use Rattle.atoms.proofs.TakenNumbers.{Carrying, carrying-start, carrying-next, taken-lent}
 use Rattle.narrowing.specs.Live.{Live}
 use Rattle.narrowing.proofs.LiveRules.{live-all, live-trans}
 use Rattle.narrowing.proofs.live.live_rules.Statement.{statement}

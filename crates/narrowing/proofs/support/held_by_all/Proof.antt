@@ -1,7 +1,7 @@
 -- The loop carries that the state so far narrows the first one. The measure is how many rules are left.
 use lib.Count.{ones}
-use Rattle.atoms.proofs.Counting.{taken-less}
-use Rattle.atoms.proofs.Taking.{Carrying, carrying-start, carrying-next, taken-lent}
+use Rattle.atoms.proofs.Counts.{taken-less}
+use Rattle.atoms.proofs.TakenNumbers.{Carrying, carrying-start, carrying-next, taken-lent}
 use Rattle.answer_sets.specs.State.{Narrows}
 use Rattle.answer_sets.proofs.Narrows.{narrows-refl, narrows-trans, narrows-for}
 use Rattle.narrowing.specs.Support.{HoldsSoles}

@@ -5,7 +5,7 @@ use denote.Ref.{now}
 use lib.Count.{ones}
 use Rattle.atoms.specs.Word.{_⊆_, _∪_, _∖_, atom}
 use Rattle.atoms.proofs.Sets.{subset-refl}
-use Rattle.atoms.proofs.Counting.{taken-less, taken-within}
+use Rattle.atoms.proofs.Counts.{taken-less, taken-within}
 use Rattle.narrowing.specs.Support.{Tallied}
 use Rattle.narrowing.proofs.Tallies.{tally-start, tally-next, tally-end}
 use borrow.Author.Needs.{needs}

@@ -10,7 +10,7 @@ use borrow.Author.Needs.{needs}
 use native.Mathlib.Omega.{arith}
 use Rattle.atoms.specs.Word.{_⊆_, _∩_, _∖_, atom}
 use Rattle.atoms.proofs.Sets.{subset-refl}
-use Rattle.atoms.proofs.Counting.{taken-less, taken-within}
+use Rattle.atoms.proofs.Counts.{taken-less, taken-within}
 use Rattle.plan.specs.Limits.{MAX_UNITS, LIST_WORDS}
 use Rattle.unit_search.specs.Listing.{isListed}
 use Rattle.unit_search.specs.Job.{joins}

@@ -5,7 +5,7 @@ use lib.Count.{ones}
 use native.Mathlib.Omega.{arith}
 use Rattle.atoms.specs.Word.{_⊆_}
 use Rattle.atoms.proofs.Sets.{subset-refl}
-use Rattle.atoms.proofs.Counting.{taken-less, taken-within}
+use Rattle.atoms.proofs.Counts.{taken-less, taken-within}
 use Rattle.plan.specs.Limits.{MAX_UNITS}
 use Rattle.answer_sets.specs.State.{Narrows}
 use Rattle.answer_sets.proofs.Narrows.{narrows-refl, narrows-trans, narrows-for}

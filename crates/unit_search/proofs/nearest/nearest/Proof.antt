@@ -4,7 +4,7 @@ use Prim.Native.Nat.{ℕ, _<_}
 use lib.Count.{ones}
 use Rattle.atoms.specs.Word.{Has, _⊆_, _∩_, below}
 use Rattle.atoms.proofs.Sets.{subset-refl, subset-trans, cut-left, cut-right, below-lt, lt-of-has}
-use Rattle.atoms.proofs.Counting.{taken-less, taken-within}
+use Rattle.atoms.proofs.Counts.{taken-less, taken-within}
 use borrow.Author.Needs.{needs}
 use Rattle.plan.specs.Limits.{MAX_UNITS}
 use Rattle.unit_search.proofs.nearest.nearest.Statement.{statement}

@@ -7,7 +7,7 @@ use borrow.Author.Needs.{needs}
 use borrow.Fn.Kinds.{In}
 use borrow.Fn.PlainCycle.{Measures, is, falls, and}
 use Rattle.atoms.specs.Word.{Has}
-use Rattle.atoms.proofs.Counting.{count-le}
+use Rattle.atoms.proofs.Counts.{count-le}
 use Rattle.answer_sets.specs.State.{undecided}
 use Rattle.answer_sets.proofs.HalfDecided.{undecided-shrinks}
 use Rattle.answer_sets.proofs.Between.{raise-falls, lower-falls}

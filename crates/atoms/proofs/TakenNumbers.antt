@@ -7,7 +7,7 @@ use native.Mathlib.Decide.{ℕ-discrete}
 use Rattle.atoms.specs.Word.{Has, _⊆_, _∖_, atom, Lowest}
 use Rattle.atoms.specs.Collected.{Collects}
 use Rattle.atoms.proofs.Sets.{has-dec, has-lt, has-none, has-atom, has-without, without-left, without-right, atom-only, subset-refl}
-use Rattle.atoms.proofs.Counting.{taken-within}
+use Rattle.atoms.proofs.Counts.{taken-within}
 
 -- ---- one number is taken
 
