@@ -4,7 +4,6 @@ pub mod Sets
 pub mod Counts
 pub mod Bounded
 pub mod Singles
-pub mod MoreSets
 pub mod Collected
 pub mod TakenNumbers
 pub mod GatheredWords

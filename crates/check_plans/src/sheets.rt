@@ -1,15 +1,6 @@
 // A plan of data/ and its sheet, as settle prints it.
 use libc::STDOUT_FILENO;
-use plan::TABLE_WORDS;
-use plan_sheet::SHEET_BYTES;
-use plan_sheet::plan_sheet;
-
-// Writes the sheet of a plan.
-fn write_sheet(plan: &[u8]) {
-    let mut table = [0u64; TABLE_WORDS];
-    let mut sheet = [0u8; SHEET_BYTES];
-    io::write_all(STDOUT_FILENO, plan_sheet(plan, &mut table, &mut sheet));
-}
+use plan_sheet::kept_sheet;
 
 // Writes a plan's name and its sheet.
 pub fn show(name: &[u8]) {
@@ -21,7 +12,10 @@ pub fn show(name: &[u8]) {
         return;
     }
     let mut plan = io::buffer();
-    let length = io::read_full(file, &mut plan);
+    let read = io::read_full(file, &mut plan);
     libc::close(file);
-    write_sheet(&plan[..length]);
+    let sheet = kept_sheet(plan, read);
+    let bytes = sheet.bytes;
+    let length = sheet.length;
+    io::write_all(STDOUT_FILENO, &bytes[0..length]);
 }

@@ -5,7 +5,7 @@ use plan::Outcome;
 use plan::TABLE_WORDS;
 use plan::refusal_code;
 use plan_sheet::write_plan_sheet;
-use sheet::Written;
+use plan_sheet::written_bytes;
 use unit_lists::list_positions;
 ghost use mathlib.Core.Path.{_≡_};
 ghost use Rattle.judge.specs.Answers.{judged, code};
@@ -58,8 +58,5 @@ pub extern "C" fn lucarnecress_sheet(plan: &[u8], sheet: &mut [u8]) -> u64
     ensures { λ r. ⌜ SheetHanded (now (plan .entry)) (now (sheet .entry)) (now (sheet .exit)) r ⌝ }
 {
     let mut table = [0u64; TABLE_WORDS];
-    match write_plan_sheet(plan, &mut table, sheet) {
-        Written::Bytes(length) => length as u64,
-        Written::TooShort => 0,
-    }
+    written_bytes(write_plan_sheet(plan, &mut table, sheet)) as u64
 }

@@ -80,7 +80,7 @@ fn most(places: &[u64], free: u64) -> u64
     best
 }
 
-// The free atom to decide next: the lowest of those that stand in most live rules.
+// The free atom to decide next: the lowest of those that stand in most live rules. Which free atom it is is not promised.
 pub fn choose(rules: &[u64], which: u64, s: State, free: u64) -> usize
     requires { ⌜ Lent (now rules) which × (free ≡ 0 → ⊥) ⌝ }
     ensures { λ r. ⌜ Has free r × (r < ATOMS) ⌝ }

@@ -1,5 +1,5 @@
 -- The sheet by the outcome, that an accepted plan came with a long enough table, and the greatest length of a sheet.
-use mathlib.Core.Path.{_≡_, sym, ap, ap₂, _∙_}
+use mathlib.Core.Path.{_≡_, sym, ap, _∙_}
 use mathlib.Core.List.{List}
 use Prim.Native.Nat.{ℕ, _-_, _^_, _≤_, _<_}
 use native.Mathlib.Omega.{arith}
@@ -13,14 +13,11 @@ use Rattle.plan.specs.declared.fault.Fault.the-variants.{TableShort}
 use Rattle.plan.specs.declared.fault.Outcome.{Outcome}
 use Rattle.plan.specs.declared.fault.Outcome.the-variants.{Accepted, Refused}
 use Rattle.sheet.specs.Sheet.{positionsSheet, refusalSheet}
-use Rattle.sheet.specs.Lent.{part}
-use Rattle.sheet.specs.declared.Written.{Written}
 use Rattle.sheet.proofs.Sheets.{positions-at-most, refusal-at-most}
-use Rattle.sheet.proofs.WrittenBytes.{part-filled}
 use Rattle.unit_lists.specs.Answer.{Answer, answer}
 use Rattle.unit_lists.proofs.Answers.{short-answer}
 use Rattle.unit_lists.proofs.LastCount.{last-count-at-most}
-use Rattle.plan_sheet.specs.Sheets.{sheetFor, sheetOf, SHEET_BYTES, Printed}
+use Rattle.plan_sheet.specs.Sheets.{sheetFor, sheetOf, SHEET_BYTES}
 
 pub sheet-refused : (a : Answer) (f : Fault) → a .outcome ≡ Refused f → refusalSheet (number f) (spot f) ≡ sheetOf a
 unfolding sheetOf sheetFor
@@ -63,9 +60,3 @@ listed-at-most bytes table e =
     let few : length words ≤ LIST_WORDS =
     omega (arith, length-take (getD (a .counts) LAST_COUNT 0) (drop LAST_LIST (a .table)), last-count-at-most bytes table) in
     omega (arith, ap length (sheet-listed a e), positions-at-most words few)
-
--- what is shown of a buffer of SHEET_BYTES or more is the sheet
-pub shown-is-sheet : (bytes table table′ sheet sheet′ : List ℕ) (r : Written) → Printed bytes table table′ sheet sheet′ r
-    → SHEET_BYTES ≤ length sheet → part r sheet′ ≡ sheetOf (answer bytes table)
-shown-is-sheet bytes table table′ sheet sheet′ r p long =
-    ap₂ part (p .written-is) (p .sheet-is) ∙ part-filled (sheetOf (answer bytes table)) sheet (omega (arith, p .at-most))

@@ -11,7 +11,6 @@ use sheet::POSITIONS_FRAME;
 use sheet::Written;
 use sheet::write_positions;
 use sheet::write_refusal;
-use sheet::written_part;
 use unit_lists::list_positions;
 ghost use Prim.Native.Nat.{_≤_, min};
 ghost use mathlib.Core.Path.{_≡_};
@@ -36,16 +35,6 @@ pub fn write_plan_sheet(plan: &[u8], table: &mut [u64], sheet: &mut [u8]) -> Wri
     }
     let counts = listing.counts;
     write_positions(&table[LAST_LIST..], counts[LAST_COUNT], sheet)
-}
-
-// Prints the plan's sheet and hands it back: the part of the lent buffer that it fills.
-pub fn plan_sheet<'a>(plan: &[u8], table: &mut [u64], sheet: &'a mut [u8]) -> &'a [u8]
-    requires { ⌜ SHEET_BYTES ≤ length (now sheet) ⌝ }
-    ensures { λ r. ⌜ now r ≡ sheetOf (answer (now (plan .entry)) (now (table .entry))) ⌝ }
-    ensures { λ _. ⌜ now (table .exit) ≡ answer (now (plan .entry)) (now (table .entry)) .table ⌝ }
-{
-    let written = write_plan_sheet(plan, table, sheet);
-    written_part(sheet, written)
 }
 
 // How many bytes of its input a program keeps. No plan is longer, so what follows them changes nothing.

@@ -6,9 +6,9 @@ use native.Mathlib.Nat.{add-assoc, add-zero, zero-add, add-suc, suc-add}
 use native.Mathlib.Numerals.{add-one}
 use native.Mathlib.Omega.{arith}
 use borrow.Author.Tests.{le-leb, lt-leb}
-use lib.ListN.{length, take, drop, getD, set, length-append}
-use lib.Seq.{sets, sets-eq, take-suc, take-at}
-use Rattle.sheet.specs.Lent.{Put, answer, filled, part}
+use lib.ListN.{length, take, getD, set, length-append}
+use lib.Seq.{sets, sets-eq, take-suc}
+use Rattle.sheet.specs.Lent.{Put, answer, filled}
 use Rattle.sheet.specs.declared.Written.the-variants.{Bytes, TooShort}
 
 sets-append : (a b s : List ℕ) (at : ℕ) → sets s at (a ++ b) ≡ sets (sets s at a) (at + length a) b
@@ -39,11 +39,6 @@ unfolding answer filled
 put-fills {bytes} {s} h p =
     rw (p .behind, p .holds, zero-add, answer, filled, le-leb (length bytes) (length s) h)
     (refl, sets-eq bytes s 0 (rw zero-add h) ∙ rw zero-add)
-
--- the part that the answer tells of is the bytes
-pub part-filled : (bytes s : List ℕ) → length bytes ≤ length s → part (answer bytes s) (filled bytes s) ≡ bytes
-unfolding answer filled part
-part-filled bytes s h = rw (answer, filled, le-leb (length bytes) (length s) h) (take-at bytes (drop (length bytes) s) (length bytes) refl)
 
 -- the sheet has no room for the bytes
 pub too-short-keeps : (bytes s : List ℕ) → length s < length bytes → (TooShort ≡ answer bytes s) × (s ≡ filled bytes s)

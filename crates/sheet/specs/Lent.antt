@@ -2,9 +2,9 @@
 use Prim.Native.Nat.{ℕ, _+_}
 use mathlib.Core.Path.{_≡_}
 use mathlib.Core.Bool.{true, false}
-use mathlib.Core.List.{List, [], _++_}
+use mathlib.Core.List.{List, _++_}
 use lib.Dec.{leb}
-use lib.ListN.{length, take, drop}
+use lib.ListN.{length, drop}
 use lib.Seq.{sets}
 use Rattle.sheet.specs.declared.Written.{Written}
 use Rattle.sheet.specs.declared.Written.the-variants.{Bytes, TooShort}
@@ -16,11 +16,6 @@ answer bytes sheet = elim (leb (length bytes) (length sheet)) [ true ↦ Bytes (
 -- the lent sheet afterwards: the bytes and then its old ones from there on, if it has room for all, and otherwise as it was
 unfoldable pub filled : List ℕ → List ℕ → List ℕ
 filled bytes sheet = elim (leb (length bytes) (length sheet)) [ true ↦ bytes ++ drop (length bytes) sheet | false ↦ sheet ]
-
--- the part of the lent sheet that the answer tells of
-unfoldable pub part : Written → List ℕ → List ℕ
-part (Bytes n) sheet = take n sheet
-part TooShort sheet = []
 
 -- the bytes were written into the sheet from `at` on, and `next` is the place behind them
 pub record Put (bytes : List ℕ) (at : ℕ) (before after : List ℕ) (next : ℕ) : Type 0 where

@@ -3,7 +3,7 @@ ghost use Prim.Native.Nat.{_+_, _*_, _≤_};
 ghost use mathlib.Core.Path.{_≡_};
 ghost use lib.ListN.{length, take};
 ghost use Rattle.sheet.specs.Sheet.{decimal, hexadecimal, lineLength, positionLine, positionLines, positionsSheet, refusalSheet};
-ghost use Rattle.sheet.specs.Lent.{Put, answer, filled, part};
+ghost use Rattle.sheet.specs.Lent.{Put, answer, filled};
 
 // How many bytes were written; or that the buffer is too short for the sheet, which leaves it as it was.
 pub enum Written {
@@ -50,19 +50,6 @@ pub fn write_refusal(number: u64, spot: u64, sheet: &mut [u8]) -> Written
     let spot_at = put(b" at ", word_at, sheet);
     let end_at = put_decimal(spot, spot_at, sheet);
     Written::Bytes(put(b"\n", end_at, sheet))
-}
-
-// The part of the sheet that was written: its first bytes, and none where it was too short.
-pub fn written_part(sheet: &[u8], written: Written) -> &[u8]
-    ensures { λ r. ⌜ now r ≡ part written (now (sheet .entry)) ⌝ }
-{
-    let Written::Bytes(n) = written else {
-        return &sheet[..0];
-    };
-    if sheet.len() < n {
-        return sheet;
-    }
-    &sheet[..n]
 }
 
 // Writes the sheet of all the words.

@@ -76,12 +76,12 @@ module _ (Wanted : State → ℕ → Type 0) (within : ℕ) (members : List ℕ)
       let whole : take k list ≡ members =
       rising-ext (take k list) members (o .rising) rising (λ x m. grown-member x (s x m)) (λ x m. c x (inr (each x m))) in
       (ordered-padded list k o ∙ ap (padded LIST_WORDS) whole, sym (ordered-count o) ∙ ap length whole)
-  gathered-fits list k (over o) l = absurd (omega arith)
+  gathered-fits list k (over o left) l = absurd (omega arith)
 
   gathered-long : (list : List ℕ) (k : ℕ) → Gathered (Found Wanted within) list k → LIST_WORDS < k
       → LIST_WORDS < length members
   gathered-long list k (fits o s c) l = absurd (omega (arith, o .small))
-  gathered-long list k (over o) l =
+  gathered-long list k (over o left) l =
       omega (arith, rising-longer (o .many) members (o .rising) rising (λ x m. grown-member x (o .sound x m)), o .long)
 
   pub members-stored : {place : ℕ} {table counts table′ counts′ : List ℕ} {b : Bool}

@@ -7,11 +7,11 @@ use Prim.Native.Nat.{ℕ, zero, suc, min, _+_, _-_, _≤_, _<_}
 use native.Mathlib.Omega.{arith}
 use native.Mathlib.Decide.{ℕ-discrete, decLt}
 use lib.ListN.{length, take, drop, replicate, length-append, length-take, length-drop}
-use lib.Seq.{drop-drop, take-at, drop-at}
+use lib.Seq.{drop-drop, take-at, drop-at, length-take-le}
 use Rattle.atoms.specs.Rising.{above-nil, Rising, rising-nil, rising-cons}
 use Rattle.atoms.proofs.Rising.{above-at, above-intro}
 use Rattle.plan.specs.Limits.{LIST_WORDS}
-use Rattle.unit_search.specs.Listing.{insertInto, Inserted, room, no-room, Ordered, Gathered, fits, over, Grown}
+use Rattle.unit_search.specs.Listing.{insertInto, Inserted, room, no-room, Ordered, Overfull, LeftOver, Gathered, fits, over, Grown}
 use Rattle.unit_search.proofs.Insertion.{insert-below, insert-same, insert-above}
 
 -- the three ways in which a value meets a member
@@ -170,6 +170,15 @@ ordered-front list count o xs after r e small more rising w = record {
         ∙ ap (drop (r - count)) (o .zeros) ∙ drop-zeros (r - count) (LIST_WORDS - count)
         ∙ zeros-same ((LIST_WORDS - count) - (r - count)) (LIST_WORDS - r) (omega arith)
 
+take-member : (n : ℕ) (xs : List ℕ) (x : ℕ) → List·Memᴰ x (take n xs) → List·Memᴰ x xs
+take-member zero xs x m = absurd (List·Memᴰ·not-nil m)
+take-member (suc n) [] x m = m
+take-member (suc n) (y ∷ xs) x m = go (List·Memᴰ·cases-cons m) (take-member n xs x)
+  where
+    go : (x ≡ y) ⊎ List·Memᴰ x (take n xs) → (List·Memᴰ x (take n xs) → List·Memᴰ x xs) → List·Memᴰ x (y ∷ xs)
+    go (inl e) r = List·Memᴰ·head e
+    go (inr k) r = List·Memᴰ·tail (r k)
+
 pub front-is : (xs ys after : List ℕ) (r : ℕ) → r ≡ length xs → after ≡ xs ++ ys → take r after ≡ xs
 front-is xs ys after r e w = ap (take r) w ∙ take-at xs ys r (sym e)
 
@@ -198,13 +207,17 @@ gathered-insert list count value after r o (room e small w) =
     back : {x : ℕ} → Grown list count (λ y. y ≡ value) x → (x ≡ value) ⊎ List·Memᴰ x (take count list)
     back (inl m) = inr m
     back (inr p) = inl p
-gathered-insert list count value after r o (no-room e) =
+gathered-insert list count value after r o (no-room e w) =
     over
     (record {
       many = insertInto value (take count list);
       rising = insert-rising value (take count list) (o .rising);
       long = e;
       sound = λ x m. swap (insert-at value (take count list) x m);
+    })
+    (record {
+      long = ap length w ∙ length-take-le LIST_WORDS (insertInto value (take count list)) (omega arith);
+      sound = λ x m. swap (insert-at value (take count list) x (take-member LIST_WORDS (insertInto value (take count list)) x (subst (List·Memᴰ x) w m)));
     })
   where
     swap : {x : ℕ} → (x ≡ value) ⊎ List·Memᴰ x (take count list) → Grown list count (λ y. y ≡ value) x
@@ -220,23 +233,27 @@ gathered-same list count Added o none = fits o (λ x m. inl m) back
     back x (inl m) = m
     back x (inr a) = absurd (none x a)
 
+overfull-for : {Q R : ℕ → Type 0} → ((x : ℕ) → Q x → R x) → Overfull Q → Overfull R
+overfull-for f o = record { many = o .many; rising = o .rising; long = o .long; sound = λ x m. f x (o .sound x m) }
+
+left-for : {Q R : ℕ → Type 0} {list : List ℕ} → ((x : ℕ) → Q x → R x) → LeftOver Q list → LeftOver R list
+left-for f l = record { long = l .long; sound = λ x m. f x (l .sound x m) }
+
 -- the same positions, said in another way
 pub gathered-iff : {Q R : ℕ → Type 0} {list : List ℕ} {r : ℕ} → ((x : ℕ) → Q x → R x) → ((x : ℕ) → R x → Q x)
     → Gathered Q list r → Gathered R list r
 gathered-iff f g (fits o s c) = fits o (λ x m. f x (s x m)) (λ x q. c x (g x q))
-gathered-iff f g (over o) =
-    over (record { many = o .many; rising = o .rising; long = o .long; sound = λ x m. f x (o .sound x m) })
+gathered-iff f g (over o l) = over (overfull-for f o) (left-for f l)
 
 -- a list that is too long stays so
-pub gathered-over : {Q R : ℕ → Type 0} {list list′ : List ℕ} {r : ℕ} → ((x : ℕ) → Q x → R x) → LIST_WORDS < r → Gathered Q list r
-    → Gathered R list′ r
+pub gathered-over : {Q R : ℕ → Type 0} {list : List ℕ} {r : ℕ} → ((x : ℕ) → Q x → R x) → LIST_WORDS < r → Gathered Q list r
+    → Gathered R list r
 gathered-over f l (fits o s c) = absurd (omega (arith, o .small))
-gathered-over f l (over o) =
-    over (record { many = o .many; rising = o .rising; long = o .long; sound = λ x m. f x (o .sound x m) })
+gathered-over f l (over o k) = over (overfull-for f o) (left-for f k)
 
 pub gathered-ordered : {Q : ℕ → Type 0} {list : List ℕ} {r : ℕ} → r ≤ LIST_WORDS → Gathered Q list r → Ordered list r
 gathered-ordered l (fits o s c) = o
-gathered-ordered l (over o) = absurd (omega arith)
+gathered-ordered l (over o k) = absurd (omega arith)
 
 -- first these are added and then those
 pub gathered-then : {A B C : ℕ → Type 0} (list₀ : List ℕ) (count₀ : ℕ) (list₁ : List ℕ) (count₁ : ℕ) {list₂ : List ℕ} {count₂ : ℕ}
@@ -260,4 +277,4 @@ gathered-then {A} {B} {C} list₀ count₀ list₁ count₁ a b c l (fits o s h)
     from : (x : ℕ) → Grown list₀ count₀ C x → Grown list₁ count₁ B x
     from x (inl m) = inl (h x (inl m))
     from x (inr p) = cases x (c x p)
-gathered-then list₀ count₀ list₁ count₁ a b c l (over o) g = absurd (omega arith)
+gathered-then list₀ count₀ list₁ count₁ a b c l (over o k) g = absurd (omega arith)

@@ -8,7 +8,7 @@ use native.Mathlib.Numerals.{add-one}
 use lib.Dec.{eqb}
 use native.Mathlib.Nat.{add-zero}
 use lib.ListN.{length, take, drop, getD, set, take-append-drop, drop-of-length-le, length-append, length-take, length-drop, length-set}
-use lib.Seq.{take-suc, drop-cons, drop-drop, drop-set-lt, drop-append-le, take-suc-set, set-split, getD-take, getD-drop, length-take-le}
+use lib.Seq.{take-all, take-at, take-suc, drop-cons, drop-drop, drop-set-lt, drop-append-le, take-suc-set, set-split, getD-take, getD-drop, length-take-le}
 use borrow.Author.Tests.{lt-ltb, le-ltb, eq-eqb, ne-eqb}
 use Rattle.plan.specs.Limits.{LIST_WORDS, OVERFULL}
 use Rattle.unit_search.specs.Listing.{insertInto, Inserted, room, no-room}
@@ -150,7 +150,13 @@ module _ (list₀ : List ℕ) (count value : ℕ) (long : length list₀ ≡ LIS
       omega arith
 
   pub pass-full : count ≡ LIST_WORDS → Inserted list₀ count value list OVERFULL
-  pass-full e = no-room (end-long ∙ ap (λ (n : ℕ). n + 1) e)
+  pass-full e = no-room (end-long ∙ ap (λ (n : ℕ). n + 1) e) (sym kept)
+    where
+      kept : take LIST_WORDS (insertInto value (take count list₀)) ≡ list
+      kept =
+          let whole : take count list ≡ list = take-all count list (omega (arith, p .same-long)) in
+          ap (take LIST_WORDS) (sym end-work ∙ ap (λ (xs : List ℕ). xs ++ (carried ∷ [])) whole)
+          ∙ take-at list (carried ∷ []) LIST_WORDS (p .same-long ∙ long)
 
   pub pass-end : ¬ (count ≡ LIST_WORDS) → Inserted list₀ count value (set list count carried) (count + 1)
   pass-end n = room (sym end-long) (omega arith) whole

@@ -34,18 +34,24 @@ pub record Overfull (Wanted : ℕ → Type 0) : Type 0 where
   pub long : length many ≡ OVERFULL
   pub sound : (x : ℕ) → List·Memᴰ x many → Wanted x
 
+-- what is left in the words then: which positions they hold is free, but each is wanted
+pub record LeftOver (Wanted : ℕ → Type 0) (list : List ℕ) : Type 0 where
+  pub long : length list ≡ LIST_WORDS
+  pub sound : (x : ℕ) → List·Memᴰ x list → Wanted x
+
 -- the list holds just what is wanted; or more positions are wanted than it may have, and the count says so
 pub data Gathered (Wanted : ℕ → Type 0) (list : List ℕ) : ℕ → Type 0 where
   fits : {count : ℕ} → Ordered list count → ((x : ℕ) → List·Memᴰ x (take count list) → Wanted x)
       → ((x : ℕ) → Wanted x → List·Memᴰ x (take count list)) → Gathered Wanted list count
-  over : Overfull Wanted → Gathered Wanted list OVERFULL
+  over : Overfull Wanted → LeftOver Wanted list → Gathered Wanted list OVERFULL
 
 -- a member of the list so far, or one of those that are added
 abbrev pub Grown : List ℕ → ℕ → (ℕ → Type 0) → ℕ → Type 0
 Grown list count Added x = List·Memᴰ x (take count list) ⊎ Added x
 
--- what an insertion leaves: the list with the value in its place, or that this list is too long
+-- what an insertion leaves: the list with the value in its place, or that this list is too long, and as much of it as there is room for
 pub data Inserted (list : List ℕ) (count value : ℕ) (after : List ℕ) : ℕ → Type 0 where
   room : {r : ℕ} → r ≡ length (insertInto value (take count list)) → r ≤ LIST_WORDS
       → after ≡ insertInto value (take count list) ++ drop r list → Inserted list count value after r
-  no-room : length (insertInto value (take count list)) ≡ OVERFULL → Inserted list count value after OVERFULL
+  no-room : length (insertInto value (take count list)) ≡ OVERFULL → after ≡ take LIST_WORDS (insertInto value (take count list))
+      → Inserted list count value after OVERFULL

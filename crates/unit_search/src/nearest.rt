@@ -36,7 +36,8 @@ fn without_covered(heads: &[u64], units: u64, v: usize) -> u64
 }
 
 // The predecessors whose head atoms no other one's cover. A unit that another one reaches is covered by it, and what its list
-// tells of a position the other's list tells too: so these are enough for pruning, and the full test joins them all.
+// tells of a position the other's list tells too: so these are enough for pruning, and the full test joins them all. Which ones
+// are left out is free: all that holds of the word is that it names predecessors.
 pub fn nearest(heads: &[u64], predecessors: u64) -> u64
     requires { ⌜ MAX_UNITS ≤ length (now heads) ⌝ }
     ensures { λ r. ⌜ r ⊆ predecessors ⌝ }
