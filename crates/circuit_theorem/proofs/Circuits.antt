@@ -3,10 +3,13 @@
 use Prim.Native.Nat.{ℕ}
 use mathlib.Core.Path.{_≡_, refl}
 use mathlib.Core.List.{List, [], _∷_, _++_, map}
+use lib.ListN.{take, drop, getD, replicate}
+use Rattle.plan.specs.Limits.{LAST_LIST, LAST_COUNT, TABLE_WORDS}
 use Rattle.atoms.specs.Word.{has, subset, apart, _∩_, _∪_, _∖_, atom, below}
 use Rattle.atoms.specs.Bounded.{allBelow, someBelow, wordBelow, unionIn}
 use Rattle.atoms.specs.Collected.{lowest, lowestOf}
 use Rattle.atoms.specs.Rising.{members}
+use Rattle.atoms.specs.Lists.{padded, tabulate}
 use Rattle.answer_sets.specs.Lent.{lent}
 use Rattle.answer_sets.specs.Test.{body, satisfies, satisfiesAll, kept, keptIf, someSmaller, answerSet}
 use Rattle.reading.specs.Words.{number, wordAt}
@@ -14,7 +17,6 @@ use Rattle.plan.specs.Record.{emptyPlan, withRule, withUnit, withEdge}
 use Rattle.reading.specs.Commands.{kindOf, carrying, lateRule, lateUnit, emptyRule, absentRule, badEdge, ofKind, commandAt}
 use Rattle.reading.specs.Reading.{walk, reading}
 use Rattle.plan.specs.declared.fault.Fault.the-variants.{Cycle, NonmonotonicUnseen, MonotonicUnseen}
-use Rattle.plan.specs.declared.record.Plan.{Plan}
 use Rattle.plan.specs.declared.fault.Outcome.{Outcome}
 use Rattle.plan.specs.declared.fault.Outcome.the-variants.{Accepted, Refused}
 use Rattle.dependency_graph.specs.Heads.{through, reachVia, reach, own, heads, inputHeads}
@@ -27,7 +29,8 @@ use Rattle.splitting.specs.UnitList.{withLast}
 use Rattle.judge.specs.Answers.{judged}
 use Rattle.judge.specs.declared.Answer.the-variants.{NotSettled}
 use Rattle.unit_lists.specs.Lists.{isInput, inList, unitList, lastList}
-use Rattle.unit_lists.specs.Answer.{unlessRefused, workFrom, afterGraph}
+use Rattle.unit_lists.specs.Table.{listAt, runs, tableWith, countsWith, noCounts}
+use Rattle.unit_lists.specs.Answer.{unlessRefused, workFrom, tableOutcome, answer}
 
 -- a word below 256 in a plan
 abbrev word : ℕ → List ℕ
@@ -85,21 +88,16 @@ results =
     ∷ (Refused (MonotonicUnseen 1), [])
     ∷ []
 
--- an outcome, with the last list where the plan is accepted
-unfoldable pub withLastList : Plan → Outcome → Outcome × List ℕ
-withLastList p (Refused f) = (Refused f, [])
-withLastList p Accepted = (Accepted, lastList (unitsOf p))
-
--- what `answer` says of the bytes, where the table is long enough: its outcome, and the list that goes to word 4,096
+-- what `answer` gives for the bytes and a table of zeros: its outcome, and "the words from 4,096 on, as many as the last count says"
 unfoldable pub shown : List ℕ → Outcome × List ℕ
 shown bytes =
-    withLastList (reading bytes .plan) (unlessRefused (reading bytes .outcome) [] (afterGraph (unitsOf (reading bytes .plan)) []) .outcome)
+    let a = answer bytes (replicate {A = ℕ} TABLE_WORDS 0) in (a .outcome, take (getD (a .counts) LAST_COUNT 0) (drop LAST_LIST (a .table)))
 
 -- the results of all of them; and of circuit 2: "Position 3 isn't settled."
 pub circuits : (map shown plans ≡ results) × (judged circuit-2 3 ≡ NotSettled)
-unfolding judged shown withLastList reading walk commandAt ofKind kindOf carrying lateRule lateUnit emptyRule absentRule badEdge emptyPlan withRule withUnit
-    withEdge number wordAt unlessRefused workFrom lastList unitList inList isInput members allBelow someBelow wordBelow unionIn
-    twiceBelow heads inputHeads own reach reachVia through withLast unitsOf lent answerSet someSmaller satisfiesAll satisfies body kept keptIf has
-    subset apart _∩_ _∪_ _∖_ atom below verdict row ruleInNoUnit headedRuleInSeveral cycle nonmonotonicUnseen monotonicUnseen nonmonotonicUnseenIn
-    monotonicSeenIn seen unseenHeads lowestOf lowest workingOrder orderFrom nextUnit ready
+unfolding judged shown answer tableOutcome reading walk commandAt ofKind kindOf carrying lateRule lateUnit emptyRule absentRule badEdge emptyPlan withRule
+    withUnit withEdge number wordAt unlessRefused workFrom noCounts tableWith countsWith listAt runs padded tabulate lastList unitList inList isInput
+    members allBelow someBelow wordBelow unionIn twiceBelow heads inputHeads own reach reachVia through withLast unitsOf lent answerSet someSmaller
+    satisfiesAll satisfies body kept keptIf has subset apart _∩_ _∪_ _∖_ atom below verdict row ruleInNoUnit headedRuleInSeveral cycle
+    nonmonotonicUnseen monotonicUnseen nonmonotonicUnseenIn monotonicSeenIn seen unseenHeads lowestOf lowest workingOrder orderFrom nextUnit ready
 circuits = (refl, refl)
