@@ -1,10 +1,10 @@
 -- The working order: the next unit is the lowest that is ready; on an acyclic graph some unit is ready as long as one is not
 -- done, since a unit of the least rank that is not done is; so every unit is worked, once, after its predecessors.
-use mathlib.Core.Path.{_≡_, refl, sym, subst}
+use mathlib.Core.Path.{_≡_, refl, sym, ap₂, subst}
 use mathlib.Core.Bool.{Bool, true, false, _&&_}
 use mathlib.Core.Logic.{_⊎_, inl, inr}
 use mathlib.Core.List.{List, [], _∷_, _++_, List·Memᴰ, List·Memᴰ·head, List·Memᴰ·tail, List·Memᴰ·not-nil, List·Memᴰ·cases-cons}
-use Prim.Native.Nat.{ℕ, zero, suc, _+_, _≤_, _<_}
+use Prim.Native.Nat.{ℕ, zero, suc, _≤_, _<_}
 use native.Mathlib.Omega.{arith}
 use native.Mathlib.Decide.{ℕ-discrete}
 use lib.Count.{ones, ones-le}
@@ -16,7 +16,7 @@ use Rattle.atoms.specs.Collected.{Collects}
 use Rattle.atoms.proofs.Tests.{decides-iff, decides-and, decides-not, decided}
 use Rattle.atoms.proofs.Sets.{decides-has, decides-subset, has-dec, has-left, has-right, union-cases, has-atom, atom-only, has-none, lt-of-has}
 use Rattle.atoms.proofs.Counts.{count-lt}
-use Rattle.atoms.proofs.Collected.{collects-none, collects-some, collects-has, collects-below, collects-without}
+use Rattle.atoms.proofs.Collected.{collects-none, collects-some, collects-has, collects-below, collects-without, least-same}
 use Rattle.atoms.proofs.Collected.{lowest-le, lowest-here, lowest-least, lowest-is, lowest-none}
 use Rattle.dependency_graph.specs.Units.{Units, Edge}
 use Rattle.dependency_graph.specs.Graph.{Acyclic}
@@ -154,6 +154,15 @@ waiting-most S =
 pub order-right : (S : Units) → Acyclic S → InOrder S 0 (workingOrder S)
 unfolding workingOrder
 order-right S a = order-from S a (S .units) 0 (waiting-most S)
+
+-- there is no other: of two units that are both the lowest ready one neither is lower
+pub order-one : (S : Units) {done : ℕ} {us vs : List ℕ} → InOrder S done us → InOrder S done vs → us ≡ vs
+order-one S (all-done f) (all-done g) = refl
+order-one S (all-done f) (next {u = u} l r low o) = absurd (r .waits (f u l))
+order-one S (next {u = u} l r low o) (all-done f) = absurd (r .waits (f u l))
+order-one S (next {done = done} {u = u} {us = us} l r low o) (next {u = v} {us = vs} k q high p) =
+    let same : u ≡ v = least-same {P = Ready S done} (record { here = r; least = low }) (record { here = q; least = high }) in
+    ap₂ _∷_ same (order-one S o (subst (λ (x : ℕ). InOrder S (done ∪ atom x) vs) (sym same) p))
 
 -- ---- what stands where in the order
 

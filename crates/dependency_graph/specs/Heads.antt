@@ -1,9 +1,30 @@
--- Reach and head atoms, as words (document 01, Terms and Unit lists).
+-- Head atoms by document 01's words (Unit lists), and reach and head atoms as words that compute. proofs/Under.antt: the words have
+-- just these atoms.
 use mathlib.Core.Bool.{true, false}
 use Prim.Native.Nat.{ℕ, zero, suc}
-use Rattle.atoms.specs.Word.{has, _∩_, _∪_, below}
+use Rattle.atoms.specs.Word.{Has, has, _∩_, _∪_, below}
 use Rattle.atoms.specs.Bounded.{unionIn}
-use Rattle.dependency_graph.specs.Units.{Units}
+use Rattle.atoms.specs.Collected.{Collects}
+use Rattle.dependency_graph.specs.Units.{Units, Holds, Edge, Path}
+
+-- ---- by meaning
+
+-- "Write H(u) for the head atoms of u and of all units it reaches": atom a is in H(u). Given atoms count in every H.
+pub data HeadAtom (S : Units) (u a : ℕ) : Type 0 where
+  given-head : Has (S .given) a → HeadAtom S u a
+  own-head : {r : ℕ} → Holds S u r → Has (S .program .head r) a → HeadAtom S u a
+  reached-head : {v r : ℕ} → Path S u v → Holds S v r → Has (S .program .head r) a → HeadAtom S u a
+
+-- "atoms of H(v) for direct predecessors v": what an input of u may have, and the given atoms
+pub data InputAtom (S : Units) (u a : ℕ) : Type 0 where
+  given-input : Has (S .given) a → InputAtom S u a
+  head-input : {v : ℕ} → Edge S u v → HeadAtom S v a → InputAtom S u a
+
+-- "J cut to H(v)": K has the atoms of J that are in H(v), and no others
+abbrev pub Cut : Units → ℕ → ℕ → ℕ → Type 0
+Cut S v J K = Collects (λ a. Has J a × HeadAtom S v a) K
+
+-- ---- as words
 
 -- what a unit reaches once its paths may lead through unit k: w before, and what k reaches where it reaches k
 unfoldable pub through : ℕ → ℕ → ℕ → ℕ

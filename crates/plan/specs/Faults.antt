@@ -1,9 +1,12 @@
 -- The numbers and spots of faults. Document 01, "Faults, by where they are found": columns "no." and "spot".
+use mathlib.Core.Path.{_≡_}
 use Prim.Native.Nat.{ℕ, _+_, _*_, _-_, _^_, min}
 use Rattle.plan.specs.declared.fault.Fault.{Fault}
 use Rattle.plan.specs.declared.fault.Fault.the-variants.{TableShort, Truncated, UnknownCommand, OutOfOrder, TooMany}
 use Rattle.plan.specs.declared.fault.Fault.the-variants.{EmptyRule, AbsentRule, BadEdge, TrailingBytes}
 use Rattle.plan.specs.declared.fault.Fault.the-variants.{RuleInNoUnit, HeadedRuleInSeveral, Cycle, NonmonotonicUnseen, MonotonicUnseen, LongList}
+use Rattle.plan.specs.declared.fault.Outcome.{Outcome}
+use Rattle.plan.specs.declared.fault.Outcome.the-variants.{Refused}
 
 -- column "no."
 abbrev pub number : Fault → ℕ
@@ -40,6 +43,13 @@ spot (Cycle s) = s
 spot (NonmonotonicUnseen s) = s
 spot (MonotonicUnseen s) = s
 spot (LongList s) = s
+
+-- refused with this number at this spot
+pub record RefusedBy (outcome : Outcome) (n s : ℕ) : Type 0 where
+  pub fault : Fault
+  pub is : outcome ≡ Refused fault
+  pub number-is : number fault ≡ n
+  pub spot-is : spot fault ≡ s
 
 -- a refusal as one number: its fault number above 16 bits for its spot
 abbrev pub CODE_STEP : ℕ

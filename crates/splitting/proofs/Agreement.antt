@@ -1,16 +1,17 @@
 -- A list depends on the unit's own rules and on those it reaches: heads, inputs and answer sets are the same where two programs
 -- agree, whatever numbers the rules have, and so are the lists, along the paths.
 use mathlib.Core.Path.{_≡_, sym, _∙_, subst}
-use mathlib.Core.Logic.{_↔_, _⊎_, inl, inr}
+use mathlib.Core.Logic.{_↔_}
 use Prim.Native.Nat.{ℕ, _<_}
 use Rattle.atoms.specs.Word.{Has, _⊆_, _∩_, below}
-use Rattle.atoms.proofs.Sets.{ext, has-cut, cut-left, cut-right, has-below, below-lt}
+use Rattle.atoms.proofs.Sets.{has-cut, cut-left, cut-right, has-below, below-lt}
+use Rattle.atoms.proofs.Collected.{collects-iff, collects-same}
 use Rattle.answer_sets.specs.Program.{Program, Body, Satisfies}
 use Rattle.answer_sets.specs.AnswerSet.{ReductModel, AnswerSet}
 use Rattle.dependency_graph.specs.Units.{Units, Holds, Edge, Path, one, more}
-use Rattle.dependency_graph.specs.Heads.{own, heads, inputHeads}
-use Rattle.dependency_graph.proofs.Heads.{own-has, own-at, heads-given, input-given, input-edge, input-cases}
-use Rattle.dependency_graph.proofs.Under.{Under, here, down, under-unit, heads-under, heads-source}
+use Rattle.dependency_graph.specs.Heads.{HeadAtom, given-head, own-head, reached-head, InputAtom, given-input, head-input, Cut}
+use Rattle.dependency_graph.specs.Heads.{heads, inputHeads}
+use Rattle.dependency_graph.proofs.Under.{collects-head-atoms, collects-input-atoms}
 use Rattle.splitting.specs.UnitList.{Listed, listed, SameRule, SameUnit, Agree}
 use Rattle.splitting.proofs.Cuts.{numbers, has-number, number-held}
 
@@ -78,43 +79,31 @@ agree-sym g = record {
   reached = λ w p. unit-sym (g .reached w (path-back g p));
 }
 
-under-same : {S T : Units} {u w : ℕ} → Agree S T u → Under S u w → SameUnit S T w
-under-same g here = g .here
-under-same {w = w} g (down p) = g .reached w p
-
-under-there : {S T : Units} {u w : ℕ} → Agree S T u → Under S u w → Under T u w
-under-there g here = here
-under-there g (down p) = down (path-back (agree-sym g) p)
-
 -- ---- heads, inputs, lists
 
-heads-there : (S T : Units) (u a : ℕ) → Agree S T u → u < S .units → Has (heads S u) a → Has (heads T u) a
-heads-there S T u a g l h = go (heads-source S u a l h)
-  where
-    go : Has (S .given) a ⊎ ((w : ℕ) × Under S u w × Has (own S w) a) → Has (heads T u) a
-    go (inl p) = heads-given T u a (subst (λ (x : ℕ). Has x a) (g .given) p)
-    go (inr t) =
-        let r = own-at S (t .0) a (under-unit S l (t .1)) (t .2) in
-        let s = under-same g (t .1) .there (r .0) (r .1) in
-        heads-under T a (under-there g (t .1))
-        (own-has T (t .0) (s .0) a (s .1) (subst (λ (x : ℕ). Has x a) (s .2 .head) (r .2)))
+head-there : {S T : Units} {u a : ℕ} → Agree S T u → HeadAtom S u a → HeadAtom T u a
+head-there {a = a} g (given-head h) = given-head (subst (λ (x : ℕ). Has x a) (g .given) h)
+head-there {a = a} g (own-head {r = r} h k) =
+    let s = g .here .there r h in
+    own-head (s .1) (subst (λ (x : ℕ). Has x a) (s .2 .head) k)
+head-there {a = a} g (reached-head {v = v} {r = r} p h k) =
+    let s = g .reached v p .there r h in
+    reached-head (path-back (agree-sym g) p) (s .1) (subst (λ (x : ℕ). Has x a) (s .2 .head) k)
+
+input-there : {S T : Units} {u a : ℕ} → Agree S T u → InputAtom S u a → InputAtom T u a
+input-there {a = a} g (given-input h) = given-input (subst (λ (x : ℕ). Has x a) (g .given) h)
+input-there g (head-input {v = v} e h) = head-input (g .here .edges v .0 e) (head-there (agree-edge g e) h)
+
+cut-there : {S T : Units} {u J K : ℕ} → Agree S T u → Cut S u J K → Cut T u J K
+cut-there g c = collects-iff (λ a h. (h .0, head-there g (h .1))) (λ a h. (h .0, head-there (agree-sym g) (h .1))) c
 
 pub agree-heads : (S T : Units) (u : ℕ) → Agree S T u → u < S .units → u < T .units → heads S u ≡ heads T u
 agree-heads S T u g l k =
-    ext (heads S u) (heads T u) (λ a. heads-there S T u a g l) (λ a. heads-there T S u a (agree-sym g) k)
-
-input-there : (S T : Units) (u a : ℕ) → Agree S T u → u < S .units → Has (inputHeads S u) a → Has (inputHeads T u) a
-input-there S T u a g l h = go (input-cases S u a l h)
-  where
-    go : Has (S .given) a ⊎ ((v : ℕ) × Edge S u v × Has (heads S v) a) → Has (inputHeads T u) a
-    go (inl p) = input-given T u a (subst (λ (x : ℕ). Has x a) (g .given) p)
-    go (inr t) =
-        input-edge T u (t .0) a (g .here .edges (t .0) .0 (t .1))
-        (heads-there S T (t .0) a (agree-edge g (t .1)) (t .1 .is-predecessor) (t .2))
+    collects-same (collects-iff (λ a. head-there g) (λ a. head-there (agree-sym g)) (collects-head-atoms S u l)) (collects-head-atoms T u k)
 
 pub agree-input : (S T : Units) (u : ℕ) → Agree S T u → u < S .units → u < T .units → inputHeads S u ≡ inputHeads T u
 agree-input S T u g l k =
-    ext (inputHeads S u) (inputHeads T u) (λ a. input-there S T u a g l) (λ a. input-there T S u a (agree-sym g) k)
+    collects-same (collects-iff (λ a. input-there g) (λ a. input-there (agree-sym g)) (collects-input-atoms S u l)) (collects-input-atoms T u k)
 
 unit-among : (S T : Units) (u : ℕ) → SameUnit S T u → u < S .units → u < T .units
     → Among (S .program) (T .program) (numbers S u) (numbers T u)
@@ -148,13 +137,12 @@ same-words S T w l k n p f = record {
         }
 
 listed-there : (S T : Units) {u M : ℕ} → Agree S T u → u < S .units → u < T .units → Listed S u M → Listed T u M
-listed-there S T {u} {M} g l k (listed {J = J} i w f s) =
-    listed (subst (λ (x : ℕ). x ⊆ J) (g .given) i) (subst (λ (x : ℕ). J ⊆ x) (agree-input S T u g l k) w)
+listed-there S T {u} {M} g l k (listed {J = J} i w c f s) =
+    listed (subst (λ (x : ℕ). x ⊆ J) (g .given) i) (λ a h. input-there g (w a h))
+    (λ v e. let d : Edge S u v = g .here .edges v .1 e in cut-there (agree-edge g d) (c v d))
     (λ v e.
     let d : Edge S u v = g .here .edges v .1 e in
-    let a : Agree S T v = agree-edge g d in
-    subst (λ (x : ℕ). Listed T v (J ∩ x)) (agree-heads S T v a (d .is-predecessor) (e .is-predecessor))
-    (listed-there S T a (d .is-predecessor) (e .is-predecessor) (f v d)))
+    listed-there S T (agree-edge g d) (d .is-predecessor) (e .is-predecessor) (f v d))
     (answer-same (S .program) (T .program) (numbers S u) (numbers T u) J M (unit-among S T u (g .here) l k)
     (unit-among T S u (unit-sym (g .here)) k l) s)
 

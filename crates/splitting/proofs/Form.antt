@@ -12,8 +12,9 @@ use Rattle.dependency_graph.specs.Graph.{Passes}
 use Rattle.dependency_graph.specs.Heads.{own, heads, inputHeads}
 use Rattle.dependency_graph.proofs.Heads.{own-has, heads-own, heads-input, input-given, input-edge}
 use Rattle.dependency_graph.proofs.Seen.{own-apart}
-use Rattle.splitting.specs.UnitList.{Listed, listed}
+use Rattle.splitting.specs.UnitList.{Listed}
 use Rattle.splitting.proofs.Cuts.{numbers, number-held, cut-inner, cut-within}
+use Rattle.splitting.proofs.Words.{Input, listed-words, words-listed}
 
 -- M is in the list of u, asked of M alone
 pub record Member (S : Units) (u M : ℕ) : Type 0 where
@@ -34,12 +35,15 @@ unit-supported S u J M a l s h = go (supported (S .program) (numbers S u) J M a 
 heads-in-input : (S : Units) (u v : ℕ) → Edge S u v → heads S v ⊆ inputHeads S u
 heads-in-input S u v e = record { each = λ a. input-edge S u v a e }
 
-member-listed : (S : Units) (u M : ℕ) → Member S u M → Listed S u M
-member-listed S u M m =
-    listed
-    (record { each = λ a g. has-cut M (inputHeads S u) (m .given-up .each a g) (input-given S u a g) })
-    (cut-within M (inputHeads S u))
-    (λ v e. subst (λ (x : ℕ). Listed S v x) (sym (cut-inner M (inputHeads S u) (heads S v) (heads-in-input S u v e))) (m .inputs v e))
+member-listed : (S : Units) (u M : ℕ) → u < S .units → Member S u M → Listed S u M
+member-listed S u M l m =
+    listed-words S l
+    (record {
+      given-up = record { each = λ a g. has-cut M (inputHeads S u) (m .given-up .each a g) (input-given S u a g) };
+      within = cut-within M (inputHeads S u);
+      inputs = λ v e. subst (λ (x : ℕ). Listed S v x)
+          (sym (cut-inner M (inputHeads S u) (heads S v) (heads-in-input S u v e))) (m .inputs v e);
+    })
     (m .answer)
 
 module _ (S : Units) (pass : Passes S) (free : GivenFree S) (u : ℕ) (l : u < S .units) where
@@ -60,19 +64,16 @@ module _ (S : Units) (pass : Passes S) (free : GivenFree S) (u : ℕ) (l : u < S
       go a (inl j) = heads-input S u a l (w .each a j)
       go a (inr o) = heads-own S u a o
 
-  of-input : (J M : ℕ) → S .given ⊆ J → J ⊆ inputHeads S u → ((v : ℕ) → Edge S u v → Listed S v (J ∩ heads S v))
-      → AnswerSet (S .program) (numbers S u) J M → Member S u M
-  of-input J M g w f s = record {
-    given-up = subset-trans g (s .model .facts-up);
-    within = member-within J M w s;
+  of-input : (J M : ℕ) → Input S u J → AnswerSet (S .program) (numbers S u) J M → Member S u M
+  of-input J M i s = record {
+    given-up = subset-trans (i .given-up) (s .model .facts-up);
+    within = member-within J M (i .within) s;
     inputs = λ v e. subst (λ (x : ℕ). Listed S v x)
-        (ap (λ (x : ℕ). x ∩ heads S v) (input-is J M w s) ∙ cut-inner M (inputHeads S u) (heads S v) (heads-in-input S u v e))
-        (f v e);
-    answer = subst (λ (x : ℕ). AnswerSet (S .program) (numbers S u) x M) (input-is J M w s) s;
+        (ap (λ (x : ℕ). x ∩ heads S v) (input-is J M (i .within) s)
+        ∙ cut-inner M (inputHeads S u) (heads S v) (heads-in-input S u v e))
+        (i .inputs v e);
+    answer = subst (λ (x : ℕ). AnswerSet (S .program) (numbers S u) x M) (input-is J M (i .within) s) s;
   }
 
   pub listed-member : (M : ℕ) → Listed S u M ↔ Member S u M
-  listed-member M = (there, member-listed S u M)
-    where
-      there : Listed S u M → Member S u M
-      there (listed {J = J} g w f s) = of-input J M g w f s
+  listed-member M = (λ h. let t = words-listed S l h in of-input (t .0) M (t .1) (t .2), member-listed S u M l)

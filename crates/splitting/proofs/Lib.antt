@@ -1,4 +1,5 @@
 pub mod Cuts
+pub mod Words
 pub mod Form
 pub mod Local
 pub mod Filled

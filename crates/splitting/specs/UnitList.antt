@@ -1,6 +1,6 @@
 -- Inputs and unit lists by document 01's sentence, the one more unit whose list is the last, and what it is to agree on a unit.
 use mathlib.Core.Path.{_≡_}
-use mathlib.Core.Bool.{Bool, true, false}
+use mathlib.Core.Bool.{true, false}
 use mathlib.Core.Logic.{_↔_}
 use Prim.Native.Nat.{ℕ, suc, _<_}
 use lib.Dec.{eqb}
@@ -8,13 +8,14 @@ use Rattle.atoms.specs.Word.{Has, _⊆_, _∩_, below}
 use Rattle.answer_sets.specs.Program.{Program}
 use Rattle.answer_sets.specs.AnswerSet.{AnswerSet}
 use Rattle.dependency_graph.specs.Units.{Units, Holds, Edge, Path}
-use Rattle.dependency_graph.specs.Heads.{heads, inputHeads}
+use Rattle.dependency_graph.specs.Heads.{InputAtom, Cut}
 
 -- "A position J is an input of u if J has only atoms of H(v) for direct predecessors v, and J cut to H(v) is in v's list for each such v.
 -- .. The list of u holds M exactly if, for some input J, M is an answer set of u's rules with J's atoms added as facts."
--- Given atoms belong to every unit's input; a unit without predecessors has the given atoms as its one input.
+-- `cut v` is J cut to H(v). Given atoms belong to every unit's input; a unit without predecessors has the given atoms as its one input.
 pub data Listed (S : Units) : ℕ → ℕ → Type 0 where
-  listed : {u M J : ℕ} → S .given ⊆ J → J ⊆ inputHeads S u → ((v : ℕ) → Edge S u v → Listed S v (J ∩ heads S v))
+  listed : {u M J : ℕ} {cut : ℕ → ℕ} → S .given ⊆ J → ((a : ℕ) → Has J a → InputAtom S u a)
+      → ((v : ℕ) → Edge S u v → Cut S v J (cut v)) → ((v : ℕ) → Edge S u v → Listed S v (cut v))
       → AnswerSet (S .program) (S .unit u ∩ below (S .rules)) J M → Listed S u M
 
 -- "The last list is that of one more unit, with no rules and an edge to every unit; its number is the count of units."

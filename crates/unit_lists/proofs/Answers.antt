@@ -1,8 +1,10 @@
 -- The answer place by place: which place refuses, and what unit work says list by list.
-use mathlib.Core.Path.{_≡_, sym, ap, ap₂, _∙_}
+use mathlib.Core.Path.{_≡_, refl, sym, ap, ap₂, _∙_}
 use mathlib.Core.Bool.{true, false}
 use mathlib.Core.List.{List, [], _∷_}
 use Prim.Native.Nat.{ℕ, _≤_, _<_}
+use native.Mathlib.Omega.{arith}
+use native.Mathlib.Decide.{decLt}
 use lib.Dec.{ltb}
 use lib.ListN.{length}
 use borrow.Author.Tests.{lt-ltb, le-ltb}
@@ -13,10 +15,13 @@ use Rattle.plan.specs.declared.fault.Outcome.{Outcome}
 use Rattle.plan.specs.declared.fault.Outcome.the-variants.{Accepted, Refused}
 use Rattle.reading.specs.Reading.{reading}
 use Rattle.dependency_graph.specs.Units.{Units}
+use Rattle.dependency_graph.specs.Graph.{Passes}
+use Rattle.dependency_graph.specs.Check.{verdict}
 use Rattle.dependency_graph.specs.PlanUnits.{unitsOf}
+use Rattle.dependency_graph.proofs.Verdicts.{passes-of-verdict}
 use Rattle.unit_lists.specs.Lists.{unitList, lastList}
 use Rattle.unit_lists.specs.Table.{listAt, tableOf, countsOf, cleared}
-use Rattle.unit_lists.specs.Answer.{Answer, refuse, unlessRefused, workFrom, afterGraph, tableOutcome, answer}
+use Rattle.unit_lists.specs.Answer.{Answer, refuse, unlessRefused, workFrom, unitWork, afterGraph, tableOutcome, answer}
 use Rattle.unit_lists.specs.Handed.{refusal, Handed}
 use Rattle.unit_lists.specs.declared.listing.Listing.{Listing}
 use Rattle.unit_lists.proofs.HeldLists.{cleared-again, with-cleared}
@@ -42,6 +47,15 @@ pub unless-accepted : {o : Outcome} (table : List ℕ) (next : Answer) → o ≡
 unfolding unlessRefused
 unless-accepted table next e = ap (λ (x : Outcome). unlessRefused x table next) e
 
+pub not-accepted : (f : Fault) → Accepted ≡ Refused f → ⊥
+not-accepted f e = let z : _≡_ {A = ℕ} 0 1 = cc in omega arith
+
+unless-passes : (o : Outcome) (table : List ℕ) (next : Answer) → unlessRefused o table next .outcome ≡ Accepted
+    → (o ≡ Accepted) × (next .outcome ≡ Accepted)
+unfolding unlessRefused
+unless-passes (Refused f) table next e = absurd (not-accepted f (sym e))
+unless-passes Accepted table next e = (refl, e)
+
 -- the answer of a long enough table
 abbrev read : List ℕ → List ℕ → Answer
 read bytes table = unlessRefused (reading bytes .outcome) table (afterGraph (unitsOf (reading bytes .plan)) table)
@@ -61,6 +75,26 @@ refused-answer bytes table f l e = long-answer bytes table l ∙ unless-refused 
 pub read-answer : (bytes table : List ℕ) → TABLE_WORDS ≤ length table → reading bytes .outcome ≡ Accepted
     → answer bytes table ≡ afterGraph (unitsOf (reading bytes .plan)) table
 read-answer bytes table l e = long-answer bytes table l ∙ unless-accepted table (afterGraph (unitsOf (reading bytes .plan)) table) e
+
+-- an accepted plan passed them all
+pub record Passed (bytes table : List ℕ) : Type 0 where
+  pub long : TABLE_WORDS ≤ length table
+  pub reads : reading bytes .outcome ≡ Accepted
+  pub passes : Passes (unitsOf (reading bytes .plan))
+
+pub accepted-passed : (bytes table : List ℕ) → answer bytes table .outcome ≡ Accepted → Passed bytes table
+accepted-passed bytes table e = go (decLt (length table) TABLE_WORDS)
+  where
+    go : Dec (length table < TABLE_WORDS) → Passed bytes table
+    go (yes l) =
+        absurd (not-accepted (TableShort (length table)) (sym e ∙ ap (λ (a : Answer). a .outcome) (short-answer bytes table l)))
+    go (no n) =
+        let l : TABLE_WORDS ≤ length table = omega arith in
+        let S = unitsOf (reading bytes .plan) in
+        let r = unless-passes (reading bytes .outcome) table (afterGraph S table)
+        (sym (ap (λ (a : Answer). a .outcome) (long-answer bytes table l)) ∙ e) in
+        let v = unless-passes (verdict S) table (unitWork S table) (r .1) in
+        record { long = l; reads = r .0; passes = passes-of-verdict S (v .0) }
 
 -- ---- unit work
 

@@ -18,7 +18,8 @@ use Rattle.dependency_graph.specs.Units.{Units, Edge, GivenFree}
 use Rattle.dependency_graph.specs.Graph.{Passes}
 use Rattle.dependency_graph.specs.Heads.{reach, heads, inputHeads}
 use Rattle.dependency_graph.proofs.Heads.{edge-rank}
-use Rattle.splitting.specs.UnitList.{Listed, listed}
+use Rattle.splitting.specs.UnitList.{Listed}
+use Rattle.splitting.proofs.Words.{Input, listed-words, words-listed}
 use Rattle.splitting.proofs.Form.{listed-member}
 use Rattle.unit_lists.specs.Lists.{isInput, inList, unitList}
 
@@ -27,12 +28,6 @@ pub numbers-fit : (S : Units) (u : ℕ) → S .rules ≤ MAX_RULES → S .unit u
 numbers-fit S u small =
     lt-of-has (S .unit u ∩ below (S .rules)) 64
     (λ r h. let l : r < S .rules = below-lt (S .rules) (cut-right (S .unit u) (below (S .rules)) h) in omega arith)
-
--- an input, as a statement
-record Input (S : Units) (u J : ℕ) : Type 0 where
-  given-up : S .given ⊆ J
-  within : J ⊆ inputHeads S u
-  inputs : (v : ℕ) → Edge S u v → Listed S v (J ∩ heads S v)
 
 decides-input : (S : Units) (u J : ℕ) (inListOf : ℕ → ℕ → Bool) → u < S .units
     → ((v M : ℕ) → Edge S u v → Decides (Listed S v M) (inListOf v M)) → Decides (Input S u J) (isInput S inListOf u J)
@@ -81,12 +76,11 @@ decides-step S u M inListOf small l d =
 
     into : ((J : ℕ) × (J < suc (inputHeads S u)) × (AnswerSet (S .program) (S .unit u ∩ below (S .rules)) J M × Input S u J))
         → Listed S u M
-    into (J, k, (a, i)) = listed (i .given-up) (i .within) (i .inputs) a
+    into (J, k, (a, i)) = listed-words S l i a
 
     from : Listed S u M
         → (J : ℕ) × (J < suc (inputHeads S u)) × (AnswerSet (S .program) (S .unit u ∩ below (S .rules)) J M × Input S u J)
-    from (listed {J = J} g w f a) =
-        (J, omega (arith, subset-le w), (a, record { given-up = g; within = w; inputs = f }))
+    from h = let t = words-listed S l h in (t .0, omega (arith, subset-le (t .1 .within)), (t .2, t .1))
 
 module _ (S : Units) (pass : Passes S) (free : GivenFree S) (small : S .rules ≤ MAX_RULES) where
   decides-depth : (depth u M : ℕ) → u < S .units → reach S u < depth → Decides (Listed S u M) (inList S depth u M)

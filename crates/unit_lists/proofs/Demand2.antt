@@ -8,11 +8,12 @@ use native.Mathlib.Decide.{decLt}
 use lib.ListN.{length}
 use Rattle.atoms.specs.Collected.{Least}
 use Rattle.plan.specs.Limits.{MAX_RULES, LIST_WORDS}
-use Rattle.plan.specs.Faults.{number}
+use Rattle.plan.specs.Faults.{number, spot, RefusedBy}
 use Rattle.plan.specs.declared.fault.Fault.{Fault}
 use Rattle.plan.specs.declared.fault.Fault.the-variants.{LongList}
 use Rattle.plan.specs.declared.fault.Outcome.{Outcome}
 use Rattle.plan.specs.declared.fault.Outcome.the-variants.{Accepted, Refused}
+use Rattle.plan.proofs.Refusals.{refused-by}
 use Rattle.reading.specs.Reading.{reading}
 use Rattle.reading.proofs.Limits.{record-fits}
 use Rattle.dependency_graph.specs.Units.{Units}
@@ -25,9 +26,9 @@ use Rattle.dependency_graph.proofs.Verdicts.{verdict-of-passes, verdict-right, 
 use Rattle.unit_lists.specs.Lists.{unitList, lastList}
 use Rattle.unit_lists.specs.Answer.{Answer, unlessRefused, workFrom, unitWork, afterGraph, answer}
 use Rattle.unit_lists.specs.Handed.{Handed}
-use Rattle.unit_lists.specs.Demands.{GraphRefused, GraphJudged, Demand2}
+use Rattle.unit_lists.specs.Demands.{GraphNumber, GraphJudged, Demand2}
 use Rattle.unit_lists.specs.declared.listing.Listing.{Listing}
-use Rattle.unit_lists.proofs.Answers.{read-answer, work-fits, work-long, last-fits, last-long}
+use Rattle.unit_lists.proofs.Answers.{not-accepted, read-answer, work-fits, work-long, last-fits, last-long}
 
 -- ---- unit work refuses by 15 alone
 
@@ -46,9 +47,6 @@ work-outcome S table (u ∷ us) = go (decLt LIST_WORDS (length (unitList S u))) 
     go : Dec (LIST_WORDS < length (unitList S u)) → Worked (workFrom S table us .outcome) → Worked (workFrom S table (u ∷ us) .outcome)
     go (yes l) w = rw (work-long S table u us l) (too-long u)
     go (no n) w = rw (work-fits S table u us (omega arith)) w
-
-pub not-accepted : (f : Fault) → Accepted ≡ Refused f → ⊥
-not-accepted f e = let z : _≡_ {A = ℕ} 0 1 = cc in omega arith
 
 same-fault : (f g : Fault) → Refused f ≡ Refused g → f ≡ g
 same-fault f g e = cc
@@ -85,19 +83,16 @@ said-14 : {S : Units} {r : ℕ} → Right S (Refused (Fault.MonotonicUnseen r))
     → ConditionA S × ConditionB S × Acyclic S × ConditionC S × Least (MonotonicUnseen S) r
 said-14 (row-14 a b y c l) = (a, b, y, c, l)
 
--- a refusal is one of the graph place, and a right verdict that refuses nothing is a pass
-refused : (f : Fault) → 10 ≤ number f → number f ≤ 14 → GraphRefused (Refused f)
-refused f a b = record { fault = f; is = refl; from-10 = a; to-14 = b }
-
+-- a right verdict that refuses nothing is a pass
 right-refused : {S : Units} {v : Outcome} (table : List ℕ) (next : Answer) → Right S v
-    → ¬ GraphRefused (unlessRefused v table next .outcome) → Passes S
+    → ((n s : ℕ) → GraphNumber n → ¬ RefusedBy (unlessRefused v table next .outcome) n s) → Passes S
 unfolding unlessRefused
 right-refused table next (passes p) n = p
-right-refused table next (row-10 l) n = absurd (n (refused _ (omega arith) (omega arith)))
-right-refused table next (row-11 a l) n = absurd (n (refused _ (omega arith) (omega arith)))
-right-refused table next (row-12 a b l) n = absurd (n (refused _ (omega arith) (omega arith)))
-right-refused table next (row-13 a b y l) n = absurd (n (refused _ (omega arith) (omega arith)))
-right-refused table next (row-14 a b y c l) n = absurd (n (refused _ (omega arith) (omega arith)))
+right-refused table next (row-10 l) n = absurd (n _ _ (omega arith, omega arith) (refused-by _ .1 refl))
+right-refused table next (row-11 a l) n = absurd (n _ _ (omega arith, omega arith) (refused-by _ .1 refl))
+right-refused table next (row-12 a b l) n = absurd (n _ _ (omega arith, omega arith) (refused-by _ .1 refl))
+right-refused table next (row-13 a b y l) n = absurd (n _ _ (omega arith, omega arith) (refused-by _ .1 refl))
+right-refused table next (row-14 a b y c l) n = absurd (n _ _ (omega arith, omega arith) (refused-by _ .1 refl))
 
 -- ---- the demand
 
@@ -105,23 +100,26 @@ module _ (S : Units) (few-rules : S .rules ≤ MAX_RULES) (few-units : S .units 
   tells : (f : Fault) → number f ≤ 14 → (afterGraph S table .outcome ≡ Refused f) ↔ (verdict S ≡ Refused f)
   tells f = unless-fault (verdict S) table (unitWork S table) f (work-outcome S table (workingOrder S))
 
-  told : (f : Fault) → number f ≤ 14 → afterGraph S table .outcome ≡ Refused f → Right S (Refused f)
-  told f l e = subst (Right S) (tells f l .0 e) (verdict-right S few-rules few-units)
+  passed : Passes S → (n s : ℕ) → GraphNumber n → ¬ RefusedBy (afterGraph S table .outcome) n s
+  passed p n s g e =
+      not-accepted (e .fault) (sym (verdict-of-passes S p) ∙ tells (e .fault) (omega (arith, e .number-is, g .1)) .0 (e .is))
 
-  tell : (f : Fault) → number f ≤ 14 → Right S (Refused f) → afterGraph S table .outcome ≡ Refused f
-  tell f l r = tells f l .1 (verdict-only S few-rules few-units (Refused f) r)
-
-  passed : Passes S → ¬ GraphRefused (afterGraph S table .outcome)
-  passed p g = not-accepted (g .fault) (sym (verdict-of-passes S p) ∙ tells (g .fault) (g .to-14) .0 (g .is))
+  -- a refusal by a fault of the graph place says what its row says
+  says : (f : Fault) {Said : Type 0} → number f ≤ 14 → (Right S (Refused f) → Said) → (Said → Right S (Refused f))
+      → RefusedBy (afterGraph S table .outcome) (number f) (spot f) ↔ Said
+  says f l there back = (
+    λ e. there (subst (Right S) (tells f l .0 (refused-by f .0 e)) (verdict-right S few-rules few-units)),
+    λ h. refused-by f .1 (tells f l .1 (verdict-only S few-rules few-units (Refused f) (back h))),
+  )
 
   graph-judged : GraphJudged S (afterGraph S table .outcome)
   graph-judged = record {
     passes = (right-refused table (unitWork S table) (verdict-right S few-rules few-units), passed);
-    ten = λ r. (λ e. said-10 (told _ (omega arith) e), λ l. tell _ (omega arith) (row-10 l));
-    eleven = λ r. (λ e. said-11 (told _ (omega arith) e), λ (a, l). tell _ (omega arith) (row-11 a l));
-    twelve = λ u. (λ e. said-12 (told _ (omega arith) e), λ (a, b, l). tell _ (omega arith) (row-12 a b l));
-    thirteen = λ r. (λ e. said-13 (told _ (omega arith) e), λ (a, b, y, l). tell _ (omega arith) (row-13 a b y l));
-    fourteen = λ r. (λ e. said-14 (told _ (omega arith) e), λ (a, b, y, c, l). tell _ (omega arith) (row-14 a b y c l));
+    ten = λ r. says (Fault.RuleInNoUnit r) (omega arith) said-10 row-10;
+    eleven = λ r. says (Fault.HeadedRuleInSeveral r) (omega arith) said-11 (λ (a, l). row-11 a l);
+    twelve = λ u. says (Fault.Cycle u) (omega arith) said-12 (λ (a, b, l). row-12 a b l);
+    thirteen = λ r. says (Fault.NonmonotonicUnseen r) (omega arith) said-13 (λ (a, b, y, l). row-13 a b y l);
+    fourteen = λ r. says (Fault.MonotonicUnseen r) (omega arith) said-14 (λ (a, b, y, c, l). row-14 a b y c l);
   }
 
 pub demand-2 : (bytes table : List ℕ) (r : Listing) (table′ : List ℕ) → Handed (answer bytes table) r table′ → Demand2 bytes table r

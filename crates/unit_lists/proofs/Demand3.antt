@@ -1,189 +1,200 @@
--- Demand 3, from the answer that the function hands back and the theorem of the splitting theory.
-use mathlib.Core.Path.{_≡_, sym, ap, ap₂, _∙_, subst}
+-- Demand 3, from the answer that the function hands back and the theorem of the splitting theory: along the working order the first list above
+-- 256 is refused, and where there is none every list is in the table.
+use mathlib.Core.Path.{_≡_, refl, sym, ap, _∙_, subst}
 use mathlib.Core.Logic.{_↔_, _⊎_, inl, inr}
-use mathlib.Core.List.{List, [], _∷_, _++_, append-assoc, List·Memᴰ, List·Memᴰ·not-nil, List·Memᴰ·cases-cons}
-use Prim.Native.Nat.{ℕ, _-_, _≤_, _<_}
+use mathlib.Core.List.{List, [], _∷_, List·Memᴰ, List·Memᴰ·head, List·Memᴰ·tail, List·Memᴰ·not-nil, List·Memᴰ·cases-cons}
+use Prim.Native.Nat.{ℕ, _≤_, _<_}
 use native.Mathlib.Omega.{arith}
 use native.Mathlib.Decide.{ℕ-discrete, decLt}
-use lib.ListN.{length, take, drop, getD, replicate}
-use lib.Seq.{take-at, drop-at}
+use lib.ListN.{length}
 use Rattle.atoms.specs.Word.{below}
-use Rattle.atoms.specs.Lists.{padded}
 use Rattle.atoms.specs.Rising.{Rising}
-use Rattle.atoms.proofs.Lists.{padded-long}
 use Rattle.answer_sets.specs.AnswerSet.{AnswerSet}
 use Rattle.answer_sets.specs.Lent.{lent}
-use Rattle.plan.specs.Limits.{MAX_RULES, MAX_UNITS, LIST_WORDS, LAST_LIST, TABLE_WORDS, LAST_COUNT}
+use Rattle.plan.specs.Limits.{MAX_UNITS, LIST_WORDS, TABLE_WORDS, LAST_COUNT}
 use Rattle.plan.specs.declared.fault.Fault.the-variants.{LongList}
 use Rattle.plan.specs.declared.fault.Outcome.the-variants.{Accepted, Refused}
+use Rattle.plan.proofs.Refusals.{refused-by}
 use Rattle.reading.specs.Reading.{reading}
 use Rattle.reading.specs.Layout.{IsByte, All}
 use Rattle.reading.proofs.Limits.{record-fits}
-use Rattle.dependency_graph.specs.Units.{Units, GivenFree, LooksOnly}
-use Rattle.dependency_graph.specs.Graph.{Passes, Acyclic}
+use Rattle.dependency_graph.specs.Units.{Units}
 use Rattle.dependency_graph.specs.Order.{workingOrder}
 use Rattle.dependency_graph.specs.PlanUnits.{unitsOf}
-use Rattle.dependency_graph.proofs.Order.{order-each}
+use Rattle.dependency_graph.proofs.Order.{order-right, order-each, order-only}
 use Rattle.dependency_graph.proofs.PlanUnits.{given-free, looks-only}
 use Rattle.dependency_graph.proofs.Verdicts.{verdict-of-passes}
-use Rattle.splitting.specs.UnitList.{Clean, withLast}
-use Rattle.splitting.proofs.Last.{last-list, last-passes, last-free}
+use Rattle.splitting.specs.UnitList.{withLast}
+use Rattle.splitting.proofs.Last.{last-list}
 use Rattle.unit_lists.specs.Lists.{unitList, lastList}
-use Rattle.unit_lists.specs.Table.{listAt, runs, tableWith, tableOf, countsOf}
-use Rattle.unit_lists.specs.Answer.{Answer, workFrom, unitWork, answer}
+use Rattle.unit_lists.specs.Table.{listAt, tableOf, countsOf, cleared}
+use Rattle.unit_lists.specs.Answer.{Answer, refuse, workFrom, unitWork, answer}
 use Rattle.unit_lists.specs.Handed.{Handed}
-use Rattle.unit_lists.specs.Demands.{FirstLong, here, later, last, lastIn, ListsAll, Complete, Demand3}
+use Rattle.unit_lists.specs.Work.{Holding}
+use Rattle.unit_lists.specs.Demands.{ListOf, FirstLong, here, later, last, ListsAll, Complete, Demand3}
 use Rattle.unit_lists.specs.declared.listing.Listing.{Listing}
-use Rattle.unit_lists.proofs.Decided.{unit-list-at, unit-list-has}
-use Rattle.unit_lists.proofs.Joined.{unit-list-rising}
-use Rattle.unit_lists.proofs.Runs.{runs-long, runs-snoc}
+use Rattle.unit_lists.proofs.HeldLists.{held-count, held-list}
 use Rattle.unit_lists.proofs.WorkedUnits.{list-there, list-absent, list-last}
-use Rattle.unit_lists.proofs.Answers.{read-answer, unless-accepted, work-fits, work-long, last-fits, last-long}
+use Rattle.unit_lists.proofs.Answers.{Passed, not-accepted, read-answer, unless-accepted, work-fits, work-long, last-fits, last-long}
 use Rattle.unit_lists.proofs.CleanPlan.{plan-clean}
-use Rattle.unit_lists.proofs.LastCount.{last-count}
-use Rattle.unit_lists.proofs.Demand2.{not-accepted}
+use Rattle.unit_lists.proofs.Enumerations.{long-iff, fits-iff, unit-list-of, last-list-of}
 
--- ---- refusal 15
+-- ---- along the units
 
-long-refused : (S : Units) (table us : List ℕ) (u : ℕ) → FirstLong S us u → workFrom S table us .outcome ≡ Refused (LongList u)
-long-refused S table us u (here {u = v} {us = vs} l) = ap (λ (a : Answer). a .outcome) (work-long S table v vs l)
-long-refused S table us u (later {u = v} {w = w} {us = vs} l f) =
-    ap (λ (a : Answer). a .outcome) (work-fits S table v vs l) ∙ long-refused S table vs w f
-long-refused S table us u (last l) = ap (λ (a : Answer). a .outcome) (last-long S table l)
+-- the computing lists of these units, and the last one, are lists by meaning
+record Enumerated (S : Units) (us : List ℕ) : Type 0 where
+  each : (u : ℕ) → List·Memᴰ u us → ListOf S u (unitList S u)
+  last-one : ListOf (withLast S) (S .units) (lastList S)
 
-same-spot : (u v : ℕ) → Refused (LongList v) ≡ Refused (LongList u) → v ≡ u
-same-spot u v e = cc
+-- what unit work comes to
+data Worked (S : Units) (table us : List ℕ) : Type 0 where
+  too-long : {u : ℕ} → FirstLong S us u → workFrom S table us ≡ refuse (LongList u) (cleared table) → Worked S table us
+  all-fit : ((u : ℕ) → List·Memᴰ u us → length (unitList S u) ≤ LIST_WORDS) → length (lastList S) ≤ LIST_WORDS
+      → workFrom S table us ≡ record { outcome = Accepted; counts = countsOf S; table = tableOf S table } → Worked S table us
 
-refused-long : (S : Units) (table us : List ℕ) (u : ℕ) → workFrom S table us .outcome ≡ Refused (LongList u) → FirstLong S us u
-refused-long S table [] u e = go (decLt LIST_WORDS (length (lastList S)))
-  where
-    go : Dec (LIST_WORDS < length (lastList S)) → FirstLong S [] u
-    go (yes l) =
-        subst (FirstLong S []) (same-spot u (S .units) (sym (ap (λ (a : Answer). a .outcome) (last-long S table l)) ∙ e)) (last l)
-    go (no n) = absurd (not-accepted (LongList u) (sym (ap (λ (a : Answer). a .outcome) (last-fits S table (omega arith))) ∙ e))
-refused-long S table (v ∷ vs) u e = go (decLt LIST_WORDS (length (unitList S v))) (refused-long S table vs u)
-  where
-    go : Dec (LIST_WORDS < length (unitList S v)) → (workFrom S table vs .outcome ≡ Refused (LongList u) → FirstLong S vs u) → FirstLong S (v ∷ vs) u
-    go (yes l) r =
-        subst (FirstLong S (v ∷ vs)) (same-spot u v (sym (ap (λ (a : Answer). a .outcome) (work-long S table v vs l)) ∙ e)) (here l)
-    go (no n) r =
-        let l : length (unitList S v) ≤ LIST_WORDS = omega arith in
-        later l (r (sym (ap (λ (a : Answer). a .outcome) (work-fits S table v vs l)) ∙ e))
+module _ {S : Units} (table : List ℕ) where
+  first : {v : ℕ} {vs : List ℕ} → Enumerated S (v ∷ vs) → ListOf S v (unitList S v)
+  first {v} e = e .each v (List·Memᴰ·head refl)
 
--- ---- otherwise: every list fits
+  rest : {v : ℕ} {vs : List ℕ} → Enumerated S (v ∷ vs) → Enumerated S vs
+  rest e = record { each = λ u m. e .each u (List·Memᴰ·tail m); last-one = e .last-one }
 
-none-long : (S : Units) (table us : List ℕ) → ((u : ℕ) → ¬ FirstLong S us u)
-    → workFrom S table us ≡ record { outcome = Accepted; counts = countsOf S; table = tableOf S table }
-none-long S table [] f = last-fits S table (let n : ¬ (LIST_WORDS < length (lastList S)) = λ l. f (S .units) (last l) in omega arith)
-none-long S table (v ∷ vs) f =
-    let n : ¬ (LIST_WORDS < length (unitList S v)) = λ l. f v (here l) in
-    work-fits S table v vs (omega arith) ∙ none-long S table vs (λ u g. f u (later (omega arith) g))
+  long-refused : {us : List ℕ} {u : ℕ} → Enumerated S us → FirstLong S us u → workFrom S table us ≡ refuse (LongList u) (cleared table)
+  long-refused e (here {u = v} {us = vs} l) = work-long S table v vs (long-iff (first e) .0 l)
+  long-refused e (later {u = v} {us = vs} l f) = work-fits S table v vs (fits-iff (first e) .0 l) ∙ long-refused (rest e) f
+  long-refused e (last l) = last-long S table (long-iff (e .last-one) .0 l)
 
-none-long-small : (S : Units) (us : List ℕ) → ((u : ℕ) → ¬ FirstLong S us u) → length (lastList S) ≤ LIST_WORDS
-none-long-small S [] f = let n : ¬ (LIST_WORDS < length (lastList S)) = λ l. f (S .units) (last l) in omega arith
-none-long-small S (v ∷ vs) f =
-    let n : ¬ (LIST_WORDS < length (unitList S v)) = λ l. f v (here l) in
-    none-long-small S vs (λ u g. f u (later (omega arith) g))
-
--- each list that is in the table has at most 256 members
-order-small : (S : Units) (us : List ℕ) → ((u : ℕ) → ¬ FirstLong S us u) → (u : ℕ) → List·Memᴰ u us → length (unitList S u) ≤ LIST_WORDS
-order-small S [] f u m = absurd (List·Memᴰ·not-nil m)
-order-small S (v ∷ vs) f u m =
-    let n : ¬ (LIST_WORDS < length (unitList S v)) = λ l. f v (here l) in
-    let small : length (unitList S v) ≤ LIST_WORDS = omega arith in
-    go small (List·Memᴰ·cases-cons m) (order-small S vs (λ w g. f w (later small g)) u)
-  where
-    go : length (unitList S v) ≤ LIST_WORDS → (u ≡ v) ⊎ List·Memᴰ u vs → (List·Memᴰ u vs → length (unitList S u) ≤ LIST_WORDS)
-        → length (unitList S u) ≤ LIST_WORDS
-    go l (inl e) r = subst (λ (x : ℕ). length (unitList S x) ≤ LIST_WORDS) (sym e) l
-    go l (inr k) r = r k
-
-module _ (S : Units) (few : S .units ≤ MAX_UNITS) (acyclic : Acyclic S) (table : List ℕ) (none : (u : ℕ) → ¬ FirstLong S (workingOrder S) u) where
-  list-small : (i : ℕ) → length (listAt S i) ≤ LIST_WORDS
-  list-small i = go (ℕ-discrete i LAST_COUNT) (decLt i (S .units))
+  worked : (us : List ℕ) → Enumerated S us → Worked S table us
+  worked [] e = go (decLt LIST_WORDS (length (lastList S)))
     where
-      go : Dec (i ≡ LAST_COUNT) → Dec (i < S .units) → length (listAt S i) ≤ LIST_WORDS
-      go (yes e) d = rw (e, list-last S) (none-long-small S (workingOrder S) none)
-      go (no n) (yes l) = rw (list-there S i few l) (order-small S (workingOrder S) none i (order-each S acyclic i l))
-      go (no n) (no m) = rw (list-absent S i n (omega arith)) (omega arith)
+      go : Dec (LIST_WORDS < length (lastList S)) → Worked S table []
+      go (yes l) = too-long (last (long-iff (e .last-one) .1 l)) (last-long S table l)
+      go (no n) = all-fit (λ u m. absurd (List·Memᴰ·not-nil m)) (omega arith) (last-fits S table (omega arith))
+  worked (v ∷ vs) e = go (decLt LIST_WORDS (length (unitList S v))) (worked vs (rest e))
+    where
+      each : length (unitList S v) ≤ LIST_WORDS → ((u : ℕ) → List·Memᴰ u vs → length (unitList S u) ≤ LIST_WORDS) → (u : ℕ)
+          → (u ≡ v) ⊎ List·Memᴰ u vs → length (unitList S u) ≤ LIST_WORDS
+      each l f u (inl q) = subst (λ (x : ℕ). length (unitList S x) ≤ LIST_WORDS) (sym q) l
+      each l f u (inr m) = f u m
 
-  last-words : drop LAST_LIST (tableOf S table) ≡ padded LIST_WORDS (lastList S) ++ drop TABLE_WORDS table
-  unfolding tableWith
-  last-words =
-      ap (λ (l : List ℕ). drop LAST_LIST (l ++ drop TABLE_WORDS table)) (runs-snoc MAX_UNITS (λ i. padded LIST_WORDS (listAt S i)))
-      ∙ ap (drop LAST_LIST)
-      (append-assoc (runs MAX_UNITS (λ i. padded LIST_WORDS (listAt S i))) (padded LIST_WORDS (listAt S LAST_COUNT)) (drop TABLE_WORDS table))
-      ∙ drop-at (runs MAX_UNITS (λ i. padded LIST_WORDS (listAt S i))) (padded LIST_WORDS (listAt S LAST_COUNT) ++ drop TABLE_WORDS table) LAST_LIST
-      (runs-long MAX_UNITS (λ i. padded LIST_WORDS (listAt S i)) (λ i. padded-long LIST_WORDS (listAt S i) (list-small i)))
-      ∙ ap (λ (l : List ℕ). padded LIST_WORDS l ++ drop TABLE_WORDS table) (list-last S)
+      below : length (unitList S v) ≤ LIST_WORDS → Worked S table vs → Worked S table (v ∷ vs)
+      below l (too-long f q) = too-long (later (fits-iff (first e) .1 l) f) (work-fits S table v vs l ∙ q)
+      below l (all-fit f k q) = all-fit (λ u m. each l f u (List·Memᴰ·cases-cons m)) k (work-fits S table v vs l ∙ q)
 
-  -- the words from 4,096 on, as many as the last count says
-  pub last-in-table : take (getD (countsOf S) LAST_COUNT 0) (drop LAST_LIST (tableOf S table)) ≡ lastList S
-  unfolding padded
-  last-in-table =
-      ap (take (getD (countsOf S) LAST_COUNT 0))
-      (last-words ∙ append-assoc (lastList S) (replicate {A = ℕ} (LIST_WORDS - length (lastList S)) 0) (drop TABLE_WORDS table))
-      ∙ take-at (lastList S) (replicate {A = ℕ} (LIST_WORDS - length (lastList S)) 0 ++ drop TABLE_WORDS table) (getD (countsOf S) LAST_COUNT 0)
-      (sym (last-count S))
+      go : Dec (LIST_WORDS < length (unitList S v)) → Worked S table vs → Worked S table (v ∷ vs)
+      go (yes l) w = too-long (here (long-iff (first e) .1 l)) (work-long S table v vs l)
+      go (no n) w = below (omega arith) w
 
--- the last list is the list of the answer sets of the whole program
-last-answer-sets : (S : Units) → Passes S → LooksOnly S → GivenFree S → Clean S → S .rules ≤ MAX_RULES → (M : ℕ)
-    → List·Memᴰ M (lastList S) ↔ AnswerSet (S .program) (below (S .rules)) (S .given) M
-unfolding lastList withLast
-last-answer-sets S pass looks free clean small M =
-    let l : S .units < withLast S .units = omega arith in
-    let T = last-list S pass looks free clean M in (
-      λ m. T .0 (unit-list-at (withLast S) (last-passes S clean pass) (last-free S free) small (S .units) M l m),
-      λ a. unit-list-has (withLast S) (last-passes S clean pass) (last-free S free) small (S .units) M l (T .1 a),
-    )
-
-last-rising : (S : Units) → Rising (lastList S)
-unfolding lastList
-last-rising S = unit-list-rising (withLast S) (S .units)
+-- the lists are in the table, each in its place
+held : (S : Units) (table us : List ℕ) → S .units ≤ MAX_UNITS → TABLE_WORDS ≤ length table → ((u : ℕ) → u < S .units → List·Memᴰ u us)
+    → ((u : ℕ) → List·Memᴰ u us → length (unitList S u) ≤ LIST_WORDS) → length (lastList S) ≤ LIST_WORDS
+    → Holding (listAt S) table (tableOf S table) (countsOf S)
+held S table us few long all each k =
+    record { table-is = refl; counts-are = refl; small = λ i. go i (ℕ-discrete i LAST_COUNT) (decLt i (S .units)); long = long }
+  where
+    go : (i : ℕ) → Dec (i ≡ LAST_COUNT) → Dec (i < S .units) → length (listAt S i) ≤ LIST_WORDS
+    go i (yes e) d = rw (e, list-last S) k
+    go i (no n) (yes l) = rw (list-there S i few l) (each i (all i l))
+    go i (no n) (no m) = rw (list-absent S i n (omega arith)) (omega arith)
 
 -- ---- the demand
 
-module _ (bytes table : List ℕ) (all : All IsByte bytes) (r : Listing) (table′ : List ℕ) (h : Handed (answer bytes table) r table′)
-    (read : reading bytes .outcome ≡ Accepted) (pass : Passes (unitsOf (reading bytes .plan))) (long : TABLE_WORDS ≤ length table) where
-  worked : answer bytes table ≡ unitWork (unitsOf (reading bytes .plan)) table
-  worked =
-      read-answer bytes table long read
-      ∙ unless-accepted table (unitWork (unitsOf (reading bytes .plan)) table) (verdict-of-passes (unitsOf (reading bytes .plan)) pass)
+-- the answer of a plan whose lists all fit
+abbrev allListed : Units → List ℕ → Answer
+allListed S table = record { outcome = Accepted; counts = countsOf S; table = tableOf S table }
 
-  outcome-is : r .outcome ≡ unitWork (unitsOf (reading bytes .plan)) table .outcome
-  outcome-is = h .outcome-is ∙ ap (λ (a : Answer). a .outcome) worked
+module _ (bytes table : List ℕ) (all : All IsByte bytes) (passed : Passed bytes table) where
+  abbrev S : Units
+  S = unitsOf (reading bytes .plan)
 
-  lists-all : ((u : ℕ) → ¬ FirstLong (unitsOf (reading bytes .plan)) (workingOrder (unitsOf (reading bytes .plan))) u)
-      → ListsAll (reading bytes .plan) r table′
+  abbrev order : List ℕ
+  order = workingOrder S
+
+  pub few : S .units ≤ MAX_UNITS
   unfolding unitsOf
-  lists-all none =
-      let p = reading bytes .plan in
-      let S = unitsOf p in
-      let e = worked ∙ none-long S table (workingOrder S) none in
-      let counts : r .counts ≡ countsOf S = h .counts-are ∙ ap (λ (a : Answer). a .counts) e in
-      let words : table′ ≡ tableOf S table = h .table-is ∙ ap (λ (a : Answer). a .table) e in
-      let last : lastIn r table′ ≡ lastList S =
-      ap₂ (λ (c t : List ℕ). take (getD c LAST_COUNT 0) (drop LAST_LIST t)) counts words
-      ∙ last-in-table S (record-fits bytes .units-fit) (pass .acyclic) table none in
-      let sets = last-answer-sets S pass (looks-only p) (given-free p) (plan-clean bytes all read) (record-fits bytes .rules-fit) in
-      record {
-        accepted = h .outcome-is ∙ ap (λ (a : Answer). a .outcome) e;
-        rising = subst Rising (sym last) (last-rising S);
-        members = λ M. subst (λ (l : List ℕ). List·Memᴰ M l ↔ AnswerSet (lent (p .rules)) (below (p .«rule_count»)) 0 M) (sym last) (sets M);
-        counted = ap length last ∙ sym (ap (λ (c : List ℕ). getD c LAST_COUNT 0) counts ∙ last-count S);
-      }
+  few = record-fits bytes .units-fit
 
-  complete : Complete (reading bytes .plan) r table′
-  complete =
-      let S = unitsOf (reading bytes .plan) in
-      record {
-        fifteen = λ u. (
-          λ e. refused-long S table (workingOrder S) u (sym outcome-is ∙ e),
-          λ f. outcome-is ∙ long-refused S table (workingOrder S) u f,
-        );
-        otherwise = lists-all;
-      }
+  enumerated : Enumerated S order
+  unfolding unitsOf
+  enumerated = record {
+    each = λ u m. unit-list-of S (passed .passes) (given-free (reading bytes .plan)) (record-fits bytes .rules-fit) u
+        (order-only S (passed .passes .acyclic) u m);
+    last-one = last-list-of S (passed .passes) (given-free (reading bytes .plan)) (plan-clean bytes all (passed .reads)) (record-fits bytes .rules-fit);
+  }
+
+  pub unit-list-is : (u : ℕ) → u < S .units → ListOf S u (unitList S u)
+  unit-list-is u l = enumerated .each u (order-each S (passed .passes .acyclic) u l)
+
+  answer-is : answer bytes table ≡ unitWork S table
+  answer-is =
+      read-answer bytes table (passed .long) (passed .reads)
+      ∙ unless-accepted table (unitWork S table) (verdict-of-passes S (passed .passes))
+
+  all-held : ((u : ℕ) → List·Memᴰ u order → length (unitList S u) ≤ LIST_WORDS) → length (lastList S) ≤ LIST_WORDS
+      → Holding (listAt S) table (tableOf S table) (countsOf S)
+  all-held = held S table order few (passed .long) (order-each S (passed .passes .acyclic))
+
+  -- what is handed back
+  module _ {r : Listing} {table′ : List ℕ} (h : Handed (answer bytes table) r table′) where
+    outcome-is : {a : Answer} → unitWork S table ≡ a → r .outcome ≡ a .outcome
+    outcome-is e = h .outcome-is ∙ ap (λ (x : Answer). x .outcome) (answer-is ∙ e)
+
+    lists-held : Holding (listAt S) table (tableOf S table) (countsOf S) → unitWork S table ≡ allListed S table
+        → Holding (listAt S) table table′ (r .counts)
+    lists-held k e = record {
+      table-is = h .table-is ∙ ap (λ (a : Answer). a .table) (answer-is ∙ e);
+      counts-are = h .counts-are ∙ ap (λ (a : Answer). a .counts) (answer-is ∙ e);
+      small = k .small;
+      long = k .long;
+    }
+
+    pub accepted-held : r .outcome ≡ Accepted → Holding (listAt S) table table′ (r .counts)
+    accepted-held e = go (worked table order enumerated)
+      where
+        go : Worked S table order → Holding (listAt S) table table′ (r .counts)
+        go (too-long {u = u} f q) = absurd (not-accepted (LongList u) (sym e ∙ outcome-is q))
+        go (all-fit f k q) = lists-held (all-held f k) q
+
+    lists-all : Holding (listAt S) table table′ (r .counts) → r .outcome ≡ Accepted → ListsAll (reading bytes .plan) r table′
+    unfolding unitsOf
+    lists-all k e =
+        let p = reading bytes .plan in
+        let last = held-list k LAST_COUNT (omega arith) ∙ list-last S in
+        let sets = last-list S (passed .passes) (looks-only p) (given-free p) (plan-clean bytes all (passed .reads)) in
+        record {
+          accepted = e;
+          units = λ u l. subst (ListOf S u) (sym (held-list k u (omega (arith, few)) ∙ list-there S u few l)) (unit-list-is u l);
+          rising = subst Rising (sym last) (enumerated .last-one .rising);
+          members = λ M.
+              subst (λ (l : List ℕ). List·Memᴰ M l ↔ AnswerSet (lent (p .rules)) (below (p .«rule_count»)) 0 M) (sym last) (
+                λ m. sets M .0 (enumerated .last-one .members M .0 m),
+                λ a. enumerated .last-one .members M .1 (sets M .1 a),
+              );
+          counted = ap length (held-list k LAST_COUNT (omega arith)) ∙ sym (held-count k LAST_COUNT (omega arith));
+        }
+
+    complete : Complete (reading bytes .plan) r table′
+    complete = record {
+      order = order;
+      in-order = order-right S (passed .passes .acyclic);
+      fifteen = λ u. (
+        λ e. refused u (refused-by (LongList u) .0 e) (worked table order enumerated),
+        λ f. refused-by (LongList u) .1 (outcome-is (long-refused table enumerated f)),
+      );
+      otherwise = λ none. fits none (worked table order enumerated);
+    }
+      where
+        refused : (u : ℕ) → r .outcome ≡ Refused (LongList u) → Worked S table order → FirstLong S order u
+        refused u e (too-long {u = v} f q) =
+            let same : v ≡ u = let z = outcome-is q in cc in
+            subst (FirstLong S order) same f
+        refused u e (all-fit f k q) = absurd (not-accepted (LongList u) (sym (outcome-is q) ∙ e))
+
+        fits : ((u : ℕ) → ¬ FirstLong S order u) → Worked S table order → ListsAll (reading bytes .plan) r table′
+        fits none (too-long {u = v} f q) = absurd (none v f)
+        fits none (all-fit f k q) = lists-all (lists-held (all-held f k) q) (outcome-is q)
 
 pub demand-3 : (bytes table : List ℕ) → All IsByte bytes → (r : Listing) (table′ : List ℕ) → Handed (answer bytes table) r table′
     → Demand3 bytes table r table′
-demand-3 bytes table all r table′ h = record { complete = complete bytes table all r table′ h }
+demand-3 bytes table all r table′ h =
+    record { complete = λ reads passes long. complete bytes table all (record { long = long; reads = reads; passes = passes }) h }

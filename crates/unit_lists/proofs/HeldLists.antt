@@ -1,17 +1,17 @@
 -- Lists in the table, each in its 256 words, and their counts: what is read there, what a store changes, and what clearing leaves.
 use mathlib.Core.Path.{_≡_, refl, sym, ap, ap₂, _∙_, subst}
-use mathlib.Core.List.{List, [], _++_}
-use Prim.Native.Nat.{ℕ, _+_, _*_, _≤_, _<_}
+use mathlib.Core.List.{List, [], _++_, append-assoc}
+use Prim.Native.Nat.{ℕ, _+_, _-_, _*_, _≤_, _<_}
 use native.Mathlib.Omega.{arith}
 use native.Mathlib.Decide.{ℕ-discrete}
-use lib.ListN.{length, drop, getD, set, replicate, length-append, length-drop, length-replicate}
-use lib.Seq.{paste, drop-at}
+use lib.ListN.{length, take, drop, getD, set, replicate, length-append, length-drop, length-replicate}
+use lib.Seq.{paste, take-at, drop-at}
 use Rattle.atoms.specs.Lists.{padded}
 use Rattle.atoms.proofs.Lists.{padded-nil, padded-long, padded-at, tabulate-long, tabulate-same, tabulate-zero, getD-tabulate, set-tabulate}
 use Rattle.plan.specs.Limits.{LIST_WORDS, TABLE_WORDS, COUNTS}
 use Rattle.unit_lists.specs.Table.{runs, tableWith, countsWith, cleared, noCounts}
 use Rattle.unit_lists.specs.Work.{Holding}
-use Rattle.unit_lists.proofs.Runs.{runs-long, runs-same, runs-zero, runs-at, runs-paste}
+use Rattle.unit_lists.proofs.Runs.{runs-long, runs-same, runs-zero, runs-at, runs-from, runs-paste}
 
 -- ---- clearing
 
@@ -64,12 +64,23 @@ module _ {lists : ℕ → List ℕ} {table₀ table counts : List ℕ} (h : Hold
   unfolding countsWith
   held-count v l = ap (λ (c : List ℕ). getD c v 0) (h .counts-are) ∙ getD-tabulate COUNTS (λ i. length (lists i)) v l
 
-  pub held-word : (v i : ℕ) → v < COUNTS → i < length (lists v) → getD table (LIST_WORDS * v + i) 0 ≡ getD (lists v) i 0
+  pub held-padded : (v i : ℕ) → v < COUNTS → i < LIST_WORDS → getD table (LIST_WORDS * v + i) 0 ≡ getD (padded LIST_WORDS (lists v)) i 0
   unfolding tableWith
-  held-word v i l k =
+  held-padded v i l k =
       ap (λ (t : List ℕ). getD t (LIST_WORDS * v + i) 0) (h .table-is)
-      ∙ runs-at COUNTS (λ j. padded LIST_WORDS (lists j)) (drop TABLE_WORDS table₀) v i run-long l (omega (arith, h .small v))
-      ∙ padded-at LIST_WORDS (lists v) i k
+      ∙ runs-at COUNTS (λ j. padded LIST_WORDS (lists j)) (drop TABLE_WORDS table₀) v i run-long l k
+
+  pub held-word : (v i : ℕ) → v < COUNTS → i < length (lists v) → getD table (LIST_WORDS * v + i) 0 ≡ getD (lists v) i 0
+  held-word v i l k = held-padded v i l (omega (arith, h .small v)) ∙ padded-at LIST_WORDS (lists v) i k
+
+  -- a list's words are as many as its count says
+  pub held-list : (v : ℕ) → v < COUNTS → take (getD counts v 0) (drop (LIST_WORDS * v) table) ≡ lists v
+  unfolding tableWith padded
+  held-list v l =
+      let r = runs-from COUNTS (λ i. padded LIST_WORDS (lists i)) (drop TABLE_WORDS table₀) v run-long l in
+      ap (take (getD counts v 0))
+      (ap (drop (LIST_WORDS * v)) (h .table-is) ∙ r .1 ∙ append-assoc (lists v) (replicate {A = ℕ} (LIST_WORDS - length (lists v)) 0) (r .0))
+      ∙ take-at (lists v) (replicate {A = ℕ} (LIST_WORDS - length (lists v)) 0 ++ r .0) (getD counts v 0) (sym (held-count v l))
 
   pub held-counts-long : length counts ≡ COUNTS
   unfolding countsWith

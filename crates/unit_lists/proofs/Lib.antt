@@ -9,5 +9,7 @@ pub mod Answers
 pub mod WorkOrder
 pub mod CleanPlan
 pub mod LastCount
+pub mod Enumerations
 pub mod Demand2
 pub mod Demand3
+pub mod Agreement

@@ -1,10 +1,10 @@
 -- Runs of 256 words one behind the other: their length, what stands at an index, and what a store changes.
-use mathlib.Core.Path.{_≡_, refl, sym, ap, ap₂, _∙_}
-use mathlib.Core.List.{List, _++_, append-assoc, append-nil}
+use mathlib.Core.Path.{_≡_, refl, ap, ap₂, _∙_}
+use mathlib.Core.List.{List, _++_, append-assoc}
 use Prim.Native.Nat.{ℕ, zero, suc, _+_, _*_, _≤_, _<_}
 use native.Mathlib.Omega.{arith}
 use native.Mathlib.Numerals.{add-one}
-use lib.ListN.{length, getD, set, replicate, length-append, replicate-append-replicate, List·getD-append}
+use lib.ListN.{length, drop, getD, set, replicate, length-append, replicate-append-replicate, List·getD-append}
 use lib.Seq.{paste, paste-suc, take-all, take-append-add, drop-append-add, drop-at, getD-append-add}
 use Rattle.plan.specs.Limits.{LIST_WORDS}
 use Rattle.unit_lists.specs.Table.{runs}
@@ -19,12 +19,6 @@ pub runs-same : (n : ℕ) (f g : ℕ → List ℕ) → ((i : ℕ) → f i ≡ g 
 unfolding runs
 runs-same zero f g h = refl
 runs-same (suc n) f g h = ap₂ _++_ (h 0) (runs-same n (λ i. f (suc i)) (λ i. g (suc i)) (λ i. h (suc i)))
-
--- one more at the end
-pub runs-snoc : (n : ℕ) (f : ℕ → List ℕ) → runs (suc n) f ≡ runs n f ++ f n
-unfolding runs
-runs-snoc zero f = append-nil (f 0)
-runs-snoc (suc n) f = ap (λ (l : List ℕ). f 0 ++ l) (runs-snoc n (λ i. f (suc i))) ∙ sym (append-assoc (f 0) (runs n (λ i. f (suc i))) (f (suc n)))
 
 pub runs-zero : (n : ℕ) → runs n (λ i. replicate {A = ℕ} LIST_WORDS 0) ≡ replicate (LIST_WORDS * n) 0
 unfolding runs
@@ -45,6 +39,17 @@ runs-at (suc n) f rest zero i h l k =
 runs-at (suc n) f rest (suc v) i h l k =
     let e : LIST_WORDS * suc v + i ≡ length (f 0) + (LIST_WORDS * v + i) = omega (arith, h 0) in
     rw (append-assoc, e, getD-append-add) (runs-at n (λ j. f (suc j)) rest v i (λ j. h (suc j)) (omega arith) k)
+
+-- the words from run v on begin with it
+pub runs-from : (n : ℕ) (f : ℕ → List ℕ) (rest : List ℕ) (v : ℕ) → ((j : ℕ) → length (f j) ≡ LIST_WORDS) → v < n
+    → (behind : List ℕ) × (drop (LIST_WORDS * v) (runs n f ++ rest) ≡ f v ++ behind)
+unfolding runs
+runs-from zero f rest v h l = absurd (omega arith)
+runs-from (suc n) f rest zero h l = (runs n (λ j. f (suc j)) ++ rest, append-assoc (f 0) (runs n (λ j. f (suc j))) rest)
+runs-from (suc n) f rest (suc v) h l =
+    let r = runs-from n (λ j. f (suc j)) rest v (λ j. h (suc j)) (omega arith) in
+    let e : LIST_WORDS * suc v ≡ length (f 0) + LIST_WORDS * v = omega (arith, h 0) in
+    (r .0, rw (append-assoc, e, drop-append-add) (r .1))
 
 -- a list is stored at the front, or behind some words
 paste-front : (xs ys zs : List ℕ) (k : ℕ) → length xs ≡ k → length zs ≡ k → paste (xs ++ ys) 0 zs k ≡ zs ++ ys

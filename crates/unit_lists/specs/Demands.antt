@@ -2,7 +2,7 @@
 use mathlib.Core.Path.{_≡_}
 use mathlib.Core.Logic.{_↔_}
 use mathlib.Core.List.{List, [], _∷_, List·Memᴰ}
-use Prim.Native.Nat.{ℕ, _≤_, _<_}
+use Prim.Native.Nat.{ℕ, _*_, _≤_, _<_}
 use lib.ListN.{length, take, drop, getD}
 use Rattle.atoms.specs.Word.{below}
 use Rattle.atoms.specs.Rising.{Rising}
@@ -11,39 +11,32 @@ use Rattle.answer_sets.specs.AnswerSet.{AnswerSet}
 use Rattle.answer_sets.specs.Lent.{lent}
 use Rattle.reading.specs.Reading.{reading}
 use Rattle.plan.specs.Limits.{LIST_WORDS, LAST_LIST, TABLE_WORDS, LAST_COUNT}
-use Rattle.plan.specs.Faults.{number}
-use Rattle.plan.specs.declared.fault.Fault.{Fault}
-use Rattle.plan.specs.declared.fault.Fault.the-variants.{LongList}
+use Rattle.plan.specs.Faults.{RefusedBy}
 use Rattle.plan.specs.declared.record.Plan.{Plan}
 use Rattle.plan.specs.declared.fault.Outcome.{Outcome}
-use Rattle.plan.specs.declared.fault.Outcome.the-variants.{Accepted, Refused}
+use Rattle.plan.specs.declared.fault.Outcome.the-variants.{Accepted}
 use Rattle.dependency_graph.specs.Units.{Units}
 use Rattle.dependency_graph.specs.PlanUnits.{unitsOf}
 use Rattle.dependency_graph.specs.Graph.{ConditionA, ConditionB, Acyclic, ConditionC, Passes}
 use Rattle.dependency_graph.specs.Offenders.{RuleInNoUnit, HeadedRuleInSeveral, Cycle, NonmonotonicUnseen, MonotonicUnseen}
-use Rattle.dependency_graph.specs.Order.{workingOrder}
-use Rattle.unit_lists.specs.Lists.{unitList, lastList}
+use Rattle.dependency_graph.specs.Order.{InOrder}
+use Rattle.splitting.specs.UnitList.{Listed, withLast}
 use Rattle.unit_lists.specs.declared.listing.Listing.{Listing}
 
 -- ---- demand 2: the graph
 
--- refused by the graph place, whose faults have the numbers 10 to 14
-pub record GraphRefused (outcome : Outcome) : Type 0 where
-  pub fault : Fault
-  pub is : outcome ≡ Refused fault
-  pub from-10 : 10 ≤ number fault
-  pub to-14 : number fault ≤ 14
+-- the numbers of the graph place
+abbrev pub GraphNumber : ℕ → Type 0
+GraphNumber n = (10 ≤ n) × (n ≤ 14)
 
 -- a graph passes exactly if the conditions hold; otherwise the first row that fits counts, at its lowest rule or unit
 pub record GraphJudged (S : Units) (outcome : Outcome) : Type 0 where
-  pub passes : (¬ GraphRefused outcome) ↔ Passes S
-  pub ten : (r : ℕ) → (outcome ≡ Refused (Fault.RuleInNoUnit r)) ↔ Least (RuleInNoUnit S) r
-  pub eleven : (r : ℕ) → (outcome ≡ Refused (Fault.HeadedRuleInSeveral r)) ↔ (ConditionA S × Least (HeadedRuleInSeveral S) r)
-  pub twelve : (u : ℕ) → (outcome ≡ Refused (Fault.Cycle u)) ↔ (ConditionA S × ConditionB S × Least (Cycle S) u)
-  pub thirteen : (r : ℕ)
-      → (outcome ≡ Refused (Fault.NonmonotonicUnseen r)) ↔ (ConditionA S × ConditionB S × Acyclic S × Least (NonmonotonicUnseen S) r)
-  pub fourteen : (r : ℕ)
-      → (outcome ≡ Refused (Fault.MonotonicUnseen r)) ↔ (ConditionA S × ConditionB S × Acyclic S × ConditionC S × Least (MonotonicUnseen S) r)
+  pub passes : ((n s : ℕ) → GraphNumber n → ¬ RefusedBy outcome n s) ↔ Passes S
+  pub ten : (r : ℕ) → RefusedBy outcome 10 r ↔ Least (RuleInNoUnit S) r
+  pub eleven : (r : ℕ) → RefusedBy outcome 11 r ↔ (ConditionA S × Least (HeadedRuleInSeveral S) r)
+  pub twelve : (u : ℕ) → RefusedBy outcome 12 u ↔ (ConditionA S × ConditionB S × Least (Cycle S) u)
+  pub thirteen : (r : ℕ) → RefusedBy outcome 13 r ↔ (ConditionA S × ConditionB S × Acyclic S × Least (NonmonotonicUnseen S) r)
+  pub fourteen : (r : ℕ) → RefusedBy outcome 14 r ↔ (ConditionA S × ConditionB S × Acyclic S × ConditionC S × Least (MonotonicUnseen S) r)
 
 -- for every plan that reads, and every long enough table
 pub record Demand2 (bytes table : List ℕ) (r : Listing) : Type 0 where
@@ -51,27 +44,53 @@ pub record Demand2 (bytes table : List ℕ) (r : Listing) : Type 0 where
 
 -- ---- demand 3: the last list
 
--- u's list is the first above 256, in working order; the last list, whose number is the count of units, comes after all
+-- the members of u's list, each once, rising
+pub record ListOf (S : Units) (u : ℕ) (list : List ℕ) : Type 0 where
+  pub rising : Rising list
+  pub members : (M : ℕ) → List·Memᴰ M list ↔ Listed S u M
+
+-- "list above 256": u's list has more members
+pub record Long (S : Units) (u : ℕ) : Type 0 where
+  pub list : List ℕ
+  pub is : ListOf S u list
+  pub above : LIST_WORDS < length list
+
+-- it has not
+pub record Fits (S : Units) (u : ℕ) : Type 0 where
+  pub list : List ℕ
+  pub is : ListOf S u list
+  pub at-most : length list ≤ LIST_WORDS
+
+-- "first such unit in working order": u's list is the first above 256 along these units; the last list, whose number is the count of
+-- units, comes after all
 pub data FirstLong (S : Units) : List ℕ → ℕ → Type 0 where
-  here : {u : ℕ} {us : List ℕ} → LIST_WORDS < length (unitList S u) → FirstLong S (u ∷ us) u
-  later : {u w : ℕ} {us : List ℕ} → length (unitList S u) ≤ LIST_WORDS → FirstLong S us w → FirstLong S (u ∷ us) w
-  last : LIST_WORDS < length (lastList S) → FirstLong S [] (S .units)
+  here : {u : ℕ} {us : List ℕ} → Long S u → FirstLong S (u ∷ us) u
+  later : {u w : ℕ} {us : List ℕ} → Fits S u → FirstLong S us w → FirstLong S (u ∷ us) w
+  last : Long (withLast S) (S .units) → FirstLong S [] (S .units)
+
+-- "The list of unit i starts at word 256·i", as many words as its count says
+abbrev pub listIn : Listing → List ℕ → ℕ → List ℕ
+listIn r table i = take (getD (r .counts) i 0) (drop (LIST_WORDS * i) table)
 
 -- "The last list in the table is the words from 4,096 on, as many as the last count says"
 abbrev pub lastIn : Listing → List ℕ → List ℕ
 lastIn r table = take (getD (r .counts) LAST_COUNT 0) (drop LAST_LIST table)
 
--- the last list holds every answer set of all the plan's rules as one set, once each, rising, and nothing else; the last count is their number
+-- each unit's list is in its place; the last list holds every answer set of all the plan's rules as one set, once each, rising, and nothing
+-- else; the last count is their number
 pub record ListsAll (p : Plan) (r : Listing) (table : List ℕ) : Type 0 where
   pub accepted : r .outcome ≡ Accepted
+  pub units : (u : ℕ) → u < p .«unit_count» → ListOf (unitsOf p) u (listIn r table u)
   pub rising : Rising (lastIn r table)
   pub members : (M : ℕ) → List·Memᴰ M (lastIn r table) ↔ AnswerSet (lent (p .rules)) (below (p .«rule_count»)) 0 M
   pub counted : length (lastIn r table) ≡ getD (r .counts) LAST_COUNT 0
 
--- refusal 15 exactly at the first list above 256, and otherwise all answer sets
+-- in the working order, refusal 15 exactly at the first list above 256, and otherwise all answer sets
 pub record Complete (p : Plan) (r : Listing) (table : List ℕ) : Type 0 where
-  pub fifteen : (u : ℕ) → (r .outcome ≡ Refused (LongList u)) ↔ FirstLong (unitsOf p) (workingOrder (unitsOf p)) u
-  pub otherwise : ((u : ℕ) → ¬ FirstLong (unitsOf p) (workingOrder (unitsOf p)) u) → ListsAll p r table
+  pub order : List ℕ
+  pub in-order : InOrder (unitsOf p) 0 order
+  pub fifteen : (u : ℕ) → RefusedBy (r .outcome) 15 u ↔ FirstLong (unitsOf p) order u
+  pub otherwise : ((u : ℕ) → ¬ FirstLong (unitsOf p) order u) → ListsAll p r table
 
 -- for every plan that passes reading and graph, and every long enough table
 pub record Demand3 (bytes table : List ℕ) (r : Listing) (table′ : List ℕ) : Type 0 where

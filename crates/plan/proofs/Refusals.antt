@@ -1,0 +1,59 @@
+-- A refusal is told by its number and spot: they name one fault.
+use mathlib.Core.Path.{_≡_, refl, sym, ap, ap₂, _∙_}
+use mathlib.Core.Logic.{_↔_}
+use mathlib.Core.List.{[], _∷_}
+use Prim.Native.Nat.{ℕ}
+use lib.ListN.{getD}
+use Rattle.plan.specs.Faults.{number, spot, RefusedBy}
+use Rattle.plan.specs.declared.fault.Fault.{Fault}
+use Rattle.plan.specs.declared.fault.Fault.the-variants.{TableShort, Truncated, UnknownCommand, OutOfOrder, TooMany}
+use Rattle.plan.specs.declared.fault.Fault.the-variants.{EmptyRule, AbsentRule, BadEdge, TrailingBytes}
+use Rattle.plan.specs.declared.fault.Fault.the-variants.{RuleInNoUnit, HeadedRuleInSeveral, Cycle, NonmonotonicUnseen, MonotonicUnseen, LongList}
+use Rattle.plan.specs.declared.fault.Outcome.{Outcome}
+use Rattle.plan.specs.declared.fault.Outcome.the-variants.{Refused}
+
+-- the faults with this spot, by their numbers; none has the number 0
+abbrev faultAt : ℕ → ℕ → Fault
+faultAt n s =
+    getD
+    (TableShort s
+    ∷ TableShort s
+    ∷ Truncated s
+    ∷ UnknownCommand s
+    ∷ OutOfOrder s
+    ∷ TooMany s
+    ∷ EmptyRule s
+    ∷ AbsentRule s
+    ∷ BadEdge s
+    ∷ TrailingBytes s
+    ∷ RuleInNoUnit s
+    ∷ HeadedRuleInSeveral s
+    ∷ Cycle s
+    ∷ NonmonotonicUnseen s
+    ∷ MonotonicUnseen s
+    ∷ LongList s
+    ∷ [])
+    n (TableShort s)
+
+fault-told : (f : Fault) → faultAt (number f) (spot f) ≡ f
+fault-told (TableShort s) = refl
+fault-told (Truncated s) = refl
+fault-told (UnknownCommand s) = refl
+fault-told (OutOfOrder s) = refl
+fault-told (TooMany s) = refl
+fault-told (EmptyRule s) = refl
+fault-told (AbsentRule s) = refl
+fault-told (BadEdge s) = refl
+fault-told (TrailingBytes s) = refl
+fault-told (RuleInNoUnit s) = refl
+fault-told (HeadedRuleInSeveral s) = refl
+fault-told (Cycle s) = refl
+fault-told (NonmonotonicUnseen s) = refl
+fault-told (MonotonicUnseen s) = refl
+fault-told (LongList s) = refl
+
+pub refused-by : (f : Fault) {outcome : Outcome} → RefusedBy outcome (number f) (spot f) ↔ (outcome ≡ Refused f)
+refused-by f = (
+  λ r. r .is ∙ ap Refused (sym (fault-told (r .fault)) ∙ ap₂ faultAt (r .number-is) (r .spot-is) ∙ fault-told f),
+  λ e. record { fault = f; is = e; number-is = refl; spot-is = refl },
+)
