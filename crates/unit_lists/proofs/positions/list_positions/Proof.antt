@@ -38,7 +38,7 @@ abbrev begun : tie.After-read-plan → tie.After-shared-slice-known
 begun c = c .before .before .before
 
 outcome-is : (c : tie.After-read-plan) (o : Outcome) → c .read-plan .result .outcome ≡ o → reading (now (start (begun c) .args .plan)) .outcome ≡ o
-outcome-is c o e = sym (ap (λ (r : Reading). r .outcome) (c .read-plan .ensures)) ∙ e
+outcome-is c o e = sym (ap (λ (r : Reading). r .outcome) (c .read-plan .ensures .0)) ∙ e
 
 returns : tie.Need-returns
 returns c =
@@ -61,7 +61,7 @@ list-read-plan-requires : tie.Need-list-read-plan-requires
 list-read-plan-requires c κs =
     let read = c .before .before .before in
     let plan = now (start (begun read) .args .plan) in
-    rw (read .read-plan .ensures) (
+    rw (read .read-plan .ensures .0) (
       record-fits plan,
       plan-clean plan (bytes (begun read)) (outcome-is read _ (c .before .enum-told .given .1)),
       read .before .if1 .left,
@@ -74,7 +74,7 @@ returns-3 c =
     let at = start (begun read) .args in
     promised (bytes (begun read))
     (rw (read-answer (now (at .plan)) (now (at .table)) (read .before .if1 .left) (outcome-is read _ (told .enum-told .given .1)))
-    (rw (read .read-plan .ensures) at (c .before .before .list-read-plan .ensures)))
+    (rw (read .read-plan .ensures .0) at (c .before .before .list-read-plan .ensures)))
 
 pub list-positions-spec : {M : Type 1} → statement M
 list-positions-spec =
