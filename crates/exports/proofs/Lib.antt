@@ -1,1 +1,3 @@
 pub mod CopiedCounts
+pub mod Spots
+pub mod HostCodes

@@ -1,14 +1,25 @@
--- What a host is handed back: numbers, and its own lent words and bytes.
+-- What a host is handed back: numbers, and its own lent words and bytes; and what demands 1 to 3 say of them.
 use mathlib.Core.Path.{_≡_}
+use mathlib.Core.Logic.{_↔_}
 use mathlib.Core.List.{List, _++_}
-use Prim.Native.Nat.{ℕ, _≤_}
-use lib.ListN.{length, take, drop}
+use Prim.Native.Nat.{ℕ, _+_, _*_, _≤_}
+use lib.ListN.{length, take, drop, replicate}
+use Rattle.atoms.specs.Word.{below}
+use Rattle.answer_sets.specs.AnswerSet.{AnswerSet}
+use Rattle.answer_sets.specs.Lent.{lent}
+use Rattle.plan.specs.Limits.{TABLE_WORDS}
 use Rattle.plan.specs.declared.fault.Outcome.{Outcome}
 use Rattle.plan.specs.declared.fault.Outcome.the-variants.{Accepted, Refused}
-use Rattle.plan.specs.Faults.{refusalCode}
+use Rattle.plan.specs.Faults.{CODE_STEP, refusalCode}
+use Rattle.reading.specs.Layout.{Contents, recordOf}
+use Rattle.reading.specs.Refusals.{Stopped}
+use Rattle.judge.specs.Answers.{judged, code}
 use Rattle.unit_lists.specs.Answer.{answer}
+use Rattle.unit_lists.specs.Demand1.{Lays, FirstFault}
+use Rattle.unit_lists.specs.Promised.{Promised}
+use Rattle.unit_lists.specs.declared.listing.Listing.{Listing}
 use Rattle.sheet.specs.Lent.{answer as written, filled}
-use Rattle.plan_sheet.specs.Sheets.{SHEET_BYTES, writtenBytes, planSheet}
+use Rattle.plan_sheet.specs.Sheets.{SHEET_BYTES, Says, writtenBytes, planSheet}
 
 -- the outcome of a listing as one number
 abbrev pub outcomeCode : Outcome → ℕ
@@ -19,14 +30,30 @@ outcomeCode (Refused f) = refusalCode f
 unfoldable pub copied : List ℕ → List ℕ → List ℕ
 copied from counts = take (length counts) from ++ drop (length from) counts
 
--- a listing: code, table and counts are the answer's
+-- a listing: code, table and counts are the answer's; demands 1 to 3 hold of it, with 0 for a plan that is listed, and the number and the
+-- spot of the first fault in the code of a refusal
 pub record ListHanded (bytes table table′ counts counts′ : List ℕ) (r : ℕ) : Type 0 where
   pub code-is : r ≡ outcomeCode (answer bytes table .outcome)
   pub table-is : table′ ≡ answer bytes table .table
   pub counts-are : counts′ ≡ copied (answer bytes table .counts) counts
+  pub listing : Listing
+  pub listing-is : (r ≡ outcomeCode (listing .outcome)) × (counts′ ≡ copied (listing .counts) counts)
+  pub promised : Promised bytes table listing table′
+  pub listed : listing .outcome ≡ Accepted → r ≡ 0
+  pub refused : (n s : ℕ) → FirstFault bytes table n s → r ≡ CODE_STEP * n + s
 
--- a sheet: its bytes where the buffer has room for all of them, and their number; SHEET_BYTES are always enough
+-- a judged position: 1 exactly if it is an answer set of the plan's rules, and otherwise 0; the number and the spot of a reading fault
+pub record JudgeHanded (bytes : List ℕ) (position r : ℕ) : Type 0 where
+  pub code-is : r ≡ code (judged bytes position)
+  pub settled : (c : Contents) → Lays bytes c
+      → (r ≡ 1) ↔ AnswerSet (lent (recordOf c .rules)) (below (recordOf c .«rule_count»)) 0 position
+  pub not-settled : (c : Contents) → Lays bytes c
+      → (r ≡ 0) ↔ (¬ AnswerSet (lent (recordOf c .rules)) (below (recordOf c .«rule_count»)) 0 position)
+  pub refused : (n s : ℕ) → Stopped bytes n s → r ≡ CODE_STEP * n + s
+
+-- a sheet: its bytes where the buffer has room for all of them, and their number; SHEET_BYTES are always enough. It says what demands 1 and 3 say
 pub record SheetHanded (bytes sheet sheet′ : List ℕ) (r : ℕ) : Type 0 where
   pub length-is : r ≡ writtenBytes (written (planSheet bytes) sheet)
   pub sheet-is : sheet′ ≡ filled (planSheet bytes) sheet
   pub at-most : length (planSheet bytes) ≤ SHEET_BYTES
+  pub says : Says bytes (replicate {A = ℕ} TABLE_WORDS 0) (planSheet bytes)

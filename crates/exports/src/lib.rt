@@ -8,8 +8,7 @@ use plan_sheet::write_plan_sheet;
 use plan_sheet::written_bytes;
 use unit_lists::list_positions;
 ghost use mathlib.Core.Path.{_≡_};
-ghost use Rattle.judge.specs.Answers.{judged, code};
-ghost use Rattle.exports.specs.Handed.{outcomeCode, copied, ListHanded, SheetHanded};
+ghost use Rattle.exports.specs.Handed.{outcomeCode, copied, ListHanded, JudgeHanded, SheetHanded};
 
 // 0 for a plan that is listed, and 65536 times the number plus the spot for a refusal.
 fn outcome_code(outcome: Outcome) -> u64
@@ -47,7 +46,7 @@ pub extern "C" fn lucarnecress_list(plan: &[u8], table: &mut [u64], counts: &mut
 // Judges one position: 1 settled, 0 not settled, else the code of the refusal.
 #[no_mangle]
 pub extern "C" fn lucarnecress_judge(plan: &[u8], position: u64) -> u64
-    ensures { λ r. ⌜ r ≡ code (judged (now (plan .entry)) position) ⌝ }
+    ensures { λ r. ⌜ JudgeHanded (now (plan .entry)) position r ⌝ }
 {
     answer_code(judge::judge(plan, position))
 }

@@ -8,7 +8,7 @@ use native.Mathlib.Omega.{arith}
 use lib.ListN.{length, drop, length-drop}
 use Rattle.plan.specs.Faults.{spot}
 use Rattle.plan.specs.Record.{emptyPlan}
-use Rattle.reading.specs.Commands.{Kind, rule, unit, edge, end, Row, rows, firstFit, ofKind, carrying, kindOf, commandAt}
+use Rattle.reading.specs.Commands.{Kind, rule, unit, edge, end, Row, operandRows, rows, firstFit, ofKind, carrying, kindOf, commandAt}
 use Rattle.reading.specs.Reading.{Step, onward, ended, stepOf, reading, commandBytes}
 use Rattle.reading.proofs.Commands.{known-command, unknown-command, Leads}
 use Rattle.reading.proofs.Walk.{walk-keeps}
@@ -41,11 +41,14 @@ first-fit-by n p (r ∷ rs) x a h = go (r .fits) refl (first-fit-by n p rs x (a 
     go true t rest = rw t (a .0)
     go false t rest = rw t rest
 
+operand-rows-by : (p : Plan) (at : ℕ) (k : Kind) (operands : List ℕ) → RowsBy (at + 1) (operandRows p at k operands)
+operand-rows-by p at rule operands = (omega arith, tt)
+operand-rows-by p at unit operands = (omega arith, tt)
+operand-rows-by p at edge operands = (omega arith, tt)
+operand-rows-by p at end operands = (omega arith, tt)
+
 rows-by : (p : Plan) (at : ℕ) (k : Kind) (operands : List ℕ) → RowsBy (at + 1) (rows p at k operands)
-rows-by p at rule operands = (omega arith, (omega arith, (omega arith, (omega arith, tt))))
-rows-by p at unit operands = (omega arith, (omega arith, (omega arith, (omega arith, tt))))
-rows-by p at edge operands = (omega arith, (omega arith, tt))
-rows-by p at end operands = (omega arith, (omega arith, tt))
+rows-by p at k operands = (omega arith, (omega arith, (omega arith, operand-rows-by p at k operands)))
 
 carrying-by : (n : ℕ) (p : Plan) (k : Kind) (operands : List ℕ) → StepBy n (stepOf p (carrying k operands))
 unfolding carrying

@@ -1,5 +1,5 @@
 -- A refusal is told by its number and spot: they name one fault.
-use mathlib.Core.Path.{_≡_, refl, sym, ap, ap₂, _∙_}
+use mathlib.Core.Path.{_≡_, refl, sym, ap, ap₂, _∙_, subst}
 use mathlib.Core.Logic.{_↔_}
 use mathlib.Core.List.{[], _∷_}
 use Prim.Native.Nat.{ℕ}
@@ -57,3 +57,10 @@ refused-by f = (
   λ r. r .is ∙ ap Refused (sym (fault-told (r .fault)) ∙ ap₂ faultAt (r .number-is) (r .spot-is) ∙ fault-told f),
   λ e. record { fault = f; is = e; number-is = refl; spot-is = refl },
 )
+
+-- a refusal has the number and spot of its fault
+pub told : {f : Fault} {n s : ℕ} → RefusedBy (Refused f) n s → (number f ≡ n) × (spot f ≡ s)
+told {f} r = let same : f ≡ r .fault = let e = r .is in cc in (ap number same ∙ r .number-is, ap spot same ∙ r .spot-is)
+
+pub refused-for : {o p : Outcome} {n s : ℕ} → o ≡ p → RefusedBy o n s → RefusedBy p n s
+refused-for {n = n} {s = s} e r = subst (λ (x : Outcome). RefusedBy x n s) e r

@@ -1,5 +1,7 @@
 -- The numbers and spots of faults. Document 01, "Faults, by where they are found": columns "no." and "spot".
 use mathlib.Core.Path.{_≡_}
+use mathlib.Core.List.{List, [], _∷_}
+use mathlib.Core.Logic.{_⊎_}
 use Prim.Native.Nat.{ℕ, _+_, _*_, _-_, _^_, min}
 use Rattle.plan.specs.declared.fault.Fault.{Fault}
 use Rattle.plan.specs.declared.fault.Fault.the-variants.{TableShort, Truncated, UnknownCommand, OutOfOrder, TooMany}
@@ -44,12 +46,23 @@ spot (NonmonotonicUnseen s) = s
 spot (MonotonicUnseen s) = s
 spot (LongList s) = s
 
--- refused with this number at this spot
+-- "A refusal gives its number and spot"
 pub record RefusedBy (outcome : Outcome) (n s : ℕ) : Type 0 where
   pub fault : Fault
   pub is : outcome ≡ Refused fault
   pub number-is : number fault ≡ n
   pub spot-is : spot fault ≡ s
+
+-- a row of the fault table: its number, when it fits, and its spot
+pub record TableRow : Type 1 where
+  pub no : ℕ
+  pub Fits : Type 0
+  pub at : ℕ
+
+-- "inside a place the first row that fits counts": n and s are the number and the spot of that row
+abbrev pub FirstFit : List TableRow → ℕ → ℕ → Type 0
+FirstFit [] n s = ⊥
+FirstFit (r ∷ rows) n s = (r .Fits × ((n ≡ r .no) × (s ≡ r .at))) ⊎ (¬ r .Fits × FirstFit rows n s)
 
 -- a refusal as one number: its fault number above 16 bits for its spot
 abbrev pub CODE_STEP : ℕ

@@ -1,5 +1,5 @@
 -- The sheet of a kept part: the buffer has room for every sheet, and what follows the part changes nothing.
-use mathlib.Core.Path.{_≡_, refl, sym, ap, _∙_}
+use mathlib.Core.Path.{_≡_, refl, sym, ap, _∙_, subst}
 use mathlib.Core.List.{List, _++_}
 use Prim.Native.Nat.{ℕ, zero, suc, _-_, _≤_, min}
 use native.Mathlib.Decide.{decLe}
@@ -11,9 +11,10 @@ use Rattle.plan.specs.Limits.{TABLE_WORDS}
 use Rattle.sheet.specs.Lent.{answer as written, filled}
 use Rattle.sheet.specs.declared.Written.{Written}
 use Rattle.unit_lists.specs.Answer.{answer}
-use Rattle.plan_sheet.specs.Sheets.{sheetOf, SHEET_BYTES, KEPT_BYTES, Printed, writtenBytes, planSheet, SheetKept}
+use Rattle.plan_sheet.specs.Sheets.{sheetOf, SHEET_BYTES, KEPT_BYTES, Says, Printed, writtenBytes, planSheet, SheetKept}
 use Rattle.plan_sheet.specs.declared.Sheet.{Sheet}
 use Rattle.plan_sheet.proofs.Prefix.{first-4096-decide}
+use Rattle.plan_sheet.proofs.Said.{sheet-says}
 
 -- the part of the area that the function takes is what was read
 kept-part : (area : List ℕ) (read count : ℕ) → length area ≡ KEPT_BYTES → count ≡ min read KEPT_BYTES
@@ -53,6 +54,10 @@ sheet-kept area read count table′ sheet′ w r l e p b n = record {
   fits = omega (arith, size, ap length bytes-are, length-append sheet (replicate {A = ℕ} (SHEET_BYTES - length sheet) 0));
   is = front ∙ ap planSheet part;
   of-all = λ bytes k. front ∙ ap planSheet (part ∙ sym k) ∙ first-4096-decide bytes (replicate {A = ℕ} TABLE_WORDS 0);
+  says = λ bytes small k.
+      subst (Says bytes (replicate {A = ℕ} TABLE_WORDS 0))
+      (sym (front ∙ ap planSheet (part ∙ sym k) ∙ first-4096-decide bytes (replicate {A = ℕ} TABLE_WORDS 0)))
+      (sheet-says bytes (replicate {A = ℕ} TABLE_WORDS 0) small);
   behind = ap (drop (r .length)) bytes-are ∙ drop-at sheet _ (r .length) (sym size) ∙ ap (λ (m : ℕ). replicate {A = ℕ} (SHEET_BYTES - m) 0) (sym size);
 }
   where

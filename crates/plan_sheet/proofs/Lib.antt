@@ -1,3 +1,4 @@
 pub mod Sheets
+pub mod Said
 pub mod Prefix
 pub mod Kept

@@ -23,7 +23,7 @@ pub sheet-refused : (a : Answer) (f : Fault) → a .outcome ≡ Refused f → re
 unfolding sheetOf sheetFor
 sheet-refused a f e = sym (ap (λ (o : Outcome). sheetFor o (a .counts) (a .table)) e)
 
-sheet-listed : (a : Answer) → a .outcome ≡ Accepted → positionsSheet (take (getD (a .counts) LAST_COUNT 0) (drop LAST_LIST (a .table))) ≡ sheetOf a
+pub sheet-listed : (a : Answer) → a .outcome ≡ Accepted → positionsSheet (take (getD (a .counts) LAST_COUNT 0) (drop LAST_LIST (a .table))) ≡ sheetOf a
 unfolding sheetOf sheetFor
 sheet-listed a e = sym (ap (λ (o : Outcome). sheetFor o (a .counts) (a .table)) e)
 

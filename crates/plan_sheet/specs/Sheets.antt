@@ -1,18 +1,26 @@
 -- The sheet of an answer (document 01, The sheet it prints).
 use mathlib.Core.Path.{_≡_}
-use mathlib.Core.List.{List}
+use mathlib.Core.Logic.{_↔_}
+use mathlib.Core.List.{List, List·Memᴰ}
 use Prim.Native.Nat.{ℕ, _+_, _-_, _*_, _≤_}
 use lib.ListN.{length, take, drop, getD, replicate}
 use Rattle.plan.specs.Limits.{LIST_WORDS, LAST_LIST, LAST_COUNT, TABLE_WORDS}
 use Rattle.plan.specs.Faults.{number, spot}
+use Rattle.plan.specs.declared.record.Plan.{Plan}
 use Rattle.plan.specs.declared.fault.Outcome.{Outcome}
 use Rattle.plan.specs.declared.fault.Outcome.the-variants.{Accepted, Refused}
+use Rattle.atoms.specs.Word.{below}
+use Rattle.atoms.specs.Rising.{Rising}
+use Rattle.answer_sets.specs.AnswerSet.{AnswerSet}
+use Rattle.answer_sets.specs.Lent.{lent}
+use Rattle.reading.specs.Layout.{Contents, recordOf, IsByte, All}
 use Rattle.sheet.specs.Sheet.{lineLength, positionsSheet, refusalSheet}
 use Rattle.sheet.specs.Lent.{answer as written, filled}
 use Rattle.sheet.specs.declared.Written.{Written}
 use Rattle.sheet.specs.declared.Written.the-variants.{Bytes, TooShort}
 use Rattle.plan_sheet.specs.declared.Sheet.{Sheet}
 use Rattle.unit_lists.specs.Answer.{Answer, answer}
+use Rattle.unit_lists.specs.Demand1.{Listable, FirstFault}
 
 -- by outcome: the last list's positions, or the refusal
 unfoldable pub sheetFor : Outcome → List ℕ → List ℕ → List ℕ
@@ -26,12 +34,24 @@ sheetOf a = sheetFor (a .outcome) (a .counts) (a .table)
 abbrev pub SHEET_BYTES : ℕ
 SHEET_BYTES = 14 + lineLength * LIST_WORDS
 
+-- the positions of a plan's sheet: the answer sets of all its rules as one set, each once, rising
+pub record Positions (p : Plan) (ws : List ℕ) : Type 0 where
+  pub rising : Rising ws
+  pub members : (M : ℕ) → List·Memᴰ M ws ↔ AnswerSet (lent (p .rules)) (below (p .«rule_count»)) 0 M
+
+-- what a sheet says: of a plan that is listed its positions, one line each, and of any other its first fault
+pub record Says (bytes table sheet : List ℕ) : Type 0 where
+  pub positions : (c : Contents) → Listable bytes c → TABLE_WORDS ≤ length table
+      → (ws : List ℕ) × (sheet ≡ positionsSheet ws) × Positions (recordOf c) ws
+  pub refusal : (n s : ℕ) → FirstFault bytes table n s → sheet ≡ refusalSheet n s
+
 -- the table is the answer's, and the sheet its sheet, where the buffer has room for it; SHEET_BYTES are always enough
 pub record Printed (bytes table table′ sheet sheet′ : List ℕ) (r : Written) : Type 0 where
   pub table-is : table′ ≡ answer bytes table .table
   pub written-is : r ≡ written (sheetOf (answer bytes table)) sheet
   pub sheet-is : sheet′ ≡ filled (sheetOf (answer bytes table)) sheet
   pub at-most : length (sheetOf (answer bytes table)) ≤ SHEET_BYTES
+  pub says : Says bytes table (sheetOf (answer bytes table))
 
 -- how many bytes were written, none where the buffer is too short
 abbrev pub writtenBytes : Written → ℕ
@@ -52,4 +72,6 @@ pub record SheetKept (area : List ℕ) (read : ℕ) (r : Sheet) : Type 0 where
   pub fits : r .length ≤ length (r .bytes)
   pub is : take (r .length) (r .bytes) ≡ planSheet (take read area)
   pub of-all : (bytes : List ℕ) → take KEPT_BYTES bytes ≡ take read area → take (r .length) (r .bytes) ≡ planSheet bytes
+  pub says : (bytes : List ℕ) → All IsByte bytes → take KEPT_BYTES bytes ≡ take read area
+      → Says bytes (replicate {A = ℕ} TABLE_WORDS 0) (take (r .length) (r .bytes))
   pub behind : drop (r .length) (r .bytes) ≡ replicate {A = ℕ} (SHEET_BYTES - r .length) 0

@@ -13,39 +13,35 @@ use Rattle.plan.specs.Limits.{MAX_UNITS}
 use Rattle.plan.specs.Record.{emptyPlan}
 use Rattle.reading.specs.Words.{WORD_BYTES}
 use Rattle.reading.specs.Commands.{Kind, rule, unit, edge, end, byteOf, operandBytes}
-use Rattle.reading.specs.Reading.{reading, accepted, commandBytes}
-use Rattle.reading.specs.Layout.{UnitPair, Contents, endBytes, predecessorsOf, recordOf, IsByte, All, GoodRule, GoodEdge, IsPlan}
+use Rattle.reading.specs.Reading.{reading, commandBytes}
+use Rattle.reading.specs.Layout.{Contents, endBytes, commands, predecessorsOf, recordOf, IsByte, All, GoodRule, Within, IsPlan}
 use Rattle.reading.proofs.Numbers.{all-drop, word-fits}
 use Rattle.reading.proofs.Commands.{Leads}
 use Rattle.reading.proofs.Walk.{walk-keeps}
 use Rattle.reading.proofs.Limits.{record-fits}
 use Rattle.reading.proofs.Predecessors.{pair, has-member}
 use Rattle.reading.proofs.Elements.{Element, nothing, with, elementAt, operandsOf, written-again, Sized, Right, Held, held-none, few-edges}
-use Rattle.reading.proofs.Elements.{Fits, all-snoc, empty, begun, begun-with, begun-end, record-none, more}
+use Rattle.reading.proofs.Elements.{Fits, all-snoc, empty, commands-with, commands-longer, record-none, more}
 use Rattle.plan.specs.declared.record.Plan.{Plan}
 use Rattle.plan.specs.declared.fault.Outcome.{Outcome}
 use Rattle.plan.specs.declared.fault.Outcome.the-variants.{Accepted, Refused}
 
 -- ---- the words, one element more
 
-module _ (c : Contents) where
-  sized : (k : Kind) (s : List ℕ) → operandBytes k ≤ length s → All IsByte s → Right c k (elementAt k s) → Sized k (elementAt k s)
-  sized rule s long b h =
-      record {
-        head-fits = word-fits s 0 (omega arith) b;
-        positive-fits = word-fits s WORD_BYTES (omega arith) b;
-        negative-fits = word-fits s (2 * WORD_BYTES) (omega arith) b;
-        some-word = h;
-      }
-  sized unit s long b h = word-fits s 0 (omega arith) b
-  sized edge s long b h = tt
-  sized end s long b h = tt
+sized : (k : Kind) (s : List ℕ) → operandBytes k ≤ length s → All IsByte s → Sized k (elementAt k s)
+sized rule s long b = (word-fits s 0 (omega arith) b, (word-fits s WORD_BYTES (omega arith) b, word-fits s (2 * WORD_BYTES) (omega arith) b))
+sized unit s long b = word-fits s 0 (omega arith) b
+sized edge s long b = tt
+sized end s long b = tt
 
-  rules-with : (k : Kind) (x : Element k) → Sized k x → All GoodRule (c .rules) → All GoodRule (with c k x .rules)
-  rules-with rule r g a = all-snoc GoodRule (c .rules) r a g
-  rules-with unit w g a = a
-  rules-with edge e g a = a
-  rules-with end x g a = a
+module _ (c : Contents) where
+  rules-with : (k : Kind) (x : Element k) → Sized k x → Right c k x → All GoodRule (c .rules) → All GoodRule (with c k x .rules)
+  rules-with rule r g h a =
+      let good : GoodRule r = record { head-fits = g .0; positive-fits = g .1 .0; negative-fits = g .1 .1; some-word = h } in
+      all-snoc GoodRule (c .rules) r a good
+  rules-with unit w g h a = a
+  rules-with edge e g h a = a
+  rules-with end x g h a = a
 
   units-with : (k : Kind) (x : Element k) → Fits c k x → All (λ w. w < 2 ^ length (c .rules)) (c .units)
       → All (λ w. w < 2 ^ length (with c k x .rules)) (with c k x .units)
@@ -57,19 +53,21 @@ module _ (c : Contents) where
 
 -- ---- reading on
 
--- p is the record of lists within the limits; their commands and s behind them are the whole
-record Read (whole : List ℕ) (p : Plan) (s : List ℕ) : Type 0 where
-  contents : Contents
-  held : Held contents
-  good-rules : All GoodRule (contents .rules)
-  good-units : All (λ word. word < 2 ^ length (contents .rules)) (contents .units)
-  record-is : p ≡ recordOf contents
-  bytes-are : whole ≡ begun contents ++ s
-  small : All IsByte s
+-- p is the record of lists within the limits; their commands reach to `at`, and s behind them makes up the whole
+pub record Read (whole : List ℕ) (p : Plan) (at : ℕ) (s : List ℕ) : Type 0 where
+  pub contents : Contents
+  pub held : Held contents
+  pub good-rules : All GoodRule (contents .rules)
+  pub good-units : All (λ word. word < 2 ^ length (contents .rules)) (contents .units)
+  pub record-is : p ≡ recordOf contents
+  pub bytes-are : whole ≡ commands contents ++ s
+  pub placed : at ≡ length (commands contents)
+  pub small : All IsByte s
 
 module _ (whole : List ℕ) where
-  on : (p q : Plan) (at : ℕ) (s : List ℕ) (k : Kind) → Read whole p s → Leads k p at s q → Read whole q (drop (commandBytes k) s)
-  on p q at s k r lead =
+  pub read-on : (p q : Plan) (at : ℕ) (s : List ℕ) (k : Kind) → Read whole p at s → Leads k p at s q
+      → Read whole q (at + commandBytes k) (drop (commandBytes k) s)
+  read-on p q at s k r lead =
       let c = r .contents in
       let l : Leads k (recordOf c) at s q = subst (λ (z : Plan). Leads k z at s q) (r .record-is) lead in
       let t : List ℕ = l .read .operands in
@@ -80,33 +78,51 @@ module _ (whole : List ℕ) where
       let tail : rest ≡ drop (operandBytes k) t = ap (drop (commandBytes k)) (l .read .bytes) in
       let again : operandsOf k x ++ rest ≡ t = ap (λ (y : List ℕ). operandsOf k x ++ y) tail ∙ written-again k t (l .read .long) bytes in
       let s-is : s ≡ byteOf k ∷ (operandsOf k x ++ rest) = l .read .bytes ∙ ap (λ (y : List ℕ). byteOf k ∷ y) (sym again) in
+      let in-place = l .read .in-place in
       record {
         contents = with c k x;
         held = m .held;
-        good-rules = rules-with c k x (sized c k t (l .read .long) bytes (m .fits .right)) (r .good-rules);
+        good-rules = rules-with c k x (sized k t (l .read .long) bytes) (m .fits .right) (r .good-rules);
         good-units = units-with c k x (m .fits) (r .good-units);
         record-is = m .is;
-        bytes-are =
-            r .bytes-are ∙ ap (λ (y : List ℕ). begun c ++ y) s-is ∙ sym (begun-with c k x rest (l .more) (l .read .in-place .on-time));
+        bytes-are = r .bytes-are ∙ ap (λ (y : List ℕ). commands c ++ y) s-is ∙ sym (commands-with c k x rest (l .more) in-place);
+        placed = ap (λ (n : ℕ). n + commandBytes k) (r .placed) ∙ sym (commands-longer c k x (l .more) in-place);
         small = all-drop IsByte (commandBytes k) s (r .small);
       }
 
-  ended : (p : Plan) (s : List ℕ) → Read whole p s → s ≡ endBytes → IsPlan whole p
-  ended p s r e =
+  pub read-start : All IsByte whole → Read whole emptyPlan 0 whole
+  unfolding commands flatMap
+  read-start small =
+      record {
+        contents = nothing;
+        held = held-none;
+        good-rules = tt;
+        good-units = tt;
+        record-is = sym record-none;
+        bytes-are = refl;
+        placed = refl;
+        small = small;
+      }
+
+  pub read-within : (p : Plan) (at : ℕ) (s : List ℕ) (r : Read whole p at s) → Within (r .contents)
+  read-within p at s r =
       let h = r .held in
       record {
+        most-rules = h .few .few-rules;
+        most-units = h .few .few-units;
+        most-edges = few-edges (r .contents) h;
+        good-rules = r .good-rules;
+        good-units = r .good-units;
+        good-edges = h .good-edges;
+        no-repeat = h .no-repeat;
+      }
+
+  read-ended : (p : Plan) (at : ℕ) (s : List ℕ) → Read whole p at s → s ≡ endBytes → IsPlan whole p
+  read-ended p at s r e =
+      record {
         contents = r .contents;
-        within =
-            record {
-              most-rules = h .few .few-rules;
-              most-units = h .few .few-units;
-              most-edges = few-edges (r .contents) h;
-              good-rules = r .good-rules;
-              good-units = r .good-units;
-              good-edges = h .good-edges;
-              no-repeat = h .no-repeat;
-            };
-        bytes-are = r .bytes-are ∙ ap (λ (y : List ℕ). begun (r .contents) ++ y) e ∙ begun-end (r .contents);
+        within = read-within p at s r;
+        bytes-are = r .bytes-are ∙ ap (λ (y : List ℕ). commands (r .contents) ++ y) e;
         record-is = r .record-is;
       }
 
@@ -116,19 +132,10 @@ isAccepted (Refused f) = false
 
 -- whenever reading accepts bytes, they are the layout of lists within the limits, and the record is theirs
 pub accepted-is-plan : (bytes : List ℕ) → All IsByte bytes → reading bytes .outcome ≡ Accepted → IsPlan bytes (reading bytes .plan)
-unfolding reading begun flatMap
+unfolding reading
 accepted-is-plan bytes small =
-    walk-keeps (λ p at s. Read bytes p s) (λ x. x .outcome ≡ Accepted → IsPlan bytes (x .plan)) (on bytes) (λ p at s r e o. ended bytes p s r e)
-    (λ p at s f r e o. absurd (true≢false (sym (ap isAccepted o)))) emptyPlan 0 bytes
-    (record {
-      contents = nothing;
-      held = held-none;
-      good-rules = tt;
-      good-units = tt;
-      record-is = sym record-none;
-      bytes-are = refl;
-      small = small;
-    })
+    walk-keeps (Read bytes) (λ x. x .outcome ≡ Accepted → IsPlan bytes (x .plan)) (read-on bytes) (λ p at s r e o. read-ended bytes p at s r e)
+    (λ p at s f r e o. absurd (true≢false (sym (ap isAccepted o)))) emptyPlan 0 bytes (read-start bytes small)
 
 -- ---- the edges of an accepted plan
 

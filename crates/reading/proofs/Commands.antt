@@ -1,20 +1,19 @@
 -- A command that is no fault: its kind, that no row of the fault table fits it, and what it does to the record.
-use mathlib.Core.Path.{_≡_, refl, ap, sym, _∙_, subst}
-use mathlib.Core.List.{List, [], _∷_, _++_}
+use mathlib.Core.Path.{_≡_, refl, ap, sym, _∙_}
+use mathlib.Core.List.{List, [], _∷_}
 use mathlib.Core.Bool.{Bool, true, false, true≢false}
 use mathlib.Core.Logic.{_⊎_, inl, inr}
 use mathlib.Core.Option.{Option, some, none}
 use Prim.Native.Nat.{ℕ, suc, _+_, _-_, _≤_, _<_}
 use native.Mathlib.Omega.{arith}
 use native.Mathlib.Numerals.{add-one}
-use lib.Dec.{eqb, ltb}
 use lib.ListN.{length, take, drop, getD, length-drop, drop-of-length-le}
 use lib.Seq.{take-all, drop-cons}
-use borrow.Author.Tests.{eqb-true, ne-eqb, ltb-false, leb-false, le-ltb, lt-leb}
+use borrow.Author.Tests.{ltb-false, leb-false, le-ltb, lt-leb}
 use Rattle.plan.specs.Limits.{MAX_RULES, MAX_UNITS}
-use Rattle.reading.specs.Commands.{Kind, rule, unit, edge, end, byteOf, kindAmong, kindOf, operandBytes, carrying}
-use Rattle.reading.specs.Commands.{lateRule, lateUnit, Row, kindRows, operandRows, rows, firstFit, ofKind, commandAt}
-use Rattle.reading.proofs.Edges.{or-false}
+use Rattle.reading.specs.Commands.{Kind, rule, unit, edge, end, byteOf, kinds, kindOf, operandBytes, orderOf, carrying, countBehind, late, full}
+use Rattle.reading.specs.Commands.{Row, kindRows, operandRows, rows, firstFit, ofKind, commandAt}
+use Rattle.reading.proofs.CommandKinds.{kind-of-byte, kind-byte, no-kind}
 use Rattle.reading.specs.Reading.{Step, onward, ended, stepOf}
 use Rattle.reading.specs.Progress.{kindOfStep}
 use Rattle.plan.specs.declared.record.Plan.{Plan}
@@ -23,33 +22,7 @@ use Rattle.plan.specs.declared.fault.Fault.the-variants.{Truncated, UnknownComm
 use Rattle.reading.specs.declared.command.Command.{Command}
 use Rattle.reading.specs.declared.command.Command.the-variants.{Fault as Faulty}
 
--- ---- bytes and kinds
-
-pub kind-of-byte : (k : Kind) → kindOf (byteOf k) ≡ some k
-unfolding kindOf
-kind-of-byte rule = refl
-kind-of-byte unit = refl
-kind-of-byte edge = refl
-kind-of-byte end = refl
-
-byte-among : (kinds : List Kind) (b : ℕ) (k : Kind) → kindAmong kinds b ≡ some k → b ≡ byteOf k
-byte-among [] b k e = absurd (let z : _≡_ {A = ℕ} 0 1 = cc in omega arith)
-byte-among (j ∷ kinds) b k e = go (eqb b (byteOf j)) refl (byte-among kinds b k)
-  where
-    is : some j ≡ some k → b ≡ byteOf j → b ≡ byteOf k
-    is s h = let q : j ≡ k = cc in subst (λ (i : Kind). b ≡ byteOf i) q h
-
-    go : (t : Bool) → eqb b (byteOf j) ≡ t → (kindAmong kinds b ≡ some k → b ≡ byteOf k) → b ≡ byteOf k
-    go true t rec = is (rw (t, kindAmong) at e) (eqb-true _ _ t)
-    go false t rec = rec (rw (t, kindAmong) at e)
-
-pub kind-byte : (b : ℕ) (k : Kind) → kindOf b ≡ some k → b ≡ byteOf k
-unfolding kindOf
-kind-byte b k e = byte-among (rule ∷ unit ∷ edge ∷ end ∷ []) b k e
-
-pub no-kind : (b : ℕ) → ¬ (b ≡ byteOf rule) → ¬ (b ≡ byteOf unit) → ¬ (b ≡ byteOf edge) → ¬ (b ≡ byteOf end) → kindOf b ≡ none
-unfolding kindOf
-no-kind b r u e n = simp (kindOf, kindAmong, ne-eqb _ _ r, ne-eqb _ _ u, ne-eqb _ _ e, ne-eqb _ _ n)
+-- ---- a byte's command
 
 module _ (p : Plan) (at b : ℕ) (operands : List ℕ) where
   pub known-command : (k : Kind) → kindOf b ≡ some k → commandAt p at (b ∷ operands) ≡ ofKind p at k operands
@@ -65,14 +38,6 @@ module _ (p : Plan) (at b : ℕ) (operands : List ℕ) where
 abbrev pub Passed : List Row → Type 0
 Passed [] = Unit {0}
 Passed (r ∷ rs) = (r .fits ≡ false) × Passed rs
-
-passed-both : (a b : List Row) → Passed (a ++ b) → Passed a × Passed b
-passed-both [] b h = (tt, h)
-passed-both (r ∷ a) b h = let k = passed-both a b (h .1) in ((h .0, k .0), k .1)
-
-pub passed-append : (a b : List Row) → Passed a → Passed b → Passed (a ++ b)
-passed-append [] b h k = k
-passed-append (r ∷ a) b h k = (h .0, passed-append a b (h .1) k)
 
 pub none-fits : (rs : List Row) (command : Command) → Passed rs → firstFit rs command ≡ command
 none-fits [] command h = refl
@@ -91,13 +56,6 @@ fits-or-not (r ∷ rs) x = go (r .fits) refl (fits-or-not rs x)
 
 -- ---- rows 4 and 5
 
--- how many commands of later kinds the record has
-abbrev pub later : Plan → Kind → ℕ
-later p rule = p .«unit_count» + p .«edge_count»
-later p unit = p .«edge_count»
-later p edge = 0
-later p end = 0
-
 -- there is room for a command of the kind more
 abbrev pub Room : Plan → Kind → Type 0
 Room p rule = p .«rule_count» < MAX_RULES
@@ -105,29 +63,29 @@ Room p unit = p .«unit_count» < MAX_UNITS
 Room p edge = Unit {0}
 Room p end = Unit {0}
 
+room-left : (p : Plan) (k : Kind) → full p k ≡ false → Room p k
+room-left p rule e = leb-false _ _ e
+room-left p unit e = leb-false _ _ e
+room-left p edge e = tt
+room-left p end e = tt
+
+not-full : (p : Plan) (k : Kind) → Room p k → full p k ≡ false
+not-full p rule h = lt-leb _ _ h
+not-full p unit h = lt-leb _ _ h
+not-full p edge h = refl
+not-full p end h = refl
+
 pub record InPlace (p : Plan) (k : Kind) : Type 0 where
-  pub on-time : later p k ≤ 0
+  pub on-time : countBehind p (orderOf k) kinds ≤ 0
   pub room : Room p k
 
 pub passed-in-place : (p : Plan) (at : ℕ) (k : Kind) → Passed (kindRows p at k) → InPlace p k
-unfolding lateRule lateUnit
-passed-in-place p at rule h =
-    let none = or-false (ltb 0 (p .«unit_count»)) (ltb 0 (p .«edge_count»)) (h .0) in
-    let no-units : p .«unit_count» ≤ 0 = ltb-false _ _ (none .0) in
-    let no-edges : p .«edge_count» ≤ 0 = ltb-false _ _ (none .1) in
-    record { on-time = omega arith; room = leb-false _ _ (h .1 .0) }
-passed-in-place p at unit h = record { on-time = ltb-false _ _ (h .0); room = leb-false _ _ (h .1 .0) }
-passed-in-place p at edge h = record { on-time = omega arith; room = tt }
-passed-in-place p at end h = record { on-time = omega arith; room = tt }
+unfolding late
+passed-in-place p at k h = record { on-time = ltb-false _ _ (h .0); room = room-left p k (h .1 .0) }
 
 pub in-place-passed : (p : Plan) (at : ℕ) (k : Kind) → InPlace p k → Passed (kindRows p at k)
-unfolding lateRule lateUnit
-in-place-passed p at rule h =
-    let few = h .on-time in
-    (simp (le-ltb 0 (p .«unit_count») (omega arith), le-ltb 0 (p .«edge_count») (omega arith)), (lt-leb _ _ (h .room), tt))
-in-place-passed p at unit h = (le-ltb _ _ (h .on-time), (lt-leb _ _ (h .room), tt))
-in-place-passed p at edge h = tt
-in-place-passed p at end h = tt
+unfolding late
+in-place-passed p at k h = (le-ltb _ _ (h .on-time), (not-full p k (h .room), tt))
 
 -- ---- a command at the front of s: one that no row stops, or a fault
 
@@ -153,14 +111,13 @@ front p at (b ∷ operands) = go (kindOf b) refl
         → Front p at (b ∷ operands)
     judged k t (inr (f, e)) = stopped f (known-command p at b operands k t ∙ e)
     judged k t (inl h) =
-        let parts = passed-both (kindRows p at k) _ h in
         unstopped k
         (record {
           operands = operands;
           bytes = ap (λ (y : ℕ). y ∷ operands) (kind-byte b k t);
-          in-place = passed-in-place p at k (parts .0);
-          long = ltb-false _ _ (parts .1 .0);
-          right = parts .1 .1;
+          in-place = passed-in-place p at k (h .0, (h .1 .0, tt));
+          long = ltb-false _ _ (h .1 .1 .0);
+          right = h .1 .1 .1;
           command = known-command p at b operands k t ∙ none-fits (rows p at k operands) (carrying k operands) h;
         })
 
@@ -210,6 +167,14 @@ step-adds p unit operands = refl
 step-adds p edge operands = refl
 step-adds p end operands = refl
 
+-- what carries operands is no fault
+pub not-faulty : (k : Kind) (operands : List ℕ) (f : Fault) → ¬ (carrying k operands ≡ Faulty f)
+unfolding carrying
+not-faulty rule operands f e = let z : _≡_ {A = ℕ} 0 1 = cc in omega arith
+not-faulty unit operands f e = let z : _≡_ {A = ℕ} 0 1 = cc in omega arith
+not-faulty edge operands f e = let z : _≡_ {A = ℕ} 0 1 = cc in omega arith
+not-faulty end operands f e = let z : _≡_ {A = ℕ} 0 1 = cc in omega arith
+
 -- the command at the front of s leads from the record p to q
 pub record Leads (kind : Kind) (p : Plan) (at : ℕ) (s : List ℕ) (q : Plan) : Type 0 where
   pub read : Unstopped kind p at s
@@ -241,6 +206,5 @@ module _ (p : Plan) (s : List ℕ) (at : ℕ) where
         let rest : take (length s - (at + 1)) (drop (at + 1) s) ≡ drop (suc at) s = rest-is s (at + 1) ∙ ap (λ (n : ℕ). drop n s) (add-one at) in
         at-front r (e ∙ ap (ofKind p at k) rest ∙ sym (known-command p at (getD s at 0) (drop (suc at) s) k t))
 
-    pub no-kind-there : ¬ (getD s at 0 ≡ byteOf rule) → ¬ (getD s at 0 ≡ byteOf unit) → ¬ (getD s at 0 ≡ byteOf edge)
-        → ¬ (getD s at 0 ≡ byteOf end) → Faulty (UnknownCommand at) ≡ commandAt p at (drop at s)
-    no-kind-there r u e n = at-front _ (sym (unknown-command p at (getD s at 0) (drop (suc at) s) (no-kind (getD s at 0) r u e n)))
+    pub no-kind-there : ((k : Kind) → ¬ (getD s at 0 ≡ byteOf k)) → Faulty (UnknownCommand at) ≡ commandAt p at (drop at s)
+    no-kind-there n = at-front _ (sym (unknown-command p at (getD s at 0) (drop (suc at) s) (no-kind (getD s at 0) n)))

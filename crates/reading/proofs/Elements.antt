@@ -1,31 +1,32 @@
 -- One command more, of any kind: its operands as an element of the plan's lists, when it fits behind them, and what it adds to their bytes
 -- and to their record.
-use mathlib.Core.Path.{_≡_, refl, ap, sym, _∙_, subst}
+use mathlib.Core.Path.{_≡_, refl, ap, sym, _∙_}
 use mathlib.Core.List.{List, [], _∷_, _++_, append-assoc, append-nil, flatMap, List·Memᴰ, List·Memᴰ·head, List·Memᴰ·tail}
 use mathlib.Core.List.{List·Memᴰ·not-nil, List·Memᴰ·append-cases, List·Memᴰ·eq-of-singleton}
 use mathlib.Core.Logic.{_⊎_, inl, inr}
-use mathlib.Core.Bool.{Bool, true, false, true≢false, _&&_}
-use Prim.Native.Nat.{ℕ, suc, _+_, _*_, _^_, _≤_, _<_}
+use mathlib.Core.Bool.{true, false, true≢false}
+use Prim.Native.Nat.{ℕ, _+_, _*_, _^_, _≤_, _<_}
 use native.Mathlib.Omega.{arith}
-use lib.Dec.{eqb}
 use lib.ListN.{length, take, drop, getD, set, length-append, take-append-drop}
 use lib.Seq.{drop-drop}
-use borrow.Author.Tests.{leb-false, lt-leb, eq-eqb, ne-eqb, eqb-true}
+use borrow.Author.Tests.{leb-false, lt-leb, ne-eqb}
 use Rattle.atoms.specs.Lists.{padded, tabulate}
+use Rattle.atoms.specs.Bounded.{Decides}
 use Rattle.atoms.specs.Word.{has}
 use Rattle.atoms.proofs.Lists.{padded-snoc, getD-tabulate}
 use Rattle.atoms.proofs.Sets.{decides-has}
-use Rattle.atoms.proofs.Tests.{decided-true, decided-false, not-both, false-of-not-true}
+use Rattle.atoms.proofs.Tests.{decided-true, decided-false, not-both, decides-and, decides-equal}
 use Rattle.plan.specs.Limits.{MAX_RULES, MAX_UNITS, MAX_EDGES, RULE_WORDS}
 use Rattle.plan.specs.Record.{emptyPlan, withRule, withUnit, withEdge}
 use Rattle.reading.specs.Words.{WORD_BYTES, WORD_VALUES, wordAt}
 use Rattle.reading.specs.Commands.{Kind, rule, unit, edge, end, byteOf, operandBytes, carrying, operandRows}
 use Rattle.reading.specs.Commands.{emptyRule, absentRule, badEdge}
-use Rattle.reading.specs.Layout.{RuleWords, UnitPair, Contents, wordBytes, ruleBytes, unitBytes, edgeBytes, endBytes, threeWords, layout}
-use Rattle.reading.specs.Layout.{predecessorsOf, recordOf, IsByte, All, Distinct, GoodRule, GoodEdge}
+use Rattle.reading.specs.Layout.{RuleWords, UnitPair, Contents, wordBytes, ruleBytes, unitBytes, edgeBytes, threeWords, commands}
+use Rattle.reading.specs.Layout.{predecessorsOf, recordOf, IsByte, All, Distinct, GoodEdge}
+use Rattle.reading.specs.Reading.{commandBytes}
 use Rattle.reading.proofs.Numbers.{length-bytes, word-behind, word-bytes}
 use Rattle.reading.proofs.Edges.{not-bad-edge}
-use Rattle.reading.proofs.Commands.{Passed, InPlace, later, adds, grown, Leads}
+use Rattle.reading.proofs.Commands.{Passed, InPlace, adds, grown, Leads}
 use Rattle.reading.proofs.Pigeonhole.{edges-at-most}
 use Rattle.reading.proofs.Predecessors.{has-member, member-has, rows-snoc}
 use Rattle.plan.specs.declared.record.Plan.{Plan}
@@ -98,7 +99,7 @@ written-again end s long b = refl
 
 -- words of 64 bits
 abbrev pub Sized : (k : Kind) → Element k → Type 0
-Sized rule r = GoodRule r
+Sized rule r = (r .head < WORD_VALUES) × ((r .positive < WORD_VALUES) × (r .negative < WORD_VALUES))
 Sized unit w = w < WORD_VALUES
 Sized edge e = Unit {0}
 Sized end x = Unit {0}
@@ -132,43 +133,34 @@ read-again rule r rest g =
     let p = wordBytes (r .positive) in
     let n = wordBytes (r .negative) in
     let two : length (h ++ p) ≡ 2 * WORD_BYTES = length-append h p ∙ omega (arith, word-long (r .head), word-long (r .positive)) in
-    let first : wordAt 0 ((h ++ (p ++ n)) ++ rest) ≡ r .head = rw append-assoc (word-behind [] 0 (r .head) _ refl (g .head-fits)) in
+    let first : wordAt 0 ((h ++ (p ++ n)) ++ rest) ≡ r .head = rw append-assoc (word-behind [] 0 (r .head) _ refl (g .0)) in
     let second : wordAt WORD_BYTES ((h ++ (p ++ n)) ++ rest) ≡ r .positive =
-    rw (append-assoc, append-assoc) (word-behind h WORD_BYTES (r .positive) _ (word-long (r .head)) (g .positive-fits)) in
+    rw (append-assoc, append-assoc) (word-behind h WORD_BYTES (r .positive) _ (word-long (r .head)) (g .1 .0)) in
     let third : wordAt (2 * WORD_BYTES) ((h ++ (p ++ n)) ++ rest) ≡ r .negative =
-    rw (← append-assoc h p n, append-assoc (h ++ p) n rest) (word-behind (h ++ p) (2 * WORD_BYTES) (r .negative) rest two (g .negative-fits)) in
+    rw (← append-assoc h p n, append-assoc (h ++ p) n rest) (word-behind (h ++ p) (2 * WORD_BYTES) (r .negative) rest two (g .1 .1)) in
     λ i. record { head = first i; positive = second i; negative = third i }
 read-again unit w rest g = word-behind [] 0 w rest refl g
 read-again edge e rest g = refl
 read-again end x rest g = refl
 
-not-all-zero : (h b n : ℕ) → emptyRule h b n ≡ false → ¬ ((h ≡ 0) × ((b ≡ 0) × (n ≡ 0)))
+pub decides-empty : (h b n : ℕ) → Decides (((h ≡ 0) × (b ≡ 0)) × (n ≡ 0)) (emptyRule h b n)
 unfolding emptyRule
-not-all-zero h b n e z = true≢false (sym (simp (eq-eqb _ _ (z .0), eq-eqb _ _ (z .1 .0), eq-eqb _ _ (z .1 .1))) ∙ e)
+decides-empty h b n = decides-and (decides-and (decides-equal h 0) (decides-equal b 0)) (decides-equal n 0)
 
-not-empty : (h b n : ℕ) → ¬ ((h ≡ 0) × ((b ≡ 0) × (n ≡ 0))) → emptyRule h b n ≡ false
-unfolding emptyRule
-not-empty h b n z = false-of-not-true _ (λ e. z (zeros (eqb h 0) (eqb b 0) (eqb n 0) refl refl refl e))
-  where
-    zeros : (x y w : Bool) → eqb h 0 ≡ x → eqb b 0 ≡ y → eqb n 0 ≡ w → x && y && w ≡ true → (h ≡ 0) × ((b ≡ 0) × (n ≡ 0))
-    zeros true true true p q r e = (eqb-true _ _ p, (eqb-true _ _ q, eqb-true _ _ r))
-    zeros true true false p q r e = absurd (true≢false (sym e))
-    zeros true false w p q r e = absurd (true≢false (sym e))
-    zeros false y w p q r e = absurd (true≢false (sym e))
-
-module _ (c : Contents) (at : ℕ) (s : List ℕ) (few : Few c) where
-  row-is : (u : ℕ) → u < length (c .units) → getD (tabulate MAX_UNITS (predecessorsOf (c .edges))) u 0 ≡ predecessorsOf (c .edges) u
+module _ (c : Contents) (few : Few c) where
+  pub row-is : (u : ℕ) → u < length (c .units) → getD (tabulate MAX_UNITS (predecessorsOf (c .edges))) u 0 ≡ predecessorsOf (c .edges) u
   row-is u l = getD-tabulate MAX_UNITS (predecessorsOf (c .edges)) u (omega (arith, few .few-units))
 
+module _ (c : Contents) (at : ℕ) (s : List ℕ) (few : Few c) where
   -- no row of its operands stops an element exactly if it is right
   pub passed-right : (k : Kind) → Passed (operandRows (recordOf c) at k s) → Right c k (elementAt k s)
   unfolding recordOf absentRule
-  passed-right rule h = not-all-zero _ _ _ (h .0)
+  passed-right rule h = λ z. decides-empty _ _ _ .no (h .0) ((z .0, z .1 .0), z .1 .1)
   passed-right unit h = leb-false _ _ (h .0)
   passed-right edge h =
       let e : UnitPair = elementAt edge s in
       let new = not-bad-edge (recordOf c) (e .u) (e .v) (h .0) in
-      let absent : has (predecessorsOf (c .edges) (e .u)) (e .v) ≡ false = rw (row-is (e .u) (new .from-there)) at (new .fresh) in (
+      let absent : has (predecessorsOf (c .edges) (e .u)) (e .v) ≡ false = rw (row-is c few (e .u) (new .from-there)) at (new .fresh) in (
         record { from-there = new .from-there; to-there = new .to-there; apart = new .apart },
         λ m. not-both (decided-true (decides-has _ _) (member-has (c .edges) e m)) absent,
       )
@@ -176,13 +168,13 @@ module _ (c : Contents) (at : ℕ) (s : List ℕ) (few : Few c) where
 
   pub right-passed : (k : Kind) → adds k ≡ true → Right c k (elementAt k s) → Passed (operandRows (recordOf c) at k s)
   unfolding recordOf absentRule badEdge
-  right-passed rule a g = (not-empty _ _ _ g, tt)
+  right-passed rule a g = (decided-false (decides-empty _ _ _) (λ z. g (z .0 .0, (z .0 .1, z .1))), tt)
   right-passed unit a g = (lt-leb _ _ g, tt)
   right-passed edge a g =
       let e : UnitPair = elementAt edge s in
       let t = g .0 in
       let absent : has (predecessorsOf (c .edges) (e .u)) (e .v) ≡ false = decided-false (decides-has _ _) (λ h. g .1 (has-member (c .edges) e h)) in
-      (simp (lt-leb _ _ (t .from-there), lt-leb _ _ (t .to-there), ne-eqb _ _ (t .apart), row-is (e .u) (t .from-there), absent), tt)
+      (simp (lt-leb _ _ (t .from-there), lt-leb _ _ (t .to-there), ne-eqb _ _ (t .apart), row-is c few (e .u) (t .from-there), absent), tt)
   right-passed end a g = absurd (true≢false (sym a))
 
 -- ---- the lists, one element more
@@ -194,7 +186,7 @@ pub all-snoc : {A : Type 0} (P : A → Type 0) (xs : List A) (x : A) → All P x
 all-snoc P [] x a p = (p, tt)
 all-snoc P (y ∷ xs) x a p = (a .0, all-snoc P xs x (a .1) p)
 
-distinct-snoc : {A : Type 0} (xs : List A) (x : A) → Distinct xs → ¬ List·Memᴰ x xs → Distinct (xs ++ (x ∷ []))
+pub distinct-snoc : {A : Type 0} (xs : List A) (x : A) → Distinct xs → ¬ List·Memᴰ x xs → Distinct (xs ++ (x ∷ []))
 distinct-snoc [] x d n = (λ m. List·Memᴰ·not-nil m, tt)
 distinct-snoc (y ∷ xs) x d n = (λ m. go (List·Memᴰ·append-cases xs m), distinct-snoc xs x (d .1) (λ m. n (List·Memᴰ·tail m)))
   where
@@ -215,7 +207,7 @@ held-with c unit w h f =
     let more : length (c .units ++ (w ∷ [])) ≤ MAX_UNITS = omega (arith, length-snoc (c .units) w, f .in-place .room) in
     record {
       few = record { few-rules = f .few .few-rules; few-units = more };
-      good-edges = rw (empty (c .edges) (f .in-place .on-time)) tt;
+      good-edges = rw (empty (c .edges) (omega (arith, f .in-place .on-time))) tt;
       no-repeat = h .no-repeat;
     }
 held-with c edge e h f =
@@ -246,22 +238,20 @@ unfolding flatMap
 flat-snoc f [] x = append-nil (f x)
 flat-snoc f (y ∷ xs) x = ap (λ (l : List ℕ). f y ++ l) (flat-snoc f xs x) ∙ sym (append-assoc (f y) (flatMap f xs) (f x))
 
--- all commands but END
-unfoldable pub begun : Contents → List ℕ
-begun c = flatMap ruleBytes (c .rules) ++ (flatMap unitBytes (c .units) ++ flatMap edgeBytes (c .edges))
-
-pub begun-with : (c : Contents) (k : Kind) (x : Element k) (t : List ℕ) → adds k ≡ true → later (recordOf c) k ≤ 0
-    → begun (with c k x) ++ t ≡ begun c ++ (byteOf k ∷ (operandsOf k x ++ t))
-unfolding begun recordOf flatMap
-begun-with c rule r t a h =
+pub commands-with : (c : Contents) (k : Kind) (x : Element k) (t : List ℕ) → adds k ≡ true → InPlace (recordOf c) k
+    → commands (with c k x) ++ t ≡ commands c ++ (byteOf k ∷ (operandsOf k x ++ t))
+unfolding commands recordOf flatMap
+commands-with c rule r t a h =
+    let behind = h .on-time in
     rw (empty (c .units) (omega arith), empty (c .edges) (omega arith), flat-snoc ruleBytes (c .rules) r) (simp (append-nil, append-assoc))
-begun-with c unit w t a h = rw (empty (c .edges) h, flat-snoc unitBytes (c .units) w) (simp (append-nil, append-assoc))
-begun-with c edge e t a h = rw (flat-snoc edgeBytes (c .edges) e) (simp append-assoc)
-begun-with c end x t a h = absurd (true≢false (sym a))
+commands-with c unit w t a h = rw (empty (c .edges) (omega (arith, h .on-time)), flat-snoc unitBytes (c .units) w) (simp (append-nil, append-assoc))
+commands-with c edge e t a h = rw (flat-snoc edgeBytes (c .edges) e) (simp append-assoc)
+commands-with c end x t a h = absurd (true≢false (sym a))
 
-pub begun-end : (c : Contents) → begun c ++ endBytes ≡ layout c
-unfolding begun layout
-begun-end c = simp append-assoc
+pub commands-longer : (c : Contents) (k : Kind) (x : Element k) → adds k ≡ true → InPlace (recordOf c) k
+    → length (commands (with c k x)) ≡ length (commands c) + commandBytes k
+commands-longer c k x a h =
+    omega (arith, simp (append-nil, length-append) at (ap length (commands-with c k x [] a h)), operands-long k x)
 
 -- ---- the record
 

@@ -4,6 +4,7 @@ use mathlib.Core.List.{List, [], _∷_}
 use mathlib.Core.Bool.{true, true≢false, not}
 use Prim.Native.Nat.{ℕ, suc, min, _+_, _-_, _≤_, _<_}
 use native.Mathlib.Omega.{arith}
+use native.Mathlib.Decide.{decLt}
 use lib.ListN.{length, drop, getD, length-drop}
 use lib.Seq.{drop-drop}
 use lib.Dec.{T}
@@ -12,11 +13,12 @@ use types.Run.{OneOf, miss}
 use denote.Enum.Declared.{tagOf}
 use Rattle.reading.proofs.command.Command.{the-type}
 use Rattle.plan.specs.Record.{Fitting, emptyPlan, withRule, withUnit, withEdge}
-use Rattle.reading.specs.Commands.{Kind, rule, unit, edge, end, commandAt, carrying}
-use Rattle.reading.specs.Reading.{Step, onward, ended, stepOf, walk, reading, accepted, refused, commandBytes}
-use Rattle.reading.specs.Progress.{placeAt, orderOf, kindOfStep, Reached}
-use Rattle.reading.proofs.Commands.{later, Unstopped, Front, unstopped, stopped, front}
+use Rattle.reading.specs.Commands.{Kind, rule, unit, edge, end, orderOf, count, commandAt, carrying}
+use Rattle.reading.specs.Reading.{onward, stepOf, walk, reading, accepted, refused, commandBytes}
+use Rattle.reading.specs.Progress.{placeAt, kindOfStep, Reached}
+use Rattle.reading.proofs.Commands.{InPlace, Unstopped, Front, unstopped, stopped, front}
 use Rattle.reading.proofs.Commands.{planOf, adds, goesOn, grown, step-kind, step-adds, Leads}
+use Rattle.reading.proofs.CommandKinds.{none-behind}
 use Rattle.reading.proofs.Edges.{NewEdge, not-bad-edge}
 use Rattle.reading.proofs.Limits.{empty-fits, leads-fit}
 use Rattle.reading.proofs.Walk.{walk-on, walk-ended}
@@ -30,25 +32,13 @@ use Rattle.reading.specs.declared.command.Command.the-variants.{Rule, Un
 
 -- ---- the order of kinds
 
--- how many commands of the kind the record has
-abbrev count : Plan → Kind → ℕ
-count p rule = p .«rule_count»
-count p unit = p .«unit_count»
-count p edge = p .«edge_count»
-count p end = 0
-
 -- once a command of kind k is read, none of an earlier kind is in place
-in-order : (p : Plan) (k j : Kind) → 0 < count p k → later p j ≤ 0 → orderOf k ≤ orderOf j
-in-order p rule j h l = omega arith
-in-order p unit rule h l = absurd (omega arith)
-in-order p unit unit h l = omega arith
-in-order p unit edge h l = omega arith
-in-order p unit end h l = omega arith
-in-order p edge rule h l = absurd (omega arith)
-in-order p edge unit h l = absurd (omega arith)
-in-order p edge edge h l = omega arith
-in-order p edge end h l = omega arith
-in-order p end j h l = absurd (omega arith)
+in-order : (p : Plan) (k j : Kind) → 0 < count p k → InPlace p j → orderOf k ≤ orderOf j
+in-order p k j h i = go (decLt (orderOf j) (orderOf k))
+  where
+    go : Dec (orderOf j < orderOf k) → orderOf k ≤ orderOf j
+    go (yes l) = absurd (omega (arith, none-behind p (orderOf j) (i .on-time) k l))
+    go (no l) = omega arith
 
 order-end : (k : Kind) → orderOf k ≤ orderOf end
 order-end rule = omega arith
@@ -75,7 +65,7 @@ past-after : (p : Plan) (k : Kind) → 0 < count p k → (at : ℕ) (s : List �
 past-after p k h at s = go (front p at s)
   where
     go : Front p at s → orderOf k ≤ orderOf (kindOfStep (stepOf p (commandAt p at s)))
-    go (unstopped j u) = rw (u .command, step-kind p j (u .operands)) (in-order p k j h (u .in-place .on-time))
+    go (unstopped j u) = rw (u .command, step-kind p j (u .operands)) (in-order p k j h (u .in-place))
     go (stopped f e) = rw e (order-end k)
 
 -- a command that goes on was stopped by no row

@@ -1,6 +1,7 @@
 pub mod Numbers
 pub mod Units
 pub mod Edges
+pub mod CommandKinds
 pub mod Commands
 pub mod Walk
 pub mod Limits
@@ -8,7 +9,10 @@ pub mod Groups
 pub mod Predecessors
 pub mod Pigeonhole
 pub mod Elements
+pub mod Rows
 pub mod RoundTrip
 pub mod Accepted
-pub mod Prefix
+pub mod Judged
+pub mod EdgeLimit
 pub mod Longest
+pub mod Prefix

@@ -1,7 +1,7 @@
 -- What holds of the record of every reading, accepted or not.
 use mathlib.Core.Path.{subst}
 use mathlib.Core.List.{List, [], _∷_}
-use Prim.Native.Nat.{ℕ, suc, _+_, _<_}
+use Prim.Native.Nat.{ℕ, suc, _<_}
 use native.Mathlib.Omega.{arith}
 use lib.ListN.{getD}
 use Rattle.plan.specs.Record.{Fitting, emptyPlan, withRule, withUnit, withEdge}

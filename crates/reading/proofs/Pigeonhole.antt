@@ -1,8 +1,8 @@
--- At most MAX_EDGES edges join MAX_UNITS units: each takes a number below MAX_EDGES of its own.
-use mathlib.Core.Path.{_≡_, ap, sym, _∙_, subst}
-use mathlib.Core.List.{List, [], _∷_, List·Memᴰ, List·Memᴰ·head, List·Memᴰ·tail}
+-- At most MAX_EDGES edges join MAX_UNITS units: each takes a number below MAX_EDGES of its own. And so many do: each number has its edge.
+use mathlib.Core.Path.{_≡_, refl, ap, sym, _∙_, subst}
+use mathlib.Core.List.{List, [], _∷_, List·Memᴰ, List·Memᴰ·head, List·Memᴰ·tail, List·Memᴰ·not-nil, List·Memᴰ·cases-cons}
 use mathlib.Core.Logic.{_⊎_, inl, inr}
-use Prim.Native.Nat.{ℕ, min, _+_, _*_, _-_, _≤_, _<_}
+use Prim.Native.Nat.{ℕ, zero, suc, min, _+_, _*_, _-_, _/_, _%_, _≤_, _<_}
 use native.Mathlib.Omega.{arith}
 use native.Mathlib.Decide.{decLt}
 use lib.Count.{ones, ones-le}
@@ -94,3 +94,42 @@ slots-below (e ∷ edges) a i h = go (slots-below edges (a .1) i) (union-cases (
 
 pub edges-at-most : (edges : List UnitPair) → All (GoodEdge MAX_UNITS) edges → Distinct edges → length edges ≤ MAX_EDGES
 edges-at-most edges a d = omega (arith, count-slots edges a d, ones-le MAX_EDGES (slots edges) (lt-of-has (slots edges) MAX_EDGES (slots-below edges a)))
+
+-- ---- all edges there are
+
+abbrev edgeAt : ℕ → UnitPair
+edgeAt i = record { u = i / OTHERS; v = i % OTHERS + min 1 (i % OTHERS + 1 - i / OTHERS) }
+
+edge-good : (i : ℕ) → i < MAX_EDGES → GoodEdge MAX_UNITS (edgeAt i)
+edge-good i l = record { from-there = omega arith; to-there = omega arith; apart = λ e. omega arith }
+
+edge-own : (i j : ℕ) → edgeAt i ≡ edgeAt j → i ≡ j
+edge-own i j e = omega (arith, ap (λ (x : UnitPair). x .u) e, ap (λ (x : UnitPair). x .v) e)
+
+pub edgesBelow : ℕ → List UnitPair
+edgesBelow zero = []
+edgesBelow (suc n) = edgeAt n ∷ edgesBelow n
+
+pub edges-long : (n : ℕ) → length (edgesBelow n) ≡ n
+unfolding edgesBelow
+edges-long zero = refl
+edges-long (suc n) = ap suc (edges-long n)
+
+pub edges-good : (n : ℕ) → n ≤ MAX_EDGES → All (GoodEdge MAX_UNITS) (edgesBelow n)
+unfolding edgesBelow
+edges-good zero l = tt
+edges-good (suc n) l = (edge-good n (omega arith), edges-good n (omega arith))
+
+edge-below : (n i : ℕ) → n ≤ i → ¬ List·Memᴰ (edgeAt i) (edgesBelow n)
+unfolding edgesBelow
+edge-below zero i l m = List·Memᴰ·not-nil m
+edge-below (suc n) i l m = go (List·Memᴰ·cases-cons m) (edge-below n i (omega arith))
+  where
+    go : (edgeAt i ≡ edgeAt n) ⊎ List·Memᴰ (edgeAt i) (edgesBelow n) → ¬ List·Memᴰ (edgeAt i) (edgesBelow n) → ⊥
+    go (inl e) rec = omega (arith, edge-own i n e)
+    go (inr k) rec = rec k
+
+pub edges-distinct : (n : ℕ) → Distinct (edgesBelow n)
+unfolding edgesBelow
+edges-distinct zero = tt
+edges-distinct (suc n) = (edge-below n n (omega arith), edges-distinct n)

@@ -2,8 +2,8 @@
 -- has, so every command that is read ends in time; and a command shows its fault within three bytes more. So each command is the same with
 -- what lies behind cut off.
 use mathlib.Core.Path.{_≡_, refl, ap, sym, _∙_, subst}
-use mathlib.Core.List.{List, [], _∷_, _++_}
-use mathlib.Core.Bool.{Bool, true, false, true≢false}
+use mathlib.Core.List.{List, [], _∷_, _++_, flatMap}
+use mathlib.Core.Bool.{Bool, true, false}
 use mathlib.Core.Option.{Option, some, none}
 use Prim.Native.Nat.{ℕ, zero, suc, _+_, _*_, _-_, _≤_, _<_}
 use native.Mathlib.Omega.{arith}
@@ -17,9 +17,10 @@ use Rattle.reading.specs.Words.{WORD_BYTES, number, wordAt}
 use Rattle.reading.specs.Commands.{Kind, rule, unit, edge, end, kindOf, operandBytes, carrying, Row, kindRows, operandRows}
 use Rattle.reading.specs.Commands.{firstFit, ofKind, commandAt}
 use Rattle.reading.specs.Reading.{ended, stepOf, walk, reading, accepted, refused, commandBytes, DECIDING_BYTES}
-use Rattle.reading.specs.Layout.{Contents, recordOf}
-use Rattle.reading.proofs.Commands.{Passed, InPlace, passed-in-place, known-command, unknown-command, adds, Leads, leads-step}
-use Rattle.reading.proofs.Elements.{Element, nothing, with, length-snoc, Held, held-none, few-edges, record-none, more}
+use Rattle.reading.specs.Layout.{Contents, commands, recordOf}
+use Rattle.reading.proofs.Commands.{Passed, InPlace, passed-in-place, known-command, unknown-command, Leads, leads-step}
+use Rattle.reading.proofs.Elements.{nothing, with, commands-longer, Held, held-none, few-edges, record-none, more}
+use Rattle.reading.proofs.Longest.{commands-long}
 use Rattle.reading.proofs.RoundTrip.{end-step}
 use Rattle.reading.proofs.Walk.{walk-on, walk-ended, walk-keeps}
 use Rattle.plan.specs.declared.record.Plan.{Plan}
@@ -87,25 +88,15 @@ module _ (p : Plan) (at m : ℕ) (s : List ℕ) where
   kind-kept : (k : Kind) → (InPlace p k → looksAt k ≤ m) → operandBytes k ≤ looksAt k → ofKind p at k (take m s) ≡ ofKind p at k s
   unfolding ofKind
   kind-kept k h l =
-      let short : Row = record { fits = ltb (length s) (operandBytes k); fault = Truncated at } in
+      let short : List ℕ → Row = λ t. record { fits = ltb (length t) (operandBytes k); fault = Truncated at } in
       let x = carrying k (take m s) in
-      rows-kept (kindRows p at k) _ (short ∷ operandRows p at k s) x (carrying k s)
+      rows-kept (kindRows p at k) (short (take m s) ∷ operandRows p at k (take m s)) (short s ∷ operandRows p at k s) x (carrying k s)
       (λ r.
       let near = h (passed-in-place p at k r) in
       rw (short-kept (operandBytes k) m s (omega arith))
-      (rows-kept (short ∷ []) (operandRows p at k (take m s)) (operandRows p at k s) x (carrying k s) (λ q. operands-kept k near)))
+      (rows-kept (short s ∷ []) (operandRows p at k (take m s)) (operandRows p at k s) x (carrying k s) (λ q. operands-kept k near)))
 
 -- ---- how far reading has come
-
--- where the next command stands, behind those of the lists
-abbrev placeBehind : Contents → ℕ
-placeBehind c = commandBytes rule * length (c .rules) + commandBytes unit * length (c .units) + commandBytes edge * length (c .edges)
-
-place-with : (c : Contents) (k : Kind) (x : Element k) → adds k ≡ true → placeBehind (with c k x) ≡ placeBehind c + commandBytes k
-place-with c rule r a = omega (arith, length-snoc (c .rules) r)
-place-with c unit w a = omega (arith, length-snoc (c .units) w)
-place-with c edge e a = omega (arith, length-snoc (c .edges) e)
-place-with c end x a = absurd (true≢false (sym a))
 
 looks-long : (k : Kind) → operandBytes k ≤ looksAt k
 looks-long rule = omega arith
@@ -118,17 +109,17 @@ record Cut (n : ℕ) (result : Reading) (p : Plan) (at : ℕ) (s : List ℕ) : T
   contents : Contents
   held : Held contents
   record-is : p ≡ recordOf contents
-  placed : at ≡ placeBehind contents
+  placed : at ≡ length (commands contents)
   same : walk p at 0 (take (n - at) s) ≡ result
 
 module _ (n : ℕ) (long : DECIDING_BYTES ≤ n) where
   -- what a command that is in place looks at is kept
-  near : (c : Contents) → Held c → (k : Kind) → InPlace (recordOf c) k → placeBehind c + suc (looksAt k) ≤ n
+  near : (c : Contents) → Held c → (k : Kind) → InPlace (recordOf c) k → length (commands c) + suc (looksAt k) ≤ n
   unfolding recordOf
-  near c h rule i = omega (arith, i .on-time, i .room)
-  near c h unit i = omega (arith, i .on-time, i .room, h .few .few-rules)
-  near c h edge i = omega (arith, h .few .few-rules, h .few .few-units, few-edges c h)
-  near c h end i = omega (arith, h .few .few-rules, h .few .few-units, few-edges c h)
+  near c h rule i = omega (arith, commands-long c, i .on-time, i .room)
+  near c h unit i = omega (arith, commands-long c, i .on-time, i .room, h .few .few-rules)
+  near c h edge i = omega (arith, commands-long c, h .few .few-rules, h .few .few-units, few-edges c h)
+  near c h end i = omega (arith, commands-long c, h .few .few-rules, h .few .few-units, few-edges c h)
 
   module _ (result : Reading) (p : Plan) (at : ℕ) (s : List ℕ) (cut : Cut n result p at s) where
     near-by : (k : Kind) → InPlace p k → at + suc (looksAt k) ≤ n
@@ -162,7 +153,7 @@ module _ (n : ℕ) (long : DECIDING_BYTES ≤ n) where
           contents = with c k _;
           held = m .held;
           record-is = m .is;
-          placed = ap (λ (j : ℕ). j + size) (cut .placed) ∙ sym (place-with c k _ (l .more));
+          placed = ap (λ (j : ℕ). j + size) (cut .placed) ∙ sym (commands-longer c k _ (l .more) (lead .read .in-place));
           same = ap (walk q (at + size) 0) (sym rest) ∙ sym (walk-on p at (take (n - at) s) k q step) ∙ cut .same;
         }
 
@@ -171,7 +162,7 @@ module _ (n : ℕ) (long : DECIDING_BYTES ≤ n) where
 
 -- reading keeps its whole result, outcome and record, where only the first n bytes are kept
 pub reading-prefix : (n : ℕ) (bytes : List ℕ) → DECIDING_BYTES ≤ n → reading (take n bytes) ≡ reading bytes
-unfolding reading
+unfolding reading commands flatMap
 reading-prefix n bytes long =
     let result : Reading = reading (take n bytes) in
     let none : n - 0 ≡ n = omega arith in
@@ -182,6 +173,6 @@ reading-prefix n bytes long =
       contents = nothing;
       held = held-none;
       record-is = sym record-none;
-      placed = omega arith;
+      placed = refl;
       same = ap (λ (m : ℕ). walk emptyPlan 0 0 (take m bytes)) none;
     })

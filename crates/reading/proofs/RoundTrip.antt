@@ -1,4 +1,5 @@
--- Reading the layout of lists within the limits accepts and gives their record.
+-- Reading the layout of lists within the limits accepts and gives their record: command by command, reading takes the record of the lists
+-- before it to that of the lists with it.
 use mathlib.Core.Path.{_≡_, refl, ap, sym, _∙_, subst}
 use mathlib.Core.List.{List, [], _∷_, _++_, append-assoc, append-nil, flatMap, List·Memᴰ, List·Memᴰ·head, List·Memᴰ·tail}
 use mathlib.Core.List.{List·Memᴰ·append-cases, List·Memᴰ·eq-of-singleton, List·Memᴰ·not-nil}
@@ -6,18 +7,20 @@ use mathlib.Core.Bool.{true}
 use mathlib.Core.Logic.{_⊎_, inl, inr}
 use Prim.Native.Nat.{ℕ, suc, _+_, _^_, _≤_, _<_}
 use native.Mathlib.Omega.{arith}
-use lib.ListN.{length, drop, length-append}
+use lib.ListN.{length, length-append}
 use lib.Pow.{pow-mono}
 use lib.Seq.{drop-at}
 use borrow.Author.Tests.{le-ltb}
 use Rattle.plan.specs.Limits.{MAX_RULES, MAX_UNITS}
 use Rattle.reading.specs.Words.{WORD_VALUES}
-use Rattle.reading.specs.Commands.{Kind, rule, unit, edge, end, byteOf, operandBytes, carrying, kindRows, operandRows, rows, ofKind, commandAt}
+use Rattle.reading.specs.Commands.{Kind, rule, unit, edge, end, byteOf, operandBytes, carrying, late, rows, ofKind, commandAt}
 use Rattle.reading.specs.Reading.{onward, ended, stepOf, walk, reading, accepted, commandBytes}
-use Rattle.reading.specs.Layout.{Contents, ruleBytes, unitBytes, edgeBytes, endBytes, layout, recordOf, All, Distinct, GoodRule, GoodEdge, Within}
-use Rattle.reading.proofs.Commands.{Passed, passed-append, none-fits, known-command, kind-of-byte, in-place-passed, adds, step-on}
+use Rattle.reading.specs.Layout.{RuleWords, UnitPair, Contents, ruleBytes, unitBytes, edgeBytes, endBytes, commands, layout, recordOf}
+use Rattle.reading.specs.Layout.{All, Distinct, GoodRule, GoodEdge, Within}
+use Rattle.reading.proofs.Commands.{Passed, none-fits, known-command, in-place-passed, adds, step-on}
+use Rattle.reading.proofs.CommandKinds.{kind-of-byte}
 use Rattle.reading.proofs.Walk.{walk-on, walk-ended}
-use Rattle.reading.proofs.Elements.{Element, nothing, with, operandsOf, operands-long, elementAt, read-again, Sized, Few, Fits, right-passed}
+use Rattle.reading.proofs.Elements.{Element, nothing, with, operandsOf, operands-long, elementAt, read-again, Sized, Fits, right-passed}
 use Rattle.reading.proofs.Elements.{length-snoc, record-none, record-with}
 use Rattle.plan.specs.declared.record.Plan.{Plan}
 
@@ -45,25 +48,42 @@ module _ (c : Contents) (k : Kind) (x : Element k) (rest : List ℕ) (more : add
 
   passed : (at : ℕ) → Passed (rows (recordOf c) at k operands)
   passed at =
-      passed-append (kindRows (recordOf c) at k) _ (in-place-passed (recordOf c) at k (f .in-place))
-      (le-ltb _ _ long, right-passed c at operands (f .few) k more (fits-again .right))
+      let first = in-place-passed (recordOf c) at k (f .in-place) in
+      (first .0, (first .1 .0, (le-ltb _ _ long, right-passed c at operands (f .few) k more (fits-again .right))))
 
   leads-with : (at : ℕ) → stepOf (recordOf c) (commandAt (recordOf c) at (byteOf k ∷ operands)) ≡ onward k (recordOf (with c k x))
   leads-with at =
       ap (stepOf (recordOf c)) (read-as (recordOf c) at k operands (passed at)) ∙ step-on (recordOf c) k operands more
       ∙ ap (onward k) (record-with c k operands fits-again ∙ ap (λ (y : Element k). recordOf (with c k y)) again)
 
--- reading on from p at the front of s comes to q at the front of t
-abbrev Comes : Plan → List ℕ → Plan → List ℕ → Type 0
-Comes p s q t = (at : ℕ) → (later : ℕ) × (walk p at 0 s ≡ walk q later 0 t)
+-- reading the bytes s takes the record from p to q
+record Takes (p : Plan) (s : List ℕ) (q : Plan) : Type 0 where
+  goes : (at : ℕ) (rest : List ℕ) → walk p at 0 (s ++ rest) ≡ walk q (at + length s) 0 rest
 
-one-comes : (c : Contents) (k : Kind) (x : Element k) (rest : List ℕ) → adds k ≡ true → Fits c k x → Sized k x
-    → Comes (recordOf c) (byteOf k ∷ (operandsOf k x ++ rest)) (recordOf (with c k x)) rest
-one-comes c k x rest more f sized at = (
-  at + commandBytes k,
-  walk-on (recordOf c) at (byteOf k ∷ (operandsOf k x ++ rest)) k (recordOf (with c k x)) (leads-with c k x rest more f sized at)
-      ∙ ap (walk (recordOf (with c k x)) (at + commandBytes k) 0) (drop-at (operandsOf k x) rest (operandBytes k) (operands-long k x)),
-)
+takes-none : (p : Plan) → Takes p [] p
+takes-none p = record { goes = λ at rest. let e : at ≡ at + 0 = omega arith in ap (λ (n : ℕ). walk p n 0 rest) e }
+
+takes-both : {p q r : Plan} {s t : List ℕ} → Takes p s q → Takes q t r → Takes p (s ++ t) r
+takes-both {p} {q} {r} {s} {t} a b = record { goes = both }
+  where
+    both : (at : ℕ) (rest : List ℕ) → walk p at 0 ((s ++ t) ++ rest) ≡ walk r (at + length (s ++ t)) 0 rest
+    both at rest =
+        let e : at + length s + length t ≡ at + length (s ++ t) = omega (arith, length-append s t) in
+        ap (walk p at 0) (append-assoc s t rest) ∙ a .goes at (t ++ rest) ∙ b .goes (at + length s) rest ∙ ap (λ (n : ℕ). walk r n 0 rest) e
+
+one-takes : (c : Contents) (k : Kind) (x : Element k) → adds k ≡ true → Fits c k x → Sized k x
+    → Takes (recordOf c) (byteOf k ∷ operandsOf k x) (recordOf (with c k x))
+one-takes c k x more f sized = record { goes = one }
+  where
+    q : Plan
+    q = recordOf (with c k x)
+
+    one : (at : ℕ) (rest : List ℕ)
+        → walk (recordOf c) at 0 ((byteOf k ∷ operandsOf k x) ++ rest) ≡ walk q (at + length (byteOf k ∷ operandsOf k x)) 0 rest
+    one at rest =
+        walk-on (recordOf c) at (byteOf k ∷ (operandsOf k x ++ rest)) k q (leads-with c k x rest more f sized at)
+        ∙ ap (walk q (at + commandBytes k) 0) (drop-at (operandsOf k x) rest (operandBytes k) (operands-long k x))
+        ∙ ap (λ (n : ℕ). walk q (at + suc n) 0 rest) (sym (operands-long k x))
 
 -- ---- a whole group
 
@@ -72,18 +92,13 @@ abbrev Follows : {A : Type 0} → (List A → A → Type 0) → List A → List 
 Follows Fit done [] = Unit {0}
 Follows Fit done (x ∷ xs) = Fit done x × Follows Fit (done ++ (x ∷ [])) xs
 
-group-comes : {A : Type 0} (bytes : A → List ℕ) (state : List A → Plan) (Fit : List A → A → Type 0)
-    → ((done : List A) (x : A) (rest : List ℕ) → Fit done x → Comes (state done) (bytes x ++ rest) (state (done ++ (x ∷ []))) rest)
-    → (xs done : List A) (rest : List ℕ) → Follows Fit done xs → Comes (state done) (flatMap bytes xs ++ rest) (state (done ++ xs)) rest
+group-takes : {A : Type 0} (bytes : A → List ℕ) (state : List A → Plan) (Fit : List A → A → Type 0)
+    → ((done : List A) (x : A) → Fit done x → Takes (state done) (bytes x) (state (done ++ (x ∷ []))))
+    → (xs done : List A) → Follows Fit done xs → Takes (state done) (flatMap bytes xs) (state (done ++ xs))
 unfolding flatMap
-group-comes bytes state Fit one [] done rest f at = (at, ap (λ (d : List _). walk (state d) at 0 rest) (sym (append-nil done)))
-group-comes bytes state Fit one (x ∷ xs) done rest f at =
-    let first = one done x (flatMap bytes xs ++ rest) (f .0) at in
-    let others = group-comes bytes state Fit one xs (done ++ (x ∷ [])) rest (f .1) (first .0) in (
-      others .0,
-      ap (walk (state done) at 0) (append-assoc (bytes x) (flatMap bytes xs) rest) ∙ first .1 ∙ others .1
-          ∙ ap (λ (d : List _). walk (state d) (others .0) 0 rest) (append-assoc done (x ∷ []) xs),
-    )
+group-takes bytes state Fit one [] done f = rw append-nil (takes-none (state done))
+group-takes bytes state Fit one (x ∷ xs) done f =
+    takes-both (one done x (f .0)) (rw append-assoc at (group-takes bytes state Fit one xs (done ++ (x ∷ [])) (f .1)))
 
 few-follow : {A : Type 0} (most : ℕ) (P : A → Type 0) (xs done : List A) → length done + length xs ≤ most → All P xs
     → Follows (λ d x. (length d < most) × P x) done xs
@@ -104,44 +119,69 @@ new-follow P (x ∷ xs) done h d a = ((a .0, h x (List·Memᴰ·head refl)), new
         go (inr q) = d .0 (subst (λ (y : _). List·Memᴰ y xs) (List·Memᴰ·eq-of-singleton q) m)
 
 pub end-step : (p : Plan) (at : ℕ) → stepOf p (commandAt p at endBytes) ≡ ended (accepted p)
-unfolding carrying
-end-step p at = ap (stepOf p) (read-as p at end [] (le-ltb 0 0 (omega arith), (refl, tt)))
+unfolding carrying late
+end-step p at = ap (stepOf p) (read-as p at end [] (refl, (refl, (refl, (refl, tt)))))
+
+-- ---- all groups
+
+module _ (c : Contents) (w : Within c) where
+  rules-only : List RuleWords → Contents
+  rules-only d = record { rules = d; units = []; edges = [] }
+
+  units-too : List ℕ → Contents
+  units-too d = record { rules = c .rules; units = d; edges = [] }
+
+  edges-too : List UnitPair → Contents
+  edges-too d = record { rules = c .rules; units = c .units; edges = d }
+
+  rules-taken : Takes (recordOf nothing) (flatMap ruleBytes (c .rules)) (recordOf (rules-only (c .rules)))
+  unfolding recordOf rules-only
+  rules-taken =
+      group-takes ruleBytes (λ d. recordOf (rules-only d)) (λ d x. (length d < MAX_RULES) × GoodRule x)
+      (λ d x f. one-takes (rules-only d) rule x refl (record {
+        few = record { few-rules = omega (arith, f .0); few-units = omega arith };
+        in-place = record { on-time = omega arith; room = f .0 };
+        right = f .1 .some-word;
+      }) (f .1 .head-fits, (f .1 .positive-fits, f .1 .negative-fits)))
+      (c .rules) [] (few-follow MAX_RULES GoodRule (c .rules) [] (omega (arith, w .most-rules)) (w .good-rules))
+
+  units-taken : Takes (recordOf (rules-only (c .rules))) (flatMap unitBytes (c .units)) (recordOf (units-too (c .units)))
+  unfolding recordOf rules-only units-too
+  units-taken =
+      let most : 2 ^ length (c .rules) ≤ WORD_VALUES = pow-mono (w .most-rules) in
+      group-takes unitBytes (λ d. recordOf (units-too d)) (λ d x. (length d < MAX_UNITS) × (x < 2 ^ length (c .rules)))
+      (λ d x f. one-takes (units-too d) unit x refl (record {
+        few = record { few-rules = w .most-rules; few-units = omega (arith, f .0) };
+        in-place = record { on-time = omega arith; room = f .0 };
+        right = f .1;
+      }) (omega (arith, f .1)))
+      (c .units) [] (few-follow MAX_UNITS (λ x. x < 2 ^ length (c .rules)) (c .units) [] (omega (arith, w .most-units)) (w .good-units))
+
+  edges-taken : Takes (recordOf (units-too (c .units))) (flatMap edgeBytes (c .edges)) (recordOf c)
+  unfolding recordOf units-too edges-too
+  edges-taken =
+      group-takes edgeBytes (λ d. recordOf (edges-too d)) (λ d x. GoodEdge (length (c .units)) x × ¬ List·Memᴰ x d)
+      (λ d x f. one-takes (edges-too d) edge x refl (record {
+        few = record { few-rules = w .most-rules; few-units = w .most-units };
+        in-place = record { on-time = omega arith; room = tt };
+        right = f;
+      }) tt)
+      (c .edges) [] (new-follow (GoodEdge (length (c .units))) (c .edges) [] (λ x m k. List·Memᴰ·not-nil k) (w .no-repeat) (w .good-edges))
+
+  commands-taken : Takes (recordOf nothing) (commands c) (recordOf c)
+  unfolding commands
+  commands-taken = takes-both rules-taken (takes-both units-taken edges-taken)
+
+  -- behind the commands of lists within the limits reading goes on with their record
+  pub commands-read : (rest : List ℕ) → reading (commands c ++ rest) ≡ walk (recordOf c) (length (commands c)) 0 rest
+  unfolding reading
+  commands-read rest =
+      let at : 0 + length (commands c) ≡ length (commands c) = omega arith in
+      ap (λ (p : Plan). walk p 0 0 (commands c ++ rest)) (sym record-none) ∙ commands-taken .goes 0 rest
+      ∙ ap (λ (n : ℕ). walk (recordOf c) n 0 rest) at
 
 -- "reading their layout accepts and gives the record of these lists"
 pub layout-is-read : (c : Contents) → Within c → reading (layout c) ≡ accepted (recordOf c)
-unfolding reading layout recordOf
 layout-is-read c w =
-    let behind-units : List ℕ = flatMap edgeBytes (c .edges) ++ endBytes in
-    let behind-rules : List ℕ = flatMap unitBytes (c .units) ++ behind-units in
-    let rules-only : List _ → Contents = λ d. record { rules = d; units = []; edges = [] } in
-    let units-too : List ℕ → Contents = λ d. record { rules = c .rules; units = d; edges = [] } in
-    let edges-too : List _ → Contents = λ d. record { rules = c .rules; units = c .units; edges = d } in
-    let most : 2 ^ length (c .rules) ≤ WORD_VALUES = pow-mono (w .most-rules) in
-    let r =
-    group-comes ruleBytes (λ d. recordOf (rules-only d)) (λ d x. (length d < MAX_RULES) × GoodRule x)
-    (λ d x t f. one-comes (rules-only d) rule x t refl (record {
-      few = record { few-rules = omega (arith, f .0); few-units = omega arith };
-      in-place = record { on-time = omega arith; room = f .0 };
-      right = f .1 .some-word;
-    }) (f .1))
-    (c .rules) [] behind-rules (few-follow MAX_RULES GoodRule (c .rules) [] (omega (arith, w .most-rules)) (w .good-rules)) 0 in
-    let u =
-    group-comes unitBytes (λ d. recordOf (units-too d)) (λ d x. (length d < MAX_UNITS) × (x < 2 ^ length (c .rules)))
-    (λ d x t f. one-comes (units-too d) unit x t refl (record {
-      few = record { few-rules = w .most-rules; few-units = omega (arith, f .0) };
-      in-place = record { on-time = omega arith; room = f .0 };
-      right = f .1;
-    }) (omega (arith, f .1)))
-    (c .units) [] behind-units
-    (few-follow MAX_UNITS (λ x. x < 2 ^ length (c .rules)) (c .units) [] (omega (arith, w .most-units)) (w .good-units)) (r .0) in
-    let e =
-    group-comes edgeBytes (λ d. recordOf (edges-too d)) (λ d x. GoodEdge (length (c .units)) x × ¬ List·Memᴰ x d)
-    (λ d x t f. one-comes (edges-too d) edge x t refl (record {
-      few = record { few-rules = w .most-rules; few-units = w .most-units };
-      in-place = record { on-time = omega arith; room = tt };
-      right = f;
-    }) tt)
-    (c .edges) [] endBytes
-    (new-follow (GoodEdge (length (c .units))) (c .edges) [] (λ x m k. List·Memᴰ·not-nil k) (w .no-repeat) (w .good-edges)) (u .0) in
-    ap (λ (p : Plan). walk p 0 0 (flatMap ruleBytes (c .rules) ++ behind-rules)) (sym record-none) ∙ r .1 ∙ u .1 ∙ e .1
-    ∙ walk-ended (recordOf c) (e .0) endBytes (accepted (recordOf c)) (end-step (recordOf c) (e .0))
+    let at : ℕ = length (commands c) in
+    commands-read c w endBytes ∙ walk-ended (recordOf c) at endBytes (accepted (recordOf c)) (end-step (recordOf c) at)

@@ -1,7 +1,7 @@
 -- Reading on, command by command. `walk-keeps` is the one induction over what is left to read.
-use mathlib.Core.Path.{_≡_, refl, ap, sym, _∙_, subst}
+use mathlib.Core.Path.{_≡_, refl, ap, sym, _∙_}
 use mathlib.Core.List.{List, [], _∷_}
-use mathlib.Core.Bool.{Bool, true, false, true≢false}
+use mathlib.Core.Bool.{true≢false}
 use Prim.Native.Nat.{ℕ, zero, suc, _+_, _≤_, _<_}
 use native.Mathlib.Omega.{arith}
 use lib.ListN.{length, drop, length-drop}
@@ -9,7 +9,7 @@ use borrow.Author.Tests.{ltb-false}
 use Rattle.reading.specs.Commands.{Kind, rule, unit, edge, end, operandBytes, carrying, commandAt}
 use Rattle.reading.specs.Reading.{Step, onward, ended, stepOf, walk, accepted, refused, commandBytes}
 use Rattle.reading.specs.Layout.{endBytes}
-use Rattle.reading.proofs.Commands.{Unstopped, Front, unstopped, stopped, front, adds, goesOn, Leads, leads-step}
+use Rattle.reading.proofs.Commands.{Unstopped, Front, unstopped, stopped, front, goesOn, Leads, leads-step}
 use Rattle.plan.specs.declared.record.Plan.{Plan}
 use Rattle.plan.specs.declared.fault.Fault.{Fault}
 use Rattle.reading.specs.declared.reader.Reading.{Reading}

@@ -32,8 +32,12 @@ abbrev pub kindAmong : List Kind → ℕ → Option Kind
 kindAmong [] b = none
 kindAmong (kind ∷ kinds) b = elim (eqb b (byteOf kind)) [ true ↦ some kind | false ↦ kindAmong kinds b ]
 
+-- all kinds
+abbrev pub kinds : List Kind
+kinds = rule ∷ unit ∷ edge ∷ end ∷ []
+
 unfoldable pub kindOf : ℕ → Option Kind
-kindOf b = kindAmong (rule ∷ unit ∷ edge ∷ end ∷ []) b
+kindOf b = kindAmong kinds b
 
 -- column "operands", in bytes
 abbrev pub operandBytes : Kind → ℕ
@@ -42,6 +46,13 @@ operandBytes unit = WORD_BYTES
 operandBytes edge = 2
 operandBytes end = 0
 
+-- "All RULEs come first, then UNITs, then EDGEs, then END": the groups' order
+abbrev pub orderOf : Kind → ℕ
+orderOf rule = 0
+orderOf unit = 1
+orderOf edge = 2
+orderOf end = 3
+
 -- "A command is one of four kinds carrying its operands"
 unfoldable pub carrying : Kind → List ℕ → Command
 carrying rule operands = Rule (wordAt 0 operands) (wordAt WORD_BYTES operands) (wordAt (2 * WORD_BYTES) operands)
@@ -49,12 +60,29 @@ carrying unit operands = UnitOf (wordAt 0 operands)
 carrying edge operands = Edge (getD operands 0 0) (getD operands 1 0)
 carrying end operands = End
 
--- "All RULEs come first, then UNITs, then EDGEs, then END": no RULE after a UNIT or an EDGE, no UNIT after an EDGE
-unfoldable pub lateRule : Plan → Bool
-lateRule p = ltb 0 (p .«unit_count») || ltb 0 (p .«edge_count»)
+-- how many commands of the kind are read
+abbrev pub count : Plan → Kind → ℕ
+count p rule = p .«rule_count»
+count p unit = p .«unit_count»
+count p edge = p .«edge_count»
+count p end = 0
 
-unfoldable pub lateUnit : Plan → Bool
-lateUnit p = ltb 0 (p .«edge_count»)
+-- how many commands of groups behind this one are read
+abbrev pub countBehind : Plan → ℕ → List Kind → ℕ
+countBehind p group [] = 0
+countBehind p group (j ∷ js) =
+    elim (ltb group (orderOf j)) [ true ↦ count p j + countBehind p group js | false ↦ countBehind p group js ]
+
+-- "command out of group order": one of a later group is read
+unfoldable pub late : Plan → ℕ → Bool
+late p group = ltb 0 (countBehind p group kinds)
+
+-- column "most": "65th RULE, 17th UNIT"; a 241st EDGE names no unit, joins a unit to itself or is a repeat, so it has row 8 alone
+abbrev pub full : Plan → Kind → Bool
+full p rule = leb MAX_RULES (p .«rule_count»)
+full p unit = leb MAX_UNITS (p .«unit_count»)
+full p edge = false
+full p end = false
 
 -- "RULE with three zero words"
 unfoldable pub emptyRule : ℕ → ℕ → ℕ → Bool
@@ -76,13 +104,9 @@ pub record Row : Type 0 where
 abbrev row : Bool → Fault → Row
 row b f = record { fits = b; fault = f }
 
--- rows 4 and 5: what the kind alone tells, once p is read and the command stands at `at`; a 241st EDGE names no unit, joins a unit to
--- itself or is a repeat, so row 5 has RULE and UNIT alone
+-- rows 4 and 5: what the kind alone tells, once p is read and the command stands at `at`
 abbrev pub kindRows : Plan → ℕ → Kind → List Row
-kindRows p at rule = row (lateRule p) (OutOfOrder at) ∷ row (leb MAX_RULES (p .«rule_count»)) (TooMany at) ∷ []
-kindRows p at unit = row (lateUnit p) (OutOfOrder at) ∷ row (leb MAX_UNITS (p .«unit_count»)) (TooMany at) ∷ []
-kindRows p at edge = []
-kindRows p at end = []
+kindRows p at kind = row (late p (orderOf kind)) (OutOfOrder at) ∷ row (full p kind) (TooMany at) ∷ []
 
 -- rows 6 to 9: what the operands tell
 abbrev pub operandRows : Plan → ℕ → Kind → List ℕ → List Row

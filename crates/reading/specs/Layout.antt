@@ -50,9 +50,13 @@ pub record Contents : Type 0 where
   pub units : List ℕ
   pub edges : List UnitPair
 
--- "All RULEs come first, then UNITs, then EDGEs, then END"
-unfoldable pub layout : Contents → List ℕ
-layout c = flatMap ruleBytes (c .rules) ++ (flatMap unitBytes (c .units) ++ (flatMap edgeBytes (c .edges) ++ endBytes))
+-- "All RULEs come first, then UNITs, then EDGEs": every command but END
+unfoldable pub commands : Contents → List ℕ
+commands c = flatMap ruleBytes (c .rules) ++ (flatMap unitBytes (c .units) ++ flatMap edgeBytes (c .edges))
+
+-- "then END"
+abbrev pub layout : Contents → List ℕ
+layout c = commands c ++ endBytes
 
 abbrev pub threeWords : RuleWords → List ℕ
 threeWords r = r .head ∷ r .positive ∷ r .negative ∷ []

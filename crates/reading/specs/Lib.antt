@@ -3,3 +3,4 @@ pub mod Commands
 pub mod Reading
 pub mod Progress
 pub mod Layout
+pub mod Refusals

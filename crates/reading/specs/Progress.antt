@@ -4,7 +4,7 @@ use mathlib.Core.List.{List}
 use Prim.Native.Nat.{ℕ, _≤_}
 use lib.ListN.{length, drop}
 use Rattle.plan.specs.Record.{Fitting}
-use Rattle.reading.specs.Commands.{Kind, rule, unit, edge, end, commandAt}
+use Rattle.reading.specs.Commands.{Kind, end, orderOf, commandAt}
 use Rattle.reading.specs.Reading.{Step, onward, ended, stepOf, walk, reading}
 use Rattle.plan.specs.declared.record.Plan.{Plan}
 use Rattle.reading.specs.declared.reader.Progress.{Progress}
@@ -12,13 +12,6 @@ use Rattle.reading.specs.declared.reader.Progress.{Progress}
 -- the place at byte `at`, behind what is taken, with its command
 abbrev pub placeAt : List ℕ → Plan → ℕ → Progress
 placeAt bytes taken at = record { plan = taken; at = at; command = commandAt taken at (drop at bytes) }
-
--- "All RULEs come first, then UNITs, then EDGEs, then END": the kinds' order
-abbrev pub orderOf : Kind → ℕ
-orderOf rule = 0
-orderOf unit = 1
-orderOf edge = 2
-orderOf end = 3
 
 -- a command's kind; a fault ends reading as END does
 abbrev pub kindOfStep : Step → Kind

@@ -3,6 +3,7 @@ mod command;
 mod dispatch;
 mod edge;
 mod end;
+mod order;
 mod reader;
 mod rule;
 mod unit;

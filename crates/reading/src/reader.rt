@@ -4,6 +4,7 @@ ghost use Rattle.plan.specs.Record.{Fitting};
 ghost use Rattle.reading.specs.Commands.{unit, edge, end};
 ghost use Rattle.reading.specs.Progress.{placeAt, Reached};
 ghost use Rattle.reading.specs.Reading.{reading};
+ghost use Rattle.reading.specs.Refusals.{ReadingJudged};
 use crate::command::Command;
 use crate::dispatch::read_command;
 use crate::edge::EDGE_BYTES;
@@ -99,7 +100,8 @@ fn read_edges(bytes: &[u8], from: Progress) -> Progress
 
 // The record of the plan, or its first fault from the left.
 pub fn read_plan(plan: &[u8]) -> Reading
-    ensures { λ r. ⌜ r ≡ reading (now (plan .entry)) ⌝ }
+    ensures read { λ r. ⌜ r ≡ reading (now (plan .entry)) ⌝ }
+    ensures judged { λ r. ⌜ ReadingJudged (now (plan .entry)) (r .outcome) ⌝ }
 {
     let rules = read_rules(plan);
     let units = read_units(plan, rules);

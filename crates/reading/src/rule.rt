@@ -1,7 +1,9 @@
 // RULE: its operands, and the rows of the fault table that it is held against.
 ghost use mathlib.Core.Path.{_≡_};
-ghost use Rattle.reading.specs.Commands.{ofKind, rule, lateRule, emptyRule};
+ghost use Rattle.reading.specs.Commands.{ofKind, rule, emptyRule};
 use crate::command::Command;
+use crate::order::RULE_GROUP;
+use crate::order::is_late;
 use crate::words::WORD_BYTES;
 use crate::words::read_word;
 use plan::Fault;
@@ -13,16 +15,6 @@ use plan::RULE_WORDS;
 const RULE_OPERANDS: usize = RULE_WORDS * WORD_BYTES;
 
 pub const RULE_BYTES: usize = 1 + RULE_OPERANDS;
-
-// Whether a RULE would come out of group order.
-fn is_late_rule(read: Plan) -> bool
-    ensures { λ r. ⌜ r ≡ lateRule read ⌝ }
-{
-    if 0 < read.unit_count {
-        return true;
-    }
-    0 < read.edge_count
-}
 
 // Whether a rule of these words says nothing.
 fn is_empty_rule(head: u64, positive: u64, negative: u64) -> bool
@@ -42,7 +34,7 @@ pub fn read_rule(operands: &[u8], at: usize, read: Plan) -> Command
     ensures { λ r. ⌜ r ≡ ofKind read at rule (now (operands .entry)) ⌝ }
 {
     let rule_count = read.rule_count;
-    if is_late_rule(read) {
+    if is_late(RULE_GROUP, read) {
         return Command::Fault(Fault::OutOfOrder(at));
     }
     if MAX_RULES <= rule_count {

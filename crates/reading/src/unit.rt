@@ -3,6 +3,8 @@ ghost use mathlib.Core.Path.{_≡_};
 ghost use Rattle.reading.specs.Commands.{ofKind, unit, absentRule};
 ghost use Rattle.plan.specs.Record.{Fitting};
 use crate::command::Command;
+use crate::order::UNIT_GROUP;
+use crate::order::is_late;
 use crate::words::WORD_BYTES;
 use crate::words::read_word;
 use plan::Fault;
@@ -27,9 +29,8 @@ pub fn read_unit(operands: &[u8], at: usize, read: Plan) -> Command
     requires { ⌜ Fitting read ⌝ }
     ensures { λ r. ⌜ r ≡ ofKind read at unit (now (operands .entry)) ⌝ }
 {
-    let edge_count = read.edge_count;
     let unit_count = read.unit_count;
-    if 0 < edge_count {
+    if is_late(UNIT_GROUP, read) {
         return Command::Fault(Fault::OutOfOrder(at));
     }
     if MAX_UNITS <= unit_count {

@@ -42,12 +42,12 @@ use Rattle.unit_lists.proofs.Enumerations.{long-iff, fits-iff, unit-lis
 -- ---- along the units
 
 -- the computing lists of these units, and the last one, are lists by meaning
-record Enumerated (S : Units) (us : List ℕ) : Type 0 where
-  each : (u : ℕ) → List·Memᴰ u us → ListOf S u (unitList S u)
-  last-one : ListOf (withLast S) (S .units) (lastList S)
+pub record Enumerated (S : Units) (us : List ℕ) : Type 0 where
+  pub each : (u : ℕ) → List·Memᴰ u us → ListOf S u (unitList S u)
+  pub last-one : ListOf (withLast S) (S .units) (lastList S)
 
 -- what unit work comes to
-data Worked (S : Units) (table us : List ℕ) : Type 0 where
+pub data Worked (S : Units) (table us : List ℕ) : Type 0 where
   too-long : {u : ℕ} → FirstLong S us u → workFrom S table us ≡ refuse (LongList u) (cleared table) → Worked S table us
   all-fit : ((u : ℕ) → List·Memᴰ u us → length (unitList S u) ≤ LIST_WORDS) → length (lastList S) ≤ LIST_WORDS
       → workFrom S table us ≡ record { outcome = Accepted; counts = countsOf S; table = tableOf S table } → Worked S table us
@@ -64,7 +64,7 @@ module _ {S : Units} (table : List ℕ) where
   long-refused e (later {u = v} {us = vs} l f) = work-fits S table v vs (fits-iff (first e) .0 l) ∙ long-refused (rest e) f
   long-refused e (last l) = last-long S table (long-iff (e .last-one) .0 l)
 
-  worked : (us : List ℕ) → Enumerated S us → Worked S table us
+  pub worked : (us : List ℕ) → Enumerated S us → Worked S table us
   worked [] e = go (decLt LIST_WORDS (length (lastList S)))
     where
       go : Dec (LIST_WORDS < length (lastList S)) → Worked S table []
@@ -114,7 +114,7 @@ module _ (bytes table : List ℕ) (all : All IsByte bytes) (passed : Passed byte
   unfolding unitsOf
   few = record-fits bytes .units-fit
 
-  enumerated : Enumerated S order
+  pub enumerated : Enumerated S order
   unfolding unitsOf
   enumerated = record {
     each = λ u m. unit-list-of S (passed .passes) (given-free (reading bytes .plan)) (record-fits bytes .rules-fit) u
@@ -125,7 +125,10 @@ module _ (bytes table : List ℕ) (all : All IsByte bytes) (passed : Passed byte
   pub unit-list-is : (u : ℕ) → u < S .units → ListOf S u (unitList S u)
   unit-list-is u l = enumerated .each u (order-each S (passed .passes .acyclic) u l)
 
-  answer-is : answer bytes table ≡ unitWork S table
+  pub last-list-is : ListOf (withLast S) (S .units) (lastList S)
+  last-list-is = enumerated .last-one
+
+  pub answer-is : answer bytes table ≡ unitWork S table
   answer-is =
       read-answer bytes table (passed .long) (passed .reads)
       ∙ unless-accepted table (unitWork S table) (verdict-of-passes S (passed .passes))

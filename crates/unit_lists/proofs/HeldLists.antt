@@ -92,12 +92,14 @@ module _ {lists : ℕ → List ℕ} {table₀ table counts : List ℕ} (h : Hold
       ap length (h .table-is) ∙ length-append (runs COUNTS (λ i. padded LIST_WORDS (lists i))) (drop TABLE_WORDS table₀)
       ∙ omega (arith, all-runs, length-drop TABLE_WORDS table₀, h .long)
 
-  pub held-cleared : cleared table ≡ cleared table₀
+  pub held-behind : drop TABLE_WORDS table ≡ drop TABLE_WORDS table₀
   unfolding tableWith
-  held-cleared =
-      cleared-same table table₀
-      (ap (drop TABLE_WORDS) (h .table-is)
-      ∙ drop-at (runs COUNTS (λ i. padded LIST_WORDS (lists i))) (drop TABLE_WORDS table₀) TABLE_WORDS all-runs)
+  held-behind =
+      ap (drop TABLE_WORDS) (h .table-is)
+      ∙ drop-at (runs COUNTS (λ i. padded LIST_WORDS (lists i))) (drop TABLE_WORDS table₀) TABLE_WORDS all-runs
+
+  pub held-cleared : cleared table ≡ cleared table₀
+  held-cleared = cleared-same table table₀ held-behind
 
   -- one list is stored at its place, and the others stay
   pub holding-next : (lists′ : ℕ → List ℕ) (v : ℕ) {table′ counts′ : List ℕ} → v < COUNTS

@@ -13,3 +13,5 @@ pub mod Enumerations
 pub mod Demand2
 pub mod Demand3
 pub mod Agreement
+pub mod Demand1
+pub mod Promised

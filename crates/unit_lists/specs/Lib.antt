@@ -4,3 +4,5 @@ pub mod Answer
 pub mod Work
 pub mod Handed
 pub mod Demands
+pub mod Demand1
+pub mod Promised

@@ -15,8 +15,8 @@ ghost use Rattle.plan.specs.Record.{Fitting};
 ghost use Rattle.dependency_graph.specs.PlanUnits.{unitsOf};
 ghost use Rattle.splitting.specs.UnitList.{Clean};
 ghost use Rattle.unit_lists.specs.Answer.{afterGraph, answer};
-ghost use Rattle.unit_lists.specs.Demands.{Demand2, Demand3};
 ghost use Rattle.unit_lists.specs.Handed.{Handed};
+ghost use Rattle.unit_lists.specs.Promised.{Promised};
 
 // The graph place and, where it passes, unit work on a read plan.
 fn list_read_plan(plan: Plan, table: &mut [u64]) -> Listing
@@ -33,8 +33,7 @@ fn list_read_plan(plan: Plan, table: &mut [u64]) -> Listing
 // Lists every settled position of the plan in the lent table, or refuses it by the first fault in document 01's order.
 pub fn list_positions(plan: &[u8], table: &mut [u64]) -> Listing
     ensures answered { λ r. ⌜ Handed (answer (now (plan .entry)) (now (table .entry))) r (now (table .exit)) ⌝ }
-    ensures graph { λ r. ⌜ Demand2 (now (plan .entry)) (now (table .entry)) r ⌝ }
-    ensures complete { λ r. ⌜ Demand3 (now (plan .entry)) (now (table .entry)) r (now (table .exit)) ⌝ }
+    ensures promised { λ r. ⌜ Promised (now (plan .entry)) (now (table .entry)) r (now (table .exit)) ⌝ }
 {
     let length = table.len();
     if length < TABLE_WORDS {

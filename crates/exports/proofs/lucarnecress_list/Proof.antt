@@ -1,17 +1,29 @@
 -- Outcome, counts and table are those that `list_positions` promises.
 use mathlib.Core.Path.{ap, _∙_}
-use borrow.Author.Needs.{needs}
+use denote.Ref.{now}
+use Rattle.reading.proofs.Limits.{all-bytes}
 use Rattle.exports.specs.Handed.{outcomeCode}
+use Rattle.exports.proofs.HostCodes.{listed-code, refused-code}
+use borrow.Author.Needs.{needs}
 use Rattle.exports.proofs.lucarnecress_list.Statement.{statement}
 use Rattle.exports.proofs.lucarnecress_list.Tie as tie
 
 returns : tie.Need-returns
 returns c =
-    let handed = c .before .before .before .before .before .before .before .before .list-positions .ensures .0 in
+    let done = c .before .before .before .before .before .before .before .before in
+    let known = done .before .before .before .before in
+    let handed = done .list-positions .ensures .0 in
+    let promised = done .list-positions .ensures .1 in
+    let small = all-bytes (now (known .before .args .plan)) (λ i. known .shared-slice-known .given i .fits) in
     record {
       code-is = c .outcome-code .ensures ∙ ap outcomeCode (handed .outcome-is);
       table-is = handed .table-is;
       counts-are = rw (handed .counts-are) at (c .before .before .before .copy-counts .ensures);
+      listing = done .list-positions .result;
+      listing-is = (c .outcome-code .ensures, c .before .before .before .copy-counts .ensures);
+      promised = promised;
+      listed = listed-code (done .list-positions .result) (c .outcome-code .ensures);
+      refused = refused-code (done .list-positions .result) (c .outcome-code .ensures) small promised;
     }
 
 pub lucarnecress-list-spec : {M : Type 1} → statement M

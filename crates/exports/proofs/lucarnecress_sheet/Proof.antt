@@ -13,6 +13,7 @@ returns c =
       length-is = c .written-bytes .ensures ∙ ap writtenBytes (printed .written-is);
       sheet-is = printed .sheet-is;
       at-most = printed .at-most;
+      says = printed .says;
     }
 
 pub lucarnecress-sheet-spec : {M : Type 1} → statement M

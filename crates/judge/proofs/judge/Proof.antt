@@ -11,24 +11,24 @@ use Rattle.judge.proofs.judge.Statement.{statement}
 use Rattle.judge.proofs.judge.Tie as tie
 
 returns : tie.Need-returns
-returns c = refused-judged _ _ _ (c .before .before .before .read-plan .ensures) _ (c .before .outcome .given .1)
+returns c = refused-judged _ _ _ (c .before .before .before .read-plan .ensures .0) _ (c .before .outcome .given .1)
 
 is-settled-requires : tie.Need-is-settled-requires
 is-settled-requires c κs =
     let at = c .before .before .before in
-    subst (λ (r : Reading). Fitting (r .plan)) (sym (at .read-plan .ensures)) (record-fits (now (at .before .before .args .plan)))
+    subst (λ (r : Reading). Fitting (r .plan)) (sym (at .read-plan .ensures .0)) (record-fits (now (at .before .before .args .plan)))
 
 returns-2 : tie.Need-returns-2
 returns-2 c =
     let accepted = c .before .before .before in
     let test = sym (c .if1 .taken) ∙ c .before .is-settled .ensures in
-    accepted-judged _ _ _ (accepted .before .before .read-plan .ensures) true (accepted .enum-told .given .1) test
+    accepted-judged _ _ _ (accepted .before .before .read-plan .ensures .0) true (accepted .enum-told .given .1) test
 
 returns-3 : tie.Need-returns-3
 returns-3 c =
     let accepted = c .before .before .before in
     let test = sym (c .if1 .left) ∙ c .before .is-settled .ensures in
-    accepted-judged _ _ _ (accepted .before .before .read-plan .ensures) false (accepted .enum-told .given .1) test
+    accepted-judged _ _ _ (accepted .before .before .read-plan .ensures .0) false (accepted .enum-told .given .1) test
 
 pub judge-spec : {M : Type 1} → statement M
 judge-spec =

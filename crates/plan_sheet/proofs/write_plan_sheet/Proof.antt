@@ -8,7 +8,9 @@ use Rattle.sheet.specs.Sheet.{refusalSheet}
 use Rattle.plan.specs.Limits.{TABLE_WORDS}
 use Rattle.plan.specs.declared.fault.Outcome.the-variants.{Accepted}
 use Rattle.unit_lists.specs.Answer.{Answer, answer}
-use Rattle.plan_sheet.specs.Sheets.{sheetOf}
+use Rattle.reading.proofs.Limits.{all-bytes}
+use Rattle.plan_sheet.specs.Sheets.{sheetOf, Says}
+use Rattle.plan_sheet.proofs.Said.{sheet-says}
 use Rattle.plan_sheet.proofs.Sheets.{sheet-refused, sheet-of-part, accepted-long, refused-at-most, listed-at-most}
 use borrow.Author.Needs.{needs}
 use Rattle.plan_sheet.proofs.write_plan_sheet.Statement.{statement}
@@ -23,6 +25,10 @@ listed c = c .before .before .before .before
 -- what the plan and the lent table get
 abbrev answered : tie.After-list-positions → Answer
 answered c = answer (now (start c .args .plan)) (now (start c .args .table))
+
+-- the plan's bytes are bytes
+said : (c : tie.After-list-positions) → Says (now (start c .args .plan)) (now (start c .args .table)) (sheetOf (answered c))
+said c = sheet-says (now (start c .args .plan)) (now (start c .args .table)) (all-bytes (now (start c .args .plan)) (λ i. c .before .before .before .before .shared-slice-known .given i .fits))
 
 accepted : (c : tie.After-enum-told) → answered (listed c) .outcome ≡ Accepted
 accepted c = sym (listed c .list-positions .ensures .0 .outcome-is) ∙ c .enum-told .given .1
@@ -46,6 +52,7 @@ returns c =
       written-is = rw e at (done .write-refusal .ensures .0);
       sheet-is = rw e at (done .write-refusal .ensures .1);
       at-most = refused-at-most _ _ _ (number .ok) (spot .ok) e;
+      says = said listing;
     }
 
 sub-write-positions : tie.Need-sub-write-positions
@@ -65,6 +72,7 @@ returns-2 c =
       written-is = rw e at (done .write-positions .ensures .0);
       sheet-is = rw e at (done .write-positions .ensures .1);
       at-most = listed-at-most _ _ (accepted told);
+      says = said (listed told);
     }
 
 pub write-plan-sheet-spec : {M : Type 1} → statement M

@@ -23,7 +23,8 @@ returns-5 c = kind-there _ _ _ (c .before .before .before .before .if1 .left) en
 returns-6 : tie.Need-returns-6
 returns-6 c =
     let none = c .match .rest in
-    no-kind-there _ _ _ (c .before .before .before .if1 .left) (none .0 .0 .0 .1) (none .0 .0 .1) (none .0 .1) (none .1)
+    no-kind-there _ _ _ (c .before .before .before .if1 .left)
+    (elim [ rule ↦ none .0 .0 .0 .1 | unit ↦ none .0 .0 .1 | edge ↦ none .0 .1 | end ↦ none .1 ])
 
 pub read-command-spec : {M : Type 1} → statement M
 read-command-spec =

@@ -1,16 +1,40 @@
--- `read_plan` meets its contract: behind all EDGEs stands END or a fault.
+-- `read_plan` meets its contract: behind all EDGEs stands END or a fault. What `reading` gives is judged by `reading-judged`.
+use mathlib.Core.Path.{_≡_, sym, subst}
+use mathlib.Core.List.{List}
+use Prim.Native.Nat.{ℕ}
+use denote.Ref.{now}
+use Rattle.reading.specs.Layout.{IsByte, All}
+use Rattle.reading.specs.Reading.{reading}
+use Rattle.reading.specs.Refusals.{ReadingJudged}
+use Rattle.reading.specs.declared.reader.Reading.{Reading}
 use Rattle.reading.proofs.Groups.{accepted-here, refused-here}
+use Rattle.reading.proofs.Judged.{reading-judged}
+use Rattle.reading.proofs.Limits.{all-bytes}
 use borrow.Author.Needs.{needs}
 use Rattle.reading.proofs.reader.read_plan.Statement.{statement}
 use Rattle.reading.proofs.reader.read_plan.Tie as tie
 
+-- what is handed back has both parts of the contract
+promised : {bytes : List ℕ} → All IsByte bytes → {r : Reading} → r ≡ reading bytes → (r ≡ reading bytes) × ReadingJudged bytes (r .outcome)
+promised {bytes} small e = (e, subst (λ (x : Reading). ReadingJudged bytes (x .outcome)) (sym e) (reading-judged bytes small))
+
+abbrev known : tie.After-read-edges → tie.After-shared-slice-known
+known c = c .before .before .before
+
+-- the plan's bytes are bytes
+bytes : (c : tie.After-shared-slice-known) → All IsByte (now (c .before .args .plan))
+bytes c = all-bytes (now (c .before .args .plan)) (λ i. c .shared-slice-known .given i .fits)
+
 returns : tie.Need-returns
-returns c = accepted-here _ _ (c .before .before .read-edges .ensures) (c .before .match .keys2)
+returns c =
+    let edges = c .before .before in
+    promised (bytes (known edges)) (accepted-here _ _ (edges .read-edges .ensures) (c .before .match .keys2))
 
 returns-2 : tie.Need-returns-2
 returns-2 c =
     let fault = c .before .before in
-    refused-here _ _ (fault .before .before .read-edges .ensures) _ _ (fault .command .given .1) (c .empty-plan .ensures)
+    let edges = fault .before .before in
+    promised (bytes (known edges)) (refused-here _ _ (edges .read-edges .ensures) _ _ (fault .command .given .1) (c .empty-plan .ensures))
 
 pub read-plan-spec : {M : Type 1} → statement M
 read-plan-spec =

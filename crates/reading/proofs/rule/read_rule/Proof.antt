@@ -8,17 +8,17 @@ use Rattle.reading.proofs.rule.read_rule.Tie as tie
 
 returns : tie.Need-returns
 unfolding ofKind
-returns c = simp (sym (c .before .is-late-rule .ensures) ∙ c .if1 .taken)
+returns c = simp (sym (c .before .is-late .ensures) ∙ c .if1 .taken)
 
 returns-2 : tie.Need-returns-2
 unfolding ofKind
-returns-2 c = simp (sym (c .before .before .is-late-rule .ensures) ∙ c .before .if1 .left, le-leb _ _ (c .if2 .taken))
+returns-2 c = simp (sym (c .before .before .is-late .ensures) ∙ c .before .if1 .left, le-leb _ _ (c .if2 .taken))
 
 returns-3 : tie.Need-returns-3
 unfolding ofKind
 returns-3 c =
     let room = c .before .before in
-    simp (sym (room .before .is-late-rule .ensures) ∙ room .if1 .left, lt-leb _ _ (c .before .if2 .left), lt-ltb _ _ (c .if3 .taken))
+    simp (sym (room .before .is-late .ensures) ∙ room .if1 .left, lt-leb _ _ (c .before .if2 .left), lt-ltb _ _ (c .if3 .taken))
 
 returns-4 : tie.Need-returns-4
 unfolding ofKind
@@ -26,7 +26,7 @@ returns-4 c =
     let words = c .before .before in
     let whole = words .before .before .before in
     simp (
-      sym (whole .before .before .before .is-late-rule .ensures) ∙ whole .before .before .if1 .left,
+      sym (whole .before .before .before .is-late .ensures) ∙ whole .before .before .if1 .left,
       lt-leb _ _ (whole .before .if2 .left),
       le-ltb _ _ (whole .if3 .left),
       ← words .before .before .read-word .ensures,
@@ -41,7 +41,7 @@ returns-5 c =
     let words = c .before .before in
     let whole = words .before .before .before in
     simp (
-      sym (whole .before .before .before .is-late-rule .ensures) ∙ whole .before .before .if1 .left,
+      sym (whole .before .before .before .is-late .ensures) ∙ whole .before .before .if1 .left,
       lt-leb _ _ (whole .before .if2 .left),
       le-ltb _ _ (whole .if3 .left),
       ← words .before .before .read-word .ensures,

@@ -1,29 +1,31 @@
 -- `read_unit` meets its contract: at each return the tests that led there say which row of the fault table fits.
 use mathlib.Core.Path.{sym, _∙_}
 use borrow.Author.Tests.{lt-ltb, le-ltb, le-leb, lt-leb}
-use Rattle.reading.specs.Commands.{ofKind, carrying, lateUnit}
+use Rattle.reading.specs.Commands.{ofKind, carrying}
 use borrow.Author.Needs.{needs}
 use Rattle.reading.proofs.unit.read_unit.Statement.{statement}
 use Rattle.reading.proofs.unit.read_unit.Tie as tie
 
 returns : tie.Need-returns
-unfolding ofKind lateUnit
-returns c = simp (lt-ltb _ _ (c .if1 .taken))
+unfolding ofKind
+returns c = simp (sym (c .before .is-late .ensures) ∙ c .if1 .taken)
 
 returns-2 : tie.Need-returns-2
-unfolding ofKind lateUnit
-returns-2 c = simp (le-ltb _ _ (c .before .if1 .left), le-leb _ _ (c .if2 .taken))
+unfolding ofKind
+returns-2 c = simp (sym (c .before .before .is-late .ensures) ∙ c .before .if1 .left, le-leb _ _ (c .if2 .taken))
 
 returns-3 : tie.Need-returns-3
-unfolding ofKind lateUnit
-returns-3 c = simp (le-ltb _ _ (c .before .before .if1 .left), lt-leb _ _ (c .before .if2 .left), lt-ltb _ _ (c .if3 .taken))
+unfolding ofKind
+returns-3 c =
+    let room = c .before .before in
+    simp (sym (room .before .is-late .ensures) ∙ room .if1 .left, lt-leb _ _ (c .before .if2 .left), lt-ltb _ _ (c .if3 .taken))
 
 returns-4 : tie.Need-returns-4
-unfolding ofKind lateUnit
+unfolding ofKind
 returns-4 c =
     let whole = c .before .before .before in
     simp (
-      le-ltb _ _ (whole .before .before .if1 .left),
+      sym (whole .before .before .before .is-late .ensures) ∙ whole .before .before .if1 .left,
       lt-leb _ _ (whole .before .if2 .left),
       le-ltb _ _ (whole .if3 .left),
       ← c .before .before .read-word .ensures,
@@ -31,11 +33,11 @@ returns-4 c =
     )
 
 returns-5 : tie.Need-returns-5
-unfolding ofKind carrying lateUnit
+unfolding ofKind carrying
 returns-5 c =
     let whole = c .before .before .before in
     simp (
-      le-ltb _ _ (whole .before .before .if1 .left),
+      sym (whole .before .before .before .is-late .ensures) ∙ whole .before .before .if1 .left,
       lt-leb _ _ (whole .before .if2 .left),
       le-ltb _ _ (whole .if3 .left),
       ← c .before .before .read-word .ensures,
@@ -46,6 +48,7 @@ pub read-unit-spec : {M : Type 1} → statement M
 read-unit-spec =
     tie.close
     (tie.spec
+    (λ c κs. search needs)
     returns
     returns-2
     returns-3

@@ -12,20 +12,19 @@ use Rattle.reading.specs.declared.reader.Reading.{Reading}
 use Rattle.reading.proofs.Limits.{record-fits, all-bytes}
 use Rattle.unit_lists.specs.Answer.{answer}
 use Rattle.unit_lists.specs.Handed.{Handed}
-use Rattle.unit_lists.specs.Demands.{Demand2, Demand3}
+use Rattle.unit_lists.specs.Promised.{Promised}
 use Rattle.unit_lists.specs.declared.listing.Listing.{Listing}
 use Rattle.unit_lists.proofs.Answers.{handed-refused, short-answer, refused-answer, read-answer}
 use Rattle.unit_lists.proofs.CleanPlan.{plan-clean}
-use Rattle.unit_lists.proofs.Demand2.{demand-2}
-use Rattle.unit_lists.proofs.Demand3.{demand-3}
+use Rattle.unit_lists.proofs.Promised.{promised}
 use borrow.Author.Needs.{needs}
 use Rattle.unit_lists.proofs.positions.list_positions.Statement.{statement}
 use Rattle.unit_lists.proofs.positions.list_positions.Tie as tie
 
--- what is handed back has all parts of the contract
-promised : {bytes table : List ℕ} → All IsByte bytes → {r : Listing} {table′ : List ℕ} → Handed (answer bytes table) r table′
-    → Handed (answer bytes table) r table′ × (Demand2 bytes table r × Demand3 bytes table r table′)
-promised {bytes} {table} all {r} {table′} h = (h, (demand-2 bytes table r table′ h, demand-3 bytes table all r table′ h))
+-- what is handed back has both parts of the contract
+both : {bytes table : List ℕ} → All IsByte bytes → {r : Listing} {table′ : List ℕ} → Handed (answer bytes table) r table′
+    → Handed (answer bytes table) r table′ × Promised bytes table r table′
+both all h = (h, promised all h)
 
 abbrev start : tie.After-shared-slice-known → tie.Start
 start c = c .before
@@ -38,13 +37,13 @@ abbrev begun : tie.After-read-plan → tie.After-shared-slice-known
 begun c = c .before .before .before
 
 outcome-is : (c : tie.After-read-plan) (o : Outcome) → c .read-plan .result .outcome ≡ o → reading (now (start (begun c) .args .plan)) .outcome ≡ o
-outcome-is c o e = sym (ap (λ (r : Reading). r .outcome) (c .read-plan .ensures)) ∙ e
+outcome-is c o e = sym (ap (λ (r : Reading). r .outcome) (c .read-plan .ensures .0)) ∙ e
 
 returns : tie.Need-returns
 returns c =
     let known = c .before .before .before in
     let at = start known .args in
-    promised (bytes known)
+    both (bytes known)
     (handed-refused (TableShort (length (now (at .table)))) (short-answer (now (at .plan)) (now (at .table)) (c .before .if1 .taken)) (c .refuse .ensures) refl)
 
 returns-2 : tie.Need-returns-2
@@ -52,7 +51,7 @@ returns-2 c =
     let read = c .before .before .before .before in
     let at = start (begun read) .args in
     let fault = c .before .before .outcome in
-    promised (bytes (begun read))
+    both (bytes (begun read))
     (handed-refused (fault .given .0 .0)
     (refused-answer (now (at .plan)) (now (at .table)) (fault .given .0 .0) (read .before .if1 .left) (outcome-is read _ (fault .given .1)))
     (c .refuse2 .ensures) refl)
@@ -61,7 +60,7 @@ list-read-plan-requires : tie.Need-list-read-plan-requires
 list-read-plan-requires c κs =
     let read = c .before .before .before in
     let plan = now (start (begun read) .args .plan) in
-    rw (read .read-plan .ensures) (
+    rw (read .read-plan .ensures .0) (
       record-fits plan,
       plan-clean plan (bytes (begun read)) (outcome-is read _ (c .before .enum-told .given .1)),
       read .before .if1 .left,
@@ -72,9 +71,9 @@ returns-3 c =
     let told = c .before .before .before .before in
     let read = told .before .before in
     let at = start (begun read) .args in
-    promised (bytes (begun read))
+    both (bytes (begun read))
     (rw (read-answer (now (at .plan)) (now (at .table)) (read .before .if1 .left) (outcome-is read _ (told .enum-told .given .1)))
-    (rw (read .read-plan .ensures) at (c .before .before .list-read-plan .ensures)))
+    (rw (read .read-plan .ensures .0) at (c .before .before .list-read-plan .ensures)))
 
 pub list-positions-spec : {M : Type 1} → statement M
 list-positions-spec =

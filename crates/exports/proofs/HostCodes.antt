@@ -1,0 +1,70 @@
+-- What the codes tell a host, from what the functions below promise.
+use mathlib.Core.Path.{_≡_, refl, ap, sym, _∙_, subst}
+use mathlib.Core.Logic.{_↔_}
+use mathlib.Core.Bool.{Bool, true, false}
+use mathlib.Core.List.{List}
+use Prim.Native.Nat.{ℕ, _+_, _*_}
+use native.Mathlib.Omega.{arith}
+use Rattle.atoms.specs.Bounded.{Decides}
+use Rattle.plan.specs.Faults.{CODE_STEP}
+use Rattle.plan.specs.declared.fault.Outcome.the-variants.{Accepted}
+use Rattle.plan.specs.declared.record.Plan.{Plan}
+use Rattle.reading.specs.Reading.{reading}
+use Rattle.reading.specs.Layout.{IsByte, All, Contents, recordOf}
+use Rattle.reading.specs.Refusals.{Stopped}
+use Rattle.reading.specs.declared.reader.Reading.{Reading}
+use Rattle.reading.proofs.Limits.{record-fits}
+use Rattle.reading.proofs.Judged.{reading-judged}
+use Rattle.judge.specs.Settled.{Settles, settled}
+use Rattle.judge.specs.Answers.{yesNo, judged, code}
+use Rattle.judge.proofs.Settled.{decides-settled, judged-accepted, judged-refused}
+use Rattle.unit_lists.specs.Demand1.{Lays, FirstFault}
+use Rattle.unit_lists.specs.Promised.{Promised}
+use Rattle.unit_lists.specs.declared.listing.Listing.{Listing}
+use Rattle.unit_lists.proofs.Demand1.{lays-read, lays-accepted}
+use Rattle.exports.specs.Handed.{outcomeCode, JudgeHanded}
+use Rattle.exports.proofs.Spots.{stopped-at-most, fault-at-most, code-exact}
+
+-- ---- a listing
+
+pub listed-code : (listing : Listing) {r : ℕ} → r ≡ outcomeCode (listing .outcome) → listing .outcome ≡ Accepted → r ≡ 0
+listed-code listing e a = e ∙ ap outcomeCode a
+
+pub refused-code : {bytes table : List ℕ} (listing : Listing) {table′ : List ℕ} {r : ℕ} → r ≡ outcomeCode (listing .outcome) → All IsByte bytes
+    → Promised bytes table listing table′ → (n s : ℕ) → FirstFault bytes table n s → r ≡ CODE_STEP * n + s
+refused-code listing e small p n s f =
+    let x = p .demand-1 .refuses n s .1 f in e ∙ ap outcomeCode (x .is) ∙ code-exact x (fault-at-most small f)
+
+-- ---- a judged position
+
+-- a code of yes or no tells which it is
+told-yes : {P : Type 0} {r : ℕ} (b : Bool) → Decides P b → r ≡ code (yesNo b) → (r ≡ 1) ↔ P
+told-yes true d e = (λ _. d .yes refl, λ _. e)
+told-yes false d e = (λ one. absurd (omega arith), λ p. absurd (d .no refl p))
+
+told-no : {P : Type 0} {r : ℕ} (b : Bool) → Decides P b → r ≡ code (yesNo b) → (r ≡ 0) ↔ (¬ P)
+told-no true d e = (λ none. absurd (omega arith), λ n. absurd (n (d .yes refl)))
+told-no false d e = (λ _. d .no refl, λ _. e)
+
+module _ (bytes : List ℕ) (position : ℕ) {r : ℕ} (small : All IsByte bytes) (e : r ≡ code (judged bytes position)) where
+  module _ (c : Contents) (l : Lays bytes c) where
+    decided : Decides (Settles (recordOf c) position) (settled (reading bytes .plan) position)
+    decided =
+        subst (λ (x : Reading). Decides (Settles (x .plan) position) (settled (reading bytes .plan) position)) (lays-read l)
+        (decides-settled (reading bytes .plan) position (record-fits bytes))
+
+    coded : r ≡ code (yesNo (settled (reading bytes .plan) position))
+    coded = e ∙ ap code (judged-accepted bytes position (lays-accepted l))
+
+  judged-code : (n s : ℕ) → Stopped bytes n s → r ≡ CODE_STEP * n + s
+  judged-code n s st =
+      let x = reading-judged bytes small .refused n s .1 st in
+      e ∙ ap code (judged-refused bytes position (x .fault) (x .is)) ∙ code-exact x (stopped-at-most small st)
+
+  pub judge-handed : JudgeHanded bytes position r
+  judge-handed = record {
+    code-is = e;
+    settled = λ c l. told-yes (settled (reading bytes .plan) position) (decided c l) (coded c l);
+    not-settled = λ c l. told-no (settled (reading bytes .plan) position) (decided c l) (coded c l);
+    refused = judged-code;
+  }

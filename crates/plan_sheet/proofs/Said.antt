@@ -1,0 +1,46 @@
+-- What the sheet of an answer says, by demands 1 and 3.
+use mathlib.Core.Path.{_≡_, refl, sym, ap₂, _∙_}
+use mathlib.Core.List.{List}
+use Prim.Native.Nat.{ℕ, _≤_}
+use lib.ListN.{length}
+use Rattle.plan.specs.Limits.{TABLE_WORDS}
+use Rattle.reading.specs.Layout.{IsByte, All, Contents, recordOf}
+use Rattle.sheet.specs.Sheet.{positionsSheet, refusalSheet}
+use Rattle.unit_lists.specs.Answer.{answer}
+use Rattle.unit_lists.specs.Demand1.{Listable, FirstFault}
+use Rattle.unit_lists.specs.Demands.{lastIn}
+use Rattle.unit_lists.specs.Promised.{Promised}
+use Rattle.unit_lists.specs.declared.listing.Listing.{Listing}
+use Rattle.unit_lists.proofs.Demand1.{listable-lists}
+use Rattle.unit_lists.proofs.Promised.{promised}
+use Rattle.plan_sheet.specs.Sheets.{sheetOf, Positions, Says}
+use Rattle.plan_sheet.proofs.Sheets.{sheet-refused, sheet-listed}
+
+module _ (bytes table : List ℕ) (all : All IsByte bytes) where
+  -- the answer as a listing
+  abbrev listing : Listing
+  listing = record { outcome = answer bytes table .outcome; counts = answer bytes table .counts }
+
+  kept : Promised bytes table listing (answer bytes table .table)
+  kept = promised all (record { outcome-is = refl; counts-are = refl; table-is = refl })
+
+  positions-said : (c : Contents) → Listable bytes c → TABLE_WORDS ≤ length table
+      → (ws : List ℕ) × (sheetOf (answer bytes table) ≡ positionsSheet ws) × Positions (recordOf c) ws
+  positions-said c k long =
+      let accepted = kept .demand-1 .accepts .1 (long, (c, k)) in
+      let all-sets = listable-lists (kept .demand-3) k long in (
+        lastIn listing (answer bytes table .table),
+        sym (sheet-listed (answer bytes table) accepted),
+        record {
+          rising = all-sets .rising;
+          members = all-sets .members;
+        },
+      )
+
+  refusal-said : (n s : ℕ) → FirstFault bytes table n s → sheetOf (answer bytes table) ≡ refusalSheet n s
+  refusal-said n s f =
+      let x = kept .demand-1 .refuses n s .1 f in
+      sym (sheet-refused (answer bytes table) (x .fault) (x .is)) ∙ ap₂ refusalSheet (x .number-is) (x .spot-is)
+
+  pub sheet-says : Says bytes table (sheetOf (answer bytes table))
+  sheet-says = record { positions = positions-said; refusal = refusal-said }

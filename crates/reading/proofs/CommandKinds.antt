@@ -1,0 +1,131 @@
+-- Kinds of commands: their bytes, and the order of their groups. Kinds are gone through as a list, so that no law speaks of pairs of kinds.
+use mathlib.Core.Path.{_≡_, refl, ap, sym, _∙_, subst}
+use mathlib.Core.List.{List, [], _∷_, List·Memᴰ, List·Memᴰ·head, List·Memᴰ·tail, List·Memᴰ·not-nil, List·Memᴰ·cases-cons}
+use mathlib.Core.Bool.{Bool, true, false}
+use mathlib.Core.Logic.{_⊎_, inl, inr}
+use mathlib.Core.Option.{some, none}
+use Prim.Native.Nat.{ℕ, _+_, _≤_, _<_}
+use native.Mathlib.Omega.{arith}
+use native.Mathlib.Decide.{decLt}
+use lib.Dec.{eqb, ltb}
+use borrow.Author.Tests.{eqb-true, ne-eqb, ltb-true, ltb-false, lt-ltb, le-ltb}
+use Rattle.atoms.proofs.Tests.{bool-ext}
+use Rattle.reading.specs.Commands.{Kind, rule, unit, edge, end, byteOf, kindAmong, kinds, kindOf, orderOf, count, countBehind, late}
+use Rattle.plan.specs.declared.record.Plan.{Plan}
+
+-- ---- bytes
+
+pub kind-of-byte : (k : Kind) → kindOf (byteOf k) ≡ some k
+unfolding kindOf
+kind-of-byte rule = refl
+kind-of-byte unit = refl
+kind-of-byte edge = refl
+kind-of-byte end = refl
+
+-- what a byte names is listed, and has that byte
+record Named (js : List Kind) (b : ℕ) (k : Kind) : Type 0 where
+  listed : List·Memᴰ k js
+  byte : b ≡ byteOf k
+
+named-among : (js : List Kind) (b : ℕ) (k : Kind) → kindAmong js b ≡ some k → Named js b k
+named-among [] b k e = absurd (let z : _≡_ {A = ℕ} 0 1 = cc in omega arith)
+named-among (j ∷ js) b k e = go (eqb b (byteOf j)) refl (named-among js b k)
+  where
+    first : some j ≡ some k → b ≡ byteOf j → Named (j ∷ js) b k
+    first s h =
+        let q : j ≡ k = cc in
+        record { listed = List·Memᴰ·head (sym q); byte = subst (λ (i : Kind). b ≡ byteOf i) q h }
+
+    go : (t : Bool) → eqb b (byteOf j) ≡ t → (kindAmong js b ≡ some k → Named js b k) → Named (j ∷ js) b k
+    go true t rec = first (rw (t, kindAmong) at e) (eqb-true _ _ t)
+    go false t rec = let n = rec (rw (t, kindAmong) at e) in record { listed = List·Memᴰ·tail (n .listed); byte = n .byte }
+
+pub kind-byte : (b : ℕ) (k : Kind) → kindOf b ≡ some k → b ≡ byteOf k
+unfolding kindOf
+kind-byte b k e = named-among kinds b k e .byte
+
+pub all-kinds : (k : Kind) → List·Memᴰ k kinds
+unfolding kindOf
+all-kinds k = named-among kinds (byteOf k) k (kind-of-byte k) .listed
+
+-- no two kinds share a byte
+pub byte-own : (j k : Kind) → byteOf j ≡ byteOf k → j ≡ k
+byte-own j k e = let same : some j ≡ some k = sym (kind-of-byte j) ∙ ap kindOf e ∙ kind-of-byte k in cc
+
+pub no-kind : (b : ℕ) → ((k : Kind) → ¬ (b ≡ byteOf k)) → kindOf b ≡ none
+unfolding kindOf
+no-kind b n = among kinds
+  where
+    among : (js : List Kind) → kindAmong js b ≡ none
+    among [] = refl
+    among (j ∷ js) = rw (ne-eqb _ _ (n j), kindAmong) (among js)
+
+-- ---- groups
+
+module _ (p : Plan) (group : ℕ) where
+  -- a command of a later group that is counted
+  pub record Later : Type 0 where
+    pub kind : Kind
+    pub behind : group < orderOf kind
+    pub there : 0 < count p kind
+
+  some-later : (js : List Kind) → 0 < countBehind p group js → Later
+  some-later [] h = absurd (omega arith)
+  some-later (j ∷ js) h = go (ltb group (orderOf j)) refl (some-later js)
+    where
+      this-or-next : group < orderOf j → (0 < countBehind p group js → Later) → Dec (0 < count p j) → 0 < count p j + countBehind p group js → Later
+      this-or-next l rec (yes c) k = record { kind = j; behind = l; there = c }
+      this-or-next l rec (no c) k = rec (omega arith)
+
+      go : (t : Bool) → ltb group (orderOf j) ≡ t → (0 < countBehind p group js → Later) → Later
+      go true t rec = this-or-next (ltb-true _ _ t) rec (decLt 0 (count p j)) (rw (t, countBehind) at h)
+      go false t rec = rec (rw (t, countBehind) at h)
+
+  none-later : (js : List Kind) → countBehind p group js ≤ 0 → (k : Kind) → List·Memᴰ k js → group < orderOf k → count p k ≤ 0
+  none-later [] h k m l = absurd (List·Memᴰ·not-nil m)
+  none-later (j ∷ js) h k m l = go (ltb group (orderOf j)) refl (none-later js)
+    where
+      go : (t : Bool) → ltb group (orderOf j) ≡ t
+          → (countBehind p group js ≤ 0 → (i : Kind) → List·Memᴰ i js → group < orderOf i → count p i ≤ 0) → count p k ≤ 0
+      go true t rec = here-or-there (List·Memᴰ·cases-cons m) (rw (t, countBehind) at h)
+        where
+          here-or-there : (k ≡ j) ⊎ List·Memᴰ k js → count p j + countBehind p group js ≤ 0 → count p k ≤ 0
+          here-or-there (inl e) s = omega (arith, ap (count p) e)
+          here-or-there (inr n) s = rec (omega arith) k n l
+      go false t rec = not-here (List·Memᴰ·cases-cons m)
+        where
+          not-here : (k ≡ j) ⊎ List·Memᴰ k js → count p k ≤ 0
+          not-here (inl e) = absurd (omega (arith, ltb-false group (orderOf j) t, ap orderOf e))
+          not-here (inr n) = rec (rw (t, countBehind) at h) k n l
+
+  pub later-there : 0 < countBehind p group kinds → Later
+  later-there h = some-later kinds h
+
+  pub none-behind : countBehind p group kinds ≤ 0 → (k : Kind) → group < orderOf k → count p k ≤ 0
+  none-behind h k l = none-later kinds h k (all-kinds k) l
+
+-- the last group that is read tells which groups come too late
+pub late-behind : (p : Plan) (k : Kind) (group : ℕ) → 0 < count p k → countBehind p (orderOf k) kinds ≤ 0 → ltb group (orderOf k) ≡ late p group
+unfolding late
+late-behind p k group there last =
+    bool-ext _ _ (λ t. lt-ltb _ _ (counted (ltb-true _ _ t) (decLt 0 (countBehind p group kinds))))
+    (λ t. lt-ltb _ _ (before (later-there p group (ltb-true _ _ t)) (decLt group (orderOf k))))
+  where
+    counted : group < orderOf k → Dec (0 < countBehind p group kinds) → 0 < countBehind p group kinds
+    counted l (yes h) = h
+    counted l (no h) = absurd (omega (arith, none-behind p group (omega arith) k l))
+
+    before : Later p group → Dec (group < orderOf k) → group < orderOf k
+    before j (yes h) = h
+    before j (no h) = absurd (omega (arith, j .there, none-behind p (orderOf k) last (j .kind) (omega (arith, j .behind))))
+
+-- nothing is late where nothing of a later group than the first is read
+pub late-none : (p : Plan) (group : ℕ) → countBehind p 0 kinds ≤ 0 → false ≡ late p group
+unfolding late
+late-none p group h0 = sym (le-ltb _ _ (go (decLt 0 (countBehind p group kinds))))
+  where
+    go : Dec (0 < countBehind p group kinds) → countBehind p group kinds ≤ 0
+    go (yes h) =
+        let j = later-there p group h in
+        absurd (omega (arith, j .there, none-behind p 0 h0 (j .kind) (omega (arith, j .behind))))
+    go (no h) = omega arith

@@ -1,0 +1,88 @@
+-- "every reading fault, a 241st EDGE .. included": behind MAX_EDGES edges none is new, so a further EDGE is 8, or 2 where it is cut short.
+use mathlib.Core.Path.{_≡_, refl, ap, _∙_}
+use mathlib.Core.List.{List, [], _∷_, _++_}
+use mathlib.Core.Bool.{true}
+use Prim.Native.Nat.{ℕ, _≤_, _<_}
+use native.Mathlib.Omega.{arith}
+use native.Mathlib.Decide.{decLt}
+use lib.ListN.{length, getD}
+use borrow.Author.Tests.{lt-ltb, le-ltb}
+use Rattle.atoms.proofs.Tests.{decided, decided-true}
+use Rattle.plan.specs.Limits.{MAX_EDGES}
+use Rattle.plan.specs.Faults.{RefusedBy}
+use Rattle.reading.specs.Commands.{edge, byteOf, operandBytes, late, badEdge, ofKind, commandAt}
+use Rattle.reading.specs.Reading.{stepOf, reading, refused}
+use Rattle.reading.specs.Layout.{UnitPair, Contents, commands, recordOf, GoodEdge, Within}
+use Rattle.reading.specs.Refusals.{NoNewEdge, no-such-u, no-such-v, to-itself, repeated}
+use Rattle.reading.proofs.CommandKinds.{kind-of-byte}
+use Rattle.reading.proofs.Commands.{known-command}
+use Rattle.reading.proofs.Walk.{walk-ended}
+use Rattle.reading.proofs.Elements.{Few, Held, few-edges, length-snoc, all-snoc, distinct-snoc}
+use Rattle.reading.proofs.Rows.{decides-bad}
+use Rattle.reading.proofs.RoundTrip.{commands-read}
+use Rattle.plan.specs.declared.fault.Fault.{Fault}
+use Rattle.plan.specs.declared.fault.Fault.the-variants.{Truncated, BadEdge}
+use Rattle.reading.specs.declared.reader.Reading.{Reading}
+use Rattle.reading.specs.declared.command.Command.{Command}
+use Rattle.reading.specs.declared.command.Command.the-variants.{Fault as Faulty}
+
+module _ (c : Contents) (w : Within c) (all : length (c .edges) ≡ MAX_EDGES) where
+  few : Few c
+  few = record { few-rules = w .most-rules; few-units = w .most-units }
+
+  -- one edge more would be one too many
+  no-new-edge : (e : UnitPair) → NoNewEdge c e
+  no-new-edge e = go (decided (decides-bad c few e))
+    where
+      below : (n : ℕ) → (length (c .units) ≤ n → NoNewEdge c e) → ¬ NoNewEdge c e → Dec (n < length (c .units)) → n < length (c .units)
+      below n absent new (yes l) = l
+      below n absent new (no l) = absurd (new (absent (omega arith)))
+
+      good : ¬ NoNewEdge c e → GoodEdge (length (c .units)) e
+      good new =
+          record {
+            from-there = below (e .u) no-such-u new (decLt _ _);
+            to-there = below (e .v) no-such-v new (decLt _ _);
+            apart = λ s. new (to-itself s);
+          }
+
+      more : ¬ NoNewEdge c e → Contents
+      more new = record { rules = c .rules; units = c .units; edges = c .edges ++ (e ∷ []) }
+
+      held : (new : ¬ NoNewEdge c e) → Held (more new)
+      held new =
+          record {
+            few = record { few-rules = w .most-rules; few-units = w .most-units };
+            good-edges = all-snoc (GoodEdge (length (c .units))) (c .edges) e (w .good-edges) (good new);
+            no-repeat = distinct-snoc (c .edges) e (w .no-repeat) (λ m. new (repeated m));
+          }
+
+      go : Dec (NoNewEdge c e) → NoNewEdge c e
+      go (yes h) = h
+      go (no new) = absurd (omega (arith, few-edges (more new) (held new), length-snoc (c .edges) e))
+
+  module _ (more : List ℕ) where
+    abbrev at : ℕ
+    at = length (commands c)
+
+    refused-there : (f : Fault) → commandAt (recordOf c) at (byteOf edge ∷ more) ≡ Faulty f
+        → reading (commands c ++ (byteOf edge ∷ more)) ≡ refused f
+    refused-there f e =
+        commands-read c w (byteOf edge ∷ more) ∙ walk-ended (recordOf c) at (byteOf edge ∷ more) (refused f) (ap (stepOf (recordOf c)) e)
+
+    edge-there : (x : Command) → ofKind (recordOf c) at edge more ≡ x → commandAt (recordOf c) at (byteOf edge ∷ more) ≡ x
+    edge-there x e = known-command (recordOf c) at (byteOf edge) more edge (kind-of-byte edge) ∙ e
+
+    pub edge-refused : operandBytes edge ≤ length more → RefusedBy (reading (commands c ++ (byteOf edge ∷ more)) .outcome) 8 at
+    unfolding ofKind late
+    edge-refused long =
+        let e : UnitPair = record { u = getD more 0 0; v = getD more 1 0 } in
+        let bad : badEdge (recordOf c) (e .u) (e .v) ≡ true = decided-true (decides-bad c few e) (no-new-edge e) in
+        let fault = edge-there (Faulty (BadEdge at)) (simp (le-ltb _ _ long, bad)) in
+        record { fault = BadEdge at; is = ap (λ (r : Reading). r .outcome) (refused-there (BadEdge at) fault); number-is = refl; spot-is = refl }
+
+    pub cut-edge-refused : length more < operandBytes edge → RefusedBy (reading (commands c ++ (byteOf edge ∷ more)) .outcome) 2 at
+    unfolding ofKind late
+    cut-edge-refused short =
+        let fault = edge-there (Faulty (Truncated at)) (simp (lt-ltb _ _ short)) in
+        record { fault = Truncated at; is = ap (λ (r : Reading). r .outcome) (refused-there (Truncated at) fault); number-is = refl; spot-is = refl }

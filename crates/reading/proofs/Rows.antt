@@ -1,0 +1,385 @@
+-- The rows of the fault table in their two forms: as `rows` tests a command, and as `readingPlace` states them of lists and bytes. At the
+-- record of the lists each test decides its row, so the first row that fits is the same.
+use mathlib.Core.Path.{_≡_, refl, ap, sym, _∙_, subst}
+use mathlib.Core.List.{List, [], _∷_, _++_, List·Memᴰ}
+use mathlib.Core.Bool.{Bool, true, false, true≢false}
+use mathlib.Core.Logic.{_⊎_, inl, inr}
+use mathlib.Core.Option.{Option, some, none}
+use Prim.Native.Nat.{ℕ, suc, _*_, _^_, _≤_, _<_}
+use native.Mathlib.Omega.{arith}
+use native.Mathlib.Decide.{decLt}
+use native.Mathlib.Numerals.{add-one}
+use lib.ListN.{length, drop, getD}
+use lib.Dec.{eqb, ltb, leb}
+use borrow.Author.Tests.{eqb-false, leb-true, leb-false, ltb-true, ltb-false}
+use Rattle.atoms.specs.Bounded.{Decides}
+use Rattle.atoms.specs.Word.{Has, _∖_, below}
+use Rattle.atoms.specs.Lists.{tabulate}
+use Rattle.atoms.proofs.Tests.{decides-iff, decides-or, decides-equal}
+use Rattle.atoms.proofs.Sets.{decides-has, has-lt, has-without, has-below, has-none, without-left, without-right, below-lt, lt-of-has, some-atom}
+use Rattle.plan.specs.Limits.{MAX_UNITS}
+use Rattle.plan.specs.Faults.{number, spot, TableRow, FirstFit}
+use Rattle.reading.specs.Words.{WORD_BYTES, wordAt}
+use Rattle.reading.specs.Commands.{Kind, rule, unit, edge, end, byteOf, kindOf, operandBytes, orderOf, carrying, kinds, count, countBehind, late, full}
+use Rattle.reading.specs.Commands.{emptyRule, absentRule, badEdge, Row, operandRows, rows, firstFit, ofKind, commandAt}
+use Rattle.reading.specs.Layout.{RuleWords, UnitPair, Contents, predecessorsOf, recordOf, IsByte, All}
+use Rattle.reading.specs.Refusals.{Begins, countOf, Full, UnknownByte, OutOfGroupOrder, OneTooMany, CutShort, before-end, inside-operands}
+use Rattle.reading.specs.Refusals.{ZeroRule, NamesAbsentRule, NoNewEdge, no-such-u, no-such-v, to-itself, repeated, WrongEdge, BytesAfterEnd}
+use Rattle.reading.specs.Refusals.{row, readingPlace}
+use Rattle.reading.proofs.Numbers.{word-fits}
+use Rattle.reading.proofs.CommandKinds.{kind-of-byte, kind-byte, byte-own, Later, later-there, none-behind}
+use Rattle.reading.proofs.Commands.{Passed, none-fits, known-command, unknown-command, not-faulty}
+use Rattle.reading.proofs.Predecessors.{has-member, member-has}
+use Rattle.reading.proofs.Elements.{Element, operandsOf, elementAt, written-again, read-again, Sized, Few, decides-empty, row-is}
+use Rattle.plan.specs.declared.fault.Fault.{Fault}
+use Rattle.plan.specs.declared.fault.Fault.the-variants.{Truncated, UnknownCommand}
+use Rattle.reading.specs.declared.command.Command.{Command}
+use Rattle.reading.specs.declared.command.Command.the-variants.{Fault as Faulty}
+
+-- ---- tests against rows
+
+-- the test r decides the row t
+record Meets (r : Row) (t : TableRow) : Type 0 where
+  numbered : number (r .fault) ≡ t .no
+  placed : spot (r .fault) ≡ t .at
+  decides : Decides (t .Fits) (r .fits)
+
+meet : {r : Row} {t : TableRow} → number (r .fault) ≡ t .no → spot (r .fault) ≡ t .at → Decides (t .Fits) (r .fits) → Meets r t
+meet n s d = record { numbered = n; placed = s; decides = d }
+
+-- row by row: a row that no test stands for does not fit, and each test decides its row where those above it do not fit
+data Agree : List Row → List TableRow → Type 1 where
+  done : Agree [] []
+  skips : {rs : List Row} {t : TableRow} {ts : List TableRow} → ¬ t .Fits → Agree rs ts → Agree rs (t ∷ ts)
+  meets : {r : Row} {rs : List Row} {t : TableRow} {ts : List TableRow} → Meets r t → (r .fits ≡ false → Agree rs ts) → Agree (r ∷ rs) (t ∷ ts)
+
+-- where no test fits, no row does
+none-first : {rs : List Row} {ts : List TableRow} → Agree rs ts → Passed rs → (n s : ℕ) → ¬ FirstFit ts n s
+none-first done h n s f = f
+none-first (skips no-fit a) h n s (inl here) = no-fit (here .0)
+none-first (skips no-fit a) h n s (inr later) = none-first a h n s (later .1)
+none-first (meets m a) h n s (inl here) = m .decides .no (h .0) (here .0)
+none-first (meets m a) h n s (inr later) = none-first (a (h .0)) (h .1) n s (later .1)
+
+-- the fault of the first test that fits is that of the first row
+record FirstIs (rs : List Row) (ts : List TableRow) (x : Command) : Type 0 where
+  fault : Fault
+  is : firstFit rs x ≡ Faulty fault
+  first : FirstFit ts (number fault) (spot fault)
+
+same-first : {rs : List Row} {ts : List TableRow} (x : Command) → Agree rs ts → Passed rs ⊎ FirstIs rs ts x
+same-first x done = inl tt
+same-first x (skips {rs} {t} {ts} no-fit a) = go (same-first x a)
+  where
+    go : Passed rs ⊎ FirstIs rs ts x → Passed rs ⊎ FirstIs rs (t ∷ ts) x
+    go (inl h) = inl h
+    go (inr f) = inr (record { fault = f .fault; is = f .is; first = inr (no-fit, f .first) })
+same-first x (meets {r} {rs} {t} {ts} m a) = go (r .fits) refl (λ e. same-first x (a e))
+  where
+    go : (b : Bool) → r .fits ≡ b → (r .fits ≡ false → Passed rs ⊎ FirstIs rs ts x) → Passed (r ∷ rs) ⊎ FirstIs (r ∷ rs) (t ∷ ts) x
+    go true e rec = inr (record { fault = r .fault; is = rw e; first = inl (m .decides .yes e, (m .numbered, m .placed)) })
+    go false e rec = below (rec e)
+      where
+        below : Passed rs ⊎ FirstIs rs ts x → Passed (r ∷ rs) ⊎ FirstIs (r ∷ rs) (t ∷ ts) x
+        below (inl h) = inl (e, h)
+        below (inr f) = inr (record { fault = f .fault; is = rw e (f .is); first = inr (m .decides .no e, f .first) })
+
+-- only one row is the first that fits
+first-one : (ts : List TableRow) (n m s r : ℕ) → FirstFit ts n s → FirstFit ts m r → (n ≡ m) × (s ≡ r)
+first-one [] n m s r f g = absurd f
+first-one (t ∷ ts) n m s r (inl (a, (p, q))) (inl (b, (v, w))) = (p ∙ sym v, q ∙ sym w)
+first-one (t ∷ ts) n m s r (inl (a, e)) (inr (b, g)) = absurd (b a)
+first-one (t ∷ ts) n m s r (inr (a, f)) (inl (b, e)) = absurd (a b)
+first-one (t ∷ ts) n m s r (inr (a, f)) (inr (b, g)) = first-one ts n m s r f g
+
+-- ---- the first byte
+
+head-same : {a b : ℕ} {s t : List ℕ} → a ∷ s ≡ b ∷ t → a ≡ b
+head-same e = cc
+
+tail-same : {a b : ℕ} {s t : List ℕ} → a ∷ s ≡ b ∷ t → s ≡ t
+tail-same e = cc
+
+no-byte : {b : ℕ} {s : List ℕ} → [] ≡ b ∷ s → ⊥
+no-byte e = let z : _≡_ {A = ℕ} 0 1 = cc in omega arith
+
+begins-own : (j k : Kind) (operands : List ℕ) → Begins j (byteOf k ∷ operands) → j ≡ k
+begins-own j k operands b = byte-own j k (sym (head-same (b .is)))
+
+-- ---- what the tests decide
+
+decides-le : (a b : ℕ) → Decides (a ≤ b) (leb a b)
+decides-le a b = record { yes = leb-true a b; no = λ e h. omega (arith, leb-false a b e) }
+
+-- a word from 2 ^ n on has an atom from n on
+atom-from : (n w : ℕ) → 2 ^ n ≤ w → (i : ℕ) × Has w i × (n ≤ i)
+atom-from n w h =
+    let above = some-atom (w ∖ below n) (λ e. omega (arith, lt-of-has w n (λ i p. within e i p (decLt i n)))) in (
+      above .0,
+      without-left w (below n) (above .1),
+      not-below (above .0) (without-right w (below n) (above .1)) (decLt (above .0) n),
+    )
+  where
+    within : w ∖ below n ≡ 0 → (i : ℕ) → Has w i → Dec (i < n) → i < n
+    within e i p (yes l) = l
+    within e i p (no l) = absurd (has-none (subst (λ (x : ℕ). Has x i) e (has-without w (below n) p (λ b. l (below-lt n b)))))
+
+    not-below : (i : ℕ) → ¬ Has (below n) i → Dec (i < n) → n ≤ i
+    not-below i p (yes l) = absurd (p (has-below n i l))
+    not-below i p (no l) = omega arith
+
+module _ (c : Contents) (few : Few c) where
+  count-of : (k : Kind) → count (recordOf c) k ≡ countOf c k
+  unfolding recordOf
+  count-of rule = refl
+  count-of unit = refl
+  count-of edge = refl
+  count-of end = refl
+
+  decides-full : (k : Kind) → Decides (Full c k) (full (recordOf c) k)
+  unfolding recordOf
+  decides-full rule = decides-le _ _
+  decides-full unit = decides-le _ _
+  decides-full edge = record { yes = λ e. true≢false (sym e); no = λ e x. x }
+  decides-full end = record { yes = λ e. true≢false (sym e); no = λ e x. x }
+
+  pub decides-bad : (e : UnitPair) → Decides (NoNewEdge c e) (badEdge (recordOf c) (e .u) (e .v))
+  unfolding recordOf badEdge
+  decides-bad e =
+      decides-iff tested stated
+      (decides-or (decides-or (decides-or (decides-le _ _) (decides-le _ _)) (decides-equal _ _)) (decides-has _ _))
+    where
+      Tested : Type 0
+      Tested =
+          (((length (c .units) ≤ e .u) ⊎ (length (c .units) ≤ e .v)) ⊎ (e .u ≡ e .v))
+          ⊎ Has (getD (tabulate MAX_UNITS (predecessorsOf (c .edges))) (e .u) 0) (e .v)
+
+      in-row : Dec (e .u < length (c .units)) → Has (getD (tabulate MAX_UNITS (predecessorsOf (c .edges))) (e .u) 0) (e .v) → NoNewEdge c e
+      in-row (yes l) h = repeated (has-member (c .edges) e (subst (λ (w : ℕ). Has w (e .v)) (row-is c few (e .u) l) h))
+      in-row (no l) h = no-such-u (omega arith)
+
+      tested : Tested → NoNewEdge c e
+      tested (inl (inl (inl h))) = no-such-u h
+      tested (inl (inl (inr h))) = no-such-v h
+      tested (inl (inr h)) = to-itself h
+      tested (inr h) = in-row (decLt (e .u) (length (c .units))) h
+
+      as-row : Dec (e .u < length (c .units)) → List·Memᴰ e (c .edges) → Tested
+      as-row (yes l) m = inr (subst (λ (w : ℕ). Has w (e .v)) (sym (row-is c few (e .u) l)) (member-has (c .edges) e m))
+      as-row (no l) m = inl (inl (inl (omega arith)))
+
+      stated : NoNewEdge c e → Tested
+      stated (no-such-u h) = inl (inl (inl h))
+      stated (no-such-v h) = inl (inl (inr h))
+      stated (to-itself h) = inl (inr h)
+      stated (repeated m) = as-row (decLt (e .u) (length (c .units))) m
+
+-- ---- a command of a known kind: row by row
+
+module _ (c : Contents) (few : Few c) (operands : List ℕ) where
+  abbrev begins : (k : Kind) → Begins k (byteOf k ∷ operands)
+  begins k = record { behind = operands; is = refl }
+
+  known : (k : Kind) → ¬ UnknownByte (byteOf k ∷ operands)
+  known k u = u .names-none k (sym (head-same (u .is)))
+
+  -- bytes that begin with another command
+  other : (j k : Kind) → eqb (byteOf j) (byteOf k) ≡ false → {s : List ℕ} → byteOf k ∷ operands ≡ byteOf j ∷ s → ⊥
+  other j k e s = eqb-false _ _ e (sym (head-same s))
+
+  own : (k j : Kind) → Begins j (byteOf k ∷ operands) → j ≡ k
+  own k j b = begins-own j k operands b
+
+  order-decided : (k : Kind) → Decides (OutOfGroupOrder c (byteOf k ∷ operands)) (late (recordOf c) (orderOf k))
+  unfolding late
+  order-decided k = record { yes = λ e. behind-later (later-there (recordOf c) (orderOf k) (ltb-true _ _ e)); no = λ e. in-order (ltb-false _ _ e) }
+    where
+      behind-later : Later (recordOf c) (orderOf k) → OutOfGroupOrder c (byteOf k ∷ operands)
+      behind-later j =
+          record {
+            kind = k;
+            begins = begins k;
+            later = j .kind;
+            behind = j .behind;
+            there = subst (λ (n : ℕ). 0 < n) (count-of c few (j .kind)) (j .there);
+          }
+
+      in-order : countBehind (recordOf c) (orderOf k) kinds ≤ 0 → ¬ OutOfGroupOrder c (byteOf k ∷ operands)
+      in-order h o =
+          let behind : orderOf k < orderOf (o .later) =
+          subst (λ (j : Kind). orderOf j < orderOf (o .later)) (own k (o .kind) (o .begins)) (o .behind) in
+          omega (arith, o .there, count-of c few (o .later), none-behind (recordOf c) (orderOf k) h (o .later) behind)
+
+  many-decided : (k : Kind) → Decides (OneTooMany c (byteOf k ∷ operands)) (full (recordOf c) k)
+  many-decided k =
+      decides-iff (λ f. record { kind = k; begins = begins k; full = f }) (λ o. subst (Full c) (own k (o .kind) (o .begins)) (o .full))
+      (decides-full c few k)
+
+  short-decided : (k : Kind) → Decides (CutShort (byteOf k ∷ operands)) (ltb (length operands) (operandBytes k))
+  short-decided k = record { yes = λ e. inside-operands k (begins k) (ltb-true _ _ e); no = λ e. whole (ltb-false _ _ e) }
+    where
+      whole : operandBytes k ≤ length operands → ¬ CutShort (byteOf k ∷ operands)
+      whole h (before-end z) = no-byte (sym z)
+      whole h (inside-operands j b l) = omega (arith, ap operandBytes (own k j b), ap length (tail-same (b .is)))
+
+  module _ (small : All IsByte operands) where
+    -- the operands are the bytes of the element that they spell, and of no other
+    written : (k : Kind) → operandBytes k ≤ length operands
+        → byteOf k ∷ operands ≡ byteOf k ∷ (operandsOf k (elementAt k operands) ++ drop (operandBytes k) operands)
+    written k long = ap (λ (t : List ℕ). byteOf k ∷ t) (sym (written-again k operands long small))
+
+    spelt : (k : Kind) (x : Element k) (more : List ℕ) → byteOf k ∷ operands ≡ byteOf k ∷ (operandsOf k x ++ more) → Sized k x → elementAt k operands ≡ x
+    spelt k x more e sized = ap (elementAt k) (tail-same e) ∙ read-again k x more sized
+
+    abbrev behind : Kind → List ℕ
+    behind k = drop (operandBytes k) operands
+
+    abbrev zeroRule : RuleWords
+    zeroRule = record { head = 0; positive = 0; negative = 0 }
+
+    zero-decided : operandBytes rule ≤ length operands
+        → Decides (ZeroRule (byteOf rule ∷ operands)) (emptyRule (wordAt 0 operands) (wordAt WORD_BYTES operands) (wordAt (2 * WORD_BYTES) operands))
+    zero-decided long = decides-iff zeros words (decides-empty _ _ _)
+      where
+        Words : Type 0
+        Words = ((wordAt 0 operands ≡ 0) × (wordAt WORD_BYTES operands ≡ 0)) × (wordAt (2 * WORD_BYTES) operands ≡ 0)
+
+        zeros : Words → ZeroRule (byteOf rule ∷ operands)
+        zeros z =
+            let x : elementAt rule operands ≡ zeroRule = λ i. record { head = z .0 .0 i; positive = z .0 .1 i; negative = z .1 i } in
+            record { more = behind rule; is = written rule long ∙ ap (λ (y : RuleWords). byteOf rule ∷ (operandsOf rule y ++ behind rule)) x }
+
+        words : ZeroRule (byteOf rule ∷ operands) → Words
+        words z =
+            let x : elementAt rule operands ≡ zeroRule = spelt rule zeroRule (z .more) (z .is) (omega arith, (omega arith, omega arith)) in
+            ((ap (λ (y : RuleWords). y .head) x, ap (λ (y : RuleWords). y .positive) x), ap (λ (y : RuleWords). y .negative) x)
+
+    absent-decided : operandBytes unit ≤ length operands
+        → Decides (NamesAbsentRule c (byteOf unit ∷ operands)) (absentRule (recordOf c) (wordAt 0 operands))
+    unfolding absentRule recordOf
+    absent-decided long = decides-iff names word (decides-le _ _)
+      where
+        names : 2 ^ length (c .rules) ≤ wordAt 0 operands → NamesAbsentRule c (byteOf unit ∷ operands)
+        names h =
+            let i = atom-from (length (c .rules)) (wordAt 0 operands) h in
+            record {
+              word = wordAt 0 operands;
+              more = behind unit;
+              is = written unit long;
+              fits = word-fits operands 0 (omega arith) small;
+              named = i .0;
+              names = i .1;
+              absent = i .2;
+            }
+
+        word : NamesAbsentRule c (byteOf unit ∷ operands) → 2 ^ length (c .rules) ≤ wordAt 0 operands
+        word a = rw (spelt unit (a .word) (a .more) (a .is) (a .fits)) (above (decLt (a .word) (2 ^ length (c .rules))))
+          where
+            above : Dec (a .word < 2 ^ length (c .rules)) → 2 ^ length (c .rules) ≤ a .word
+            above (yes l) = absurd (omega (arith, a .absent, has-lt (a .word) (length (c .rules)) l (a .names)))
+            above (no l) = omega arith
+
+    edge-decided : operandBytes edge ≤ length operands
+        → Decides (WrongEdge c (byteOf edge ∷ operands)) (badEdge (recordOf c) (getD operands 0 0) (getD operands 1 0))
+    edge-decided long =
+        decides-iff (λ w. record { pair = elementAt edge operands; more = behind edge; is = written edge long; wrong = w })
+        (λ w. subst (NoNewEdge c) (sym (spelt edge (w .pair) (w .more) (w .is) tt)) (w .wrong)) (decides-bad c few (elementAt edge operands))
+
+    end-decided : Decides (BytesAfterEnd (byteOf end ∷ operands)) (ltb 0 (length operands))
+    end-decided = go operands
+      where
+        go : (s : List ℕ) → Decides (BytesAfterEnd (byteOf end ∷ s)) (ltb 0 (length s))
+        go [] = record { yes = λ e. absurd (true≢false (sym e)); no = λ e b. no-byte (tail-same (b .is)) }
+        go (b ∷ s) = record { yes = λ e. record { first = b; more = s; is = refl }; no = λ e. absurd (omega (arith, ltb-false 0 (suc (length s)) e)) }
+
+    -- ---- all rows
+
+    -- rows 3, 4, 5 and 2, and behind them the rows that go by operands
+    kind-rows : (at : ℕ) (k : Kind) {ts : List TableRow} → (operandBytes k ≤ length operands → Agree (operandRows (recordOf c) at k operands) ts)
+        → Agree (rows (recordOf c) at k operands)
+        (row 3 (UnknownByte (byteOf k ∷ operands)) at
+        ∷ row 4 (OutOfGroupOrder c (byteOf k ∷ operands)) at
+        ∷ row 5 (OneTooMany c (byteOf k ∷ operands)) at
+        ∷ row 2 (CutShort (byteOf k ∷ operands)) at
+        ∷ ts)
+    kind-rows at k below =
+        skips (known k)
+        (meets (meet refl refl (order-decided k))
+        (λ e. meets (meet refl refl (many-decided k)) (λ f. meets (meet refl refl (short-decided k)) (λ g. below (ltb-false _ _ g)))))
+
+    agree : (at : ℕ) (k : Kind) → Agree (rows (recordOf c) at k operands) (readingPlace c at (byteOf k ∷ operands))
+    agree at rule =
+        kind-rows at rule
+        (λ long. meets (meet refl refl (zero-decided long))
+        (λ e. skips (λ a. other unit rule refl (a .is)) (skips (λ w. other edge rule refl (w .is)) (skips (λ b. other end rule refl (b .is)) done))))
+    agree at unit =
+        kind-rows at unit
+        (λ long. skips (λ z. other rule unit refl (z .is)) (meets (meet refl refl (absent-decided long))
+        (λ e. skips (λ w. other edge unit refl (w .is)) (skips (λ b. other end unit refl (b .is)) done))))
+    agree at edge =
+        kind-rows at edge
+        (λ long. skips (λ z. other rule edge refl (z .is)) (skips (λ a. other unit edge refl (a .is))
+        (meets (meet refl refl (edge-decided long)) (λ e. skips (λ b. other end edge refl (b .is)) done))))
+    agree at end =
+        kind-rows at end
+        (λ long. skips (λ z. other rule end refl (z .is)) (skips (λ a. other unit end refl (a .is))
+        (skips (λ w. other edge end refl (w .is)) (meets (meet refl (add-one at) end-decided) (λ e. done)))))
+
+-- ---- the command at the front of s
+
+-- either no row fits it, or its fault is that of the first row that does
+data Judged (c : Contents) (at : ℕ) (s : List ℕ) : Type 0 where
+  passes : (k : Kind) (operands : List ℕ) → commandAt (recordOf c) at s ≡ carrying k operands
+      → ((n r : ℕ) → ¬ FirstFit (readingPlace c at s) n r) → Judged c at s
+  stops : (f : Fault) → commandAt (recordOf c) at s ≡ Faulty f → FirstFit (readingPlace c at s) (number f) (spot f) → Judged c at s
+
+judged : (c : Contents) → Few c → (at : ℕ) (s : List ℕ) → All IsByte s → Judged c at s
+unfolding commandAt ofKind
+judged c few at [] small =
+    stops (Truncated at) refl
+    (inr (λ u. no-byte (u .is), inr (λ o. no-byte (o .begins .is), inr (λ o. no-byte (o .begins .is), inl (before-end refl, (refl, refl))))))
+judged c few at (b ∷ operands) small = go (kindOf b) refl
+  where
+    none-named : kindOf b ≡ none → (k : Kind) → ¬ (b ≡ byteOf k)
+    none-named e k h = let z : none ≡ some k = sym e ∙ ap kindOf h ∙ kind-of-byte k in let y : _≡_ {A = ℕ} 0 1 = cc in omega arith
+
+    of-kind : (k : Kind) → kindOf b ≡ some k
+        → Passed (rows (recordOf c) at k operands) ⊎ FirstIs (rows (recordOf c) at k operands) (readingPlace c at (b ∷ operands)) (carrying k operands)
+        → Agree (rows (recordOf c) at k operands) (readingPlace c at (b ∷ operands)) → Judged c at (b ∷ operands)
+    of-kind k e (inl h) a =
+        passes k operands (known-command (recordOf c) at b operands k e ∙ none-fits (rows (recordOf c) at k operands) (carrying k operands) h)
+        (none-first a h)
+    of-kind k e (inr f) a = stops (f .fault) (known-command (recordOf c) at b operands k e ∙ f .is) (f .first)
+
+    go : (o : Option Kind) → kindOf b ≡ o → Judged c at (b ∷ operands)
+    go none e =
+        stops (UnknownCommand at) (unknown-command (recordOf c) at b operands e)
+        (inl (record { byte = b; behind = operands; is = refl; names-none = none-named e }, (refl, refl)))
+    go (some k) e =
+        let a : Agree (rows (recordOf c) at k operands) (readingPlace c at (b ∷ operands)) =
+        subst (λ (x : ℕ). Agree (rows (recordOf c) at k operands) (readingPlace c at (x ∷ operands))) (sym (kind-byte b k e))
+        (agree c few operands (small .1) at k) in
+        of-kind k e (same-first (carrying k operands) a) a
+
+module _ (c : Contents) (few : Few c) (at : ℕ) (s : List ℕ) (small : All IsByte s) where
+  -- a command that is a fault has that of the first row that fits
+  pub fault-is-first : (f : Fault) → commandAt (recordOf c) at s ≡ Faulty f → FirstFit (readingPlace c at s) (number f) (spot f)
+  fault-is-first f e = go (judged c few at s small)
+    where
+      go : Judged c at s → FirstFit (readingPlace c at s) (number f) (spot f)
+      go (passes k operands is none-fit) = absurd (not-faulty k operands f (sym is ∙ e))
+      go (stops g is first) =
+          let same : Faulty g ≡ Faulty f = sym is ∙ e in
+          let h : g ≡ f = cc in
+          subst (λ (x : Fault). FirstFit (readingPlace c at s) (number x) (spot x)) h first
+
+  -- and where a row fits the command is a fault
+  pub first-is-fault : (n r : ℕ) → FirstFit (readingPlace c at s) n r
+      → (f : Fault) × (commandAt (recordOf c) at s ≡ Faulty f) × (number f ≡ n) × (spot f ≡ r)
+  first-is-fault n r first = go (judged c few at s small)
+    where
+      go : Judged c at s → (f : Fault) × (commandAt (recordOf c) at s ≡ Faulty f) × (number f ≡ n) × (spot f ≡ r)
+      go (passes k operands is none-fit) = absurd (none-fit n r first)
+      go (stops f is own-first) =
+          let same = first-one (readingPlace c at s) (number f) n (spot f) r own-first first in
+          (f, is, same .0, same .1)

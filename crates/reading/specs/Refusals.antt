@@ -1,0 +1,126 @@
+-- What reading accepts and refuses, said of a plan's lists and their layout alone: the reader, its record and its steps are not spoken of.
+-- Document 01, "Faults, by where they are found", place "reading".
+use mathlib.Core.Path.{_≡_}
+use mathlib.Core.List.{List, [], _∷_, _++_, List·Memᴰ}
+use mathlib.Core.Logic.{_↔_}
+use Prim.Native.Nat.{ℕ, suc, _≤_, _<_}
+use lib.ListN.{length}
+use Rattle.atoms.specs.Word.{Has}
+use Rattle.plan.specs.Limits.{MAX_RULES, MAX_UNITS}
+use Rattle.plan.specs.Faults.{RefusedBy, TableRow, FirstFit}
+use Rattle.reading.specs.Words.{WORD_VALUES}
+use Rattle.reading.specs.Commands.{Kind, rule, unit, edge, end, byteOf, operandBytes, orderOf}
+use Rattle.reading.specs.Layout.{UnitPair, Contents, ruleBytes, unitBytes, edgeBytes, endBytes, commands, layout, Within}
+use Rattle.plan.specs.declared.fault.Outcome.{Outcome}
+use Rattle.plan.specs.declared.fault.Outcome.the-variants.{Accepted}
+
+-- ---- the rows: c is what the commands before say, `rest` the bytes from the command on
+
+-- `rest` begins with a command of this kind
+pub record Begins (kind : Kind) (rest : List ℕ) : Type 0 where
+  pub behind : List ℕ
+  pub is : rest ≡ byteOf kind ∷ behind
+
+-- how many commands of the kind there are
+abbrev pub countOf : Contents → Kind → ℕ
+countOf c rule = length (c .rules)
+countOf c unit = length (c .units)
+countOf c edge = length (c .edges)
+countOf c end = 0
+
+-- 3: "unknown command byte"
+pub record UnknownByte (rest : List ℕ) : Type 0 where
+  pub byte : ℕ
+  pub behind : List ℕ
+  pub is : rest ≡ byte ∷ behind
+  pub names-none : (kind : Kind) → ¬ (byte ≡ byteOf kind)
+
+-- 4: "command out of group order", a command of a later group being there
+pub record OutOfGroupOrder (c : Contents) (rest : List ℕ) : Type 0 where
+  pub kind : Kind
+  pub begins : Begins kind rest
+  pub later : Kind
+  pub behind : orderOf kind < orderOf later
+  pub there : 0 < countOf c later
+
+-- 5: "65th RULE, 17th UNIT"; a 241st EDGE is 8, or 2 where it is cut short
+abbrev pub Full : Contents → Kind → Type 0
+Full c rule = MAX_RULES ≤ length (c .rules)
+Full c unit = MAX_UNITS ≤ length (c .units)
+Full c edge = ⊥
+Full c end = ⊥
+
+pub record OneTooMany (c : Contents) (rest : List ℕ) : Type 0 where
+  pub kind : Kind
+  pub begins : Begins kind rest
+  pub full : Full c kind
+
+-- 2: "bytes end before END or inside operands"
+pub data CutShort (rest : List ℕ) : Type 0 where
+  before-end : rest ≡ [] → CutShort rest
+  inside-operands : (kind : Kind) (begins : Begins kind rest) → length (begins .behind) < operandBytes kind → CutShort rest
+
+-- 6: "RULE with three zero words"
+pub record ZeroRule (rest : List ℕ) : Type 0 where
+  pub more : List ℕ
+  pub is : rest ≡ ruleBytes (record { head = 0; positive = 0; negative = 0 }) ++ more
+
+-- 7: "UNIT names a rule that isn't there"
+pub record NamesAbsentRule (c : Contents) (rest : List ℕ) : Type 0 where
+  pub word : ℕ
+  pub more : List ℕ
+  pub is : rest ≡ unitBytes word ++ more
+  pub fits : word < WORD_VALUES
+  pub named : ℕ
+  pub names : Has word named
+  pub absent : length (c .rules) ≤ named
+
+-- 8: "EDGE: no such unit, u = v, or a repeat"
+pub data NoNewEdge (c : Contents) (e : UnitPair) : Type 0 where
+  no-such-u : length (c .units) ≤ e .u → NoNewEdge c e
+  no-such-v : length (c .units) ≤ e .v → NoNewEdge c e
+  to-itself : e .u ≡ e .v → NoNewEdge c e
+  repeated : List·Memᴰ e (c .edges) → NoNewEdge c e
+
+pub record WrongEdge (c : Contents) (rest : List ℕ) : Type 0 where
+  pub pair : UnitPair
+  pub more : List ℕ
+  pub is : rest ≡ edgeBytes pair ++ more
+  pub wrong : NoNewEdge c pair
+
+-- 9: "bytes after END"
+pub record BytesAfterEnd (rest : List ℕ) : Type 0 where
+  pub first : ℕ
+  pub more : List ℕ
+  pub is : rest ≡ endBytes ++ (first ∷ more)
+
+-- ---- the place
+
+abbrev pub row : ℕ → Type 0 → ℕ → TableRow
+row n fits s = record { no = n; Fits = fits; at = s }
+
+-- the reading place's rows from top to bottom, for the command at `offset`
+abbrev pub readingPlace : Contents → ℕ → List ℕ → List TableRow
+readingPlace c offset rest =
+    row 3 (UnknownByte rest) offset
+    ∷ row 4 (OutOfGroupOrder c rest) offset
+    ∷ row 5 (OneTooMany c rest) offset
+    ∷ row 2 (CutShort rest) offset
+    ∷ row 6 (ZeroRule rest) offset
+    ∷ row 7 (NamesAbsentRule c rest) offset
+    ∷ row 8 (WrongEdge c rest) offset
+    ∷ row 9 (BytesAfterEnd rest) (suc offset)
+    ∷ []
+
+-- "tried per command in reading", "from the left": behind commands that no row stops, n and s are the first row that fits the next one
+pub record Stopped (bytes : List ℕ) (n s : ℕ) : Type 0 where
+  pub contents : Contents
+  pub within : Within contents
+  pub rest : List ℕ
+  pub split : bytes ≡ commands contents ++ rest
+  pub first : FirstFit (readingPlace contents (length (commands contents)) rest) n s
+
+-- what reading answers: accepted exactly if the bytes are the layout of lists within the limits, refused exactly by the row that stops them
+pub record ReadingJudged (bytes : List ℕ) (outcome : Outcome) : Type 0 where
+  pub accepted : (outcome ≡ Accepted) ↔ ((c : Contents) × Within c × (bytes ≡ layout c))
+  pub refused : (n s : ℕ) → RefusedBy outcome n s ↔ Stopped bytes n s

@@ -1,0 +1,11 @@
+-- What is promised of a listing: demands 1 to 3.
+use mathlib.Core.List.{List}
+use Prim.Native.Nat.{ℕ}
+use Rattle.unit_lists.specs.Demand1.{Demand1}
+use Rattle.unit_lists.specs.Demands.{Demand2, Demand3}
+use Rattle.unit_lists.specs.declared.listing.Listing.{Listing}
+
+pub record Promised (bytes table : List ℕ) (r : Listing) (table′ : List ℕ) : Type 0 where
+  pub demand-1 : Demand1 bytes table r table′
+  pub demand-2 : Demand2 bytes table r
+  pub demand-3 : Demand3 bytes table r table′
