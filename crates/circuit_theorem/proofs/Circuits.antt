@@ -23,7 +23,7 @@ use Rattle.dependency_graph.specs.Heads.{through, reachVia, reach, own, heads, 
 use Rattle.dependency_graph.specs.Order.{ready, nextUnit, orderFrom, workingOrder}
 use Rattle.dependency_graph.specs.PlanUnits.{unitsOf}
 use Rattle.dependency_graph.specs.Offenders.{twiceBelow, seen, unseenHeads, nonmonotonicUnseenIn, monotonicSeenIn}
-use Rattle.dependency_graph.specs.Offenders.{ruleInNoUnit, headedRuleInSeveral, cycle, nonmonotonicUnseen, monotonicUnseen}
+use Rattle.dependency_graph.specs.Offenders.{givenInHead, ruleInNoUnit, headedRuleInSeveral, cycle, nonmonotonicUnseen, monotonicUnseen}
 use Rattle.dependency_graph.specs.Check.{row, verdict}
 use Rattle.splitting.specs.UnitList.{withLast}
 use Rattle.judge.specs.Answers.{judged}
@@ -98,6 +98,6 @@ pub circuits : (map shown plans ≡ results) × (judged circuit-2 3 ≡ NotSettl
 unfolding judged shown answer tableOutcome reading walk commandAt ofKind kindOf carrying late emptyRule absentRule badEdge emptyPlan withRule
     withUnit withEdge number wordAt unlessRefused workFrom noCounts tableWith countsWith listAt runs padded tabulate lastList unitList inList isInput
     members allBelow someBelow wordBelow unionIn twiceBelow heads inputHeads own reach reachVia through withLast unitsOf lent answerSet someSmaller
-    satisfiesAll satisfies body kept keptIf has subset apart _∩_ _∪_ _∖_ atom below verdict row ruleInNoUnit headedRuleInSeveral cycle
+    satisfiesAll satisfies body kept keptIf has subset apart _∩_ _∪_ _∖_ atom below verdict row givenInHead ruleInNoUnit headedRuleInSeveral cycle
     nonmonotonicUnseen monotonicUnseen nonmonotonicUnseenIn monotonicSeenIn seen unseenHeads lowestOf lowest workingOrder orderFrom nextUnit ready
 circuits = (refl, refl)

@@ -14,13 +14,14 @@ use Rattle.dependency_graph.specs.Heads.{through, reachVia, reach}
 use Rattle.dependency_graph.specs.Order.{ready, nextUnit, orderFrom, workingOrder}
 use Rattle.dependency_graph.specs.PlanUnits.{unitsOf}
 use Rattle.dependency_graph.specs.Offenders.{twiceBelow, seen, unseenHeads, nonmonotonicUnseenIn, monotonicSeenIn}
-use Rattle.dependency_graph.specs.Offenders.{ruleInNoUnit, headedRuleInSeveral, cycle, nonmonotonicUnseen, monotonicUnseen}
+use Rattle.dependency_graph.specs.Offenders.{givenInHead, ruleInNoUnit, headedRuleInSeveral, cycle, nonmonotonicUnseen, monotonicUnseen}
 use Rattle.dependency_graph.specs.Check.{row, verdict}
 
--- a small plan: rules and their count, units and their count, edges
-abbrev small : List ℕ → ℕ → List ℕ → ℕ → List ℕ → Plan
-small rules n units m predecessors =
+-- a small plan: given atoms, rules and their count, units and their count, edges
+abbrev giving : ℕ → List ℕ → ℕ → List ℕ → ℕ → List ℕ → Plan
+giving given rules n units m predecessors =
     record {
+      given = given;
       rules = rules;
       «rule_count» = n;
       units = units;
@@ -29,8 +30,11 @@ small rules n units m predecessors =
       «edge_count» = 0;
     }
 
+abbrev small : List ℕ → ℕ → List ℕ → ℕ → List ℕ → Plan
+small = giving 0
+
 -- plan P and P without its edge; circuits 4, 7, 8, 9, 10 and 11; a rule in no unit; a fact in two units; a unit above a cycle;
--- a path in place of an edge
+-- a path in place of an edge; given atoms in the heads of rules 1 and 2, while rule 0 is in no unit; a given atom in a body alone
 abbrev pub graphs : List Plan
 graphs =
     small (3 ∷ 0 ∷ 0 ∷ 4 ∷ 1 ∷ 0 ∷ []) 2 (1 ∷ 2 ∷ []) 2 (0 ∷ 1 ∷ [])
@@ -45,6 +49,8 @@ graphs =
     ∷ small (1 ∷ 0 ∷ 0 ∷ []) 1 (1 ∷ 1 ∷ []) 2 (0 ∷ 0 ∷ [])
     ∷ small [] 0 (0 ∷ 0 ∷ 0 ∷ []) 3 (2 ∷ 4 ∷ 2 ∷ [])
     ∷ small (1 ∷ 0 ∷ 0 ∷ 2 ∷ 1 ∷ 0 ∷ []) 2 (1 ∷ 0 ∷ 2 ∷ []) 3 (0 ∷ 1 ∷ 2 ∷ [])
+    ∷ giving 6 (1 ∷ 0 ∷ 0 ∷ 3 ∷ 0 ∷ 0 ∷ 4 ∷ 0 ∷ 0 ∷ []) 3 (6 ∷ []) 1 (0 ∷ [])
+    ∷ giving 2 (1 ∷ 2 ∷ 0 ∷ []) 1 (1 ∷ []) 1 (0 ∷ [])
     ∷ []
 
 abbrev pub verdicts : List Outcome
@@ -61,10 +67,12 @@ verdicts =
     ∷ Refused (Fault.HeadedRuleInSeveral 0)
     ∷ Refused (Fault.Cycle 1)
     ∷ Refused (Fault.MonotonicUnseen 1)
+    ∷ Refused (Fault.GivenInHead 1)
+    ∷ Accepted
     ∷ []
 
 pub circuits : map (λ p. verdict (unitsOf p)) graphs ≡ verdicts
-unfolding verdict row ruleInNoUnit headedRuleInSeveral cycle nonmonotonicUnseen monotonicUnseen
+unfolding verdict row givenInHead ruleInNoUnit headedRuleInSeveral cycle nonmonotonicUnseen monotonicUnseen
     nonmonotonicUnseenIn monotonicSeenIn seen unseenHeads twiceBelow unionIn wordBelow
     lowestOf lowest reach reachVia through unitsOf lent has apart _∩_ _∪_ _∖_ atom below
 circuits = refl

@@ -13,12 +13,12 @@ use Rattle.atoms.proofs.Sets.{has-below, ext, some-atom, apart-of-cut, shared-a
 use Rattle.atoms.proofs.Bounded.{union-has, union-at}
 use Rattle.atoms.proofs.Collected.{collects-none, collects-dec, collects-iff, collects-has, collects-below, collects-word, collects-cut}
 use Rattle.atoms.proofs.Collected.{collects-union, collects-without, collects-union-in}
-use Rattle.dependency_graph.specs.Units.{Units, Holds}
+use Rattle.dependency_graph.specs.Units.{Units, Holds, GivenFree}
 use Rattle.dependency_graph.specs.Graph.{Share, Nonmonotonic, Monotonic, Sees, ConditionA, ConditionB, Acyclic, ConditionC, ConditionD}
 use Rattle.dependency_graph.specs.Heads.{reach}
-use Rattle.dependency_graph.specs.Offenders.{RuleInNoUnit, HeadedRuleInSeveral, Cycle, NonmonotonicUnseen, MonotonicUnseen}
+use Rattle.dependency_graph.specs.Offenders.{GivenInHead, RuleInNoUnit, HeadedRuleInSeveral, Cycle, NonmonotonicUnseen, MonotonicUnseen}
 use Rattle.dependency_graph.specs.Offenders.{unionBelow, twiceBelow, seen, unseenHeads, nonmonotonicUnseenIn, monotonicSeenIn}
-use Rattle.dependency_graph.specs.Offenders.{ruleInNoUnit, headedRuleInSeveral, cycle, nonmonotonicUnseen, monotonicUnseen}
+use Rattle.dependency_graph.specs.Offenders.{givenInHead, ruleInNoUnit, headedRuleInSeveral, cycle, nonmonotonicUnseen, monotonicUnseen}
 use Rattle.dependency_graph.proofs.Heads.{path-start, reach-path, path-reach}
 
 -- ---- the words of the numbers below a bound
@@ -112,6 +112,25 @@ module _ (S : Units) where
   -- a unit sees the rules that it holds
   other-rule : (u r s : ℕ) → Holds S u r → ¬ Sees S u s → ¬ (r ≡ s)
   other-rule u r s h n e = n (inl (subst (λ (x : ℕ). Holds S u x) e h))
+
+  -- ---- row 16: given atoms
+
+  pub collects-given-in-head : Collects (GivenInHead S) (givenInHead S)
+  unfolding givenInHead
+  collects-given-in-head =
+      collects-iff into (λ r o. (o .is-rule, λ f. f .none (o .shared .atom) (o .shared .left) (o .shared .right)))
+      (collects-word (S .rules) _ (λ r l. decides-not (decides-apart (S .program .head r) (S .given))))
+    where
+      into : (r : ℕ) → (r < S .rules) × ¬ Apart (S .program .head r) (S .given) → GivenInHead S r
+      into r k =
+          let m = shared-atom (S .program .head r) (S .given) (λ e. k .1 (apart-of-cut (S .program .head r) (S .given) e)) in
+          record { is-rule = k .0; shared = record { atom = m .0; left = m .1; right = m .2 } }
+
+  pub given-iff : (givenInHead S ≡ 0) ↔ GivenFree S
+  given-iff =
+      empty-iff collects-given-in-head
+      (λ n. record { free = λ r a l h g. n r (record { is-rule = l; shared = record { atom = a; left = h; right = g } }) })
+      (λ c r o. c .free r (o .shared .atom) (o .is-rule) (o .shared .left) (o .shared .right))
 
   -- ---- row 10: (a)
 

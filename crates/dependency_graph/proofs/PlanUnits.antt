@@ -1,5 +1,5 @@
--- The units of a plan: rules look at their negative atoms alone, no atom is given, and the tables of head atoms.
-use mathlib.Core.Path.{_≡_, sym, ap, _∙_}
+-- The units of a plan: rules look at their negative atoms alone, and the tables of head atoms.
+use mathlib.Core.Path.{_≡_, ap, _∙_}
 use mathlib.Core.Bool.{true}
 use mathlib.Core.List.{List}
 use Prim.Native.Nat.{ℕ, _<_}
@@ -7,11 +7,11 @@ use lib.ListN.{getD}
 use Rattle.atoms.specs.Word.{Has, _∪_, apart}
 use Rattle.atoms.specs.Bounded.{unionIn}
 use Rattle.atoms.proofs.Tests.{bool-ext, decided-true}
-use Rattle.atoms.proofs.Sets.{decides-apart, has-none, union-none-left}
+use Rattle.atoms.proofs.Sets.{decides-apart}
 use Rattle.atoms.proofs.Bounded.{union-in-same}
 use Rattle.answer_sets.specs.Lent.{lent, looks}
 use Rattle.plan.specs.declared.record.Plan.{Plan}
-use Rattle.dependency_graph.specs.Units.{LooksOnly, GivenFree}
+use Rattle.dependency_graph.specs.Units.{LooksOnly}
 use Rattle.dependency_graph.specs.Heads.{reach, own, heads, inputHeads}
 use Rattle.dependency_graph.specs.PlanUnits.{unitsOf}
 use Rattle.dependency_graph.specs.Filled.{Filled}
@@ -29,34 +29,33 @@ module _ (p : Plan) where
       same : (w M N : ℕ) → ((a : ℕ) → Has w a → Has M a → Has N a) → ((a : ℕ) → Has w a → Has N a → Has M a) → apart w M ≡ apart w N
       same w M N f g = bool-ext (apart w M) (apart w N) (half w M N g) (half w N M f)
 
-  pub given-free : GivenFree (unitsOf p)
-  unfolding unitsOf
-  given-free = record { free = λ r a l h g. has-none g }
-
   -- H(u) from the tables of own head atoms and of reach
   heads-at : (owns reached : List ℕ) → ((v : ℕ) → v < p .«unit_count» → getD owns v 0 ≡ own (unitsOf p) v)
       → ((v : ℕ) → v < p .«unit_count» → getD reached v 0 ≡ reach (unitsOf p) v) → (u : ℕ) → u < p .«unit_count»
-      → getD owns u 0 ∪ unionIn (p .«unit_count») (getD reached u 0) (λ v. getD owns v 0) ≡ heads (unitsOf p) u
+      → p .given ∪ (getD owns u 0 ∪ unionIn (p .«unit_count») (getD reached u 0) (λ v. getD owns v 0)) ≡ heads (unitsOf p) u
   unfolding heads unitsOf
   heads-at owns reached o t u l =
       rw (o u l, t u l, union-in-same (p .«unit_count») (reach (unitsOf p) u) (λ v. getD owns v 0) (own (unitsOf p)) o)
-      (sym (union-none-left _))
 
-  pub heads-filled : {zeros zeros′ owns reached before between after : List ℕ} → Filled (p .«unit_count») (own (unitsOf p)) zeros owns
+  pub heads-filled : {zeros zeros′ owns reached before unions between after : List ℕ} → Filled (p .«unit_count») (own (unitsOf p)) zeros owns
       → Filled (p .«unit_count») (reach (unitsOf p)) zeros′ reached
-      → Filled (p .«unit_count») (λ u. unionIn (p .«unit_count») (getD reached u 0) (λ v. getD owns v 0)) before between
-      → Filled (p .«unit_count») (λ u. getD owns u 0 ∪ getD between u 0) between after
+      → Filled (p .«unit_count») (λ u. unionIn (p .«unit_count») (getD reached u 0) (λ v. getD owns v 0)) before unions
+      → Filled (p .«unit_count») (λ u. getD owns u 0 ∪ getD unions u 0) unions between
+      → Filled (p .«unit_count») (λ u. p .given ∪ getD between u 0) between after
       → Filled (p .«unit_count») (heads (unitsOf p)) before after
-  heads-filled {owns = owns} {reached = reached} o t j a =
-      filled-same (filled-again j a) (heads (unitsOf p))
-      (λ u l. ap (λ (w : ℕ). getD owns u 0 ∪ w) (j .filled u l) ∙ heads-at owns reached (o .filled) (t .filled) u l)
+  heads-filled {owns = owns} {reached = reached} o t j a g =
+      filled-same (filled-again (filled-again j a) g) (heads (unitsOf p))
+      (λ u l. ap (λ (w : ℕ). p .given ∪ w) (a .filled u l ∙ ap (λ (w : ℕ). getD owns u 0 ∪ w) (j .filled u l))
+      ∙ heads-at owns reached (o .filled) (t .filled) u l)
 
   -- Hp(u) from the table of all H(v)
-  pub inputs-filled : {zeros table before after : List ℕ} → Filled (p .«unit_count») (heads (unitsOf p)) zeros table
-      → Filled (p .«unit_count») (λ u. unionIn (p .«unit_count») (getD (p .predecessors) u 0) (λ v. getD table v 0)) before after
+  pub inputs-filled : {zeros table before unions after : List ℕ} → Filled (p .«unit_count») (heads (unitsOf p)) zeros table
+      → Filled (p .«unit_count») (λ u. unionIn (p .«unit_count») (getD (p .predecessors) u 0) (λ v. getD table v 0)) before unions
+      → Filled (p .«unit_count») (λ u. p .given ∪ getD unions u 0) unions after
       → Filled (p .«unit_count») (inputHeads (unitsOf p)) before after
   unfolding inputHeads unitsOf
-  inputs-filled {table = table} h t =
-      filled-same t (inputHeads (unitsOf p))
-      (λ u l. union-in-same (p .«unit_count») (getD (p .predecessors) u 0) (λ v. getD table v 0) (heads (unitsOf p)) (h .filled)
-      ∙ sym (union-none-left (unionIn (p .«unit_count») (getD (p .predecessors) u 0) (heads (unitsOf p)))))
+  inputs-filled {table = table} h t g =
+      filled-same (filled-again t g) (inputHeads (unitsOf p))
+      (λ u l. ap (λ (w : ℕ). p .given ∪ w)
+      (t .filled u l
+      ∙ union-in-same (p .«unit_count») (getD (p .predecessors) u 0) (λ v. getD table v 0) (heads (unitsOf p)) (h .filled)))

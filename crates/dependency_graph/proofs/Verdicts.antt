@@ -13,13 +13,13 @@ use Rattle.plan.specs.declared.fault.Outcome.{Outcome}
 use Rattle.plan.specs.declared.fault.Outcome.the-variants.{Accepted, Refused}
 use Rattle.dependency_graph.specs.Units.{Units}
 use Rattle.dependency_graph.specs.Graph.{Passes}
-use Rattle.dependency_graph.specs.Offenders.{RuleInNoUnit, HeadedRuleInSeveral, Cycle, NonmonotonicUnseen, MonotonicUnseen}
-use Rattle.dependency_graph.specs.Check.{row, verdict, Right, passes, row-10, row-11, row-12, row-13, row-14}
+use Rattle.dependency_graph.specs.Offenders.{GivenInHead, RuleInNoUnit, HeadedRuleInSeveral, Cycle, NonmonotonicUnseen, MonotonicUnseen}
+use Rattle.dependency_graph.specs.Check.{row, verdict, Right, passes, row-16, row-10, row-11, row-12, row-13, row-14}
 use Rattle.dependency_graph.proofs.Heads.{path-start}
 use Rattle.dependency_graph.proofs.Rows.{row-misses, row-fits}
-use Rattle.dependency_graph.proofs.Offenders.{collects-rule-in-no-unit, collects-headed-rule-in-several, collects-cycle}
+use Rattle.dependency_graph.proofs.Offenders.{collects-given-in-head, collects-rule-in-no-unit, collects-headed-rule-in-several, collects-cycle}
 use Rattle.dependency_graph.proofs.Offenders.{collects-nonmonotonic-unseen, collects-monotonic-unseen}
-use Rattle.dependency_graph.proofs.Offenders.{a-iff, b-iff, acyclic-iff, c-iff, d-iff}
+use Rattle.dependency_graph.proofs.Offenders.{given-iff, a-iff, b-iff, acyclic-iff, c-iff, d-iff}
 
 -- ---- one row
 
@@ -40,12 +40,12 @@ least-of {w = w} c small n =
     let s = some-atom w n in collects-least c (lowest-of-lowest w (s .0) (s .1) (small (s .0) (c .each (s .0) (s .1))))
 
 -- a row is right where its fault is, and where it misses the rows below are
-row-right : (S : Units) {K : ℕ → Type 0} {w : ℕ} (f : ℕ → Fault) (v : Outcome) → Collects K w → ((r : ℕ) → K r → r < ATOMS)
-    → (Least K (lowestOf w) → Right S (Refused (f (lowestOf w)))) → (w ≡ 0 → Right S v) → Right S (row w f v)
-row-right S {w = w} f v c small hit miss = go (ℕ-discrete w 0)
+row-right : (S : Units) {K : ℕ → Type 0} {w : ℕ} {C : Type 0} (f : ℕ → Fault) (v : Outcome) → Collects K w → ((r : ℕ) → K r → r < ATOMS)
+    → (w ≡ 0) ↔ C → (Least K (lowestOf w) → Right S (Refused (f (lowestOf w)))) → (C → Right S v) → Right S (row w f v)
+row-right S {w = w} f v c small iff hit miss = go (ℕ-discrete w 0)
   where
     go : Dec (w ≡ 0) → Right S (row w f v)
-    go (yes e) = rw (row-misses w f v e) (miss e)
+    go (yes e) = rw (row-misses w f v e) (miss (iff .0 e))
     go (no n) = rw (row-fits w f v n) (hit (least-of c small n))
 
 -- a row fits where there is an offender, and names the least
@@ -61,7 +61,8 @@ module _ (S : Units) where
   pub verdict-of-passes : Passes S → verdict S ≡ Accepted
   unfolding verdict
   verdict-of-passes p =
-      row-misses _ _ _ (a-iff S .1 (p .a))
+      row-misses _ _ _ (given-iff S .1 (p .given-free))
+      ∙ row-misses _ _ _ (a-iff S .1 (p .a))
       ∙ row-misses _ _ _ (b-iff S .1 (p .b))
       ∙ row-misses _ _ _ (acyclic-iff S .1 (p .acyclic))
       ∙ row-misses _ _ _ (c-iff S .1 (p .c))
@@ -70,12 +71,14 @@ module _ (S : Units) where
   pub passes-of-verdict : verdict S ≡ Accepted → Passes S
   unfolding verdict
   passes-of-verdict e =
-      let a = row-passes _ _ _ e in
+      let g = row-passes _ _ _ e in
+      let a = row-passes _ _ _ (g .1) in
       let b = row-passes _ _ _ (a .1) in
       let y = row-passes _ _ _ (b .1) in
       let c = row-passes _ _ _ (y .1) in
       let d = row-passes _ _ _ (c .1) in
       record {
+        given-free = given-iff S .0 (g .0);
         a = a-iff S .0 (a .0);
         b = b-iff S .0 (b .0);
         acyclic = acyclic-iff S .0 (y .0);
@@ -88,6 +91,9 @@ module _ (S : Units) where
   passes-iff = (passes-of-verdict, verdict-of-passes)
 
 module _ (S : Units) (rules-fit : S .rules ≤ ATOMS) (units-fit : S .units ≤ ATOMS) where
+  small-given-in-head : (r : ℕ) → GivenInHead S r → r < ATOMS
+  small-given-in-head r o = omega (arith, o .is-rule)
+
   small-rule-in-no-unit : (r : ℕ) → RuleInNoUnit S r → r < ATOMS
   small-rule-in-no-unit r o = omega (arith, o .is-rule)
 
@@ -107,38 +113,39 @@ module _ (S : Units) (rules-fit : S .rules ≤ ATOMS) (units-fit : S .units ≤ 
   pub verdict-right : Right S (verdict S)
   unfolding verdict
   verdict-right =
-      row-right S _ _ (collects-rule-in-no-unit S) small-rule-in-no-unit row-10
-      (λ a. row-right S _ _ (collects-headed-rule-in-several S) small-headed-rule-in-several (row-11 (a-iff S .0 a))
-      (λ b. row-right S _ _ (collects-cycle S) small-cycle (row-12 (a-iff S .0 a) (b-iff S .0 b))
-      (λ y. row-right S _ _ (collects-nonmonotonic-unseen S) small-nonmonotonic-unseen (row-13 (a-iff S .0 a) (b-iff S .0 b) (acyclic-iff S .0 y))
-      (λ c. row-right S _ _ (collects-monotonic-unseen S) small-monotonic-unseen (row-14 (a-iff S .0 a) (b-iff S .0 b) (acyclic-iff S .0 y) (c-iff S .0 c))
-      (λ d. passes (record {
-        a = a-iff S .0 a;
-        b = b-iff S .0 b;
-        acyclic = acyclic-iff S .0 y;
-        c = c-iff S .0 c;
-        d = d-iff S .0 d;
-      }))))))
+      row-right S _ _ (collects-given-in-head S) small-given-in-head (given-iff S) row-16
+      (λ g. row-right S _ _ (collects-rule-in-no-unit S) small-rule-in-no-unit (a-iff S) (row-10 g)
+      (λ a. row-right S _ _ (collects-headed-rule-in-several S) small-headed-rule-in-several (b-iff S) (row-11 g a)
+      (λ b. row-right S _ _ (collects-cycle S) small-cycle (acyclic-iff S) (row-12 g a b)
+      (λ y. row-right S _ _ (collects-nonmonotonic-unseen S) small-nonmonotonic-unseen (c-iff S) (row-13 g a b y)
+      (λ c. row-right S _ _ (collects-monotonic-unseen S) small-monotonic-unseen (d-iff S) (row-14 g a b y c)
+      (λ d. passes (record { given-free = g; a = a; b = b; acyclic = y; c = c; d = d })))))))
 
   -- and only one verdict does
   pub verdict-only : (v : Outcome) → Right S v → verdict S ≡ v
   unfolding verdict
   verdict-only v (passes p) = verdict-of-passes S p
-  verdict-only v (row-10 least) = row-names Fault.RuleInNoUnit _ (collects-rule-in-no-unit S) small-rule-in-no-unit least
-  verdict-only v (row-11 a least) =
-      row-misses _ _ _ (a-iff S .1 a)
+  verdict-only v (row-16 least) = row-names Fault.GivenInHead _ (collects-given-in-head S) small-given-in-head least
+  verdict-only v (row-10 g least) =
+      row-misses _ _ _ (given-iff S .1 g) ∙ row-names Fault.RuleInNoUnit _ (collects-rule-in-no-unit S) small-rule-in-no-unit least
+  verdict-only v (row-11 g a least) =
+      row-misses _ _ _ (given-iff S .1 g)
+      ∙ row-misses _ _ _ (a-iff S .1 a)
       ∙ row-names Fault.HeadedRuleInSeveral _ (collects-headed-rule-in-several S) small-headed-rule-in-several least
-  verdict-only v (row-12 a b least) =
-      row-misses _ _ _ (a-iff S .1 a)
+  verdict-only v (row-12 g a b least) =
+      row-misses _ _ _ (given-iff S .1 g)
+      ∙ row-misses _ _ _ (a-iff S .1 a)
       ∙ row-misses _ _ _ (b-iff S .1 b)
       ∙ row-names Fault.Cycle _ (collects-cycle S) small-cycle least
-  verdict-only v (row-13 a b y least) =
-      row-misses _ _ _ (a-iff S .1 a)
+  verdict-only v (row-13 g a b y least) =
+      row-misses _ _ _ (given-iff S .1 g)
+      ∙ row-misses _ _ _ (a-iff S .1 a)
       ∙ row-misses _ _ _ (b-iff S .1 b)
       ∙ row-misses _ _ _ (acyclic-iff S .1 y)
       ∙ row-names Fault.NonmonotonicUnseen _ (collects-nonmonotonic-unseen S) small-nonmonotonic-unseen least
-  verdict-only v (row-14 a b y c least) =
-      row-misses _ _ _ (a-iff S .1 a)
+  verdict-only v (row-14 g a b y c least) =
+      row-misses _ _ _ (given-iff S .1 g)
+      ∙ row-misses _ _ _ (a-iff S .1 a)
       ∙ row-misses _ _ _ (b-iff S .1 b)
       ∙ row-misses _ _ _ (acyclic-iff S .1 y)
       ∙ row-misses _ _ _ (c-iff S .1 c)

@@ -6,30 +6,32 @@ use Rattle.atoms.specs.Collected.{lowestOf, Least}
 use Rattle.plan.specs.declared.fault.Fault.{Fault}
 use Rattle.plan.specs.declared.fault.Outcome.{Outcome}
 use Rattle.plan.specs.declared.fault.Outcome.the-variants.{Accepted, Refused}
-use Rattle.dependency_graph.specs.Units.{Units}
+use Rattle.dependency_graph.specs.Units.{Units, GivenFree}
 use Rattle.dependency_graph.specs.Graph.{Passes, ConditionA, ConditionB, Acyclic, ConditionC}
-use Rattle.dependency_graph.specs.Offenders.{RuleInNoUnit, HeadedRuleInSeveral, Cycle, NonmonotonicUnseen, MonotonicUnseen}
-use Rattle.dependency_graph.specs.Offenders.{ruleInNoUnit, headedRuleInSeveral, cycle, nonmonotonicUnseen, monotonicUnseen}
+use Rattle.dependency_graph.specs.Offenders.{GivenInHead, RuleInNoUnit, HeadedRuleInSeveral, Cycle, NonmonotonicUnseen, MonotonicUnseen}
+use Rattle.dependency_graph.specs.Offenders.{givenInHead, ruleInNoUnit, headedRuleInSeveral, cycle, nonmonotonicUnseen, monotonicUnseen}
 
 -- one row: the fault at the lowest offender, and the rows below where there is none
 unfoldable pub row : ℕ → (ℕ → Fault) → Outcome → Outcome
 row offenders fault below = elim (eqb offenders 0) [ true ↦ below | false ↦ Refused (fault (lowestOf offenders)) ]
 
--- rows 10 to 14
+-- row 16, "tried first in the graph place", and rows 10 to 14
 unfoldable pub verdict : Units → Outcome
 verdict S =
-    row (ruleInNoUnit S) Fault.RuleInNoUnit
+    row (givenInHead S) Fault.GivenInHead
+    (row (ruleInNoUnit S) Fault.RuleInNoUnit
     (row (headedRuleInSeveral S) Fault.HeadedRuleInSeveral
     (row (cycle S) Fault.Cycle
-    (row (nonmonotonicUnseen S) Fault.NonmonotonicUnseen (row (monotonicUnseen S) Fault.MonotonicUnseen Accepted))))
+    (row (nonmonotonicUnseen S) Fault.NonmonotonicUnseen (row (monotonicUnseen S) Fault.MonotonicUnseen Accepted)))))
 
 -- what a verdict says: the rows above it do not fit, and its spot is the lowest offender of its row
 pub data Right (S : Units) : Outcome → Type 0 where
   passes : Passes S → Right S Accepted
-  row-10 : {r : ℕ} → Least (RuleInNoUnit S) r → Right S (Refused (Fault.RuleInNoUnit r))
-  row-11 : {r : ℕ} → ConditionA S → Least (HeadedRuleInSeveral S) r → Right S (Refused (Fault.HeadedRuleInSeveral r))
-  row-12 : {u : ℕ} → ConditionA S → ConditionB S → Least (Cycle S) u → Right S (Refused (Fault.Cycle u))
-  row-13 : {r : ℕ} → ConditionA S → ConditionB S → Acyclic S → Least (NonmonotonicUnseen S) r
+  row-16 : {r : ℕ} → Least (GivenInHead S) r → Right S (Refused (Fault.GivenInHead r))
+  row-10 : {r : ℕ} → GivenFree S → Least (RuleInNoUnit S) r → Right S (Refused (Fault.RuleInNoUnit r))
+  row-11 : {r : ℕ} → GivenFree S → ConditionA S → Least (HeadedRuleInSeveral S) r → Right S (Refused (Fault.HeadedRuleInSeveral r))
+  row-12 : {u : ℕ} → GivenFree S → ConditionA S → ConditionB S → Least (Cycle S) u → Right S (Refused (Fault.Cycle u))
+  row-13 : {r : ℕ} → GivenFree S → ConditionA S → ConditionB S → Acyclic S → Least (NonmonotonicUnseen S) r
       → Right S (Refused (Fault.NonmonotonicUnseen r))
-  row-14 : {r : ℕ} → ConditionA S → ConditionB S → Acyclic S → ConditionC S → Least (MonotonicUnseen S) r
+  row-14 : {r : ℕ} → GivenFree S → ConditionA S → ConditionB S → Acyclic S → ConditionC S → Least (MonotonicUnseen S) r
       → Right S (Refused (Fault.MonotonicUnseen r))

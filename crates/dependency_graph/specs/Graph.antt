@@ -3,7 +3,7 @@ use mathlib.Core.Path.{_≡_}
 use mathlib.Core.Logic.{_⊎_}
 use Prim.Native.Nat.{ℕ, _<_}
 use Rattle.atoms.specs.Word.{Has}
-use Rattle.dependency_graph.specs.Units.{Units, Holds, Edge, Path}
+use Rattle.dependency_graph.specs.Units.{Units, Holds, Edge, Path, GivenFree}
 
 -- the two words share an atom
 pub record Share (a b : ℕ) : Type 0 where
@@ -47,6 +47,7 @@ pub record ConditionD (S : Units) : Type 0 where
 
 -- a graph passes: all conditions hold
 pub record Passes (S : Units) : Type 0 where
+  pub given-free : GivenFree S
   pub a : ConditionA S
   pub b : ConditionB S
   pub acyclic : Acyclic S

@@ -1,4 +1,4 @@
--- What breaks a graph condition, by rule or unit (document 01, Faults 10 to 14), and the words of all that do.
+-- What breaks a graph condition, by rule or unit (document 01, Faults 10 to 14; 02, S-1, 16), and the words of all that do.
 -- A rule's dependence on itself is ignored: a unit sees the rules that it holds.
 use mathlib.Core.Path.{_≡_}
 use mathlib.Core.Bool.{not, _&&_}
@@ -7,8 +7,13 @@ use lib.Dec.{eqb}
 use Rattle.atoms.specs.Word.{Has, has, _∩_, _∪_, _∖_, below, apart}
 use Rattle.atoms.specs.Bounded.{unionIn, wordBelow}
 use Rattle.dependency_graph.specs.Units.{Units, Holds, Path}
-use Rattle.dependency_graph.specs.Graph.{Nonmonotonic, Monotonic, Sees}
+use Rattle.dependency_graph.specs.Graph.{Share, Nonmonotonic, Monotonic, Sees}
 use Rattle.dependency_graph.specs.Heads.{reach, ruleHeads}
+
+-- "a given atom in some head": in that of rule r
+pub record GivenInHead (S : Units) (r : ℕ) : Type 0 where
+  pub is-rule : r < S .rules
+  pub shared : Share (S .program .head r) (S .given)
 
 -- "(a) broken": rule r is in no unit
 pub record RuleInNoUnit (S : Units) (r : ℕ) : Type 0 where
@@ -69,6 +74,10 @@ unfoldable pub monotonicSeenIn : Units → ℕ → ℕ
 monotonicSeenIn S u =
     wordBelow (S .rules)
     (λ r. has (S .unit u) r && apart (S .program .positive r ∪ S .program .head r) (unseenHeads S u))
+
+-- the rules with a given atom in the head
+unfoldable pub givenInHead : Units → ℕ
+givenInHead S = wordBelow (S .rules) (λ r. not (apart (S .program .head r) (S .given)))
 
 -- the rules that break (a)
 unfoldable pub ruleInNoUnit : Units → ℕ

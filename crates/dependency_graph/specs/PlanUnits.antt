@@ -8,7 +8,7 @@ use Rattle.dependency_graph.specs.declared.head_atoms.HeadAtoms.{HeadAto
 use Rattle.dependency_graph.specs.Units.{Units}
 use Rattle.dependency_graph.specs.Heads.{heads, inputHeads}
 
--- the rules, units and edges of a plan: a unit is "one word, bit i for rule i"; no atom is given
+-- the rules, units, edges and given atoms of a plan: a unit is "one word, bit i for rule i"
 unfoldable pub unitsOf : Plan → Units
 unitsOf p = record {
   program = lent (p .rules);
@@ -17,7 +17,7 @@ unitsOf p = record {
   units = p .«unit_count»;
   unit = λ u. getD (p .units) u 0;
   predecessors = λ u. getD (p .predecessors) u 0;
-  given = 0;
+  given = p .given;
 }
 
 -- H(v) and Hp(v) of each unit v of the plan

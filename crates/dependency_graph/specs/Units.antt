@@ -6,7 +6,7 @@ use Rattle.atoms.specs.Word.{Has}
 use Rattle.answer_sets.specs.Program.{Program}
 
 -- Rules and units by number. `looks r` is the word of the atoms that the rest of rule r's body looks at: its negative atoms.
--- `given` are the facts of the whole program: none as long as a plan gives none.
+-- `given` are the atoms that a plan gives: "facts of the whole program" (02, S-1).
 pub record Units : Type 0 where
   pub program : Program
   pub looks : ℕ → ℕ
@@ -38,6 +38,6 @@ pub record LooksOnly (S : Units) : Type 0 where
   pub same : (r M N : ℕ) → ((a : ℕ) → Has (S .looks r) a → Has M a ↔ Has N a)
       → S .program .rest r M ≡ S .program .rest r N
 
--- no given atom is in a head
+-- "That no given atom is in a head is from here on one of document 01's graph conditions." (02, S-1)
 pub record GivenFree (S : Units) : Type 0 where
   pub free : (r a : ℕ) → r < S .rules → Has (S .program .head r) a → ¬ Has (S .given) a

@@ -2,6 +2,7 @@
 use crate::cycle::cycle;
 use crate::dependences::monotonic_unseen;
 use crate::dependences::nonmonotonic_unseen;
+use crate::given::given_in_head;
 use crate::placement::headed_rule_in_several;
 use crate::placement::rule_in_no_unit;
 use plan::Fault;
@@ -17,6 +18,10 @@ pub fn check_graph(plan: Plan) -> Outcome
     requires { ⌜ Fitting plan ⌝ }
     ensures { λ r. ⌜ r ≡ verdict (unitsOf plan) ⌝ }
 {
+    let given = given_in_head(plan);
+    if given != 0 {
+        return Outcome::Refused(Fault::GivenInHead(atoms::lowest(given)));
+    }
     let in_none = rule_in_no_unit(plan);
     if in_none != 0 {
         return Outcome::Refused(Fault::RuleInNoUnit(atoms::lowest(in_none)));

@@ -1,4 +1,4 @@
-// Head atoms of units: own, H(u) and Hp(u).
+// Head atoms of units: own, H(u) and Hp(u). Given atoms are in every H(u) and Hp(u).
 use crate::reach::fill_reach;
 use crate::rule_heads::rule_heads;
 use plan::MAX_UNITS;
@@ -58,6 +58,18 @@ fn add_words(words: &[u64], unit_count: usize, table: &mut [u64])
     }
 }
 
+// Adds the given atoms to each unit's word of the table.
+fn add_given(given: u64, unit_count: usize, table: &mut [u64])
+    requires { ⌜ «unit_count» ≤ length (now table) ⌝ }
+    ensures { λ _. ⌜ Filled «unit_count» (λ u. given ∪ getD (now (table .entry)) u 0) (now (table .entry)) (now (table .exit)) ⌝ }
+{
+    let mut u = 0;
+    while u < unit_count {
+        table[u] = atoms::union(given, table[u]);
+        u += 1;
+    }
+}
+
 // Fills the table with H(u) for each unit u.
 fn fill_heads(plan: Plan, table: &mut [u64])
     requires { ⌜ Fitting plan × (plan .«unit_count» ≤ length (now table)) ⌝ }
@@ -70,6 +82,7 @@ fn fill_heads(plan: Plan, table: &mut [u64])
     fill_reach(plan, &mut reached);
     fill_unions(&own, &reached, unit_count, table);
     add_words(&own, unit_count, table);
+    add_given(plan.given, unit_count, table);
 }
 
 // H(u) and Hp(u) of each unit u of the plan.
@@ -81,6 +94,7 @@ pub fn head_atoms(plan: Plan) -> HeadAtoms
     let mut inputs = [0u64; MAX_UNITS];
     fill_heads(plan, &mut heads);
     fill_unions(&heads, &plan.predecessors, plan.unit_count, &mut inputs);
+    add_given(plan.given, plan.unit_count, &mut inputs);
     HeadAtoms {
         heads: heads,
         inputs: inputs,

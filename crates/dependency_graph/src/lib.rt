@@ -2,6 +2,7 @@
 pub mod check;
 mod cycle;
 mod dependences;
+mod given;
 pub mod head_atoms;
 mod placement;
 mod reach;

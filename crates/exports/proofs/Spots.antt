@@ -14,7 +14,7 @@ use Rattle.reading.proofs.Judged.{reading-judged}
 use Rattle.judge.proofs.Codes.{spot-at-most}
 use Rattle.dependency_graph.specs.Units.{Units}
 use Rattle.dependency_graph.specs.PlanUnits.{unitsOf}
-use Rattle.dependency_graph.specs.Check.{Right, passes, row-10, row-11, row-12, row-13, row-14}
+use Rattle.dependency_graph.specs.Check.{Right, passes, row-16, row-10, row-11, row-12, row-13, row-14}
 use Rattle.dependency_graph.specs.Order.{InOrder, all-done, next}
 use Rattle.dependency_graph.proofs.Heads.{path-end}
 use Rattle.unit_lists.specs.Demands.{FirstLong, here, later, last}
@@ -28,11 +28,12 @@ stopped-at-most {bytes} {n} {s} small st =
 
 right-at-most : {S : Units} {o : Outcome} {n s : ℕ} → S .rules ≤ MAX_RULES → S .units ≤ MAX_UNITS → Right S o → RefusedBy o n s → s ≤ WIDEST_SPOT
 right-at-most f g (passes p) r = absurd (not-accepted (r .fault) (r .is))
-right-at-most f g (row-10 l) r = omega (arith, told r .1, l .here .is-rule)
-right-at-most f g (row-11 a l) r = omega (arith, told r .1, l .here .in-first .is-rule)
-right-at-most {S} f g (row-12 a b l) r = omega (arith, told r .1, path-end S (l .here .returns))
-right-at-most f g (row-13 a b y l) r = omega (arith, told r .1, l .here .held .is-rule)
-right-at-most f g (row-14 a b y c l) r = omega (arith, told r .1, l .here .is-rule)
+right-at-most f g (row-16 l) r = omega (arith, told r .1, l .here .is-rule)
+right-at-most f g (row-10 h l) r = omega (arith, told r .1, l .here .is-rule)
+right-at-most f g (row-11 h a l) r = omega (arith, told r .1, l .here .in-first .is-rule)
+right-at-most {S} f g (row-12 h a b l) r = omega (arith, told r .1, path-end S (l .here .returns))
+right-at-most f g (row-13 h a b y l) r = omega (arith, told r .1, l .here .held .is-rule)
+right-at-most f g (row-14 h a b y c l) r = omega (arith, told r .1, l .here .is-rule)
 
 long-at-most : {S : Units} {done u : ℕ} {us : List ℕ} → InOrder S done us → FirstLong S us u → u ≤ S .units
 long-at-most (all-done d) (last l) = omega arith

@@ -42,13 +42,13 @@ pub record ListHanded (bytes table table′ counts counts′ : List ℕ) (r : �
   pub listed : listing .outcome ≡ Accepted → r ≡ 0
   pub refused : (n s : ℕ) → FirstFault bytes table n s → r ≡ CODE_STEP * n + s
 
--- a judged position: 1 exactly if it is an answer set of the plan's rules, and otherwise 0; the number and the spot of a reading fault
+-- a judged position: 1 exactly if it is an answer set of the plan's rules with its given atoms as facts, and otherwise 0; the number and the spot of a reading fault
 pub record JudgeHanded (bytes : List ℕ) (position r : ℕ) : Type 0 where
   pub code-is : r ≡ code (judged bytes position)
   pub settled : (c : Contents) → Lays bytes c
-      → (r ≡ 1) ↔ AnswerSet (lent (recordOf c .rules)) (below (recordOf c .«rule_count»)) 0 position
+      → (r ≡ 1) ↔ AnswerSet (lent (recordOf c .rules)) (below (recordOf c .«rule_count»)) (recordOf c .given) position
   pub not-settled : (c : Contents) → Lays bytes c
-      → (r ≡ 0) ↔ (¬ AnswerSet (lent (recordOf c .rules)) (below (recordOf c .«rule_count»)) 0 position)
+      → (r ≡ 0) ↔ (¬ AnswerSet (lent (recordOf c .rules)) (below (recordOf c .«rule_count»)) (recordOf c .given) position)
   pub refused : (n s : ℕ) → Stopped bytes n s → r ≡ CODE_STEP * n + s
 
 -- a sheet: its bytes where the buffer has room for all of them, and their number; SHEET_BYTES are always enough. It says what demands 1 and 3 say

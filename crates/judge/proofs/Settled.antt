@@ -1,15 +1,15 @@
 -- Demand 2's first half: for every plan that reads the answer is yes exactly if the position is an answer set of all its rules
--- as one set; and a position with an atom that is in no head gets the answer no.
+-- as one set, with the given atoms as facts; and a position with an atom that is in no head and not given gets the answer no.
 use mathlib.Core.Path.{_≡_, refl, ap, sym, _∙_}
 use mathlib.Core.Bool.{Bool, true, false, true≢false}
 use mathlib.Core.List.{List}
-use mathlib.Core.Logic.{inl, inr}
+use mathlib.Core.Logic.{_⊎_, inl, inr}
 use Prim.Native.Nat.{ℕ, _*_, _<_}
 use native.Mathlib.Omega.{arith}
 use lib.ListN.{length}
 use Rattle.atoms.specs.Word.{Has, below}
 use Rattle.atoms.specs.Bounded.{Decides}
-use Rattle.atoms.proofs.Sets.{has-none, below-lt, lt-of-has}
+use Rattle.atoms.proofs.Sets.{below-lt, lt-of-has}
 use Rattle.atoms.proofs.Tests.{decided-true, decided-false}
 use Rattle.answer_sets.specs.Lent.{lent, Lent}
 use Rattle.answer_sets.proofs.Judged.{decides-answer-set}
@@ -37,7 +37,7 @@ whole-lent p which f l e =
 
 pub decides-settled : (p : Plan) (M : ℕ) → Fitting p → Decides (Settles p M) (settled p M)
 decides-settled p M f =
-    decides-answer-set (lent (p .rules)) (below (p .«rule_count»)) 0 M
+    decides-answer-set (lent (p .rules)) (below (p .«rule_count»)) (p .given) M
     (lt-of-has (below (p .«rule_count»)) MAX_RULES (λ r h. let k : r < p .«rule_count» = below-lt (p .«rule_count») h in omega (arith, f .rules-fit)))
 
 -- ---- the answer
@@ -81,9 +81,9 @@ module _ (bytes : List ℕ) (position : ℕ) (r : Reading) (read : r ≡ reading
 
 -- ---- the theorems
 
--- the atom is in the head of one of the plan's rules
+-- the atom is given or in the head of one of the plan's rules
 abbrev pub Headed : Plan → ℕ → Type 0
-Headed p a = (r : ℕ) × (r < p .«rule_count») × Has (lent (p .rules) .head r) a
+Headed p a = Has (p .given) a ⊎ ((r : ℕ) × (r < p .«rule_count») × Has (lent (p .rules) .head r) a)
 
 yes-is-settled : (answer : Answer) → isYes answer ≡ true → answer ≡ Settled
 yes-is-settled Settled e = refl
@@ -98,15 +98,15 @@ settled-exactly bytes position e =
     let d = judged-decides bytes position e in
     (λ s. d .yes (ap isYes s), λ s. yes-is-settled (judged bytes position) (decided-true d s))
 
--- only head atoms are up
+-- only given atoms and head atoms are up
 pub settled-headed : (p : Plan) (M a : ℕ) → Settles p M → Has M a → Headed p a
-settled-headed p M a s h = go (supported (lent (p .rules)) (below (p .«rule_count»)) 0 M a s h)
+settled-headed p M a s h = go (supported (lent (p .rules)) (below (p .«rule_count»)) (p .given) M a s h)
   where
-    go : Supported (lent (p .rules)) (below (p .«rule_count»)) 0 a → Headed p a
-    go (inl fact) = absurd (has-none fact)
-    go (inr r) = (r .0, below-lt (p .«rule_count») (r .1), r .2)
+    go : Supported (lent (p .rules)) (below (p .«rule_count»)) (p .given) a → Headed p a
+    go (inl fact) = inl fact
+    go (inr r) = inr (r .0, below-lt (p .«rule_count») (r .1), r .2)
 
--- "A position with an atom that is in no head gets the answer no."
+-- "A position with an atom that is in no head gets the answer no.", from S-1 on: "in no head" and not given
 pub headless-not-settled : (bytes : List ℕ) (position a : ℕ) → reading bytes .outcome ≡ Accepted → Has position a
     → ¬ Headed (reading bytes .plan) a → judged bytes position ≡ NotSettled
 headless-not-settled bytes position a e h n =

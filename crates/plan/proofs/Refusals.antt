@@ -9,6 +9,7 @@ use Rattle.plan.specs.declared.fault.Fault.{Fault}
 use Rattle.plan.specs.declared.fault.Fault.the-variants.{TableShort, Truncated, UnknownCommand, OutOfOrder, TooMany}
 use Rattle.plan.specs.declared.fault.Fault.the-variants.{EmptyRule, AbsentRule, BadEdge, TrailingBytes}
 use Rattle.plan.specs.declared.fault.Fault.the-variants.{RuleInNoUnit, HeadedRuleInSeveral, Cycle, NonmonotonicUnseen, MonotonicUnseen, LongList}
+use Rattle.plan.specs.declared.fault.Fault.the-variants.{GivenInHead}
 use Rattle.plan.specs.declared.fault.Outcome.{Outcome}
 use Rattle.plan.specs.declared.fault.Outcome.the-variants.{Refused}
 
@@ -32,6 +33,7 @@ faultAt n s =
     ∷ NonmonotonicUnseen s
     ∷ MonotonicUnseen s
     ∷ LongList s
+    ∷ GivenInHead s
     ∷ [])
     n (TableShort s)
 
@@ -51,6 +53,7 @@ fault-told (Cycle s) = refl
 fault-told (NonmonotonicUnseen s) = refl
 fault-told (MonotonicUnseen s) = refl
 fault-told (LongList s) = refl
+fault-told (GivenInHead s) = refl
 
 pub refused-by : (f : Fault) {outcome : Outcome} → RefusedBy outcome (number f) (spot f) ↔ (outcome ≡ Refused f)
 refused-by f = (

@@ -7,6 +7,7 @@ use Rattle.plan.specs.declared.fault.Fault.{Fault}
 use Rattle.plan.specs.declared.fault.Fault.the-variants.{TableShort, Truncated, UnknownCommand, OutOfOrder, TooMany}
 use Rattle.plan.specs.declared.fault.Fault.the-variants.{EmptyRule, AbsentRule, BadEdge, TrailingBytes}
 use Rattle.plan.specs.declared.fault.Fault.the-variants.{RuleInNoUnit, HeadedRuleInSeveral, Cycle, NonmonotonicUnseen, MonotonicUnseen, LongList}
+use Rattle.plan.specs.declared.fault.Fault.the-variants.{GivenInHead}
 use Rattle.plan.specs.declared.fault.Outcome.{Outcome}
 use Rattle.plan.specs.declared.fault.Outcome.the-variants.{Refused}
 
@@ -27,6 +28,7 @@ number (Cycle s) = 12
 number (NonmonotonicUnseen s) = 13
 number (MonotonicUnseen s) = 14
 number (LongList s) = 15
+number (GivenInHead s) = 16
 
 -- column "spot"
 abbrev pub spot : Fault → ℕ
@@ -45,6 +47,7 @@ spot (Cycle s) = s
 spot (NonmonotonicUnseen s) = s
 spot (MonotonicUnseen s) = s
 spot (LongList s) = s
+spot (GivenInHead s) = s
 
 -- "A refusal gives its number and spot"
 pub record RefusedBy (outcome : Outcome) (n s : ℕ) : Type 0 where

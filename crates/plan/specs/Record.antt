@@ -14,6 +14,7 @@ pub record Fitting (p : Plan) : Type 0 where
 unfoldable pub emptyPlan : Plan
 emptyPlan =
     record {
+      given = 0;
       rules = replicate {A = ℕ} (RULE_WORDS * MAX_RULES) 0;
       «rule_count» = 0;
       units = replicate {A = ℕ} MAX_UNITS 0;
@@ -26,6 +27,7 @@ emptyPlan =
 unfoldable pub withRule : Plan → ℕ → ℕ → ℕ → Plan
 withRule p head positive negative =
     record {
+      given = p .given;
       rules =
           set (set (set (p .rules) (RULE_WORDS * p .«rule_count») head) (RULE_WORDS * p .«rule_count» + 1) positive)
           (RULE_WORDS * p .«rule_count» + 2)
@@ -41,6 +43,7 @@ withRule p head positive negative =
 unfoldable pub withUnit : Plan → ℕ → Plan
 withUnit p word =
     record {
+      given = p .given;
       rules = p .rules;
       «rule_count» = p .«rule_count»;
       units = set (p .units) (p .«unit_count») word;
@@ -53,6 +56,7 @@ withUnit p word =
 unfoldable pub withEdge : Plan → ℕ → ℕ → Plan
 withEdge p u v =
     record {
+      given = p .given;
       rules = p .rules;
       «rule_count» = p .«rule_count»;
       units = p .units;

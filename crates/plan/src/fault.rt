@@ -19,6 +19,7 @@ pub enum Fault {
     NonmonotonicUnseen(usize),
     MonotonicUnseen(usize),
     LongList(usize),
+    GivenInHead(usize),
 }
 
 // A plan is accepted, or refused with its first fault.
@@ -47,6 +48,7 @@ pub fn fault_number(f: Fault) -> u64
         Fault::NonmonotonicUnseen(_) => 13,
         Fault::MonotonicUnseen(_) => 14,
         Fault::LongList(_) => 15,
+        Fault::GivenInHead(_) => 16,
     }
 }
 
@@ -70,6 +72,7 @@ pub fn fault_spot(f: Fault) -> usize
         Fault::NonmonotonicUnseen(spot) => spot,
         Fault::MonotonicUnseen(spot) => spot,
         Fault::LongList(spot) => spot,
+        Fault::GivenInHead(spot) => spot,
     }
 }
 

@@ -9,9 +9,10 @@ ghost use Rattle.plan.specs.Limits.{MAX_RULES as Limits·MAX_RULES, MAX_
 
 const ALL_RULE_WORDS: usize = RULE_WORDS * MAX_RULES;
 
-// A read plan: its rules (three words each: head, positive, negative), units and edges, zeros behind; bit v of
+// A read plan: its given atoms, its rules (three words each: head, positive, negative), units and edges, zeros behind; bit v of
 // predecessors[u] is the edge (u, v).
 pub struct Plan {
+    pub given: u64,
     pub rules: [u64; ALL_RULE_WORDS],
     pub rule_count: usize,
     pub units: [u64; MAX_UNITS],
@@ -25,6 +26,7 @@ pub fn empty_plan() -> Plan
     ensures { λ r. ⌜ r ≡ emptyPlan ⌝ }
 {
     Plan {
+        given: 0,
         rules: [0; ALL_RULE_WORDS],
         rule_count: 0,
         units: [0; MAX_UNITS],

@@ -34,10 +34,10 @@ sheetOf a = sheetFor (a .outcome) (a .counts) (a .table)
 abbrev pub SHEET_BYTES : ℕ
 SHEET_BYTES = 14 + lineLength * LIST_WORDS
 
--- the positions of a plan's sheet: the answer sets of all its rules as one set, each once, rising
+-- the positions of a plan's sheet: the answer sets of all its rules as one set, with its given atoms as facts, each once, rising
 pub record Positions (p : Plan) (ws : List ℕ) : Type 0 where
   pub rising : Rising ws
-  pub members : (M : ℕ) → List·Memᴰ M ws ↔ AnswerSet (lent (p .rules)) (below (p .«rule_count»)) 0 M
+  pub members : (M : ℕ) → List·Memᴰ M ws ↔ AnswerSet (lent (p .rules)) (below (p .«rule_count»)) (p .given) M
 
 -- what a sheet says: of a plan that is listed its positions, one line each, and of any other its first fault
 pub record Says (bytes table sheet : List ℕ) : Type 0 where

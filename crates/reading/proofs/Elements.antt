@@ -283,10 +283,10 @@ rules-snoc rules r size l =
     )
     (ap (padded size) (simp append-assoc))
 
-same-plan : {p q : Plan} → p .rules ≡ q .rules → p .«rule_count» ≡ q .«rule_count» → p .units ≡ q .units
+same-plan : {p q : Plan} → p .given ≡ q .given → p .rules ≡ q .rules → p .«rule_count» ≡ q .«rule_count» → p .units ≡ q .units
     → p .«unit_count» ≡ q .«unit_count» → p .predecessors ≡ q .predecessors → p .«edge_count» ≡ q .«edge_count» → p ≡ q
-same-plan a b c d e f =
-    λ i. record { rules = a i; «rule_count» = b i; units = c i; «unit_count» = d i; predecessors = e i; «edge_count» = f i }
+same-plan g a b c d e f =
+    λ i. record { given = g i; rules = a i; «rule_count» = b i; units = c i; «unit_count» = d i; predecessors = e i; «edge_count» = f i }
 
 -- the record of the lists with one element more
 pub record-with : (c : Contents) (k : Kind) (s : List ℕ) → Fits c k (elementAt k s) → grown (recordOf c) k s ≡ recordOf (with c k (elementAt k s))
@@ -294,15 +294,15 @@ unfolding recordOf withRule withUnit withEdge carrying
 record-with c rule s f =
     let r : RuleWords = elementAt rule s in
     let e = rules-snoc (c .rules) r (RULE_WORDS * MAX_RULES) (omega (arith, f .in-place .room)) in
-    same-plan e (sym (length-snoc (c .rules) r)) refl refl refl refl
+    same-plan refl e (sym (length-snoc (c .rules) r)) refl refl refl refl
 record-with c unit s f =
     let w : ℕ = elementAt unit s in
     let e = padded-snoc MAX_UNITS (c .units) (length (c .units)) w refl (f .in-place .room) in
-    same-plan refl refl e (sym (length-snoc (c .units) w)) refl refl
+    same-plan refl refl refl e (sym (length-snoc (c .units) w)) refl refl
 record-with c edge s f =
     let x : UnitPair = elementAt edge s in
     let e = rows-snoc (c .edges) x (omega (arith, f .right .0 .from-there, f .few .few-units)) in
-    same-plan refl refl refl refl e (sym (length-snoc (c .edges) x))
+    same-plan refl refl refl refl refl e (sym (length-snoc (c .edges) x))
 record-with c end s f = refl
 
 -- one command more, behind the record of the lists

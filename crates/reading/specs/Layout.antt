@@ -71,6 +71,7 @@ predecessorsOf (e ∷ edges) u =
 unfoldable pub recordOf : Contents → Plan
 recordOf c =
     record {
+      given = 0;
       rules = padded (RULE_WORDS * MAX_RULES) (flatMap threeWords (c .rules));
       «rule_count» = length (c .rules);
       units = padded MAX_UNITS (c .units);

@@ -8,15 +8,17 @@ use native.Mathlib.Omega.{arith}
 use native.Mathlib.Decide.{ℕ-discrete}
 use lib.Dec.{eqb}
 use borrow.Author.Tests.{eq-eqb, ne-eqb}
-use Rattle.atoms.specs.Word.{Has, below}
-use Rattle.atoms.proofs.Sets.{has-none, has-below, below-lt}
+use Rattle.atoms.specs.Word.{Has, _∩_, below}
+use Rattle.atoms.proofs.Sets.{has-none, cut-left, has-below, below-lt, subset-refl, subset-antisym}
 use Rattle.answer_sets.specs.AnswerSet.{AnswerSet}
+use Rattle.answer_sets.proofs.Support.{Supported, supported, of-least}
 use Rattle.dependency_graph.specs.Units.{Units, Holds, Edge, Path, one, more, LooksOnly, GivenFree}
 use Rattle.dependency_graph.specs.Graph.{Sees, Passes}
 use Rattle.dependency_graph.specs.Heads.{heads, inputHeads}
 use Rattle.dependency_graph.proofs.Heads.{path-end}
 use Rattle.dependency_graph.proofs.Under.{Under, here, down}
 use Rattle.splitting.specs.UnitList.{Listed, withLast, Clean, SameRule, SameUnit, Agree}
+use Rattle.splitting.proofs.Words.{first-list}
 use Rattle.splitting.proofs.Top.{top-list}
 use Rattle.splitting.proofs.Agreement.{agreement, agree-heads, agree-input}
 
@@ -127,6 +129,7 @@ module _ (S : Units) (clean : Clean S) where
   pub last-passes : Passes S → Passes (withLast S)
   unfolding withLast
   last-passes pass = record {
+    given-free = record { free = pass .given-free .free };
     a = record { placed = λ r l. let t = pass .a .placed r l in (t .0, holds-with-last S (t .0) r (t .1)) };
     b = record { one = λ r a u v p h k. pass .b .one r a u v p (holds-old S u r h) (holds-old S v r k) };
     acyclic = record { no-return = λ u p. pass .acyclic .no-return u (path-old (path-target p) p) };
@@ -186,3 +189,35 @@ pub last-list : (S : Units) → Passes S → LooksOnly S → GivenFree S → Cle
 unfolding withLast
 last-list S pass looks free clean M =
     top-list (withLast S) (last-passes S clean pass) (last-free S free) (S .units) (omega arith) (last-under S) (last-looks S looks) M
+
+-- with no unit the last list holds the given atoms alone: no rule is left that could add one
+pub last-of-none : (S : Units) → S .units ≡ 0 → (M : ℕ) → Listed (withLast S) (S .units) M ↔ (M ≡ S .given)
+unfolding withLast
+last-of-none S none M = (λ h. there (first .0 h), λ e. first .1 (subst Settled (sym e) back))
+  where
+    rules : ℕ
+    rules = withLast S .unit (S .units) ∩ below (S .rules)
+
+    Settled : ℕ → Type 0
+    Settled N = AnswerSet (S .program) rules (S .given) N
+
+    first : Listed (withLast S) (S .units) M ↔ Settled M
+    first = first-list (withLast S) (S .units) M (λ v e. absurd (omega (arith, edge-from v e)))
+      where
+        edge-from : (v : ℕ) → Edge (withLast S) (S .units) v → v < S .units
+        edge-from v e = below-lt (S .units) (subst (λ (x : ℕ). Has x v) (last-predecessors S) (e .edge))
+
+    no-rule : (r : ℕ) → ¬ Has rules r
+    no-rule r h = has-none (subst (λ (x : ℕ). Has x r) (last-unit S) (cut-left (withLast S .unit (S .units)) (below (S .rules)) h))
+
+    there : Settled M → M ≡ S .given
+    there s = subset-antisym (record { each = λ a h. go a (supported (S .program) rules (S .given) M a s h) }) (s .model .facts-up)
+      where
+        go : (a : ℕ) → Supported (S .program) rules (S .given) a → Has (S .given) a
+        go a (inl g) = g
+        go a (inr t) = absurd (no-rule (t .0) (t .1))
+
+    back : Settled (S .given)
+    back =
+        of-least (S .program) rules (S .given) (S .given)
+        (record { facts-up = subset-refl; each = λ r k. absurd (no-rule r (k .numbered)) }) (λ N f m. m .facts-up)

@@ -3,7 +3,7 @@ use mathlib.Core.Path.{subst}
 use mathlib.Core.Logic.{_↔_}
 use Prim.Native.Nat.{ℕ, _<_}
 use Rattle.atoms.specs.Word.{Has, _⊆_, _∩_, below}
-use Rattle.atoms.proofs.Sets.{subset-refl, subset-antisym}
+use Rattle.atoms.proofs.Sets.{subset-refl, subset-trans, subset-antisym}
 use Rattle.atoms.proofs.Collected.{collects-same}
 use Rattle.answer_sets.specs.AnswerSet.{AnswerSet}
 use Rattle.dependency_graph.specs.Units.{Units, Edge}
@@ -33,6 +33,10 @@ module _ (S : Units) {u M : ℕ} (l : u < S .units) where
     },
     s,
   )
+
+-- given atoms belong to "every list entry" (02, S-1)
+pub entry-given : {S : Units} {u M : ℕ} → Listed S u M → S .given ⊆ M
+entry-given (listed g w c f s) = subset-trans g (s .model .facts-up)
 
 -- "A unit without predecessors has the one input 0": the given atoms
 pub first-list : (S : Units) (u M : ℕ) → ((v : ℕ) → ¬ Edge S u v)

@@ -26,7 +26,7 @@ use Rattle.reading.proofs.Limits.{record-fits}
 use Rattle.dependency_graph.specs.Units.{Units}
 use Rattle.dependency_graph.specs.PlanUnits.{unitsOf}
 use Rattle.dependency_graph.specs.Graph.{Passes}
-use Rattle.dependency_graph.specs.Check.{verdict, Right, passes, row-10, row-11, row-12, row-13, row-14}
+use Rattle.dependency_graph.specs.Check.{verdict, Right, passes, row-16, row-10, row-11, row-12, row-13, row-14}
 use Rattle.dependency_graph.specs.Order.{InOrder, all-done, next, workingOrder}
 use Rattle.dependency_graph.proofs.Order.{order-right, order-one}
 use Rattle.dependency_graph.proofs.Verdicts.{verdict-right, verdict-only, passes-of-verdict}
@@ -98,11 +98,12 @@ reading-number {n = n} {s = s} st e =
 -- nor is one of the graph place
 graph-number : {S : Units} {o : Outcome} {n s : ℕ} → Right S o → RefusedBy o n s → ¬ (n ≡ 15)
 graph-number (passes p) r e = not-accepted (r .fault) (r .is)
-graph-number (row-10 l) r e = omega (arith, told r .0)
-graph-number (row-11 a l) r e = omega (arith, told r .0)
-graph-number (row-12 a b l) r e = omega (arith, told r .0)
-graph-number (row-13 a b y l) r e = omega (arith, told r .0)
-graph-number (row-14 a b y c l) r e = omega (arith, told r .0)
+graph-number (row-16 l) r e = omega (arith, told r .0)
+graph-number (row-10 g l) r e = omega (arith, told r .0)
+graph-number (row-11 g a l) r e = omega (arith, told r .0)
+graph-number (row-12 g a b l) r e = omega (arith, told r .0)
+graph-number (row-13 g a b y l) r e = omega (arith, told r .0)
+graph-number (row-14 g a b y c l) r e = omega (arith, told r .0)
 
 -- ---- a plan's lists and what reading gives
 

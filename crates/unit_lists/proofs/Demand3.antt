@@ -22,7 +22,7 @@ use Rattle.dependency_graph.specs.Units.{Units}
 use Rattle.dependency_graph.specs.Order.{workingOrder}
 use Rattle.dependency_graph.specs.PlanUnits.{unitsOf}
 use Rattle.dependency_graph.proofs.Order.{order-right, order-each, order-only}
-use Rattle.dependency_graph.proofs.PlanUnits.{given-free, looks-only}
+use Rattle.dependency_graph.proofs.PlanUnits.{looks-only}
 use Rattle.dependency_graph.proofs.Verdicts.{verdict-of-passes}
 use Rattle.splitting.specs.UnitList.{withLast}
 use Rattle.splitting.proofs.Last.{last-list}
@@ -117,9 +117,9 @@ module _ (bytes table : List ℕ) (all : All IsByte bytes) (passed : Passed byte
   pub enumerated : Enumerated S order
   unfolding unitsOf
   enumerated = record {
-    each = λ u m. unit-list-of S (passed .passes) (given-free (reading bytes .plan)) (record-fits bytes .rules-fit) u
+    each = λ u m. unit-list-of S (passed .passes) (passed .passes .given-free) (record-fits bytes .rules-fit) u
         (order-only S (passed .passes .acyclic) u m);
-    last-one = last-list-of S (passed .passes) (given-free (reading bytes .plan)) (plan-clean bytes all (passed .reads)) (record-fits bytes .rules-fit);
+    last-one = last-list-of S (passed .passes) (passed .passes .given-free) (plan-clean bytes all (passed .reads)) (record-fits bytes .rules-fit);
   }
 
   pub unit-list-is : (u : ℕ) → u < S .units → ListOf S u (unitList S u)
@@ -163,13 +163,13 @@ module _ (bytes table : List ℕ) (all : All IsByte bytes) (passed : Passed byte
     lists-all k e =
         let p = reading bytes .plan in
         let last = held-list k LAST_COUNT (omega arith) ∙ list-last S in
-        let sets = last-list S (passed .passes) (looks-only p) (given-free p) (plan-clean bytes all (passed .reads)) in
+        let sets = last-list S (passed .passes) (looks-only p) (passed .passes .given-free) (plan-clean bytes all (passed .reads)) in
         record {
           accepted = e;
           units = λ u l. subst (ListOf S u) (sym (held-list k u (omega (arith, few)) ∙ list-there S u few l)) (unit-list-is u l);
           rising = subst Rising (sym last) (enumerated .last-one .rising);
           members = λ M.
-              subst (λ (l : List ℕ). List·Memᴰ M l ↔ AnswerSet (lent (p .rules)) (below (p .«rule_count»)) 0 M) (sym last) (
+              subst (λ (l : List ℕ). List·Memᴰ M l ↔ AnswerSet (lent (p .rules)) (below (p .«rule_count»)) (p .given) M) (sym last) (
                 λ m. sets M .0 (enumerated .last-one .members M .0 m),
                 λ a. enumerated .last-one .members M .1 (sets M .1 a),
               );

@@ -10,14 +10,14 @@ use borrow.Author.Tests.{eqb-true, eq-eqb}
 use Rattle.atoms.specs.Word.{ATOMS, Has, _⊆_, _∩_, below}
 use Rattle.atoms.specs.Rising.{Rising}
 use Rattle.atoms.proofs.Tests.{decided-true}
-use Rattle.atoms.proofs.Sets.{has-dec, has-none, has-lt, lt-of-has, has-outside, outside-lacks, subset-le, cut-right, below-lt}
+use Rattle.atoms.proofs.Sets.{has-dec, has-lt, lt-of-has, has-outside, outside-lacks, subset-le, cut-right, below-lt}
 use Rattle.atoms.proofs.Bounded.{some-at, some-intro, all-in-at, all-in-intro}
 use Rattle.atoms.proofs.Rising.{members-rising}
 use Rattle.answer_sets.specs.Lent.{lent}
 use Rattle.answer_sets.specs.State.{Completes}
 use Rattle.answer_sets.proofs.Judged.{decides-answer-set}
 use Rattle.plan.specs.Limits.{MAX_RULES, MAX_UNITS, RULE_WORDS, LIST_WORDS}
-use Rattle.dependency_graph.specs.Units.{Units, Edge, GivenFree}
+use Rattle.dependency_graph.specs.Units.{Units, Edge}
 use Rattle.dependency_graph.specs.Graph.{Passes}
 use Rattle.dependency_graph.specs.Heads.{reach, heads, inputHeads}
 use Rattle.splitting.specs.UnitList.{Listed}
@@ -27,7 +27,7 @@ use Rattle.unit_search.specs.Job.{joins, Belongs, Searchable, Wanted}
 use Rattle.unit_search.specs.declared.unit.Unit.{Unit}
 use Rattle.unit_lists.specs.Lists.{inList, unitList}
 use Rattle.unit_lists.specs.Work.{Told, startWithin, ListStored, MembersStored, Stored, ListsThere}
-use Rattle.unit_lists.proofs.Decided.{numbers-fit, listed-within, unit-list-at, unit-list-has}
+use Rattle.unit_lists.proofs.Decided.{numbers-fit, unit-list-at, unit-list-has}
 use Rattle.unit_lists.proofs.RisingLists.{member-getD, index-of, members-stored}
 
 -- ---- a stored list is searched word by word
@@ -59,7 +59,6 @@ unit-list-rising T u = members-rising (inList T (suc (reach T u)) u) (suc (heads
 pub record Listable (T : Units) (u : ℕ) (rules heads′ table counts : List ℕ) : Type 0 where
   pub is-unit : u < T .units
   pub passes : Passes T
-  pub none-given : T .given ≡ 0
   pub program-is : T .program ≡ lent rules
   pub rules-most : T .rules ≤ MAX_RULES
   pub rules-there : RULE_WORDS * T .rules ≤ length rules
@@ -67,9 +66,6 @@ pub record Listable (T : Units) (u : ℕ) (rules heads′ table counts : List �
   pub named : (v : ℕ) → Has (T .predecessors u) v → (v < MAX_UNITS) × Edge T u v
   pub heads-are : (v : ℕ) → Edge T u v → getD heads′ v 0 ≡ heads T v
   pub lists : ListsThere T (Edge T u) table counts
-
-pub free-of-none : {T : Units} → T .given ≡ 0 → GivenFree T
-free-of-none e = record { free = λ r a l h g. has-none (subst (λ (w : ℕ). Has w a) e g) }
 
 module _ {T : Units} {u : ℕ} {rules heads′ table counts : List ℕ} {unit : Unit} (a : Listable T u rules heads′ table counts) (t : Told T u unit) where
   pub searchable : Searchable rules table counts heads′ unit
@@ -93,7 +89,7 @@ module _ {T : Units} {u : ℕ} {rules heads′ table counts : List ℕ} {unit : 
   joins-edge : (M : ℕ) → joins table counts heads′ (T .predecessors u) M ≡ true → (v : ℕ) → Edge T u v → Listed T v (M ∩ heads T v)
   unfolding joins
   joins-edge M j v e =
-      unit-list-at T (a .passes) (free-of-none (a .none-given)) (a .rules-most) v (M ∩ heads T v) (e .is-predecessor)
+      unit-list-at T (a .passes) (a .passes .given-free) (a .rules-most) v (M ∩ heads T v) (e .is-predecessor)
       (stored-at (M ∩ heads T v) (a .lists .stored v e)
       (rw (a .heads-are v e) at
       (all-in-at MAX_UNITS (T .predecessors u) (λ w. isListed table (LIST_WORDS * w) (getD counts w 0) (M ∩ getD heads′ w 0)) j v
@@ -107,13 +103,13 @@ module _ {T : Units} {u : ℕ} {rules heads′ table counts : List ℕ} {unit : 
       let e : Edge T u v = a .named v h .1 in
       rw (a .heads-are v e)
       (stored-has (M ∩ heads T v) (a .lists .stored v e)
-      (unit-list-has T (a .passes) (free-of-none (a .none-given)) (a .rules-most) v (M ∩ heads T v) (e .is-predecessor) (f v e))))
+      (unit-list-has T (a .passes) (a .passes .given-free) (a .rules-most) v (M ∩ heads T v) (e .is-predecessor) (f v e))))
 
-  belongs-listed : (M : ℕ) → Belongs rules table counts heads′ unit M → M ⊆ heads T u → Listed T u M
-  belongs-listed M b w =
-      listed-member T (a .passes) (free-of-none (a .none-given)) u (a .is-unit) M .1
+  belongs-listed : (M : ℕ) → Belongs rules table counts heads′ unit M → T .given ⊆ M → M ⊆ heads T u → Listed T u M
+  belongs-listed M b g w =
+      listed-member T (a .passes) (a .passes .given-free) u (a .is-unit) M .1
       (record {
-        given-up = rw (a .none-given) (record { each = λ i h. absurd (has-none h) });
+        given-up = g;
         within = w;
         inputs = joins-edge M (rw (t .predecessors-are) at (b .joined));
         answer = decides-answer-set (T .program) (T .unit u ∩ below (T .rules)) (M ∩ inputHeads T u) M (numbers-fit T u (a .rules-most)) .yes
@@ -122,7 +118,7 @@ module _ {T : Units} {u : ℕ} {rules heads′ table counts : List ℕ} {unit : 
 
   listed-belongs : (M : ℕ) → heads T u < 2 ^ ATOMS → Listed T u M → Belongs rules table counts heads′ unit M
   listed-belongs M fit h =
-      let m = listed-member T (a .passes) (free-of-none (a .none-given)) u (a .is-unit) M .0 h in
+      let m = listed-member T (a .passes) (a .passes .given-free) u (a .is-unit) M .0 h in
       record {
         word = let l : M ≤ heads T u = subset-le (m .within) in omega arith;
         joined = rw (t .predecessors-are) (edge-joins M (m .inputs));
@@ -131,14 +127,14 @@ module _ {T : Units} {u : ℕ} {rules heads′ table counts : List ℕ} {unit : 
             (m .answer));
       }
 
-  -- a search from the start is one within H(u)
-  from-start : (M : ℕ) → M ⊆ heads T u → Completes (startWithin (heads T u)) M
-  from-start M f = record {
-    has-up = record { each = λ i h. absurd (has-none h) };
+  -- a search from the start is one above the given atoms and within H(u)
+  from-start : (M : ℕ) → T .given ⊆ M → M ⊆ heads T u → Completes (startWithin (T .given) (heads T u)) M
+  from-start M g f = record {
+    has-up = g;
     no-dropped = record { none = λ i p q. outside-lacks (heads T u) p (f .each i q) };
   }
 
-  to-heads : (M : ℕ) → M < 2 ^ ATOMS → Completes (startWithin (heads T u)) M → M ⊆ heads T u
+  to-heads : (M : ℕ) → M < 2 ^ ATOMS → Completes (startWithin (T .given) (heads T u)) M → M ⊆ heads T u
   to-heads M w c = record { each = λ i h. go i h (has-dec (heads T u) i) }
     where
       go : (i : ℕ) → Has M i → Dec (Has (heads T u) i) → Has (heads T u) i
@@ -147,17 +143,15 @@ module _ {T : Units} {u : ℕ} {rules heads′ table counts : List ℕ} {unit : 
 
   -- what the search stores is the unit's list
   pub unit-stored : (within place : ℕ) {table′ counts′ : List ℕ} {fits : Bool} → within ≡ heads T u
-      → ListStored (Wanted rules table counts heads′ unit) within place table counts table′ counts′ fits
+      → ListStored (Wanted rules table counts heads′ unit) (T .given) within place table counts table′ counts′ fits
       → MembersStored (unitList T u) place table counts table′ counts′ fits
   unit-stored within place e s =
-      members-stored (Wanted rules table counts heads′ unit) within (unitList T u) (unit-list-rising T u)
+      members-stored (Wanted rules table counts heads′ unit) (T .given) within (unitList T u) (unit-list-rising T u)
       (λ M w.
-      unit-list-has T (a .passes) (free-of-none (a .none-given)) (a .rules-most) u M (a .is-unit)
-      (belongs-listed M (w .belongs) (to-heads M (w .belongs .word) (rw e at (w .completes)))))
+      unit-list-has T (a .passes) (a .passes .given-free) (a .rules-most) u M (a .is-unit)
+      (belongs-listed M (w .belongs) (w .completes .has-up) (to-heads M (w .belongs .word) (rw e at (w .completes)))))
       (λ M m.
-      let l = unit-list-at T (a .passes) (free-of-none (a .none-given)) (a .rules-most) u M (a .is-unit) m in
-      record {
-        belongs = listed-belongs M (rw e at (s .word)) l;
-        completes = rw e (from-start M (listed-within T (a .passes) (free-of-none (a .none-given)) (a .rules-most) u M (a .is-unit) l));
-      })
+      let l = unit-list-at T (a .passes) (a .passes .given-free) (a .rules-most) u M (a .is-unit) m in
+      let k = listed-member T (a .passes) (a .passes .given-free) u (a .is-unit) M .0 l in
+      record { belongs = listed-belongs M (rw e at (s .word)) l; completes = rw e (from-start M (k .given-up) (k .within)) })
       s

@@ -5,11 +5,11 @@ use mathlib.Core.List.{List}
 use Prim.Native.Nat.{ℕ, suc, _*_, _≤_, _<_}
 use native.Mathlib.Omega.{arith}
 use lib.ListN.{length, getD}
-use Rattle.atoms.specs.Word.{Has, _⊆_, _∩_, below}
+use Rattle.atoms.specs.Word.{Has, _⊆_, _∩_, _∪_, below}
 use Rattle.atoms.specs.Bounded.{unionIn}
 use Rattle.atoms.specs.Rising.{members}
 use Rattle.atoms.proofs.Tests.{decides-same}
-use Rattle.atoms.proofs.Sets.{ext, empty, has-none, has-below, below-lt, cut-left}
+use Rattle.atoms.proofs.Sets.{ext, empty, has-none, has-left, has-right, union-cases, has-below, below-lt, cut-left}
 use Rattle.atoms.proofs.Bounded.{union-has, union-at}
 use Rattle.atoms.proofs.Rising.{members-same}
 use Rattle.plan.specs.Limits.{MAX_RULES, MAX_UNITS, RULE_WORDS}
@@ -19,8 +19,7 @@ use Rattle.dependency_graph.specs.Graph.{Passes}
 use Rattle.dependency_graph.specs.Heads.{reach, own, heads, inputHeads}
 use Rattle.dependency_graph.specs.PlanUnits.{unitsOf}
 use Rattle.dependency_graph.specs.declared.head_atoms.HeadAtoms.{HeadAtoms}
-use Rattle.dependency_graph.proofs.Heads.{own-at, heads-cases, heads-input, input-cases, input-edge}
-use Rattle.dependency_graph.proofs.PlanUnits.{given-free}
+use Rattle.dependency_graph.proofs.Heads.{own-at, heads-cases, heads-input, input-given, input-cases, input-edge}
 use Rattle.splitting.specs.UnitList.{Clean, withLast}
 use Rattle.splitting.proofs.Last.{last-unit, last-predecessors, holds-old, edge-from-last, old-heads, old-list, last-passes, last-free}
 use Rattle.unit_lists.specs.Lists.{inList, unitList}
@@ -61,12 +60,13 @@ no-rules S w = rw (last-unit S) (sym (empty (0 ∩ w) (λ r h. has-none (cut-lef
 
 module _ {p : Plan} {h : HeadAtoms} (s : Setting p h) where
   -- the atoms of all units' H
-  input-of-last : unionIn (p .«unit_count») (below (p .«unit_count»)) (λ v. getD (h .heads) v 0)
-      ≡ inputHeads (withLast (unitsOf p)) (p .«unit_count»)
+  abbrev all-heads : ℕ
+  all-heads = unionIn (p .«unit_count») (below (p .«unit_count»)) (λ v. getD (h .heads) v 0)
+
+  input-of-last : p .given ∪ all-heads ≡ inputHeads (withLast (unitsOf p)) (p .«unit_count»)
   unfolding unitsOf withLast
   input-of-last =
-      ext (unionIn (p .«unit_count») (below (p .«unit_count»)) (λ v. getD (h .heads) v 0)) (inputHeads (withLast (unitsOf p)) (p .«unit_count»))
-      (λ a k. there a (union-at (p .«unit_count») (below (p .«unit_count»)) (λ v. getD (h .heads) v 0) a k))
+      ext (p .given ∪ all-heads) (inputHeads (withLast (unitsOf p)) (p .«unit_count»)) (λ a k. into a (union-cases (p .given) all-heads k))
       (λ a k. back a (input-cases (withLast (unitsOf p)) (p .«unit_count») a (omega arith) k))
     where
       heads-at : (v : ℕ) → v < p .«unit_count» → getD (h .heads) v 0 ≡ heads (withLast (unitsOf p)) v
@@ -78,17 +78,21 @@ module _ {p : Plan} {h : HeadAtoms} (s : Setting p h) where
           input-edge (withLast (unitsOf p)) (p .«unit_count») (f .0) a (edge-from-last (unitsOf p) (f .0) (f .1))
           (rw (heads-at (f .0) (f .1)) at (f .3))
 
+      into : (a : ℕ) → Has (p .given) a ⊎ Has all-heads a → Has (inputHeads (withLast (unitsOf p)) (p .«unit_count»)) a
+      into a (inl g) = input-given (withLast (unitsOf p)) (p .«unit_count») a g
+      into a (inr k) = there a (union-at (p .«unit_count») (below (p .«unit_count»)) (λ v. getD (h .heads) v 0) a k)
+
       back : (a : ℕ)
-          → Has 0 a ⊎ ((v : ℕ) × Edge (withLast (unitsOf p)) (p .«unit_count») v × Has (heads (withLast (unitsOf p)) v) a)
-          → Has (unionIn (p .«unit_count») (below (p .«unit_count»)) (λ v. getD (h .heads) v 0)) a
-      back a (inl k) = absurd (has-none k)
+          → Has (p .given) a ⊎ ((v : ℕ) × Edge (withLast (unitsOf p)) (p .«unit_count») v × Has (heads (withLast (unitsOf p)) v) a)
+          → Has (p .given ∪ all-heads) a
+      back a (inl k) = has-left (p .given) all-heads k
       back a (inr f) =
           let l = edge-below (unitsOf p) (f .0) (f .1) in
-          union-has (p .«unit_count») (below (p .«unit_count»)) (λ v. getD (h .heads) v 0) (f .0) a l (has-below (p .«unit_count») (f .0) l)
-          (rw (heads-at (f .0) l) (f .2))
+          has-right (p .given) all-heads
+          (union-has (p .«unit_count») (below (p .«unit_count»)) (λ v. getD (h .heads) v 0) (f .0) a l (has-below (p .«unit_count») (f .0) l)
+          (rw (heads-at (f .0) l) (f .2)))
 
-  pub last-told : (input near : ℕ) → input ≡ unionIn (p .«unit_count») (below (p .«unit_count»)) (λ v. getD (h .heads) v 0)
-      → near ⊆ below (p .«unit_count»)
+  pub last-told : (input near : ℕ) → input ≡ p .given ∪ all-heads → near ⊆ below (p .«unit_count»)
       → Told (withLast (unitsOf p)) (p .«unit_count») (record { rules = 0; inputs = input; predecessors = below (p .«unit_count»); nearest = near })
   unfolding unitsOf withLast
   last-told input near e n = record {
@@ -105,7 +109,6 @@ module _ {p : Plan} {h : HeadAtoms} (s : Setting p h) where
   last-listable lent long t = record {
     is-unit = omega arith;
     passes = last-passes (unitsOf p) (s .workable .clean) (s .workable .passes);
-    none-given = refl;
     program-is = refl;
     rules-most = s .workable .fits .rules-fit;
     rules-there = lent;
@@ -123,7 +126,7 @@ module _ {p : Plan} {h : HeadAtoms} (s : Setting p h) where
       stored = λ v e.
           let l = edge-below (unitsOf p) v e in
           let k = t .stored v l in
-          let same = lists-same (unitsOf p) (s .workable .passes) (given-free p) (s .workable .clean) (s .workable .fits .rules-fit) v l in
+          let same = lists-same (unitsOf p) (s .workable .passes) (s .workable .passes .given-free) (s .workable .clean) (s .workable .fits .rules-fit) v l in
           record { counted = rw same at (k .counted); words = rw same at (k .words) };
     };
   }
@@ -135,7 +138,6 @@ module _ {p : Plan} {h : HeadAtoms} (s : Setting p h) where
   unit-listable u lent long l t = record {
     is-unit = l;
     passes = s .workable .passes;
-    none-given = refl;
     program-is = refl;
     rules-most = s .workable .fits .rules-fit;
     rules-there = lent;

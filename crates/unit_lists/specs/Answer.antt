@@ -27,7 +27,7 @@ pub record Answer : Type 0 where
 abbrev pub refuse : Fault → List ℕ → Answer
 refuse f table = record { outcome = Refused f; counts = noCounts; table = table }
 
--- "Numbers 1 to 14 leave the table untouched": where a place refuses nothing, the next one answers
+-- "Numbers 1 to 14 leave the table untouched", and 16 does: where a place refuses nothing, the next one answers
 unfoldable pub unlessRefused : Outcome → List ℕ → Answer → Answer
 unlessRefused (Refused f) table next = refuse f table
 unlessRefused Accepted table next = next
@@ -46,7 +46,7 @@ workFrom S table (u ∷ us) =
 abbrev pub unitWork : Units → List ℕ → Answer
 unitWork S table = workFrom S table (workingOrder S)
 
--- the graph place, rows 10 to 14, and unit work behind it
+-- the graph place, rows 16 and 10 to 14, and unit work behind it
 abbrev pub afterGraph : Units → List ℕ → Answer
 afterGraph S table = unlessRefused (verdict S) table (unitWork S table)
 

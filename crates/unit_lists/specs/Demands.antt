@@ -1,6 +1,6 @@
 -- Demands 2 and 3 in plain sight: which graphs pass, when refusal 15 comes, and what the last list holds.
 use mathlib.Core.Path.{_≡_}
-use mathlib.Core.Logic.{_↔_}
+use mathlib.Core.Logic.{_↔_, _⊎_}
 use mathlib.Core.List.{List, [], _∷_, List·Memᴰ}
 use Prim.Native.Nat.{ℕ, _*_, _≤_, _<_}
 use lib.ListN.{length, take, drop, getD}
@@ -15,28 +15,31 @@ use Rattle.plan.specs.Faults.{RefusedBy}
 use Rattle.plan.specs.declared.record.Plan.{Plan}
 use Rattle.plan.specs.declared.fault.Outcome.{Outcome}
 use Rattle.plan.specs.declared.fault.Outcome.the-variants.{Accepted}
-use Rattle.dependency_graph.specs.Units.{Units}
+use Rattle.dependency_graph.specs.Units.{Units, GivenFree}
 use Rattle.dependency_graph.specs.PlanUnits.{unitsOf}
 use Rattle.dependency_graph.specs.Graph.{ConditionA, ConditionB, Acyclic, ConditionC, Passes}
-use Rattle.dependency_graph.specs.Offenders.{RuleInNoUnit, HeadedRuleInSeveral, Cycle, NonmonotonicUnseen, MonotonicUnseen}
+use Rattle.dependency_graph.specs.Offenders.{GivenInHead, RuleInNoUnit, HeadedRuleInSeveral, Cycle, NonmonotonicUnseen, MonotonicUnseen}
 use Rattle.dependency_graph.specs.Order.{InOrder}
 use Rattle.splitting.specs.UnitList.{Listed, withLast}
 use Rattle.unit_lists.specs.declared.listing.Listing.{Listing}
 
 -- ---- demand 2: the graph
 
--- the numbers of the graph place
+-- the numbers of the graph place; 16 is "tried first" there (02, S-1)
 abbrev pub GraphNumber : ℕ → Type 0
-GraphNumber n = (10 ≤ n) × (n ≤ 14)
+GraphNumber n = (n ≡ 16) ⊎ ((10 ≤ n) × (n ≤ 14))
 
 -- a graph passes exactly if the conditions hold; otherwise the first row that fits counts, at its lowest rule or unit
 pub record GraphJudged (S : Units) (outcome : Outcome) : Type 0 where
   pub passes : ((n s : ℕ) → GraphNumber n → ¬ RefusedBy outcome n s) ↔ Passes S
-  pub ten : (r : ℕ) → RefusedBy outcome 10 r ↔ Least (RuleInNoUnit S) r
-  pub eleven : (r : ℕ) → RefusedBy outcome 11 r ↔ (ConditionA S × Least (HeadedRuleInSeveral S) r)
-  pub twelve : (u : ℕ) → RefusedBy outcome 12 u ↔ (ConditionA S × ConditionB S × Least (Cycle S) u)
-  pub thirteen : (r : ℕ) → RefusedBy outcome 13 r ↔ (ConditionA S × ConditionB S × Acyclic S × Least (NonmonotonicUnseen S) r)
-  pub fourteen : (r : ℕ) → RefusedBy outcome 14 r ↔ (ConditionA S × ConditionB S × Acyclic S × ConditionC S × Least (MonotonicUnseen S) r)
+  pub sixteen : (r : ℕ) → RefusedBy outcome 16 r ↔ Least (GivenInHead S) r
+  pub ten : (r : ℕ) → RefusedBy outcome 10 r ↔ (GivenFree S × Least (RuleInNoUnit S) r)
+  pub eleven : (r : ℕ) → RefusedBy outcome 11 r ↔ (GivenFree S × ConditionA S × Least (HeadedRuleInSeveral S) r)
+  pub twelve : (u : ℕ) → RefusedBy outcome 12 u ↔ (GivenFree S × ConditionA S × ConditionB S × Least (Cycle S) u)
+  pub thirteen : (r : ℕ)
+      → RefusedBy outcome 13 r ↔ (GivenFree S × ConditionA S × ConditionB S × Acyclic S × Least (NonmonotonicUnseen S) r)
+  pub fourteen : (r : ℕ)
+      → RefusedBy outcome 14 r ↔ (GivenFree S × ConditionA S × ConditionB S × Acyclic S × ConditionC S × Least (MonotonicUnseen S) r)
 
 -- for every plan that reads, and every long enough table
 pub record Demand2 (bytes table : List ℕ) (r : Listing) : Type 0 where
@@ -76,13 +79,13 @@ listIn r table i = take (getD (r .counts) i 0) (drop (LIST_WORDS * i) table)
 abbrev pub lastIn : Listing → List ℕ → List ℕ
 lastIn r table = take (getD (r .counts) LAST_COUNT 0) (drop LAST_LIST table)
 
--- each unit's list is in its place; the last list holds every answer set of all the plan's rules as one set, once each, rising, and nothing
--- else; the last count is their number
+-- each unit's list is in its place; the last list holds every answer set of all the plan's rules as one set, with its given atoms as facts, once
+-- each, rising, and nothing else; the last count is their number
 pub record ListsAll (p : Plan) (r : Listing) (table : List ℕ) : Type 0 where
   pub accepted : r .outcome ≡ Accepted
   pub units : (u : ℕ) → u < p .«unit_count» → ListOf (unitsOf p) u (listIn r table u)
   pub rising : Rising (lastIn r table)
-  pub members : (M : ℕ) → List·Memᴰ M (lastIn r table) ↔ AnswerSet (lent (p .rules)) (below (p .«rule_count»)) 0 M
+  pub members : (M : ℕ) → List·Memᴰ M (lastIn r table) ↔ AnswerSet (lent (p .rules)) (below (p .«rule_count»)) (p .given) M
   pub counted : length (lastIn r table) ≡ getD (r .counts) LAST_COUNT 0
 
 -- in the working order, refusal 15 exactly at the first list above 256, and otherwise all answer sets

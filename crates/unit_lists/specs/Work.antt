@@ -35,19 +35,19 @@ pub record Told (T : Units) (u : ℕ) (unit : Unit) : Type 0 where
   pub predecessors-are : unit .predecessors ≡ T .predecessors u
   pub near : unit .nearest ⊆ unit .predecessors
 
--- a search starts where all atoms but those of `within` are dropped
-abbrev pub startWithin : ℕ → State
-startWithin within = record { up = 0; dropped = outside within }
+-- a search starts where the given atoms are up and all atoms but those of `within` are dropped
+abbrev pub startWithin : ℕ → ℕ → State
+startWithin given within = record { up = given; dropped = outside within }
 
 -- what it finds, where the list is empty before
-abbrev pub Found : (State → ℕ → Type 0) → ℕ → ℕ → Type 0
-Found Wanted within = Grown (replicate {A = ℕ} LIST_WORDS 0) 0 (Wanted (startWithin within))
+abbrev pub Found : (State → ℕ → Type 0) → ℕ → ℕ → ℕ → Type 0
+Found Wanted given within = Grown (replicate {A = ℕ} LIST_WORDS 0) 0 (Wanted (startWithin given within))
 
 -- what is wanted within these atoms is gathered: stored with its count where it fits, and nothing is written where it does not
-pub record ListStored (Wanted : State → ℕ → Type 0) (within place : ℕ) (table counts table′ counts′ : List ℕ) (fits : Bool) : Type 0 where
+pub record ListStored (Wanted : State → ℕ → Type 0) (given within place : ℕ) (table counts table′ counts′ : List ℕ) (fits : Bool) : Type 0 where
   pub list : List ℕ
   pub count : ℕ
-  pub gathered : Gathered (Found Wanted within) list count
+  pub gathered : Gathered (Found Wanted given within) list count
   pub word : within < 2 ^ ATOMS
   pub when-fits : fits ≡ true
       → (count ≤ LIST_WORDS) × (table′ ≡ paste table (LIST_WORDS * place) list LIST_WORDS) × (counts′ ≡ set counts place count)

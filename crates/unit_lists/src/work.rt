@@ -37,11 +37,13 @@ pub enum Work {
     Long(usize),
 }
 
-// Searches one list: its words and its count go to their place. Whether the list fits; if not, nothing is written.
+// Searches one list, whose members have the given atoms: its words and its count go to their place. Whether the list fits; if not, nothing is
+// written.
 fn list_one(
     rules: &[u64],
     heads: &[u64],
     unit: Unit,
+    given: u64,
     within: u64,
     place: usize,
     table: &mut [u64],
@@ -50,7 +52,7 @@ fn list_one(
     requires { ⌜ Searchable (now rules) (now table) (now counts) (now heads) unit
         × (LIST_WORDS * place + LIST_WORDS ≤ length (now table)) × (place < length (now counts)) ⌝ }
     ensures { λ r. ⌜ ListStored (Wanted (now (rules .entry)) (now (table .entry)) (now (counts .entry)) (now (heads .entry)) unit)
-        within place (now (table .entry)) (now (counts .entry)) (now (table .exit)) (now (counts .exit)) r ⌝ }
+        given within place (now (table .entry)) (now (counts .entry)) (now (table .exit)) (now (counts .exit)) r ⌝ }
 {
     let mut list = [0u64; LIST_WORDS];
     let outside = atoms::outside(within);
@@ -63,7 +65,7 @@ fn list_one(
         &mut list,
         0,
         State {
-            up: 0,
+            up: given,
             dropped: outside,
         },
     );
@@ -104,7 +106,7 @@ fn list_unit(
     let heads = head_atoms.heads;
     let within = heads[u];
     let unit = unit_at(plan, head_atoms, u);
-    list_one(&rules, &heads, unit, within, u, table, counts)
+    list_one(&rules, &heads, unit, plan.given, within, u, table, counts)
 }
 
 // Lists the units, lowest number first among those whose predecessors are done.
@@ -137,7 +139,7 @@ fn last_unit(plan: Plan, head_atoms: HeadAtoms) -> Unit
     let every = atoms::first(plan.unit_count);
     Unit {
         rules: 0,
-        inputs: atoms::union_of(&heads, plan.unit_count, every),
+        inputs: atoms::union(plan.given, atoms::union_of(&heads, plan.unit_count, every)),
         predecessors: every,
         nearest: nearest(&heads, every),
     }
@@ -152,7 +154,16 @@ fn list_last(plan: Plan, head_atoms: HeadAtoms, table: &mut [u64], counts: &mut 
     let rules = plan.rules;
     let heads = head_atoms.heads;
     let unit = last_unit(plan, head_atoms);
-    list_one(&rules, &heads, unit, unit.inputs, LAST_COUNT, table, counts)
+    list_one(
+        &rules,
+        &heads,
+        unit,
+        plan.given,
+        unit.inputs,
+        LAST_COUNT,
+        table,
+        counts,
+    )
 }
 
 // Refuses by 15: the table's words 0 to 4,351 become zero.

@@ -15,7 +15,7 @@ is-answer-set-requires c κs =
 returns : tie.Need-returns
 returns c =
     let at = c .before .before .before .before .args in
-    c .is-answer-set .ensures ∙ ap (λ (w : ℕ). answerSet (lent (at .plan .rules)) w 0 (at .position)) (c .before .before .first .ensures)
+    c .is-answer-set .ensures ∙ ap (λ (w : ℕ). answerSet (lent (at .plan .rules)) w (at .plan .given) (at .position)) (c .before .before .first .ensures)
 
 pub is-settled-spec : {M : Type 1} → statement M
 is-settled-spec =

@@ -1,4 +1,4 @@
--- H(u) is the own head atoms and those of the units reached (PlanUnits).
+-- H(u) is the own head atoms, those of the units reached, and the given atoms (PlanUnits).
 use borrow.Author.Needs.{needs}
 use Rattle.dependency_graph.proofs.PlanUnits.{heads-filled}
 use Rattle.dependency_graph.proofs.head_atoms.fill_heads.Statement.{statement}
@@ -6,10 +6,11 @@ use Rattle.dependency_graph.proofs.head_atoms.fill_heads.Tie as tie
 
 returns : tie.Need-returns
 returns c =
-    let joined = c .before .before .before .before .before .before .before in
+    let added = c .before .before .before .before .before .before in
+    let joined = added .before .before .before .before .before in
     let reached = joined .before .before .before .before .before in
     heads-filled _ (reached .before .before .before .fill-own .ensures) (reached .fill-reach .ensures) (joined .fill-unions .ensures)
-    (c .before .before .add-words .ensures)
+    (added .add-words .ensures) (c .before .before .add-given .ensures)
 
 pub fill-heads-spec : {M : Type 1} → statement M
 fill-heads-spec =
@@ -23,6 +24,7 @@ fill-heads-spec =
     (λ c. search needs)
     (λ c κs. search needs)
     (λ c. search needs)
+    (λ c κs. search needs)
     (λ c κs. search needs)
     (λ c. search needs)
     returns)

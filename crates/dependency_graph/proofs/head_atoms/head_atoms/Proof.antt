@@ -1,4 +1,4 @@
--- Hp(u) is the union of H(v) over the direct predecessors (PlanUnits).
+-- Hp(u) is the union of H(v) over the direct predecessors, with the given atoms (PlanUnits).
 use borrow.Author.Needs.{needs}
 use Rattle.dependency_graph.proofs.PlanUnits.{inputs-filled}
 use Rattle.dependency_graph.proofs.head_atoms.head_atoms.Statement.{statement}
@@ -6,8 +6,9 @@ use Rattle.dependency_graph.proofs.head_atoms.head_atoms.Tie as tie
 
 returns : tie.Need-returns
 returns c =
-    let h = c .before .before .before .before .before .before .before .before .fill-heads .ensures in
-    record { heads-are = h .filled; inputs-are = inputs-filled _ h (c .before .fill-unions .ensures) .filled }
+    let joined = c .before .before .before .before in
+    let h = joined .before .before .before .before .before .before .before .fill-heads .ensures in
+    record { heads-are = h .filled; inputs-are = inputs-filled _ h (joined .fill-unions .ensures) (c .before .add-given .ensures) .filled }
 
 pub head-atoms-spec : {M : Type 1} → statement M
 head-atoms-spec =
@@ -16,6 +17,8 @@ head-atoms-spec =
     (λ c. search needs)
     (λ c κs. search needs)
     (λ c. search needs)
+    (λ c. search needs)
+    (λ c κs. search needs)
     (λ c. search needs)
     (λ c κs. search needs)
     returns)

@@ -17,15 +17,16 @@ union-of-requires c κs =
 
 nearest-requires : tie.Need-nearest-requires
 nearest-requires c κs =
-    let long : length (c .before .before .before .before .before .args .head-atoms .heads) ≡ MAX_UNITS = search needs in
+    let long : length (c .before .before .before .before .before .before .args .head-atoms .heads) ≡ MAX_UNITS = search needs in
     omega arith
 
 returns : tie.Need-returns
 returns c =
     let input = c .before .before in
-    let every = input .before .before in
+    let every = input .before .before .before in
+    let all = rw (every .first .ensures) at (input .before .union-of .ensures) in
     rw (every .first .ensures)
-    (last-told (every .before .before .pre) (input .union-of .result) (c .nearest .result) (rw (every .first .ensures) at (input .union-of .ensures))
+    (last-told (every .before .before .pre) (input .union .result) (c .nearest .result) (rw all at (input .union .ensures))
     (rw (every .first .ensures) at (c .nearest .ensures)))
 
 pub last-unit-spec : {M : Type 1} → statement M
@@ -35,6 +36,7 @@ last-unit-spec =
     (λ c κs. search needs)
     (λ c. search needs)
     union-of-requires
+    (λ c κs. search needs)
     (λ c. search needs)
     nearest-requires
     returns)

@@ -36,7 +36,7 @@ list-one-requires c κs =
     )
 
 returns : tie.Need-returns
-unfolding lastList unitsOf
+unfolding lastList unitsOf withLast
 returns c =
     let done = c .before .before .before .before in
     let told = done .before .before .before .before .before in

@@ -34,6 +34,7 @@ list-one-requires c κs =
     )
 
 returns : tie.Need-returns
+unfolding unitsOf
 returns c =
     let done = c .before .before .before .before in
     let told = done .before .before .before .before .before in
