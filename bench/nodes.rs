@@ -1,7 +1,8 @@
-//! nodes: how many nodes the search visits on the plan of standard input, counted by a model of it.
+//! nodes [subset-tests]: how many nodes the search visits on the plan of standard input, counted by a model of it; or
+//! how many subset tests it makes, and how many steps these take together.
 //!
 //! The proved program does not count. The model runs the same passes in the same order and decides the same
-//! atoms. It prints the number of nodes and then what the first line of the sheet says, so that whoever reads the
+//! atoms. It prints its counts and then what the first line of the sheet says, so that whoever reads the
 //! count can see that both found the same. It is for plans that `settle` works: nothing is checked here.
 
 use std::io::Read;
@@ -18,11 +19,20 @@ fn main() {
     let mut bytes = Vec::new();
     std::io::stdin().read_to_end(&mut bytes).expect("standard input cannot be read");
     let plan = lister::read(&bytes).expect("the plan is refused");
-    let mut nodes = 0;
-    match work(&plan, &mut nodes) {
-        Ok(positions) => println!("{} {}", nodes, positions),
-        Err(unit) => println!("{} refused 15 at {}", nodes, unit),
+    let mut counts = Counts::default();
+    let found = work(&plan, &mut counts).map_or_else(|unit| format!("refused 15 at {}", unit), |found| found.to_string());
+    if std::env::args().nth(1).as_deref() == Some("subset-tests") {
+        println!("{} {} {}", counts.subset_tests, counts.subset_steps, found);
+    } else {
+        println!("{} {}", counts.nodes, found);
     }
+}
+
+#[derive(Default)]
+struct Counts {
+    nodes: u64,
+    subset_tests: u64,
+    subset_steps: u64,
 }
 
 // ---- Unit work -------------------------------------------------------------------------------
@@ -65,7 +75,7 @@ fn nearest<'a>(predecessors: &[&'a Done]) -> Vec<&'a Done> {
 }
 
 /// The number of positions, or the first unit whose list is too long.
-fn work(plan: &Plan, nodes: &mut u64) -> Result<usize, usize> {
+fn work(plan: &Plan, counts: &mut Counts) -> Result<usize, usize> {
     let count = plan.units.len();
     let before = |unit: usize| (0..count).filter(move |&other| plan.edges.contains(&(unit, other)));
     let mut done: Vec<Option<Done>> = (0..count).map(|_| None).collect();
@@ -73,17 +83,17 @@ fn work(plan: &Plan, nodes: &mut u64) -> Result<usize, usize> {
     while let Some(u) = (0..count).find(|&u| is_ready(&done, u)) {
         let rules = (0..plan.rules.len()).filter(|&rule| plan.units[u] >> rule & 1 == 1).map(|rule| plan.rules[rule]);
         let unit = Unit::new(rules.collect(), before(u).flat_map(|v| &done[v]).collect());
-        let (heads, list) = (unit.heads(), list(&unit, nodes).ok_or(u)?);
+        let (heads, list) = (unit.heads(), list(&unit, counts).ok_or(u)?);
         done[u] = Some(Done { heads, list });
     }
     let last = Unit::new(Vec::new(), done.iter().flatten().collect());
-    list(&last, nodes).map(|list| list.len()).ok_or(count)
+    list(&last, counts).map(|list| list.len()).ok_or(count)
 }
 
-fn list(unit: &Unit, nodes: &mut u64) -> Option<Vec<u64>> {
+fn list(unit: &Unit, counts: &mut Counts) -> Option<Vec<u64>> {
     let mut list = Vec::new();
     let start = State { up: 0, dropped: !unit.heads() };
-    search(unit, start, &mut list, nodes).then_some(list)
+    search(unit, start, &mut list, counts).then_some(list)
 }
 
 // ---- The search ------------------------------------------------------------------------------
@@ -109,19 +119,19 @@ impl State {
 }
 
 /// Whether the list still fits.
-fn search(unit: &Unit, s: State, list: &mut Vec<u64>, nodes: &mut u64) -> bool {
-    *nodes += 1;
+fn search(unit: &Unit, s: State, list: &mut Vec<u64>, counts: &mut Counts) -> bool {
+    counts.nodes += 1;
     let t = narrow(unit, s);
     if t.up & t.dropped != 0 {
         return true;
     }
     let free = !(t.up | t.dropped);
     if free == 0 {
-        return !belongs(unit, t.up) || insert(list, t.up);
+        return !belongs(unit, t.up, counts) || insert(list, t.up);
     }
     let atom = choose(&unit.rules, t, free);
-    search(unit, State { dropped: t.dropped | atom, ..t }, list, nodes)
-        && search(unit, State { up: t.up | atom, ..t }, list, nodes)
+    search(unit, State { dropped: t.dropped | atom, ..t }, list, counts)
+        && search(unit, State { up: t.up | atom, ..t }, list, counts)
 }
 
 fn insert(list: &mut Vec<u64>, position: u64) -> bool {
@@ -130,26 +140,30 @@ fn insert(list: &mut Vec<u64>, position: u64) -> bool {
 }
 
 /// The full test of a position in which nothing is undecided.
-fn belongs(unit: &Unit, position: u64) -> bool {
+fn belongs(unit: &Unit, position: u64, counts: &mut Counts) -> bool {
     unit.predecessors.iter().all(|done| done.list.contains(&(position & done.heads)))
-        && is_settled(&unit.rules, position & unit.inputs, position)
+        && is_settled(&unit.rules, position & unit.inputs, position, counts)
 }
 
-fn is_settled(rules: &[Rule], facts: u64, position: u64) -> bool {
+fn is_settled(rules: &[Rule], facts: u64, position: u64, counts: &mut Counts) -> bool {
     let holds = |rule: &&Rule| rule.positive & !position == 0 && rule.negative & position == 0;
     let kept: Vec<Rule> = rules.iter().filter(holds).copied().collect();
-    kept.iter().all(|rule| rule.head & position != 0)
-        && !has_smaller(&kept, position, State { up: facts, dropped: !position })
+    if kept.iter().any(|rule| rule.head & position == 0) {
+        return false;
+    }
+    counts.subset_tests += 1;
+    !has_smaller(&kept, position, State { up: facts, dropped: !position }, &mut counts.subset_steps)
 }
 
 /// Some completion that is a proper subset of the position satisfies the rules.
-fn has_smaller(rules: &[Rule], position: u64, s: State) -> bool {
+fn has_smaller(rules: &[Rule], position: u64, s: State, steps: &mut u64) -> bool {
+    *steps += 1;
     let t = grow(rules, s);
     if t.up & t.dropped != 0 {
         return false;
     }
     if t.up | t.dropped != s.up | s.dropped {
-        return has_smaller(rules, position, t);
+        return has_smaller(rules, position, t, steps);
     }
     let is_broken = |rule: &&Rule| rule.positive & !t.up == 0 && rule.negative & t.up == 0 && rule.head & t.up == 0;
     let Some(rule) = rules.iter().find(is_broken) else {
@@ -160,8 +174,8 @@ fn has_smaller(rules: &[Rule], position: u64, s: State) -> bool {
     let choice = if heads != 0 { heads } else { free & (rule.positive | rule.negative) };
     let atom = lowest(choice);
     atom != 0
-        && (has_smaller(rules, position, State { up: t.up | atom, ..t })
-            || has_smaller(rules, position, State { dropped: t.dropped | atom, ..t }))
+        && (has_smaller(rules, position, State { up: t.up | atom, ..t }, steps)
+            || has_smaller(rules, position, State { dropped: t.dropped | atom, ..t }, steps))
 }
 
 fn lowest(word: u64) -> u64 {

@@ -10,7 +10,7 @@ use lib.Count.{ones}
 use borrow.Author.Tests.{eqb-true, eqb-false, not-true}
 use Rattle.atoms.specs.Word.{ATOMS, Has, _⊆_, Apart, apart, _∪_, atom, outside}
 use Rattle.atoms.specs.Bounded.{Decides}
-use Rattle.atoms.proofs.Tests.{decides, decides-iff, decides-same, decided-true}
+use Rattle.atoms.proofs.Tests.{decides, decides-iff, decides-same, decided-true, decided-false}
 use Rattle.atoms.proofs.Sets.{decides-apart, has-dec, has-lt, subset-refl, subset-trans, subset-antisym, has-left, has-right, has-outside}
 use Rattle.atoms.proofs.Sets.{outside-lacks, has-atom}
 use Rattle.atoms.proofs.Counts.{count-lt, count-proper}
@@ -18,7 +18,7 @@ use Rattle.answer_sets.specs.Program.{Program, Body, Satisfies, Satisfie
 use Rattle.answer_sets.specs.Lent.{lent, negative}
 use Rattle.answer_sets.specs.State.{Completes, Narrows, undecided}
 use Rattle.answer_sets.specs.SubsetTest.{Between, Confines, Candidates, InRule, in-head, in-negative}
-use Rattle.answer_sets.specs.Test.{Smaller, someSmaller}
+use Rattle.answer_sets.specs.Test.{Smaller, SubsetTested}
 use Rattle.answer_sets.specs.declared.state.State.{State}
 use Rattle.answer_sets.proofs.Narrows.{completes-back, overlap-none, with-up, with-dropped, without-up, without-dropped}
 use Rattle.answer_sets.proofs.HalfDecided.{decided-cases, undecided-up, undecided-dropped, undecided-shrinks}
@@ -167,20 +167,32 @@ module _ (up dropped : ℕ) {i x n : ℕ} (a : x ≡ atom i) (h : Has (undecided
 
 -- ---- from the facts on
 
-pub smaller-is-between : {P : Program} {which facts M dropped : ℕ} {r : Bool} → which < 2 ^ ATOMS → dropped ≡ outside M
-    → Decides (Between P which M (record { up = facts; dropped = dropped })) r → r ≡ someSmaller P which facts M
-smaller-is-between {P} {which} {facts} {M} fits e d = decides-same (rw e at d) (decides-smaller P which facts M fits) into from
-  where
-    into : Between P which M (record { up = facts; dropped = outside M }) → Smaller P which facts M
-    into b = record { set = b .set; proper = b .proper; facts-up = b .completes .has-up; satisfied = b .satisfied }
+module _ {P : Program} {which facts M : ℕ} where
+  smaller-of-between : Between P which M (record { up = facts; dropped = outside M }) → Smaller P which facts M
+  smaller-of-between b = record { set = b .set; proper = b .proper; facts-up = b .completes .has-up; satisfied = b .satisfied }
 
-    from : Smaller P which facts M → Between P which M (record { up = facts; dropped = outside M })
-    from s = record {
-      set = s .set;
-      proper = s .proper;
-      completes = record {
-        has-up = s .facts-up;
-        no-dropped = record { none = λ i p q. outside-lacks M p (s .proper .within .each i q) };
-      };
-      satisfied = s .satisfied;
-    }
+  between-of-smaller : Smaller P which facts M → Between P which M (record { up = facts; dropped = outside M })
+  between-of-smaller s = record {
+    set = s .set;
+    proper = s .proper;
+    completes = record {
+      has-up = s .facts-up;
+      no-dropped = record { none = λ i p q. outside-lacks M p (s .proper .within .each i q) };
+    };
+    satisfied = s .satisfied;
+  }
+
+  -- facts that are not all in M are in no subset of it
+  facts-inside : Smaller P which facts M → facts ⊆ M
+  facts-inside s = subset-trans (s .facts-up) (s .proper .within)
+
+  pub subset-tested : {dropped : ℕ} {r : Bool} → which < 2 ^ ATOMS → dropped ≡ outside M
+      → Decides (Between P which M (record { up = facts; dropped = dropped })) r → SubsetTested P which facts M r
+  subset-tested {r = r} fits e d = record {
+    exactly = told;
+    computed = decides-same told (decides-smaller P which facts M fits) (λ s. s) (λ s. s);
+    facts-outside = λ n. decided-false told (λ s. n (facts-inside s));
+  }
+    where
+      told : Decides (Smaller P which facts M) r
+      told = decides-iff smaller-of-between between-of-smaller (rw e at d)

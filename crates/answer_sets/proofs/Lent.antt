@@ -1,13 +1,14 @@
 -- Which rules are lent.
 use mathlib.Core.Path.{_≡_}
+use mathlib.Core.Logic.{_↔_}
 use mathlib.Core.List.{List}
 use Prim.Native.Nat.{ℕ, _*_, _<_, _≤_, min}
 use native.Mathlib.Omega.{arith}
 use lib.ListN.{length}
-use Rattle.atoms.specs.Word.{_⊆_, _∩_, below}
-use Rattle.atoms.proofs.Sets.{cut-right, below-lt}
+use Rattle.atoms.specs.Word.{Has, _⊆_, _∩_, below}
+use Rattle.atoms.proofs.Sets.{has-cut, cut-left, cut-right, has-below, below-lt}
 use Rattle.plan.specs.Limits.{MAX_RULES, RULE_WORDS}
-use Rattle.answer_sets.specs.Lent.{lent, ruleCount, Lent, numbered}
+use Rattle.answer_sets.specs.Lent.{lent, ruleCount, IsLent, Lent, numbered}
 use Rattle.answer_sets.specs.Test.{kept}
 use Rattle.answer_sets.proofs.Judged.{kept-at}
 
@@ -29,6 +30,20 @@ lent-numbered rules n which = record {
       let l : r < there = below-lt there (cut-right which (below there) h) in
       omega arith;
 }
+
+-- "bits with no rule are ignored": of the word's numbers those below n that have a rule
+pub numbered-exactly : (rules : List ℕ) (n which r : ℕ)
+    → Has (numbered rules n which) r ↔ (Has which r × ((r < MAX_RULES) × ((r < n) × IsLent rules r)))
+unfolding numbered
+numbered-exactly rules n which r = (
+  λ h.
+      let l : r < there = below-lt there (cut-right which (below there) h) in
+      (cut-left which (below there) h, (omega arith, (omega arith, omega arith))),
+  λ h. has-cut which (below there) (h .0) (has-below there r (omega (arith, h .1 .0, h .1 .1 .0, h .1 .1 .1))),
+)
+  where
+    there : ℕ
+    there = min MAX_RULES (min n (ruleCount rules))
 
 -- what the code cuts the word to
 pub numbered-cut : (rules : List ℕ) (n which : ℕ) {m there least first r : ℕ} → m ≡ ruleCount rules → there ≡ min n m

@@ -1,8 +1,9 @@
 -- The computing twins of the definitions: what the functions return.
+use mathlib.Core.Path.{_≡_}
 use mathlib.Core.Bool.{Bool, true, false, not, _&&_, _||_}
 use Prim.Native.Nat.{ℕ}
 use Rattle.atoms.specs.Word.{has, _⊂_, _⊆_, subset, apart, _∖_, atom}
-use Rattle.atoms.specs.Bounded.{allIn, someBelow, wordBelow}
+use Rattle.atoms.specs.Bounded.{Decides, allIn, someBelow, wordBelow}
 use Rattle.plan.specs.Limits.{MAX_RULES}
 use Rattle.answer_sets.specs.Program.{Program, SatisfiesAll}
 
@@ -26,7 +27,7 @@ kept P which M = wordBelow MAX_RULES (λ r. has which r && body P r M)
 unfoldable pub keptIf : Program → ℕ → ℕ → ℕ → ℕ
 keptIf P r M word = elim (body P r M) [ true ↦ word | false ↦ word ∖ atom r ]
 
--- some proper subset of M has all the facts and satisfies each rule so numbered (document 02, S-3)
+-- "some proper subset of the position has all those facts and satisfies each rule so numbered" (document 02, S-3)
 pub record Smaller (P : Program) (numbers facts M : ℕ) : Type 0 where
   pub set : ℕ
   pub proper : set ⊂ M
@@ -36,6 +37,12 @@ pub record Smaller (P : Program) (numbers facts M : ℕ) : Type 0 where
 -- the same, computed: a proper subset of M is a smaller number
 unfoldable pub someSmaller : Program → ℕ → ℕ → ℕ → Bool
 someSmaller P numbers facts M = someBelow M (λ N. subset N M && (subset facts N && satisfiesAll P numbers N))
+
+-- "It says yes exactly if" so; facts that are not all in the position give no
+pub record SubsetTested (P : Program) (numbers facts M : ℕ) (answer : Bool) : Type 0 where
+  pub exactly : Decides (Smaller P numbers facts M) answer
+  pub computed : answer ≡ someSmaller P numbers facts M
+  pub facts-outside : ¬ (facts ⊆ M) → answer ≡ false
 
 -- M is an answer set
 unfoldable pub answerSet : Program → ℕ → ℕ → ℕ → Bool

@@ -7,7 +7,7 @@ use plan::MAX_RULES;
 ghost use mathlib.Core.Path.{_≡_};
 ghost use Prim.Native.Nat.{min};
 ghost use Rattle.answer_sets.specs.Lent.{lent, Lent, numbered};
-ghost use Rattle.answer_sets.specs.Test.{someSmaller, answerSet};
+ghost use Rattle.answer_sets.specs.Test.{SubsetTested, answerSet};
 
 // Whether the position is an answer set of the rules numbered in `which` with the facts added.
 pub fn is_answer_set(rules: &[u64], which: u64, facts: u64, position: u64) -> bool
@@ -40,9 +40,9 @@ pub fn lent_numbers(rules: &[u64], n: usize, which: u64) -> u64
 }
 
 // The subset test over the n rules lent: whether some proper subset of the position has all the facts and satisfies
-// each rule so numbered. Bits with no rule are ignored.
+// each rule so numbered. Bits with no rule are ignored; facts that are not all in the position give no.
 pub fn has_smaller(rules: &[u64], n: usize, kept: u64, facts: u64, position: u64) -> bool
-    ensures { λ r. ⌜ r ≡ someSmaller (lent (now (rules .entry))) (numbered (now (rules .entry)) n kept) facts position ⌝ }
+    ensures { λ r. ⌜ SubsetTested (lent (now (rules .entry))) (numbered (now (rules .entry)) n kept) facts position r ⌝ }
 {
     some_smaller(rules, lent_numbers(rules, n, kept), facts, position)
 }

@@ -13,7 +13,7 @@ ghost use Prim.Native.Nat.{_<_};
 ghost use Rattle.atoms.specs.Bounded.{Decides};
 ghost use Rattle.atoms.specs.Word.{Has, _⊆_, _∩_};
 ghost use Rattle.answer_sets.specs.Lent.{lent, IsLent, Lent};
-ghost use Rattle.answer_sets.specs.Test.{someSmaller};
+ghost use Rattle.answer_sets.specs.Test.{SubsetTested};
 ghost use Rattle.answer_sets.specs.SubsetTest.{Between, Confines, Candidates};
 
 // The free atoms by which the rule may come to be satisfied: of its head, else of its body.
@@ -60,7 +60,7 @@ fn some_between(rules: &[u64], which: u64, position: u64, up: u64, dropped: u64)
 // Whether some proper subset of the position has all the facts and satisfies each rule of the word.
 pub fn some_smaller(rules: &[u64], which: u64, facts: u64, position: u64) -> bool
     requires { ⌜ Lent (now rules) which ⌝ }
-    ensures { λ r. ⌜ r ≡ someSmaller (lent (now (rules .entry))) which facts position ⌝ }
+    ensures { λ r. ⌜ SubsetTested (lent (now (rules .entry))) which facts position r ⌝ }
 {
     some_between(rules, which, position, facts, atoms::outside(position))
 }

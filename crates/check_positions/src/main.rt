@@ -22,6 +22,16 @@ fn ask(name: &[u8], rules: &[u64], position: u64) {
     }
 }
 
+// Writes whether some proper subset of the position has the facts and satisfies the kept ones of the first n rules.
+fn ask_smaller(name: &[u8], rules: &[u64], n: usize, kept: u64, facts: u64, position: u64) {
+    io::write_all(STDOUT_FILENO, name);
+    if answer_sets::has_smaller(rules, n, kept, facts, position) {
+        io::write_all(STDOUT_FILENO, b": smaller\n");
+    } else {
+        io::write_all(STDOUT_FILENO, b": none smaller\n");
+    }
+}
+
 // Circuit 2: fact 0 or 1. Atom 2 is in no head.
 fn circuit_2() {
     let rules: [u64; 3] = [0x3, 0, 0];
@@ -122,6 +132,89 @@ fn sixty_atoms_in_a_ring() {
     ask(b"ring of 60", &rules, 0);
 }
 
+// Fact 0; 1 if 0: numbers with no rule behind them are ignored, and so are rules from n on.
+fn subsets_by_rule_number() {
+    let rules: [u64; 6] = [0x1, 0, 0, 0x2, 0x1, 0];
+    ask_smaller(b"both rules", &rules, 2, 0x3, 0, 0x3);
+    ask_smaller(
+        b"both rules, and numbers with no rule",
+        &rules,
+        2,
+        EVERY,
+        0,
+        0x3,
+    );
+    ask_smaller(b"rules past the words", &rules, 64, EVERY, 0, 0x3);
+    ask_smaller(
+        b"numbers with no rule alone",
+        &rules,
+        2,
+        0xffff_ffff_ffff_fffc,
+        0,
+        0x3,
+    );
+    ask_smaller(b"rule 0 alone", &rules, 2, 0x1, 0, 0x3);
+    ask_smaller(b"the first of both rules", &rules, 1, 0x3, 0, 0x3);
+    ask_smaller(b"no rule lent", &rules, 0, EVERY, 0, 0x3);
+}
+
+// Facts that are not all in the position give no, whatever the rules; facts that are all of it do too.
+fn subsets_with_facts() {
+    let rules: [u64; 3] = [0x2, 0x1, 0];
+    ask_smaller(b"facts in the position", &rules, 1, 0x1, 0x4, 0x7);
+    ask_smaller(b"a fact that forces the rest", &rules, 1, 0x1, 0x1, 0x3);
+    ask_smaller(b"facts that are the position", &rules, 1, 0x1, 0x7, 0x7);
+    ask_smaller(b"a fact outside the position", &rules, 1, 0x1, 0x8, 0x7);
+    ask_smaller(b"facts inside and outside", &rules, 1, 0x1, 0xc, 0x7);
+}
+
+// The empty position has no proper subset.
+fn subsets_of_the_empty_position() {
+    let rules: [u64; 3] = [0x1, 0x1, 0];
+    ask_smaller(b"empty position", &rules, 1, 0x1, 0, 0);
+    ask_smaller(b"empty position, no rules", &rules, 0, 0, 0, 0);
+    ask_smaller(b"empty position, a fact", &rules, 1, 0x1, 0x1, 0);
+}
+
+// All 64 atoms are up: only a chain of all of them, from a fact on, leaves no smaller subset.
+fn subsets_of_all_atoms() {
+    let rules = chain(0);
+    ask_smaller(b"64 atoms, no rules", &rules, 0, EVERY, 0, EVERY);
+    ask_smaller(b"64 atoms, all facts", &rules, 0, EVERY, EVERY, EVERY);
+    ask_smaller(
+        b"64 atoms, all but one facts",
+        &rules,
+        0,
+        EVERY,
+        0x7fff_ffff_ffff_ffff,
+        EVERY,
+    );
+    ask_smaller(
+        b"64 atoms, 60 of them in a chain",
+        &rules,
+        CHAIN_ATOMS,
+        EVERY,
+        0,
+        EVERY,
+    );
+    ask_smaller(
+        b"64 atoms, a chain and four facts",
+        &rules,
+        CHAIN_ATOMS,
+        EVERY,
+        0xf000_0000_0000_0000,
+        EVERY,
+    );
+    ask_smaller(
+        b"64 atoms, a chain but for one rule",
+        &rules,
+        CHAIN_ATOMS,
+        0xffff_fffe_ffff_ffff,
+        0xf000_0000_0000_0000,
+        EVERY,
+    );
+}
+
 // All questions in order.
 fn main() {
     circuit_2();
@@ -135,4 +228,8 @@ fn main() {
     top_atom();
     sixty_atoms_from_a_fact();
     sixty_atoms_in_a_ring();
+    subsets_by_rule_number();
+    subsets_with_facts();
+    subsets_of_the_empty_position();
+    subsets_of_all_atoms();
 }

@@ -20,9 +20,8 @@ fn is_settled(plan: Plan, position: u64) -> bool
     requires { ⌜ Fitting plan ⌝ }
     ensures { λ r. ⌜ r ≡ settled plan position ⌝ }
 {
-    let rules = plan.rules;
     let whole_program = atoms::first(plan.rule_count);
-    answer_sets::is_answer_set(&rules, whole_program, plan.given, position)
+    answer_sets::is_answer_set(&plan.rules, whole_program, plan.given, position)
 }
 
 // The answer for a plan as bytes. Units and edges play no part in it, and neither does the graph.

@@ -102,11 +102,10 @@ fn list_unit(
     ensures { λ r. ⌜ MembersStored (unitList (unitsOf plan) u) u
         (now (table .entry)) (now (counts .entry)) (now (table .exit)) (now (counts .exit)) r ⌝ }
 {
-    let rules = plan.rules;
     let heads = head_atoms.heads;
     let within = heads[u];
     let unit = unit_at(plan, head_atoms, u);
-    list_one(&rules, &heads, unit, plan.given, within, u, table, counts)
+    list_one(&plan.rules, &heads, unit, plan.given, within, u, table, counts)
 }
 
 // Lists the units, lowest number first among those whose predecessors are done.
@@ -151,11 +150,10 @@ fn list_last(plan: Plan, head_atoms: HeadAtoms, table: &mut [u64], counts: &mut 
     ensures { λ r. ⌜ MembersStored (lastList (unitsOf plan)) LAST_COUNT
         (now (table .entry)) (now (counts .entry)) (now (table .exit)) (now (counts .exit)) r ⌝ }
 {
-    let rules = plan.rules;
     let heads = head_atoms.heads;
     let unit = last_unit(plan, head_atoms);
     list_one(
-        &rules,
+        &plan.rules,
         &heads,
         unit,
         plan.given,

@@ -1,4 +1,4 @@
--- The test over all rules of the record, whose words are all there.
+-- The test over all rules of the record, whose words are all there and are lent where they stand.
 use mathlib.Core.Path.{ap, _∙_}
 use Prim.Native.Nat.{ℕ}
 use Rattle.answer_sets.specs.Lent.{lent}
@@ -10,14 +10,14 @@ use Rattle.judge.proofs.is_settled.Tie as tie
 
 is-answer-set-requires : tie.Need-is-answer-set-requires
 is-answer-set-requires c κs =
-    whole-lent (c .before .before .before .args .plan) _ (c .before .before .before .pre) (search needs) (c .before .first .ensures)
+    let read = c .before .before .before in
+    whole-lent (read .before .args .t1) _ (read .before .pre) (search needs) (read .first .ensures)
 
 returns : tie.Need-returns
 returns c =
-    let at = c .before .before .before .before .args in
-    c .is-answer-set .ensures ∙ ap (λ (w : ℕ). answerSet (lent (at .plan .rules)) w (at .plan .given) (at .position)) (c .before .before .first .ensures)
+    let read = c .before .before .before .before in
+    let at = read .before .args in
+    c .is-answer-set .ensures ∙ ap (λ (w : ℕ). answerSet (lent (at .t1 .rules)) w (at .t1 .given) (at .position)) (read .first .ensures)
 
 pub is-settled-spec : {M : Type 1} → statement M
-is-settled-spec =
-    tie.close
-    (tie.spec (λ c κs. search needs) (λ c. search needs) is-answer-set-requires returns)
+is-settled-spec = tie.close (tie.spec (λ c κs. search needs) is-answer-set-requires returns)

@@ -1,11 +1,10 @@
 -- The test at the numbers of the rules that are there.
-use mathlib.Core.Path.{_∙_}
 use borrow.Author.Needs.{needs}
 use Rattle.answer_sets.proofs.position.has_smaller.Statement.{statement}
 use Rattle.answer_sets.proofs.position.has_smaller.Tie as tie
 
 returns : tie.Need-returns
-returns c = c .some-smaller .ensures ∙ rw (c .before .lent-numbers .ensures .0)
+returns c = rw (c .before .lent-numbers .ensures .0) at (c .some-smaller .ensures)
 
 pub has-smaller-spec : {M : Type 1} → statement M
 has-smaller-spec = tie.close (tie.spec (λ c κs. search needs) (λ c κs. search needs) returns)

@@ -26,7 +26,7 @@ returns-3 : tie.Need-returns-3
 returns-3 c =
     let k = c .before .before .before in
     model-judged _ _ _ _ (k .before .before .is-subset .ensures) (k .before .if1 .left) (k .kept-rules .ensures)
-    (c .before .before .all-satisfied .ensures) (c .before .if2 .left) (c .some-smaller .ensures)
+    (c .before .before .all-satisfied .ensures) (c .before .if2 .left) (c .some-smaller .ensures .computed)
 
 pub is-answer-set-spec : {M : Type 1} → statement M
 is-answer-set-spec =

@@ -14,21 +14,21 @@ use Rattle.unit_lists.proofs.work.list_last.Statement.{statement}
 use Rattle.unit_lists.proofs.work.list_last.Tie as tie
 
 abbrev start : tie.After-last-unit → tie.Start
-start c = c .before .before .before .before .before
+start c = c .before .before .before .before
 
 listable : (c : tie.After-last-unit)
-    → Listable (withLast (unitsOf (start c .args .plan))) (start c .args .plan .«unit_count») (start c .args .plan .rules)
+    → Listable (withLast (unitsOf (start c .args .t1))) (start c .args .t1 .«unit_count») (start c .args .t1 .rules)
     (start c .args .head-atoms .heads) (now (start c .args .table)) (now (start c .args .counts))
 listable c =
     let at = start c .args in
     let pre = start c .pre in
-    let rules : length (at .plan .rules) ≡ 192 = search needs in
+    let rules : length (at .t1 .rules) ≡ 192 = search needs in
     let heads : length (at .head-atoms .heads) ≡ MAX_UNITS = search needs in
     last-listable (pre .0) (omega (arith, pre .0 .workable .fits .rules-fit)) (omega arith) (pre .1)
 
 list-one-requires : tie.Need-list-one-requires
 list-one-requires c κs =
-    let told = c .before .before .before .before in
+    let told = c .before .before .before .before .before .before in
     let pre = start told .pre in (
       searchable (listable told) (told .last-unit .ensures),
       omega (arith, pre .1 .table-long),
@@ -39,16 +39,15 @@ returns : tie.Need-returns
 unfolding lastList unitsOf withLast
 returns c =
     let done = c .before .before .before .before in
-    let told = done .before .before .before .before .before in
+    let told = done .before .before .before .before .before .before .before in
     unit-stored (listable told) (told .last-unit .ensures) (told .last-unit .result .inputs) LAST_COUNT
-    (told .last-unit .ensures .inputs-are ∙ heads-of-last (unitsOf (start told .args .plan))) (done .list-one .ensures)
+    (told .last-unit .ensures .inputs-are ∙ heads-of-last (unitsOf (start told .args .t1))) (done .list-one .ensures)
 
 pub list-last-spec : {M : Type 1} → statement M
 list-last-spec =
     tie.close
     (tie.spec
     (λ c κs. search needs)
-    (λ c. search needs)
     (λ c. search needs)
     list-one-requires
     (λ c. search needs)

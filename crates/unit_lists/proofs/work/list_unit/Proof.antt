@@ -12,21 +12,21 @@ use Rattle.unit_lists.proofs.work.list_unit.Statement.{statement}
 use Rattle.unit_lists.proofs.work.list_unit.Tie as tie
 
 abbrev start : tie.After-unit-at → tie.Start
-start c = c .before .before .before .before .before
+start c = c .before .before .before .before
 
 listable : (c : tie.After-unit-at)
-    → Listable (unitsOf (start c .args .plan)) (start c .args .u) (start c .args .plan .rules) (start c .args .head-atoms .heads)
+    → Listable (unitsOf (start c .args .t1)) (start c .args .u) (start c .args .t1 .rules) (start c .args .head-atoms .heads)
     (now (start c .args .table)) (now (start c .args .counts))
 listable c =
     let at = start c .args in
     let pre = start c .pre in
-    let rules : length (at .plan .rules) ≡ 192 = search needs in
+    let rules : length (at .t1 .rules) ≡ 192 = search needs in
     let heads : length (at .head-atoms .heads) ≡ MAX_UNITS = search needs in
     unit-listable (pre .0) (at .u) (omega (arith, pre .0 .workable .fits .rules-fit)) (omega arith) (pre .1) (pre .2)
 
 list-one-requires : tie.Need-list-one-requires
 list-one-requires c κs =
-    let told = c .before .before .before .before in
+    let told = c .before .before .before .before .before .before in
     let pre = start told .pre in (
       searchable (listable told) (told .unit-at .ensures),
       omega (arith, pre .1, pre .2 .table-long, pre .0 .workable .fits .units-fit),
@@ -37,7 +37,7 @@ returns : tie.Need-returns
 unfolding unitsOf
 returns c =
     let done = c .before .before .before .before in
-    let told = done .before .before .before .before .before in
+    let told = done .before .before .before .before .before .before .before in
     let at = start told .args in
     let pre = start told .pre in
     unit-stored (listable told) (told .unit-at .ensures) (getD (at .head-atoms .heads) (at .u) 0) (at .u)
@@ -50,7 +50,6 @@ list-unit-spec =
     (λ c. search needs)
     (λ c. search needs)
     (λ c κs. search needs)
-    (λ c. search needs)
     (λ c. search needs)
     list-one-requires
     (λ c. search needs)
