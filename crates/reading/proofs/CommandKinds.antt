@@ -1,15 +1,15 @@
 -- Kinds of commands: their bytes, and the order of their groups. Kinds are gone through as a list, so that no law speaks of pairs of kinds.
 use mathlib.Core.Path.{_≡_, refl, ap, sym, _∙_, subst}
 use mathlib.Core.List.{List, [], _∷_, List·Memᴰ, List·Memᴰ·head, List·Memᴰ·tail, List·Memᴰ·not-nil, List·Memᴰ·cases-cons}
-use mathlib.Core.Bool.{Bool, true, false}
+use mathlib.Core.Bool.{Bool, true, false, _&&_}
 use mathlib.Core.Logic.{_⊎_, inl, inr}
 use mathlib.Core.Option.{some, none}
 use Prim.Native.Nat.{ℕ, _+_, _≤_, _<_}
 use native.Mathlib.Omega.{arith}
 use native.Mathlib.Decide.{decLt}
-use lib.Dec.{eqb, ltb}
-use borrow.Author.Tests.{eqb-true, ne-eqb, ltb-true, ltb-false, lt-ltb, le-ltb}
-use Rattle.atoms.proofs.Tests.{bool-ext}
+use lib.Dec.{eqb, ltb, leb}
+use borrow.Author.Tests.{leb-true, eqb-true, ne-eqb, ltb-true, ltb-false, lt-ltb, le-ltb}
+use Rattle.atoms.proofs.Tests.{bool-ext, and-true}
 use Rattle.reading.specs.Commands.{Kind, rule, unit, edge, end, byteOf, kindAmong, kinds, kindOf, orderOf, count, countBehind, late}
 use Rattle.plan.specs.declared.record.Plan.{Plan}
 
@@ -60,7 +60,28 @@ no-kind b n = among kinds
     among [] = refl
     among (j ∷ js) = rw (ne-eqb _ _ (n j), kindAmong) (among js)
 
+-- a test that every kind passes
+abbrev pub every : (Kind → Bool) → List Kind → Bool
+every test [] = true
+every test (j ∷ js) = test j && every test js
+
+pub each-kind : (test : Kind → Bool) → every test kinds ≡ true → (k : Kind) → test k ≡ true
+each-kind test all k = among kinds (all-kinds k) all
+  where
+    among : (js : List Kind) → List·Memᴰ k js → every test js ≡ true → test k ≡ true
+    among [] m h = absurd (List·Memᴰ·not-nil m)
+    among (j ∷ js) m h = go (List·Memᴰ·cases-cons m) (and-true (test j) (every test js) .0 h) (among js)
+      where
+        go : (k ≡ j) ⊎ List·Memᴰ k js → (test j ≡ true) × (every test js ≡ true)
+            → (List·Memᴰ k js → every test js ≡ true → test k ≡ true) → test k ≡ true
+        go (inl e) t rec = ap test e ∙ t .0
+        go (inr n) t rec = rec n (t .1)
+
 -- ---- groups
+
+-- END is the last
+pub order-end : (k : Kind) → orderOf k ≤ orderOf end
+order-end k = leb-true _ _ (each-kind (λ j. leb (orderOf j) (orderOf end)) refl k)
 
 module _ (p : Plan) (group : ℕ) where
   -- a command of a later group that is counted

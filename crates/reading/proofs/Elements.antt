@@ -26,7 +26,7 @@ use Rattle.reading.specs.Layout.{predecessorsOf, recordOf, IsByte, All, 
 use Rattle.reading.specs.Reading.{commandBytes}
 use Rattle.reading.proofs.Numbers.{length-bytes, word-behind, word-bytes}
 use Rattle.reading.proofs.Edges.{not-bad-edge}
-use Rattle.reading.proofs.Commands.{Passed, InPlace, adds, grown, Leads}
+use Rattle.reading.proofs.Commands.{Passed, InPlace, rule-room, unit-room, adds, grown, Leads}
 use Rattle.reading.proofs.Pigeonhole.{edges-at-most}
 use Rattle.reading.proofs.Predecessors.{has-member, member-has, rows-snoc}
 use Rattle.plan.specs.declared.record.Plan.{Plan}
@@ -201,10 +201,10 @@ empty (x ∷ l) h = absurd (omega arith)
 held-with : (c : Contents) (k : Kind) (x : Element k) → Held c → Fits c k x → Held (with c k x)
 unfolding recordOf
 held-with c rule r h f =
-    let more : length (c .rules ++ (r ∷ [])) ≤ MAX_RULES = omega (arith, length-snoc (c .rules) r, f .in-place .room) in
+    let more : length (c .rules ++ (r ∷ [])) ≤ MAX_RULES = omega (arith, length-snoc (c .rules) r, rule-room (f .in-place)) in
     record { few = record { few-rules = more; few-units = f .few .few-units }; good-edges = h .good-edges; no-repeat = h .no-repeat }
 held-with c unit w h f =
-    let more : length (c .units ++ (w ∷ [])) ≤ MAX_UNITS = omega (arith, length-snoc (c .units) w, f .in-place .room) in
+    let more : length (c .units ++ (w ∷ [])) ≤ MAX_UNITS = omega (arith, length-snoc (c .units) w, unit-room (f .in-place)) in
     record {
       few = record { few-rules = f .few .few-rules; few-units = more };
       good-edges = rw (empty (c .edges) (omega (arith, f .in-place .on-time))) tt;
@@ -293,11 +293,11 @@ pub record-with : (c : Contents) (k : Kind) (s : List ℕ) → Fits c k (element
 unfolding recordOf withRule withUnit withEdge carrying
 record-with c rule s f =
     let r : RuleWords = elementAt rule s in
-    let e = rules-snoc (c .rules) r (RULE_WORDS * MAX_RULES) (omega (arith, f .in-place .room)) in
+    let e = rules-snoc (c .rules) r (RULE_WORDS * MAX_RULES) (omega (arith, rule-room (f .in-place))) in
     same-plan e (sym (length-snoc (c .rules) r)) refl refl refl refl
 record-with c unit s f =
     let w : ℕ = elementAt unit s in
-    let e = padded-snoc MAX_UNITS (c .units) (length (c .units)) w refl (f .in-place .room) in
+    let e = padded-snoc MAX_UNITS (c .units) (length (c .units)) w refl (unit-room (f .in-place)) in
     same-plan refl refl e (sym (length-snoc (c .units) w)) refl refl
 record-with c edge s f =
     let x : UnitPair = elementAt edge s in

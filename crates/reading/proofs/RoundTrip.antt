@@ -10,14 +10,14 @@ use native.Mathlib.Omega.{arith}
 use lib.ListN.{length, length-append}
 use lib.Pow.{pow-mono}
 use lib.Seq.{drop-at}
-use borrow.Author.Tests.{le-ltb}
+use borrow.Author.Tests.{le-ltb, lt-leb}
 use Rattle.plan.specs.Limits.{MAX_RULES, MAX_UNITS}
 use Rattle.reading.specs.Words.{WORD_VALUES}
 use Rattle.reading.specs.Commands.{Kind, rule, unit, edge, end, byteOf, operandBytes, carrying, late, rows, ofKind, commandAt}
 use Rattle.reading.specs.Reading.{onward, ended, stepOf, walk, reading, accepted, commandBytes}
 use Rattle.reading.specs.Layout.{RuleWords, UnitPair, Contents, ruleBytes, unitBytes, edgeBytes, endBytes, commands, layout, recordOf}
 use Rattle.reading.specs.Layout.{All, Distinct, GoodRule, GoodEdge, Within}
-use Rattle.reading.proofs.Commands.{Passed, none-fits, known-command, in-place-passed, adds, step-on}
+use Rattle.reading.proofs.Commands.{Passed, none-fits, known-command, in-place-passed, adds, step-when}
 use Rattle.reading.proofs.CommandKinds.{kind-of-byte}
 use Rattle.reading.proofs.Walk.{walk-on, walk-ended}
 use Rattle.reading.proofs.Elements.{Element, nothing, with, operandsOf, operands-long, elementAt, read-again, Sized, Fits, right-passed}
@@ -53,7 +53,7 @@ module _ (c : Contents) (k : Kind) (x : Element k) (rest : List ℕ) (more : add
 
   leads-with : (at : ℕ) → stepOf (recordOf c) (commandAt (recordOf c) at (byteOf k ∷ operands)) ≡ onward k (recordOf (with c k x))
   leads-with at =
-      ap (stepOf (recordOf c)) (read-as (recordOf c) at k operands (passed at)) ∙ step-on (recordOf c) k operands more
+      ap (stepOf (recordOf c)) (read-as (recordOf c) at k operands (passed at)) ∙ step-when (recordOf c) k operands true more
       ∙ ap (onward k) (record-with c k operands fits-again ∙ ap (λ (y : Element k). recordOf (with c k y)) again)
 
 -- reading the bytes s takes the record from p to q
@@ -140,7 +140,7 @@ module _ (c : Contents) (w : Within c) where
       group-takes ruleBytes (λ d. recordOf (rules-only d)) (λ d x. (length d < MAX_RULES) × GoodRule x)
       (λ d x f. one-takes (rules-only d) rule x refl (record {
         few = record { few-rules = omega (arith, f .0); few-units = omega arith };
-        in-place = record { on-time = omega arith; room = f .0 };
+        in-place = record { on-time = omega arith; room = lt-leb _ _ (f .0) };
         right = f .1 .some-word;
       }) (f .1 .head-fits, (f .1 .positive-fits, f .1 .negative-fits)))
       (c .rules) [] (few-follow MAX_RULES GoodRule (c .rules) [] (omega (arith, w .most-rules)) (w .good-rules))
@@ -152,7 +152,7 @@ module _ (c : Contents) (w : Within c) where
       group-takes unitBytes (λ d. recordOf (units-too d)) (λ d x. (length d < MAX_UNITS) × (x < 2 ^ length (c .rules)))
       (λ d x f. one-takes (units-too d) unit x refl (record {
         few = record { few-rules = w .most-rules; few-units = omega (arith, f .0) };
-        in-place = record { on-time = omega arith; room = f .0 };
+        in-place = record { on-time = omega arith; room = lt-leb _ _ (f .0) };
         right = f .1;
       }) (omega (arith, f .1)))
       (c .units) [] (few-follow MAX_UNITS (λ x. x < 2 ^ length (c .rules)) (c .units) [] (omega (arith, w .most-units)) (w .good-units))
@@ -163,7 +163,7 @@ module _ (c : Contents) (w : Within c) where
       group-takes edgeBytes (λ d. recordOf (edges-too d)) (λ d x. GoodEdge (length (c .units)) x × ¬ List·Memᴰ x d)
       (λ d x f. one-takes (edges-too d) edge x refl (record {
         few = record { few-rules = w .most-rules; few-units = w .most-units };
-        in-place = record { on-time = omega arith; room = tt };
+        in-place = record { on-time = omega arith; room = refl };
         right = f;
       }) tt)
       (c .edges) [] (new-follow (GoodEdge (length (c .units))) (c .edges) [] (λ x m k. List·Memᴰ·not-nil k) (w .no-repeat) (w .good-edges))
