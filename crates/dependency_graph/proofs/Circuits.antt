@@ -22,6 +22,7 @@ abbrev giving : ℕ → List ℕ → ℕ → List ℕ → ℕ → List ℕ → P
 giving given rules n units m predecessors =
     record {
       given = given;
+      «given_count» = 0;
       rules = rules;
       «rule_count» = n;
       units = units;

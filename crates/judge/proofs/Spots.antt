@@ -1,5 +1,5 @@
 -- The spot of a reading fault lies within the plan's bytes.
-use mathlib.Core.Path.{_≡_, refl, ap, sym, subst}
+use mathlib.Core.Path.{_≡_, refl, ap, subst}
 use mathlib.Core.Bool.{Bool, true, false}
 use mathlib.Core.List.{List, [], _∷_}
 use mathlib.Core.Option.{Option, some, none}
@@ -8,9 +8,9 @@ use native.Mathlib.Omega.{arith}
 use lib.ListN.{length, drop, length-drop}
 use Rattle.plan.specs.Faults.{spot}
 use Rattle.plan.specs.Record.{emptyPlan}
-use Rattle.reading.specs.Commands.{Kind, rule, unit, edge, end, Row, operandRows, rows, firstFit, ofKind, carrying, kindOf, commandAt}
+use Rattle.reading.specs.Commands.{Kind, given, rule, unit, edge, end, Row, operandRows, rows, firstFit, ofKind, carrying, kindOf, commandAt}
 use Rattle.reading.specs.Reading.{Step, onward, ended, stepOf, reading, commandBytes}
-use Rattle.reading.proofs.Commands.{known-command, unknown-command, Leads}
+use Rattle.reading.proofs.Commands.{known-command, unknown-command, adds, step-when, Leads}
 use Rattle.reading.proofs.Walk.{walk-keeps}
 use Rattle.plan.specs.declared.record.Plan.{Plan}
 use Rattle.plan.specs.declared.fault.Fault.{Fault}
@@ -42,6 +42,7 @@ first-fit-by n p (r ∷ rs) x a h = go (r .fits) refl (first-fit-by n p rs x (a 
     go false t rest = rw t rest
 
 operand-rows-by : (p : Plan) (at : ℕ) (k : Kind) (operands : List ℕ) → RowsBy (at + 1) (operandRows p at k operands)
+operand-rows-by p at given operands = tt
 operand-rows-by p at rule operands = (omega arith, tt)
 operand-rows-by p at unit operands = (omega arith, tt)
 operand-rows-by p at edge operands = (omega arith, tt)
@@ -51,11 +52,11 @@ rows-by : (p : Plan) (at : ℕ) (k : Kind) (operands : List ℕ) → RowsBy (at 
 rows-by p at k operands = (omega arith, (omega arith, (omega arith, operand-rows-by p at k operands)))
 
 carrying-by : (n : ℕ) (p : Plan) (k : Kind) (operands : List ℕ) → StepBy n (stepOf p (carrying k operands))
-unfolding carrying
-carrying-by n p rule operands = tt
-carrying-by n p unit operands = tt
-carrying-by n p edge operands = tt
-carrying-by n p end operands = tt
+carrying-by n p k operands = go (adds k) refl
+  where
+    go : (b : Bool) → adds k ≡ b → StepBy n (stepOf p (carrying k operands))
+    go true a = rw (step-when p k operands true a) tt
+    go false a = rw (step-when p k operands false a) tt
 
 -- a command's fault is spotted at its byte or the next, and where no byte is left at the end
 command-by : (n : ℕ) (p : Plan) (at : ℕ) (s : List ℕ) → at + length s ≡ n → StepBy n (stepOf p (commandAt p at s))

@@ -1,4 +1,4 @@
--- The numbers and spots of faults. Document 01, "Faults, by where they are found": columns "no." and "spot".
+-- The numbers and spots of faults. Document 01, "Faults, by where they are found": columns "no." and "spot"; from 16 on document 02.
 use mathlib.Core.Path.{_≡_}
 use mathlib.Core.List.{List, [], _∷_}
 use mathlib.Core.Logic.{_⊎_}

@@ -2,7 +2,7 @@
 ghost use mathlib.Core.Path.{_≡_};
 ghost use Rattle.plan.specs.Faults.{number, spot, refusalCode};
 
-// A refusal: what is wrong, and its spot (document 01, "Faults, by where they are found").
+// A refusal: what is wrong, and its spot (document 01, "Faults, by where they are found"; document 02).
 pub enum Fault {
     TableShort(usize),
     Truncated(usize),

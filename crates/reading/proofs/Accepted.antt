@@ -11,8 +11,8 @@ use Rattle.atoms.specs.Word.{Has}
 use Rattle.atoms.proofs.Lists.{getD-tabulate}
 use Rattle.plan.specs.Limits.{MAX_UNITS}
 use Rattle.plan.specs.Record.{emptyPlan}
-use Rattle.reading.specs.Words.{WORD_BYTES}
-use Rattle.reading.specs.Commands.{Kind, rule, unit, edge, end, byteOf, operandBytes}
+use Rattle.reading.specs.Words.{WORD_BYTES, WORD_VALUES}
+use Rattle.reading.specs.Commands.{Kind, given, rule, unit, edge, end, byteOf, operandBytes}
 use Rattle.reading.specs.Reading.{reading, commandBytes}
 use Rattle.reading.specs.Layout.{Contents, endBytes, commands, predecessorsOf, recordOf, IsByte, All, GoodRule, Within, IsPlan}
 use Rattle.reading.proofs.Numbers.{all-drop, word-fits}
@@ -20,7 +20,7 @@ use Rattle.reading.proofs.Commands.{Leads}
 use Rattle.reading.proofs.Walk.{walk-keeps}
 use Rattle.reading.proofs.Limits.{record-fits}
 use Rattle.reading.proofs.Predecessors.{pair, has-member}
-use Rattle.reading.proofs.Elements.{Element, nothing, with, elementAt, operandsOf, written-again, Sized, Right, Held, held-none, few-edges}
+use Rattle.reading.proofs.Elements.{Element, nothing, with, elementAt, operandsOf, written-again, Sized, Held, held-none, few-edges}
 use Rattle.reading.proofs.Elements.{Fits, all-snoc, empty, commands-with, commands-longer, record-none, more}
 use Rattle.plan.specs.declared.record.Plan.{Plan}
 use Rattle.plan.specs.declared.fault.Outcome.{Outcome}
@@ -29,27 +29,41 @@ use Rattle.plan.specs.declared.fault.Outcome.the-variants.{Accepted, Refused}
 -- ---- the words, one element more
 
 sized : (k : Kind) (s : List ℕ) → operandBytes k ≤ length s → All IsByte s → Sized k (elementAt k s)
+sized given s long b = word-fits s 0 (omega arith) b
 sized rule s long b = (word-fits s 0 (omega arith) b, (word-fits s WORD_BYTES (omega arith) b, word-fits s (2 * WORD_BYTES) (omega arith) b))
 sized unit s long b = word-fits s 0 (omega arith) b
 sized edge s long b = tt
 sized end s long b = tt
 
-module _ (c : Contents) where
-  rules-with : (k : Kind) (x : Element k) → Sized k x → Right c k x → All GoodRule (c .rules) → All GoodRule (with c k x .rules)
-  rules-with rule r g h a =
-      let good : GoodRule r = record { head-fits = g .0; positive-fits = g .1 .0; negative-fits = g .1 .1; some-word = h } in
-      all-snoc GoodRule (c .rules) r a good
-  rules-with unit w g h a = a
-  rules-with edge e g h a = a
-  rules-with end x g h a = a
+-- what is asked of the elements beyond what `Held` has
+pub record Good (c : Contents) : Type 0 where
+  pub good-given : All (λ word. word < WORD_VALUES) (c .given)
+  pub good-rules : All GoodRule (c .rules)
+  pub good-units : All (λ word. word < 2 ^ length (c .rules)) (c .units)
 
-  units-with : (k : Kind) (x : Element k) → Fits c k x → All (λ w. w < 2 ^ length (c .rules)) (c .units)
-      → All (λ w. w < 2 ^ length (with c k x .rules)) (with c k x .units)
-  unfolding recordOf
-  units-with rule r f a = rw (empty (c .units) (omega (arith, f .in-place .on-time))) tt
-  units-with unit w f a = all-snoc (λ y. y < 2 ^ length (c .rules)) (c .units) w a (f .right)
-  units-with edge e f a = a
-  units-with end x f a = a
+good-with : (c : Contents) (k : Kind) (x : Element k) → Sized k x → Fits c k x → Good c → Good (with c k x)
+unfolding recordOf
+good-with c given w z f g =
+    record {
+      good-given = all-snoc (λ y. y < WORD_VALUES) (c .given) w (g .good-given) z;
+      good-rules = g .good-rules;
+      good-units = g .good-units;
+    }
+good-with c rule r z f g =
+    let good : GoodRule r = record { head-fits = z .0; positive-fits = z .1 .0; negative-fits = z .1 .1; some-word = f .right } in
+    record {
+      good-given = g .good-given;
+      good-rules = all-snoc GoodRule (c .rules) r (g .good-rules) good;
+      good-units = rw (empty (c .units) (omega (arith, f .in-place .on-time))) tt;
+    }
+good-with c unit w z f g =
+    record {
+      good-given = g .good-given;
+      good-rules = g .good-rules;
+      good-units = all-snoc (λ y. y < 2 ^ length (c .rules)) (c .units) w (g .good-units) (f .right);
+    }
+good-with c edge e z f g = record { good-given = g .good-given; good-rules = g .good-rules; good-units = g .good-units }
+good-with c end x z f g = g
 
 -- ---- reading on
 
@@ -57,8 +71,7 @@ module _ (c : Contents) where
 pub record Read (whole : List ℕ) (p : Plan) (at : ℕ) (s : List ℕ) : Type 0 where
   pub contents : Contents
   pub held : Held contents
-  pub good-rules : All GoodRule (contents .rules)
-  pub good-units : All (λ word. word < 2 ^ length (contents .rules)) (contents .units)
+  pub good : Good contents
   pub record-is : p ≡ recordOf contents
   pub bytes-are : whole ≡ commands contents ++ s
   pub placed : at ≡ length (commands contents)
@@ -82,8 +95,7 @@ module _ (whole : List ℕ) where
       record {
         contents = with c k x;
         held = m .held;
-        good-rules = rules-with c k x (sized k t (l .read .long) bytes) (m .fits .right) (r .good-rules);
-        good-units = units-with c k x (m .fits) (r .good-units);
+        good = good-with c k x (sized k t (l .read .long) bytes) (m .fits) (r .good);
         record-is = m .is;
         bytes-are = r .bytes-are ∙ ap (λ (y : List ℕ). commands c ++ y) s-is ∙ sym (commands-with c k x rest (l .more) in-place);
         placed = ap (λ (n : ℕ). n + commandBytes k) (r .placed) ∙ sym (commands-longer c k x (l .more) in-place);
@@ -96,8 +108,7 @@ module _ (whole : List ℕ) where
       record {
         contents = nothing;
         held = held-none;
-        good-rules = tt;
-        good-units = tt;
+        good = record { good-given = tt; good-rules = tt; good-units = tt };
         record-is = sym record-none;
         bytes-are = refl;
         placed = refl;
@@ -108,11 +119,13 @@ module _ (whole : List ℕ) where
   read-within p at s r =
       let h = r .held in
       record {
+        one-given = h .few .few-given;
         most-rules = h .few .few-rules;
         most-units = h .few .few-units;
         most-edges = few-edges (r .contents) h;
-        good-rules = r .good-rules;
-        good-units = r .good-units;
+        good-given = r .good .good-given;
+        good-rules = r .good .good-rules;
+        good-units = r .good .good-units;
         good-edges = h .good-edges;
         no-repeat = h .no-repeat;
       }

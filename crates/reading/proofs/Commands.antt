@@ -1,7 +1,7 @@
 -- A command that is no fault: its kind, that no row of the fault table fits it, and what it does to the record.
 use mathlib.Core.Path.{_≡_, refl, ap, sym, _∙_}
 use mathlib.Core.List.{List, [], _∷_}
-use mathlib.Core.Bool.{Bool, true, false, true≢false}
+use mathlib.Core.Bool.{Bool, true, false, true≢false, not}
 use mathlib.Core.Logic.{_⊎_, inl, inr}
 use mathlib.Core.Option.{Option, some, none}
 use Prim.Native.Nat.{ℕ, suc, _+_, _-_, _≤_, _<_}
@@ -9,15 +9,19 @@ use native.Mathlib.Omega.{arith}
 use native.Mathlib.Numerals.{add-one}
 use lib.ListN.{length, take, drop, getD, length-drop, drop-of-length-le}
 use lib.Seq.{take-all, drop-cons}
-use borrow.Author.Tests.{ltb-false, leb-false, le-ltb, lt-leb}
+use lib.Dec.{eqb}
+use borrow.Author.Tests.{eqb-true, ltb-false, leb-false, le-ltb, not-false}
 use Rattle.plan.specs.Limits.{MAX_RULES, MAX_UNITS}
-use Rattle.reading.specs.Commands.{Kind, rule, unit, edge, end, byteOf, kinds, kindOf, operandBytes, orderOf, carrying, countBehind, late, full}
+use Rattle.plan.specs.Record.{emptyPlan}
+use Rattle.reading.specs.Commands.{Kind, given, rule, unit, edge, end, byteOf, kinds, kindOf, operandBytes, orderOf, carrying, countBehind, late, full}
 use Rattle.reading.specs.Commands.{Row, kindRows, operandRows, rows, firstFit, ofKind, commandAt}
-use Rattle.reading.proofs.CommandKinds.{kind-of-byte, kind-byte, no-kind}
-use Rattle.reading.specs.Reading.{Step, onward, ended, stepOf}
+use Rattle.reading.proofs.CommandKinds.{kind-of-byte, kind-byte, byte-own, no-kind}
+use Rattle.reading.specs.Reading.{Step, onward, ended, stepOf, accepted, refused}
 use Rattle.reading.specs.Progress.{kindOfStep}
 use Rattle.plan.specs.declared.record.Plan.{Plan}
 use Rattle.plan.specs.declared.fault.Fault.{Fault}
+use Rattle.plan.specs.declared.fault.Outcome.{Outcome}
+use Rattle.plan.specs.declared.fault.Outcome.the-variants.{Accepted, Refused}
 use Rattle.plan.specs.declared.fault.Fault.the-variants.{Truncated, UnknownCommand}
 use Rattle.reading.specs.declared.command.Command.{Command}
 use Rattle.reading.specs.declared.command.Command.the-variants.{Fault as Faulty}
@@ -56,36 +60,24 @@ fits-or-not (r ∷ rs) x = go (r .fits) refl (fits-or-not rs x)
 
 -- ---- rows 4 and 5
 
--- there is room for a command of the kind more
-abbrev pub Room : Plan → Kind → Type 0
-Room p rule = p .«rule_count» < MAX_RULES
-Room p unit = p .«unit_count» < MAX_UNITS
-Room p edge = Unit {0}
-Room p end = Unit {0}
-
-room-left : (p : Plan) (k : Kind) → full p k ≡ false → Room p k
-room-left p rule e = leb-false _ _ e
-room-left p unit e = leb-false _ _ e
-room-left p edge e = tt
-room-left p end e = tt
-
-not-full : (p : Plan) (k : Kind) → Room p k → full p k ≡ false
-not-full p rule h = lt-leb _ _ h
-not-full p unit h = lt-leb _ _ h
-not-full p edge h = refl
-not-full p end h = refl
-
 pub record InPlace (p : Plan) (k : Kind) : Type 0 where
   pub on-time : countBehind p (orderOf k) kinds ≤ 0
-  pub room : Room p k
+  pub room : full p k ≡ false
+
+-- what the limits of column "most" leave
+pub rule-room : {p : Plan} → InPlace p rule → p .«rule_count» < MAX_RULES
+rule-room {p} i = leb-false MAX_RULES (p .«rule_count») (i .room)
+
+pub unit-room : {p : Plan} → InPlace p unit → p .«unit_count» < MAX_UNITS
+unit-room {p} i = leb-false MAX_UNITS (p .«unit_count») (i .room)
 
 pub passed-in-place : (p : Plan) (at : ℕ) (k : Kind) → Passed (kindRows p at k) → InPlace p k
 unfolding late
-passed-in-place p at k h = record { on-time = ltb-false _ _ (h .0); room = room-left p k (h .1 .0) }
+passed-in-place p at k h = record { on-time = ltb-false _ _ (h .0); room = h .1 .0 }
 
 pub in-place-passed : (p : Plan) (at : ℕ) (k : Kind) → InPlace p k → Passed (kindRows p at k)
 unfolding late
-in-place-passed p at k h = (le-ltb _ _ (h .on-time), (not-full p k (h .room), tt))
+in-place-passed p at k h = (le-ltb _ _ (h .on-time), (h .room, tt))
 
 -- ---- a command at the front of s: one that no row stops, or a fault
 
@@ -131,49 +123,68 @@ abbrev pub planOf : Step → Plan
 planOf (onward k q) = q
 planOf (ended r) = r .plan
 
+abbrev pub goesOn : Step → Bool
+goesOn (onward k q) = true
+goesOn (ended r) = false
+
 -- the record with a command of the kind more
 abbrev pub grown : Plan → Kind → List ℕ → Plan
 grown p k operands = planOf (stepOf p (carrying k operands))
 
 -- whether a command of the kind adds to the record; END ends reading
 abbrev pub adds : Kind → Bool
-adds rule = true
-adds unit = true
-adds edge = true
-adds end = false
+adds k = not (eqb (byteOf k) (byteOf end))
 
-abbrev pub goesOn : Step → Bool
-goesOn (onward k q) = true
-goesOn (ended r) = false
+pub only-end : (k : Kind) → adds k ≡ false → k ≡ end
+only-end k e = byte-own k end (eqb-true _ _ (not-false (eqb (byteOf k) (byteOf end)) e))
 
-pub step-on : (p : Plan) (k : Kind) (operands : List ℕ) → adds k ≡ true → stepOf p (carrying k operands) ≡ onward k (grown p k operands)
+abbrev stepWhen : Bool → Step → Step → Step
+stepWhen true more last = more
+stepWhen false more last = last
+
+-- the step of a command that carries operands
+step-is : (p : Plan) (k : Kind) (operands : List ℕ)
+    → stepOf p (carrying k operands) ≡ stepWhen (adds k) (onward k (grown p k operands)) (ended (accepted p))
 unfolding carrying
-step-on p rule operands a = refl
-step-on p unit operands a = refl
-step-on p edge operands a = refl
-step-on p end operands a = absurd (true≢false (sym a))
+step-is p given operands = refl
+step-is p rule operands = refl
+step-is p unit operands = refl
+step-is p edge operands = refl
+step-is p end operands = refl
 
-pub step-kind : (p : Plan) (k : Kind) (operands : List ℕ) → kindOfStep (stepOf p (carrying k operands)) ≡ k
-unfolding carrying
-step-kind p rule operands = refl
-step-kind p unit operands = refl
-step-kind p edge operands = refl
-step-kind p end operands = refl
+module _ (p : Plan) (k : Kind) (operands : List ℕ) where
+  pub step-when : (b : Bool) → adds k ≡ b → stepOf p (carrying k operands) ≡ stepWhen b (onward k (grown p k operands)) (ended (accepted p))
+  step-when b a = step-is p k operands ∙ ap (λ (x : Bool). stepWhen x (onward k (grown p k operands)) (ended (accepted p))) a
 
-pub step-adds : (p : Plan) (k : Kind) (operands : List ℕ) → goesOn (stepOf p (carrying k operands)) ≡ adds k
-unfolding carrying
-step-adds p rule operands = refl
-step-adds p unit operands = refl
-step-adds p edge operands = refl
-step-adds p end operands = refl
+  pub step-kind : kindOfStep (stepOf p (carrying k operands)) ≡ k
+  step-kind = go (adds k) refl
+    where
+      go : (b : Bool) → adds k ≡ b → kindOfStep (stepOf p (carrying k operands)) ≡ k
+      go true a = ap kindOfStep (step-when true a)
+      go false a = ap kindOfStep (step-when false a) ∙ sym (only-end k a)
+
+  pub step-adds : goesOn (stepOf p (carrying k operands)) ≡ adds k
+  step-adds = ap goesOn (step-is p k operands) ∙ go (adds k)
+    where
+      go : (b : Bool) → goesOn (stepWhen b (onward k (grown p k operands)) (ended (accepted p))) ≡ b
+      go true = refl
+      go false = refl
+
+abbrev outcomeOf : Step → Outcome
+outcomeOf (onward k q) = Accepted
+outcomeOf (ended r) = r .outcome
 
 -- what carries operands is no fault
 pub not-faulty : (k : Kind) (operands : List ℕ) (f : Fault) → ¬ (carrying k operands ≡ Faulty f)
-unfolding carrying
-not-faulty rule operands f e = let z : _≡_ {A = ℕ} 0 1 = cc in omega arith
-not-faulty unit operands f e = let z : _≡_ {A = ℕ} 0 1 = cc in omega arith
-not-faulty edge operands f e = let z : _≡_ {A = ℕ} 0 1 = cc in omega arith
-not-faulty end operands f e = let z : _≡_ {A = ℕ} 0 1 = cc in omega arith
+not-faulty k operands f e = go (adds k) refl
+  where
+    go : (b : Bool) → adds k ≡ b → ⊥
+    go true a = true≢false (sym a ∙ sym (step-adds emptyPlan k operands) ∙ ap (λ (x : Command). goesOn (stepOf emptyPlan x)) e)
+    go false a =
+        let same : ended (accepted emptyPlan) ≡ ended (refused f) = sym (step-when emptyPlan k operands false a) ∙ ap (stepOf emptyPlan) e in
+        let outcome : Accepted ≡ Refused f = ap outcomeOf same in
+        let z : _≡_ {A = ℕ} 0 1 = cc in
+        omega arith
 
 -- the command at the front of s leads from the record p to q
 pub record Leads (kind : Kind) (p : Plan) (at : ℕ) (s : List ℕ) (q : Plan) : Type 0 where
@@ -182,7 +193,7 @@ pub record Leads (kind : Kind) (p : Plan) (at : ℕ) (s : List ℕ) (q : Plan) :
   pub is : grown p kind (read .operands) ≡ q
 
 pub leads-step : (p : Plan) (at : ℕ) (s : List ℕ) (k : Kind) (q : Plan) → Leads k p at s q → stepOf p (commandAt p at s) ≡ onward k q
-leads-step p at s k q l = ap (stepOf p) (l .read .command) ∙ step-on p k (l .read .operands) (l .more) ∙ ap (onward k) (l .is)
+leads-step p at s k q l = ap (stepOf p) (l .read .command) ∙ step-when p k (l .read .operands) true (l .more) ∙ ap (onward k) (l .is)
 
 -- ---- the command at byte `at` of s, as the code finds it
 

@@ -1,26 +1,26 @@
 -- The reader's loops: what one command more does to the place that is reached.
 use mathlib.Core.Path.{_≡_, refl, ap, sym, _∙_, subst}
 use mathlib.Core.List.{List, [], _∷_}
-use mathlib.Core.Bool.{true, true≢false, not}
+use mathlib.Core.Bool.{true, false, true≢false, not}
 use Prim.Native.Nat.{ℕ, suc, min, _+_, _-_, _≤_, _<_}
 use native.Mathlib.Omega.{arith}
 use native.Mathlib.Decide.{decLt}
 use lib.ListN.{length, drop, getD, length-drop}
 use lib.Seq.{drop-drop}
-use lib.Dec.{T}
+use lib.Dec.{T, eqb}
 use mir.Val.{hasKey}
 use types.Run.{OneOf, miss}
 use denote.Enum.Declared.{tagOf}
 use Rattle.reading.proofs.command.Command.{the-type}
-use Rattle.plan.specs.Record.{Fitting, emptyPlan, withRule, withUnit, withEdge}
-use Rattle.reading.specs.Commands.{Kind, rule, unit, edge, end, orderOf, count, commandAt, carrying}
+use Rattle.plan.specs.Record.{Fitting, emptyPlan}
+use Rattle.reading.specs.Commands.{Kind, given, edge, end, orderOf, earliestBehind, count, commandAt, carrying}
 use Rattle.reading.specs.Reading.{onward, stepOf, walk, reading, accepted, refused, commandBytes}
 use Rattle.reading.specs.Progress.{placeAt, kindOfStep, Reached}
 use Rattle.reading.proofs.Commands.{InPlace, Unstopped, Front, unstopped, stopped, front}
-use Rattle.reading.proofs.Commands.{planOf, adds, goesOn, grown, step-kind, step-adds, Leads}
-use Rattle.reading.proofs.CommandKinds.{none-behind}
+use Rattle.reading.proofs.Commands.{planOf, adds, goesOn, step-kind, step-adds, Leads}
+use Rattle.reading.proofs.CommandKinds.{each-kind, order-end, none-behind}
 use Rattle.reading.proofs.Edges.{NewEdge, not-bad-edge}
-use Rattle.reading.proofs.Limits.{empty-fits, leads-fit}
+use Rattle.reading.proofs.Limits.{empty-fits, leads-grown}
 use Rattle.reading.proofs.Walk.{walk-on, walk-ended}
 use Rattle.plan.specs.declared.record.Plan.{Plan}
 use Rattle.plan.specs.declared.fault.Fault.{Fault}
@@ -28,45 +28,24 @@ use Rattle.plan.specs.declared.fault.Outcome.the-variants.{Refused}
 use Rattle.reading.specs.declared.reader.Progress.{Progress}
 use Rattle.reading.specs.declared.reader.Reading.{Reading}
 use Rattle.reading.specs.declared.command.Command.{Command}
-use Rattle.reading.specs.declared.command.Command.the-variants.{Rule, Unit as UnitOf, Edge, End, Fault as Faulty}
+use Rattle.reading.specs.declared.command.Command.the-variants.{Given, Rule, Unit as UnitOf, Edge, End, Fault as Faulty}
 
 -- ---- the order of kinds
 
--- once a command of kind k is read, none of an earlier kind is in place
-in-order : (p : Plan) (k j : Kind) → 0 < count p k → InPlace p j → orderOf k ≤ orderOf j
-in-order p k j h i = go (decLt (orderOf j) (orderOf k))
+-- once a command of kind k is read, none of an earlier kind than may come behind it is in place
+in-order : (p : Plan) (k j : Kind) → 0 < count p k → InPlace p j → orderOf (earliestBehind k) ≤ orderOf j
+in-order p k j h i = go (decLt (orderOf j) (orderOf (earliestBehind k)))
   where
-    go : Dec (orderOf j < orderOf k) → orderOf k ≤ orderOf j
+    go : Dec (orderOf j < orderOf (earliestBehind k)) → orderOf (earliestBehind k) ≤ orderOf j
     go (yes l) = absurd (omega (arith, none-behind p (orderOf j) (i .on-time) k l))
     go (no l) = omega arith
 
-order-end : (k : Kind) → orderOf k ≤ orderOf end
-order-end rule = omega arith
-order-end unit = omega arith
-order-end edge = omega arith
-order-end end = omega arith
-
--- one command more is counted, and is at most one EDGE more
-record Counted (p q : Plan) (k : Kind) : Type 0 where
-  some : 0 < count q k
-  few-edges : q .«edge_count» ≤ suc (p .«edge_count»)
-
-grown-counted : (p : Plan) (k : Kind) (operands : List ℕ) → adds k ≡ true → Counted p (grown p k operands) k
-unfolding withRule withUnit withEdge carrying
-grown-counted p rule operands a = record { some = omega arith; few-edges = omega arith }
-grown-counted p unit operands a = record { some = omega arith; few-edges = omega arith }
-grown-counted p edge operands a = record { some = omega arith; few-edges = omega arith }
-grown-counted p end operands a = absurd (true≢false (sym a))
-
-counted : (p q : Plan) (at : ℕ) (s : List ℕ) (k : Kind) → Leads k p at s q → Counted p q k
-counted p q at s k l = subst (λ (z : Plan). Counted p z k) (l .is) (grown-counted p k (l .read .operands) (l .more))
-
-past-after : (p : Plan) (k : Kind) → 0 < count p k → (at : ℕ) (s : List ℕ) → orderOf k ≤ orderOf (kindOfStep (stepOf p (commandAt p at s)))
+past-after : (p : Plan) (k : Kind) → 0 < count p k → (at : ℕ) (s : List ℕ) → orderOf (earliestBehind k) ≤ orderOf (kindOfStep (stepOf p (commandAt p at s)))
 past-after p k h at s = go (front p at s)
   where
-    go : Front p at s → orderOf k ≤ orderOf (kindOfStep (stepOf p (commandAt p at s)))
+    go : Front p at s → orderOf (earliestBehind k) ≤ orderOf (kindOfStep (stepOf p (commandAt p at s)))
     go (unstopped j u) = rw (u .command, step-kind p j (u .operands)) (in-order p k j h (u .in-place))
-    go (stopped f e) = rw e (order-end k)
+    go (stopped f e) = rw e (order-end (earliestBehind k))
 
 -- a command that goes on was stopped by no row
 leads : (p : Plan) (at : ℕ) (s : List ℕ) (k : Kind) (q : Plan) → stepOf p (commandAt p at s) ≡ onward k q → Leads k p at s q
@@ -89,7 +68,7 @@ leads p at s k q e = go (front p at s)
 pub record Taken (k : Kind) (bytes : List ℕ) (r : Progress) (q : Plan) : Type 0 where
   pub leads : Leads k (r .plan) (r .at) (drop (r .at) bytes) q
   pub inside : r .at + commandBytes k ≤ length bytes
-  pub reached : Reached k bytes (placeAt bytes q (r .at + commandBytes k))
+  pub reached : Reached (earliestBehind k) bytes (placeAt bytes q (r .at + commandBytes k))
 
 pub taken : (k : Kind) (bytes : List ℕ) (r : Progress) (x : Command) (q : Plan) → Reached k bytes r → r .command ≡ x
     → stepOf (r .plan) x ≡ onward k q → Taken k bytes r q
@@ -99,7 +78,7 @@ taken k bytes r x q R e t =
     let step : stepOf (r .plan) (commandAt (r .plan) at (drop at bytes)) ≡ onward k q =
     ap (stepOf (r .plan)) (sym (R .command-there) ∙ e) ∙ t in
     let m = leads (r .plan) at (drop at bytes) k q step in
-    let more = counted (r .plan) q at (drop at bytes) k m in
+    let more = leads-grown (r .plan) q at (drop at bytes) k m in
     let whole : length (drop at bytes) ≡ suc (length (m .read .operands)) = ap length (m .read .bytes) in
     let inside : at + size ≤ length bytes = omega (arith, length-drop at bytes, m .read .long, R .within) in
     record {
@@ -107,7 +86,7 @@ taken k bytes r x q R e t =
       inside = inside;
       reached =
           record {
-            fitting = leads-fit (r .plan) q at (drop at bytes) k (R .fitting) m;
+            fitting = more .fitting (R .fitting);
             within = inside;
             few-edges = omega (arith, R .few-edges, more .few-edges);
             command-there = refl;
@@ -133,7 +112,7 @@ module _ {k : Kind} {bytes : List ℕ} {r : Progress} {q : Plan} (t : Taken k by
   pub taken-fits : Fitting p
   taken-fits = rw e (t .reached .fitting)
 
-  pub taken-there : (next : Progress) → next ≡ placeAt bytes p (r .at + commandBytes k) → Reached k bytes next
+  pub taken-there : (next : Progress) → next ≡ placeAt bytes p (r .at + commandBytes k) → Reached (earliestBehind k) bytes next
   taken-there next f = rw (f, e) (t .reached)
 
   pub taken-less : (next : Progress) → next ≡ placeAt bytes p (r .at + commandBytes k) → length bytes - next .at < length bytes - r .at
@@ -144,7 +123,7 @@ pub place-is : (bytes : List ℕ) (taken : Plan) (at : ℕ) (x : Command) → x 
 place-is bytes taken at x e = ap (λ (y : Command). record { plan = taken; at = at; command = y }) e
 
 -- nothing is read yet
-pub start : (bytes : List ℕ) (q : Plan) (r : Progress) → q ≡ emptyPlan → r ≡ placeAt bytes q 0 → Reached rule bytes r
+pub start : (bytes : List ℕ) (q : Plan) (r : Progress) → q ≡ emptyPlan → r ≡ placeAt bytes q 0 → Reached given bytes r
 unfolding emptyPlan reading
 start bytes q r e f =
     rw (f, e)
@@ -160,40 +139,55 @@ start bytes q r e f =
 -- ---- the end of a loop
 
 -- the tags of commands are in the order of kinds, and that of a fault comes last
+abbrev FAULT : ℕ
+FAULT = suc (orderOf end)
+
 tag-order : (p : Plan) (x : Command) → orderOf (kindOfStep (stepOf p x)) ≡ min (orderOf end) (tagOf the-type x)
+tag-order p (Given word) = refl
 tag-order p (Rule head positive negative) = refl
 tag-order p (UnitOf word) = refl
 tag-order p (Edge u v) = refl
 tag-order p End = refl
 tag-order p (Faulty f) = refl
 
+-- all tags but one: what is known of a command that is none of that kind
+abbrev tagsBut : ℕ → List ℕ
+tagsBut t = but (0 ∷ 1 ∷ 2 ∷ 3 ∷ 4 ∷ 5 ∷ [])
+  where
+    but : List ℕ → List ℕ
+    but [] = []
+    but (x ∷ xs) = elim (eqb x t) [ true ↦ but xs | false ↦ x ∷ but xs ]
+
 -- a command that the loop of kind k did not take is of a later kind
-pub passed-by : (k next : Kind) (tags bytes : List ℕ) (r : Progress) → Reached k bytes r → OneOf tags (tagOf the-type (r .command))
-    → T (not (hasKey tags (orderOf k))) → orderOf k < orderOf end → orderOf next ≡ suc (orderOf k) → Reached next bytes r
-passed-by k next tags bytes r R o not-k before n =
-    let other : ¬ (tagOf the-type (r .command) ≡ orderOf k) = λ e. miss tags (orderOf k) not-k (subst (OneOf tags) e o) in
+pub passed-by : (k next : Kind) (bytes : List ℕ) (r : Progress) → Reached k bytes r → OneOf (tagsBut (orderOf k)) (tagOf the-type (r .command))
+    → orderOf next ≡ suc (orderOf k) → Reached next bytes r
+passed-by k next bytes r R o n =
+    let left-out : T (not (hasKey (tagsBut (orderOf k)) (orderOf k))) =
+    subst T (sym (each-kind (λ j. not (hasKey (tagsBut (orderOf j)) (orderOf j))) refl k)) tt in
+    let other : ¬ (tagOf the-type (r .command) ≡ orderOf k) = λ e. miss (tagsBut (orderOf k)) (orderOf k) left-out (subst (OneOf (tagsBut (orderOf k))) e o) in
     record {
       fitting = R .fitting;
       within = R .within;
       few-edges = R .few-edges;
       command-there = R .command-there;
-      past = omega (arith, R .past, tag-order (r .plan) (r .command));
+      past = omega (arith, R .past, tag-order (r .plan) (r .command), order-end next);
       same = R .same;
     }
 
 -- behind all EDGEs stands END or a fault
 module _ (bytes : List ℕ) (r : Progress) (R : Reached end bytes r) where
-  at-end : (x : Command) → OneOf (0 ∷ 1 ∷ 2 ∷ 3 ∷ []) (tagOf the-type x) → orderOf end ≤ orderOf (kindOfStep (stepOf (r .plan) x)) → x ≡ End
+  at-end : (x : Command) → OneOf (tagsBut FAULT) (tagOf the-type x) → orderOf end ≤ orderOf (kindOfStep (stepOf (r .plan) x)) → x ≡ End
+  at-end (Given word) o h = absurd (omega arith)
   at-end (Rule head positive negative) o h = absurd (omega arith)
   at-end (UnitOf word) o h = absurd (omega arith)
   at-end (Edge u v) o h = absurd (omega arith)
   at-end End o h = refl
-  at-end (Faulty f) o h = absurd (miss (0 ∷ 1 ∷ 2 ∷ 3 ∷ []) 4 tt o)
+  at-end (Faulty f) o h = absurd (miss (tagsBut FAULT) FAULT tt o)
 
   there : (x : Command) → r .command ≡ x → stepOf (r .plan) (commandAt (r .plan) (r .at) (drop (r .at) bytes)) ≡ stepOf (r .plan) x
   there x e = ap (stepOf (r .plan)) (sym (R .command-there) ∙ e)
 
-  pub accepted-here : OneOf (0 ∷ 1 ∷ 2 ∷ 3 ∷ []) (tagOf the-type (r .command)) → accepted (r .plan) ≡ reading bytes
+  pub accepted-here : OneOf (tagsBut FAULT) (tagOf the-type (r .command)) → accepted (r .plan) ≡ reading bytes
   accepted-here o = sym (walk-ended (r .plan) (r .at) _ (accepted (r .plan)) (there End (at-end (r .command) o (R .past)))) ∙ R .same
 
   pub refused-here : (f : Fault) (q : Plan) → r .command ≡ Faulty f → q ≡ emptyPlan

@@ -63,7 +63,7 @@ stopped-refused bytes small n s h =
     let c = h .contents in
     let w = h .within in
     let at : ℕ = length (commands c) in
-    let few : Few c = record { few-rules = w .most-rules; few-units = w .most-units } in
+    let few : Few c = record { few-given = w .one-given; few-rules = w .most-rules; few-units = w .most-units } in
     let rest-small : All IsByte (h .rest) =
     subst (All IsByte) (drop-at (commands c) (h .rest) at refl) (all-drop IsByte at (commands c ++ h .rest) (subst (All IsByte) (h .split) small)) in
     let found = first-is-fault c few at (h .rest) rest-small n s (h .first) in

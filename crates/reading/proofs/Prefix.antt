@@ -5,7 +5,7 @@ use mathlib.Core.Path.{_≡_, refl, ap, sym, _∙_, subst}
 use mathlib.Core.List.{List, [], _∷_, _++_, flatMap}
 use mathlib.Core.Bool.{Bool, true, false}
 use mathlib.Core.Option.{Option, some, none}
-use Prim.Native.Nat.{ℕ, zero, suc, _+_, _*_, _-_, _≤_, _<_}
+use Prim.Native.Nat.{ℕ, max, zero, suc, _+_, _*_, _-_, _≤_, _<_}
 use native.Mathlib.Omega.{arith}
 use native.Mathlib.Decide.{decLt}
 use lib.Dec.{ltb}
@@ -14,11 +14,11 @@ use lib.Seq.{take-nil, take-take, getD-take}
 use borrow.Author.Tests.{lt-ltb, le-ltb}
 use Rattle.plan.specs.Record.{emptyPlan}
 use Rattle.reading.specs.Words.{WORD_BYTES, number, wordAt}
-use Rattle.reading.specs.Commands.{Kind, rule, unit, edge, end, kindOf, operandBytes, carrying, Row, kindRows, operandRows}
+use Rattle.reading.specs.Commands.{Kind, given, rule, unit, edge, end, kindOf, operandBytes, carrying, Row, kindRows, operandRows}
 use Rattle.reading.specs.Commands.{firstFit, ofKind, commandAt}
 use Rattle.reading.specs.Reading.{ended, stepOf, walk, reading, accepted, refused, commandBytes, DECIDING_BYTES}
 use Rattle.reading.specs.Layout.{Contents, commands, recordOf}
-use Rattle.reading.proofs.Commands.{Passed, InPlace, passed-in-place, known-command, unknown-command, Leads, leads-step}
+use Rattle.reading.proofs.Commands.{Passed, InPlace, rule-room, unit-room, passed-in-place, known-command, unknown-command, Leads, leads-step}
 use Rattle.reading.proofs.Elements.{nothing, with, commands-longer, Held, held-none, few-edges, record-none, more}
 use Rattle.reading.proofs.Longest.{commands-long}
 use Rattle.reading.proofs.RoundTrip.{end-step}
@@ -32,10 +32,7 @@ use Rattle.reading.specs.declared.command.Command.{Command}
 
 -- how many bytes behind its own a command looks at: its operands, and END at whether there is one
 abbrev looksAt : Kind → ℕ
-looksAt rule = operandBytes rule
-looksAt unit = operandBytes unit
-looksAt edge = operandBytes edge
-looksAt end = 1
+looksAt k = max 1 (operandBytes k)
 
 short-kept : (n m : ℕ) (s : List ℕ) → n ≤ m → ltb (length (take m s)) n ≡ ltb (length s) n
 short-kept n m s h = go (decLt (length s) n)
@@ -80,6 +77,7 @@ module _ (p : Plan) (at m : ℕ) (s : List ℕ) where
   operands-kept : (k : Kind) → looksAt k ≤ m
       → firstFit (operandRows p at k (take m s)) (carrying k (take m s)) ≡ firstFit (operandRows p at k s) (carrying k s)
   unfolding carrying
+  operands-kept given h = rw (word-kept 0 m s (omega arith))
   operands-kept rule h = rw (word-kept 0 m s (omega arith), word-kept WORD_BYTES m s (omega arith), word-kept (2 * WORD_BYTES) m s (omega arith))
   operands-kept unit h = rw (word-kept 0 m s (omega arith))
   operands-kept edge h = rw (getD-take m s 0 0 (omega arith), getD-take m s 1 0 (omega arith))
@@ -98,12 +96,6 @@ module _ (p : Plan) (at m : ℕ) (s : List ℕ) where
 
 -- ---- how far reading has come
 
-looks-long : (k : Kind) → operandBytes k ≤ looksAt k
-looks-long rule = omega arith
-looks-long unit = omega arith
-looks-long edge = omega arith
-looks-long end = omega arith
-
 -- what lies behind the first n bytes is cut off; reading on from here gives what reading the cut bytes from the start gives
 record Cut (n : ℕ) (result : Reading) (p : Plan) (at : ℕ) (s : List ℕ) : Type 0 where
   contents : Contents
@@ -116,27 +108,28 @@ module _ (n : ℕ) (long : DECIDING_BYTES ≤ n) where
   -- what a command that is in place looks at is kept
   near : (c : Contents) → Held c → (k : Kind) → InPlace (recordOf c) k → length (commands c) + suc (looksAt k) ≤ n
   unfolding recordOf
-  near c h rule i = omega (arith, commands-long c, i .on-time, i .room)
-  near c h unit i = omega (arith, commands-long c, i .on-time, i .room, h .few .few-rules)
-  near c h edge i = omega (arith, commands-long c, h .few .few-rules, h .few .few-units, few-edges c h)
-  near c h end i = omega (arith, commands-long c, h .few .few-rules, h .few .few-units, few-edges c h)
+  near c h given i = omega (arith, commands-long c, i .on-time)
+  near c h rule i = omega (arith, commands-long c, i .on-time, rule-room i, h .few .few-given)
+  near c h unit i = omega (arith, commands-long c, i .on-time, unit-room i, h .few .few-given, h .few .few-rules)
+  near c h edge i = omega (arith, commands-long c, h .few .few-given, h .few .few-rules, h .few .few-units, few-edges c h)
+  near c h end i = omega (arith, commands-long c, h .few .few-given, h .few .few-rules, h .few .few-units, few-edges c h)
 
   module _ (result : Reading) (p : Plan) (at : ℕ) (s : List ℕ) (cut : Cut n result p at s) where
     near-by : (k : Kind) → InPlace p k → at + suc (looksAt k) ≤ n
     near-by k i = rw (cut .placed) (near (cut .contents) (cut .held) k (rw (cut .record-is) at i))
 
     kept : commandAt p at (take (n - at) s) ≡ commandAt p at s
-    kept = go (n - at) (omega (arith, near-by edge (record { on-time = omega arith; room = tt }))) s
+    kept = go (n - at) (omega (arith, near-by edge (record { on-time = omega arith; room = refl }))) s
       where
         go : (m : ℕ) → m + at ≡ n → (t : List ℕ) → commandAt p at (take m t) ≡ commandAt p at t
         go m left [] = ap (commandAt p at) (take-nil m)
-        go zero left (b ∷ t) = absurd (omega (arith, near-by edge (record { on-time = omega arith; room = tt })))
+        go zero left (b ∷ t) = absurd (omega (arith, near-by edge (record { on-time = omega arith; room = refl })))
         go (suc m) left (b ∷ t) = by-kind (kindOf b) refl
           where
             by-kind : (x : Option Kind) → kindOf b ≡ x → commandAt p at (b ∷ take m t) ≡ commandAt p at (b ∷ t)
             by-kind none e = unknown-command p at b (take m t) e ∙ sym (unknown-command p at b t e)
             by-kind (some k) e =
-                known-command p at b (take m t) k e ∙ kind-kept p at m t k (λ h. omega (arith, near-by k h)) (looks-long k)
+                known-command p at b (take m t) k e ∙ kind-kept p at m t k (λ h. omega (arith, near-by k h)) (omega arith)
                 ∙ sym (known-command p at b t k e)
 
     on : (q : Plan) (k : Kind) → Leads k p at s q → Cut n result q (at + commandBytes k) (drop (commandBytes k) s)

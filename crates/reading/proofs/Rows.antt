@@ -20,7 +20,7 @@ use Rattle.atoms.proofs.Sets.{decides-has, has-lt, has-without, has-below, has-
 use Rattle.plan.specs.Limits.{MAX_UNITS}
 use Rattle.plan.specs.Faults.{number, spot, TableRow, FirstFit}
 use Rattle.reading.specs.Words.{WORD_BYTES, wordAt}
-use Rattle.reading.specs.Commands.{Kind, rule, unit, edge, end, byteOf, kindOf, operandBytes, orderOf, carrying, kinds, count, countBehind, late, full}
+use Rattle.reading.specs.Commands.{Kind, given, rule, unit, edge, end, byteOf, kindOf, operandBytes, orderOf, earliestBehind, carrying, kinds, count, countBehind, late, full}
 use Rattle.reading.specs.Commands.{emptyRule, absentRule, badEdge, Row, operandRows, rows, firstFit, ofKind, commandAt}
 use Rattle.reading.specs.Layout.{RuleWords, UnitPair, Contents, predecessorsOf, recordOf, IsByte, All}
 use Rattle.reading.specs.Refusals.{Begins, countOf, Full, UnknownByte, OutOfGroupOrder, OneTooMany, CutShort, before-end, inside-operands}
@@ -131,6 +131,7 @@ atom-from n w h =
 module _ (c : Contents) (few : Few c) where
   count-of : (k : Kind) → count (recordOf c) k ≡ countOf c k
   unfolding recordOf
+  count-of given = refl
   count-of rule = refl
   count-of unit = refl
   count-of edge = refl
@@ -138,6 +139,7 @@ module _ (c : Contents) (few : Few c) where
 
   decides-full : (k : Kind) → Decides (Full c k) (full (recordOf c) k)
   unfolding recordOf
+  decides-full given = record { yes = λ e. true≢false (sym e); no = λ e x. x }
   decides-full rule = decides-le _ _
   decides-full unit = decides-le _ _
   decides-full edge = record { yes = λ e. true≢false (sym e); no = λ e x. x }
@@ -199,16 +201,16 @@ module _ (c : Contents) (few : Few c) (operands : List ℕ) where
           record {
             kind = k;
             begins = begins k;
-            later = j .kind;
-            behind = j .behind;
+            before = j .kind;
             there = subst (λ (n : ℕ). 0 < n) (count-of c few (j .kind)) (j .there);
+            too-late = j .behind;
           }
 
       in-order : countBehind (recordOf c) (orderOf k) kinds ≤ 0 → ¬ OutOfGroupOrder c (byteOf k ∷ operands)
       in-order h o =
-          let behind : orderOf k < orderOf (o .later) =
-          subst (λ (j : Kind). orderOf j < orderOf (o .later)) (own k (o .kind) (o .begins)) (o .behind) in
-          omega (arith, o .there, count-of c few (o .later), none-behind (recordOf c) (orderOf k) h (o .later) behind)
+          let too-late : orderOf k < orderOf (earliestBehind (o .before)) =
+          subst (λ (j : Kind). orderOf j < orderOf (earliestBehind (o .before))) (own k (o .kind) (o .begins)) (o .too-late) in
+          omega (arith, o .there, count-of c few (o .before), none-behind (recordOf c) (orderOf k) h (o .before) too-late)
 
   many-decided : (k : Kind) → Decides (OneTooMany c (byteOf k ∷ operands)) (full (recordOf c) k)
   many-decided k =
@@ -308,6 +310,10 @@ module _ (c : Contents) (few : Few c) (operands : List ℕ) where
         (λ e. meets (meet refl refl (many-decided k)) (λ f. meets (meet refl refl (short-decided k)) (λ g. below (ltb-false _ _ g)))))
 
     agree : (at : ℕ) (k : Kind) → Agree (rows (recordOf c) at k operands) (readingPlace c at (byteOf k ∷ operands))
+    agree at given =
+        kind-rows at given
+        (λ long. skips (λ z. other rule given refl (z .is)) (skips (λ a. other unit given refl (a .is))
+        (skips (λ w. other edge given refl (w .is)) (skips (λ b. other end given refl (b .is)) done))))
     agree at rule =
         kind-rows at rule
         (λ long. meets (meet refl refl (zero-decided long))

@@ -1,15 +1,15 @@
 -- Reading on, command by command. `walk-keeps` is the one induction over what is left to read.
-use mathlib.Core.Path.{_≡_, refl, ap, sym, _∙_}
+use mathlib.Core.Path.{_≡_, refl, ap, sym, _∙_, subst}
 use mathlib.Core.List.{List, [], _∷_}
-use mathlib.Core.Bool.{true≢false}
+use mathlib.Core.Bool.{Bool, true, false, true≢false}
 use Prim.Native.Nat.{ℕ, zero, suc, _+_, _≤_, _<_}
 use native.Mathlib.Omega.{arith}
 use lib.ListN.{length, drop, length-drop}
 use borrow.Author.Tests.{ltb-false}
-use Rattle.reading.specs.Commands.{Kind, rule, unit, edge, end, operandBytes, carrying, commandAt}
+use Rattle.reading.specs.Commands.{Kind, end, operandBytes, commandAt}
 use Rattle.reading.specs.Reading.{Step, onward, ended, stepOf, walk, accepted, refused, commandBytes}
 use Rattle.reading.specs.Layout.{endBytes}
-use Rattle.reading.proofs.Commands.{Unstopped, Front, unstopped, stopped, front, goesOn, Leads, leads-step}
+use Rattle.reading.proofs.Commands.{Unstopped, Front, unstopped, stopped, front, goesOn, adds, only-end, step-when, Leads, leads-step}
 use Rattle.plan.specs.declared.record.Plan.{Plan}
 use Rattle.plan.specs.declared.fault.Fault.{Fault}
 use Rattle.reading.specs.declared.reader.Reading.{Reading}
@@ -60,12 +60,14 @@ module _ (I : Plan → ℕ → List ℕ → Type 0) (P : Reading → Type 0)
         rw (walk-on p at s k q (leads-step p at s k q l)) (rec q (at + commandBytes k) (drop (commandBytes k) s) less (on p q at s k i l))
 
     one-step : Front p at s → P (walk p at 0 s)
-    unfolding carrying
-    one-step (unstopped rule u) = one-more rule _ (record { read = u; more = refl; is = refl })
-    one-step (unstopped unit u) = one-more unit _ (record { read = u; more = refl; is = refl })
-    one-step (unstopped edge u) = one-more edge _ (record { read = u; more = refl; is = refl })
-    one-step (unstopped end u) = rw (walk-ended p at s (accepted p) (ap (stepOf p) (u .command))) (well p at s i (end-alone p at s u))
     one-step (stopped f e) = rw (walk-ended p at s (refused f) (ap (stepOf p) e)) (ill p at s f i e)
+    one-step (unstopped k u) = go (adds k) refl
+      where
+        go : (b : Bool) → adds k ≡ b → P (walk p at 0 s)
+        go true a = one-more k _ (record { read = u; more = a; is = refl })
+        go false a =
+            let last : Unstopped end p at s = subst (λ (j : Kind). Unstopped j p at s) (only-end k a) u in
+            rw (walk-ended p at s (accepted p) (ap (stepOf p) (u .command) ∙ step-when p k (u .operands) false a)) (well p at s i (end-alone p at s last))
 
   keeps-within : (n : ℕ) (p : Plan) (at : ℕ) (s : List ℕ) → length s < n → I p at s → P (walk p at 0 s)
   keeps-within zero p at s l i = absurd (omega arith)

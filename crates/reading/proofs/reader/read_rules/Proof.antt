@@ -4,11 +4,10 @@ use mathlib.Core.Path.{refl}
 use native.Mathlib.Omega.{arith}
 use Prim.Native.Nat.{_-_}
 use lib.ListN.{length}
-use mathlib.Core.List.{[], _∷_}
 use Rattle.reading.specs.Commands.{rule, unit}
 use Rattle.reading.specs.Progress.{Reached}
-use Rattle.reading.proofs.Groups.{start, Turn, taken, taken-fits, taken-there, taken-less, passed-by}
-use Rattle.reading.proofs.Limits.{empty-fits}
+use Rattle.reading.proofs.Commands.{rule-room}
+use Rattle.reading.proofs.Groups.{Turn, taken, taken-fits, taken-there, taken-less, passed-by}
 use borrow.Author.Needs.{needs}
 use Rattle.reading.proofs.reader.read_rules.Statement.{statement}
 use Rattle.reading.proofs.reader.read_rules.Tie as tie
@@ -20,7 +19,7 @@ abbrev μ-loop : tie.MeasureT-loop
 μ-loop bytes progress₀ progress = length bytes - progress .at
 
 returns : tie.Need-returns Inv-loop μ-loop
-returns c = passed-by rule unit (1 ∷ 2 ∷ 3 ∷ 4 ∷ []) _ _ (c .before .loop .inv) (c .match .keys2) tt (omega arith) refl
+returns c = passed-by rule unit _ _ (c .before .loop .inv) (c .match .keys2) refl
 
 -- the place behind the command that this turn takes
 abbrev took : (c : tie.After-command Inv-loop μ-loop) → Turn (c .before .before .loop .inv)
@@ -32,13 +31,11 @@ read-rules-spec =
     (tie.spec
     Inv-loop
     μ-loop
-    (λ c κs. search needs)
-    (λ c κs. rw (c .empty-plan .ensures) empty-fits)
-    (λ c. start _ _ _ (c .before .empty-plan .ensures) (c .place .ensures))
+    (λ c. c .before .pre)
     (λ c. search needs)
     returns
-    (λ c κs. took (c .before) .1 .leads .read .in-place .room)
+    (λ c κs. rule-room (took (c .before) .1 .leads .read .in-place))
     (λ c. omega (arith, took (c .before .before) .1 .inside))
     (λ c κs. taken-fits (took (c .before .before) .1) _ (c .with-rule .ensures))
-    (λ c. taken-less (took (c .before .before .before) .1) _ (c .before .with-rule .ensures) _ (c .place2 .ensures))
-    (λ c. taken-there (took (c .before .before .before) .1) _ (c .before .with-rule .ensures) _ (c .place2 .ensures)))
+    (λ c. taken-less (took (c .before .before .before) .1) _ (c .before .with-rule .ensures) _ (c .place .ensures))
+    (λ c. taken-there (took (c .before .before .before) .1) _ (c .before .with-rule .ensures) _ (c .place .ensures)))

@@ -4,9 +4,9 @@ use mathlib.Core.Path.{refl}
 use native.Mathlib.Omega.{arith}
 use Prim.Native.Nat.{_-_}
 use lib.ListN.{length}
-use mathlib.Core.List.{[], _∷_}
 use Rattle.reading.specs.Commands.{unit, edge}
 use Rattle.reading.specs.Progress.{Reached}
+use Rattle.reading.proofs.Commands.{unit-room}
 use Rattle.reading.proofs.Groups.{Turn, taken, taken-fits, taken-there, taken-less, passed-by}
 use borrow.Author.Needs.{needs}
 use Rattle.reading.proofs.reader.read_units.Statement.{statement}
@@ -19,7 +19,7 @@ abbrev μ-loop : tie.MeasureT-loop
 μ-loop bytes progress₀ progress = length bytes - progress .at
 
 returns : tie.Need-returns Inv-loop μ-loop
-returns c = passed-by unit edge (0 ∷ 2 ∷ 3 ∷ 4 ∷ []) _ _ (c .before .loop .inv) (c .match .keys2) tt (omega arith) refl
+returns c = passed-by unit edge _ _ (c .before .loop .inv) (c .match .keys2) refl
 
 -- the place behind the command that this turn takes
 abbrev took : (c : tie.After-command Inv-loop μ-loop) → Turn (c .before .before .loop .inv)
@@ -34,7 +34,7 @@ read-units-spec =
     (λ c. c .before .pre)
     (λ c. search needs)
     returns
-    (λ c κs. took (c .before) .1 .leads .read .in-place .room)
+    (λ c κs. unit-room (took (c .before) .1 .leads .read .in-place))
     (λ c. omega (arith, took (c .before .before) .1 .inside))
     (λ c κs. taken-fits (took (c .before .before) .1) _ (c .with-unit .ensures))
     (λ c. taken-less (took (c .before .before .before) .1) _ (c .before .with-unit .ensures) _ (c .place .ensures))
