@@ -12,13 +12,13 @@ use Rattle.packed_decimal.specs.Digits.{digits, Below}
 use Rattle.packed_decimal.specs.Reading.{TEN, DIGITS, DIGIT_VALUES, MODULUS, NOT_MEASURED, unpacked, packed, Decimal, isReading, says}
 use Rattle.packed_decimal.specs.Refusals.{badOf}
 use Rattle.packed_decimal.specs.Answers.{numberOf, readingOf}
-use Rattle.packed_decimal.specs.declared.reading.Reading.{Reading}
 use Rattle.packed_decimal.specs.declared.reading.Reading.the-variants.{Measured, NotMeasured}
 use Rattle.packed_decimal.specs.declared.refusal.Refusal.the-variants.{BadReading, LargeNumber}
 use Rattle.packed_decimal.specs.declared.convert.Number.the-variants.{Says, Refused as NumberRefused}
 use Rattle.packed_decimal.specs.declared.convert.Packed.the-variants.{Word, Refused as PackedRefused}
 use Rattle.packed_decimal.proofs.Positional.{digits-below, digits-kept, read-back, number-lt, number-order}
-use Rattle.packed_decimal.proofs.Readings.{decides-decimal, unmeasured-is, unmeasured-says, measured-is, measured-says, measured-decimal, decimal-measured}
+use Rattle.packed_decimal.proofs.Readings.{decides-decimal, unmeasured-says, decimal-measured}
+use Rattle.packed_decimal.proofs.Readings.{measured-is, measured-says, measured-decimal}
 use Rattle.packed_decimal.proofs.FirstBad.{unless-first, unless-none}
 
 -- ---- any number of digits
@@ -82,7 +82,8 @@ reading-unmeasured = refl
 -- ---- inverse both ways
 
 -- a whole number to a reading and back: "on all 10,000 values"
-pub number-of-reading : (x : ℕ) → x < MODULUS → (readingOf (Measured x) ≡ Word (packed DIGITS x)) × (numberOf (packed DIGITS x) ≡ Says (Measured x))
+pub number-of-reading : (x : ℕ) → x < MODULUS
+    → (readingOf (Measured x) ≡ Word (packed DIGITS x)) × (numberOf (packed DIGITS x) ≡ Says (Measured x))
 number-of-reading x l =
     let keeps : Decimal DIGITS (packed DIGITS x) = packed-decimal DIGITS x in
     let other : ¬ (packed DIGITS x ≡ NOT_MEASURED) = decimal-measured (packed DIGITS x) keeps in (
@@ -92,7 +93,8 @@ number-of-reading x l =
     )
 
 -- a reading to what it says and back, "not measured stays so"
-pub reading-of-number : (word : ℕ) → word < DIGIT_VALUES ^ DIGITS → isReading word ≡ true → (numberOf word ≡ Says (says word)) × (readingOf (says word) ≡ Word word)
+pub reading-of-number : (word : ℕ) → word < DIGIT_VALUES ^ DIGITS → isReading word ≡ true
+    → (numberOf word ≡ Says (says word)) × (readingOf (says word) ≡ Word word)
 reading-of-number word h e = (number-says word e, back (ℕ-discrete word NOT_MEASURED))
   where
     back : Dec (word ≡ NOT_MEASURED) → readingOf (says word) ≡ Word word

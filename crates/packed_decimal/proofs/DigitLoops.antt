@@ -2,13 +2,13 @@
 -- they are decimal; Respelling, the number that they make in another base, with bounds so that nothing wraps.
 use mathlib.Core.Path.{_≡_, refl, sym, ap, _∙_}
 use mathlib.Core.Bool.{true, false}
-use Prim.Native.Nat.{ℕ, zero, suc, _+_, _-_, _*_, _/_, _%_, _^_, _≤_, _<_}
+use Prim.Native.Nat.{ℕ, suc, _+_, _-_, _*_, _/_, _%_, _^_, _≤_, _<_}
 use native.Mathlib.Omega.{arith}
 use native.Mathlib.Nat.{pow-suc, pow-zero, pow-le-pow-right, mul-add, mul-comm, mul-assoc, mul-le-mul-left, mul-le-mul-right, mod-lt}
 use native.Mathlib.Numerals.{add-one}
 use borrow.Author.Tests.{lt-ltb, le-ltb}
 use Rattle.packed_decimal.specs.Digits.{digits, number}
-use Rattle.packed_decimal.specs.Reading.{TEN, DIGITS, DIGIT_VALUES, decimal}
+use Rattle.packed_decimal.specs.Reading.{TEN, DIGIT_VALUES, decimal}
 use Rattle.packed_decimal.proofs.Positional.{number-digits-suc}
 
 -- what is left of n digits after i + 1 is one less than after i

@@ -1,12 +1,15 @@
 -- "Errors, tried first": what `unlessBad` gives where the first bad reading is known, or that there is none.
-use mathlib.Core.Path.{_≡_, refl, sym, ap, _∙_}
-use mathlib.Core.Bool.{Bool, true, false, not}
+use mathlib.Core.Path.{_≡_, refl, ap, _∙_}
+use mathlib.Core.Bool.{Bool, true, false}
 use mathlib.Core.List.{[], _∷_}
+use mathlib.Core.Logic.{_⊎_, inl, inr}
 use Prim.Native.Nat.{ℕ, _≤_, _<_}
 use native.Mathlib.Omega.{arith}
+use native.Mathlib.Decide.{decLt}
 use borrow.Author.Tests.{lt-ltb, le-ltb, not-false}
-use Rattle.atoms.specs.Collected.{lowest}
-use Rattle.atoms.proofs.Collected.{lowest-is, lowest-none, lowest-least}
+use Rattle.atoms.specs.Bounded.{Decides}
+use Rattle.atoms.specs.Collected.{Least, lowest}
+use Rattle.atoms.proofs.Collected.{lowest-is, lowest-none, lowest-here, lowest-least}
 use Rattle.packed_decimal.specs.Reading.{isReading}
 use Rattle.packed_decimal.specs.Refusals.{unlessBad, badOf, firstBad}
 use Rattle.packed_decimal.specs.declared.refusal.Refusal.{Refusal}
@@ -30,6 +33,22 @@ module _ {A : Type 0} (n : ℕ) (bad : ℕ → Bool) (refused : Refusal → A) (
   -- none is bad
   pub unless-none : ((j : ℕ) → j < n → bad j ≡ false) → unlessBad n bad refused answer ≡ answer
   unless-none f = let none : lowest n bad ≡ n = lowest-none n bad f in unless-answered (omega arith)
+
+  -- "Errors, tried first": none is bad and the answer is given, or it is the refusal for the first that is
+  pub unless-right : {Bad : ℕ → Type 0} → ((i : ℕ) → Decides (Bad i) (bad i))
+      → (((i : ℕ) → i < n → ¬ Bad i) × (unlessBad n bad refused answer ≡ answer))
+      ⊎ ((i : ℕ) × (i < n) × Least Bad i × (unlessBad n bad refused answer ≡ refused (BadReading i)))
+  unless-right {Bad} d = go (decLt (lowest n bad) n)
+    where
+      go : Dec (lowest n bad < n) → (((i : ℕ) → i < n → ¬ Bad i) × (unlessBad n bad refused answer ≡ answer))
+          ⊎ ((i : ℕ) × (i < n) × Least Bad i × (unlessBad n bad refused answer ≡ refused (BadReading i)))
+      go (yes l) = inr (
+        lowest n bad,
+        l,
+        record { here = d (lowest n bad) .yes (lowest-here n bad l); least = λ q k. d q .no (lowest-least n bad q k) },
+        unless-refused l,
+      )
+      go (no l) = inl (λ i k. d i .no (lowest-least n bad i (omega arith)), unless-answered (omega arith))
 
 -- ---- two readings
 

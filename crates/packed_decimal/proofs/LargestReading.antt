@@ -1,21 +1,19 @@
--- The largest reading of a run: what one reading more changes; that what the definition gives is the largest, with its lowest place; and the
--- loop over a run of bytes (Seeking).
+-- The largest reading of a run: what one reading more changes, and the loop over a run of bytes (Seeking).
 use mathlib.Core.Path.{_≡_, refl, sym, ap, ap₂, _∙_}
 use mathlib.Core.Bool.{Bool, true, false, cond, or-true}
 use mathlib.Core.List.{List}
-use Prim.Native.Nat.{ℕ, zero, suc, _+_, _*_, _/_, _^_, _≤_, _<_}
+use Prim.Native.Nat.{ℕ, _+_, _*_, _/_, _^_, _≤_, _<_}
 use native.Mathlib.Omega.{arith}
-use native.Mathlib.Decide.{decLt, ℕ-discrete}
+use native.Mathlib.Decide.{ℕ-discrete}
 use native.Mathlib.Numerals.{add-one}
 use lib.Dec.{ltb, leb}
-use lib.ListN.{length, getD}
+use lib.ListN.{length}
 use borrow.Author.Count.{below-more}
-use borrow.Author.Tests.{lt-ltb, le-ltb, ltb-true, ltb-false, lt-leb, le-leb}
-use Rattle.packed_decimal.specs.Reading.{DIGITS, DIGIT_VALUES, NOT_MEASURED, unpacked, Decimal, isReading, says}
-use Rattle.packed_decimal.specs.Largest.{READING_BYTES, readings, wordAt, isLone, badAt, larger, largestOf, largestIn, IsLargest}
+use borrow.Author.Tests.{lt-ltb, le-ltb, lt-leb, le-leb}
+use Rattle.packed_decimal.specs.Reading.{DIGITS, DIGIT_VALUES, NOT_MEASURED, unpacked, isReading, says}
+use Rattle.packed_decimal.specs.Largest.{READING_BYTES, readings, wordAt, badAt, larger, largestOf, largestIn}
 use Rattle.packed_decimal.specs.MeasuredWord.{MeasuredWord, MeasuredFound}
-use Rattle.packed_decimal.specs.declared.reading.Reading.{Reading}
-use Rattle.packed_decimal.specs.declared.reading.Reading.the-variants.{Measured, NotMeasured}
+use Rattle.packed_decimal.specs.declared.reading.Reading.the-variants.{Measured}
 use Rattle.packed_decimal.specs.declared.refusal.Refusal.the-variants.{BadReading}
 use Rattle.packed_decimal.specs.declared.largest.Found.{Found}
 use Rattle.packed_decimal.specs.declared.largest.Found.the-variants.{At, NoneMeasured}
@@ -70,7 +68,7 @@ whole-good bytes i l e = rw (lt-leb (length bytes) (READING_BYTES * i + 1) l, e)
 
 whole-bad : (bytes : List ℕ) (i : ℕ) → isReading (wordAt bytes i) ≡ false → badAt bytes i ≡ true
 unfolding badAt
-whole-bad bytes i e = rw e (or-true (isLone bytes i))
+whole-bad bytes i e = rw e (or-true (leb (length bytes) (READING_BYTES * i + 1)))
 
 lone-bad : (bytes : List ℕ) (i : ℕ) → length bytes ≤ READING_BYTES * i + 1 → badAt bytes i ≡ true
 unfolding badAt
@@ -111,8 +109,8 @@ pub seeking-lone : {bytes : List ℕ} {i : ℕ} {found : Found} → Seeking byte
     → READING_BYTES * (length bytes / READING_BYTES) < length bytes → largestIn bytes ≡ Refused (BadReading (length bytes / READING_BYTES))
 unfolding largestIn
 seeking-lone {bytes} {i} {found} s l odd =
-    unless-first (readings bytes) (badAt bytes) Refused _ (length bytes / READING_BYTES) (omega arith) (lone-bad bytes (length bytes / READING_BYTES) (omega arith))
-    (λ j k. s .good j (omega arith))
+    let last : ℕ = length bytes / READING_BYTES in
+    unless-first (readings bytes) (badAt bytes) Refused _ last (omega arith) (lone-bad bytes last (omega arith)) (λ j k. s .good j (omega arith))
 
 pub seeking-all : {bytes : List ℕ} {i : ℕ} {found : Found} → Seeking bytes i found → length bytes / READING_BYTES ≤ i
     → length bytes ≤ READING_BYTES * (length bytes / READING_BYTES) → largestIn bytes ≡ Is found

@@ -6,3 +6,4 @@ pub mod FirstBad
 pub mod Sums
 pub mod Orders
 pub mod LargestReading
+pub mod LargestMeaning

@@ -1,16 +1,12 @@
 -- What a word says as a reading, by cases: 0xFFFF, or four decimal digits.
-use mathlib.Core.Path.{_≡_, refl, sym, ap, _∙_}
-use mathlib.Core.Bool.{Bool, true, false, _&&_, _||_}
-use mathlib.Core.Logic.{_⊎_, inl, inr}
+use mathlib.Core.Path.{_≡_, refl, sym, _∙_}
+use mathlib.Core.Bool.{true}
 use Prim.Native.Nat.{ℕ, zero, suc, _/_, _%_, _^_, _<_}
-use native.Mathlib.Omega.{arith}
-use native.Mathlib.Decide.{ℕ-discrete}
-use lib.Dec.{ltb, eqb}
-use borrow.Author.Tests.{ltb-true, lt-ltb, eq-eqb, ne-eqb, eqb-true}
+use lib.Dec.{ltb}
+use borrow.Author.Tests.{ltb-true, lt-ltb, eq-eqb, ne-eqb}
 use Rattle.atoms.specs.Bounded.{Decides}
-use Rattle.atoms.proofs.Tests.{decides, decided-true, not-both, and-true, or-true}
-use Rattle.packed_decimal.specs.Digits.{digits, Below}
-use Rattle.packed_decimal.specs.Reading.{TEN, DIGITS, DIGIT_VALUES, NOT_MEASURED, unpacked, packed, Decimal, decimal, IsReading, isReading, says}
+use Rattle.atoms.proofs.Tests.{decides, decides-iff, decides-and, decides-or, decides-equal}
+use Rattle.packed_decimal.specs.Reading.{TEN, DIGITS, DIGIT_VALUES, NOT_MEASURED, unpacked, Decimal, decimal, IsReading, isReading, says}
 use Rattle.packed_decimal.specs.MeasuredWord.{MeasuredWord}
 use Rattle.packed_decimal.specs.declared.reading.Reading.the-variants.{Measured, NotMeasured}
 use Rattle.packed_decimal.proofs.Positional.{below-none, below-suc, below-last, below-rest}
@@ -21,27 +17,14 @@ pub decides-decimal : (n word : ℕ) → Decides (Decimal n word) (decimal n wor
 unfolding decimal
 decides-decimal zero word = decides true (λ e. below-none DIGIT_VALUES word) (λ d. refl)
 decides-decimal (suc n) word =
-    let rest = decides-decimal n (word / DIGIT_VALUES) in
-    decides (ltb (word % DIGIT_VALUES) TEN && decimal n (word / DIGIT_VALUES))
-    (λ e. let both = and-true (ltb (word % DIGIT_VALUES) TEN) (decimal n (word / DIGIT_VALUES)) .0 e in
-    below-suc DIGIT_VALUES n word (ltb-true (word % DIGIT_VALUES) TEN (both .0)) (rest .yes (both .1)))
-    (λ d. and-true (ltb (word % DIGIT_VALUES) TEN) (decimal n (word / DIGIT_VALUES)) .1
-    (lt-ltb (word % DIGIT_VALUES) TEN (below-last DIGIT_VALUES n word d), decided-true rest (below-rest DIGIT_VALUES n word d)))
+    let last : Decides (word % DIGIT_VALUES < TEN) (ltb (word % DIGIT_VALUES) TEN) = decides _ (ltb-true _ _) (lt-ltb _ _) in
+    decides-iff (λ h. below-suc DIGIT_VALUES n word (h .0) (h .1)) (λ d. (below-last DIGIT_VALUES n word d, below-rest DIGIT_VALUES n word d))
+    (decides-and last (decides-decimal n (word / DIGIT_VALUES)))
 
 pub decides-reading : (word : ℕ) → Decides (IsReading word) (isReading word)
 unfolding isReading
 decides-reading word =
-    decides (eqb word NOT_MEASURED || decimal DIGITS word)
-    (λ e. record { rule = from (or-true (eqb word NOT_MEASURED) (decimal DIGITS word) .0 e) })
-    (λ r. or-true (eqb word NOT_MEASURED) (decimal DIGITS word) .1 (into (r .rule)))
-  where
-    from : (eqb word NOT_MEASURED ≡ true) ⊎ (decimal DIGITS word ≡ true) → (word ≡ NOT_MEASURED) ⊎ Decimal DIGITS word
-    from (inl e) = inl (eqb-true word NOT_MEASURED e)
-    from (inr e) = inr (decides-decimal DIGITS word .yes e)
-
-    into : (word ≡ NOT_MEASURED) ⊎ Decimal DIGITS word → (eqb word NOT_MEASURED ≡ true) ⊎ (decimal DIGITS word ≡ true)
-    into (inl e) = inl (eq-eqb word NOT_MEASURED e)
-    into (inr d) = inr (decided-true (decides-decimal DIGITS word) d)
+    decides-iff (λ r. record { rule = r }) (λ h. h .rule) (decides-or (decides-equal word NOT_MEASURED) (decides-decimal DIGITS word))
 
 -- ---- 0xFFFF
 

@@ -1,10 +1,9 @@
 -- The answers for one reading and for two. Document 02, S-5.
-use mathlib.Core.Path.{_≡_}
 use mathlib.Core.Bool.{Bool, true, false}
 use mathlib.Core.List.{[], _∷_}
 use Prim.Native.Nat.{ℕ, _+_, _/_, _%_}
 use lib.Dec.{ltb}
-use Rattle.packed_decimal.specs.Reading.{DIGITS, DIGIT_VALUES, MODULUS, NOT_MEASURED, unpacked, packed, Decimal, says}
+use Rattle.packed_decimal.specs.Reading.{DIGITS, MODULUS, NOT_MEASURED, packed, says}
 use Rattle.packed_decimal.specs.Refusals.{unlessBadOf}
 use Rattle.packed_decimal.specs.declared.reading.Reading.{Reading}
 use Rattle.packed_decimal.specs.declared.reading.Reading.the-variants.{Measured, NotMeasured}
@@ -36,6 +35,7 @@ sumOf (Measured x) (Measured y) = record { reading = packed DIGITS ((x + y) % MO
 sumOf (Measured x) NotMeasured = record { reading = NOT_MEASURED; carry = 0 }
 sumOf NotMeasured r = record { reading = NOT_MEASURED; carry = 0 }
 
+-- the sum of two words, errors first
 unfoldable pub addedOf : ℕ → ℕ → Added
 addedOf a b = unlessBadOf (a ∷ b ∷ []) SumRefused (Is (sumOf (says a) (says b)))
 
@@ -51,5 +51,6 @@ orderOf (Measured x) (Measured y) = orderBy (ltb x y) (ltb y x)
 orderOf (Measured x) NotMeasured = NoOrder
 orderOf NotMeasured r = NoOrder
 
+-- a word against its limit, errors first
 unfoldable pub comparedOf : ℕ → ℕ → Compared
 comparedOf word limit = unlessBadOf (word ∷ limit ∷ []) CompareRefused (OrderIs (orderOf (says word) (says limit)))

@@ -3,10 +3,11 @@
 use mathlib.Core.Path.{_≡_}
 use mathlib.Core.Bool.{Bool, cond, not, _||_}
 use mathlib.Core.List.{List}
+use mathlib.Core.Logic.{_⊎_}
 use Prim.Native.Nat.{ℕ, zero, suc, _+_, _*_, _/_, _^_, _≤_, _<_}
 use lib.Dec.{ltb, leb}
 use lib.ListN.{length, getD}
-use Rattle.packed_decimal.specs.Reading.{DIGITS, unpacked, isReading, says}
+use Rattle.packed_decimal.specs.Reading.{DIGITS, NOT_MEASURED, unpacked, IsReading, isReading, says}
 use Rattle.packed_decimal.specs.Refusals.{unlessBad}
 use Rattle.packed_decimal.specs.declared.reading.Reading.{Reading}
 use Rattle.packed_decimal.specs.declared.reading.Reading.the-variants.{Measured, NotMeasured}
@@ -31,13 +32,13 @@ readings bytes = (length bytes + 1) / READING_BYTES
 abbrev pub wordAt : List ℕ → ℕ → ℕ
 wordAt bytes i = getD bytes (READING_BYTES * i) 0 * BYTE_VALUES + getD bytes (READING_BYTES * i + 1) 0
 
--- "a lone last byte": reading number i has no second byte
-abbrev pub isLone : List ℕ → ℕ → Bool
-isLone bytes i = leb (length bytes) (READING_BYTES * i + 1)
+-- reading number i is bad: "a digit above 9 or a lone last byte"
+pub record BadAt (bytes : List ℕ) (i : ℕ) : Type 0 where
+  pub bad : (length bytes ≤ READING_BYTES * i + 1) ⊎ (¬ IsReading (wordAt bytes i))
 
--- "a digit above 9 or a lone last byte"
+-- the same, computed
 unfoldable pub badAt : List ℕ → ℕ → Bool
-badAt bytes i = isLone bytes i || not (isReading (wordAt bytes i))
+badAt bytes i = leb (length bytes) (READING_BYTES * i + 1) || not (isReading (wordAt bytes i))
 
 -- with one reading more: it is found if it is measured and larger than what was found before it
 abbrev pub larger : Found → Reading → ℕ → ℕ → Found
@@ -54,10 +55,15 @@ largestOf words (suc n) = larger (largestOf words n) (says (words n)) (words n) 
 unfoldable pub largestIn : List ℕ → Largest
 largestIn bytes = unlessBad (readings bytes) (badAt bytes) Refused (Is (largestOf (wordAt bytes) (readings bytes)))
 
--- what it means that a word is the largest of the first n, with its lowest place
-pub record IsLargest (words : ℕ → ℕ) (n word place x : ℕ) : Type 0 where
+-- what that means: it is a measured reading of the run at that place, no measured reading is larger, and none as large stands before it
+pub record IsLargest (words : ℕ → ℕ) (n word place : ℕ) : Type 0 where
   pub within : place < n
   pub here : words place ≡ word
-  pub measured : says word ≡ Measured x
-  pub none-larger : (i y : ℕ) → i < n → says (words i) ≡ Measured y → y ≤ x
-  pub none-before : (i y : ℕ) → i < place → says (words i) ≡ Measured y → y < x
+  pub measured : ¬ (word ≡ NOT_MEASURED)
+  pub none-larger : (i : ℕ) → i < n → ¬ (words i ≡ NOT_MEASURED) → unpacked DIGITS (words i) ≤ unpacked DIGITS word
+  pub none-before : (i : ℕ) → i < place → ¬ (words i ≡ NOT_MEASURED) → unpacked DIGITS (words i) < unpacked DIGITS word
+
+-- what was found is the largest; or "that none was measured", and so it is
+pub data Right (words : ℕ → ℕ) (n : ℕ) : Found → Type 0 where
+  largest : {word place : ℕ} → IsLargest words n word place → Right words n (At word place)
+  none-measured : ((i : ℕ) → i < n → words i ≡ NOT_MEASURED) → Right words n NoneMeasured

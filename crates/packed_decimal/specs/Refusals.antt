@@ -33,5 +33,6 @@ badOf words i = not (isReading (getD words i 0))
 abbrev pub firstBad : List ℕ → ℕ
 firstBad words = lowest (length words) (badOf words)
 
+-- the same for whole readings, given as words
 abbrev pub unlessBadOf : {A : Type 0} → List ℕ → (Refusal → A) → A → A
 unlessBadOf words refused answer = unlessBad (length words) (badOf words) refused answer

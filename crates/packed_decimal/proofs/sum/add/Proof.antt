@@ -1,6 +1,5 @@
 -- The first of the two that is bad, or their sum.
 use mathlib.Core.Path.{sym, ap, _∙_}
-use mathlib.Core.List.{[], _∷_}
 use native.Mathlib.Omega.{arith}
 use borrow.Author.Needs.{needs}
 use Rattle.packed_decimal.proofs.FirstBad.{pair-good}
