@@ -12,7 +12,7 @@ unnoticed=0 tried=0
 
 # compare_with SOURCE: runs the comparison with the stand-in SOURCE and the lister beside it.
 compare_with() {
-    build_stand_in "$1" "$work/libexports.so" cdylib && LD_LIBRARY_PATH=$work "$work/compare" "$count" "$seed" 2>&1
+    build_stand_in "$1" "$work/libexports.so" cdylib && LIBRARY_BY_FORCE=1 LD_LIBRARY_PATH=$work "$work/compare" "$count" "$seed" 2>&1
 }
 
 # with_mistake NAME RIGHT WRONG: a copy of the lister with WRONG in place of RIGHT must be noticed.

@@ -3,15 +3,17 @@
 use mathlib.Core.Path.{_≡_, refl, sym, ap, _∙_, subst}
 use mathlib.Core.Bool.{true, false, not}
 use mathlib.Core.List.{List, [], _∷_}
+use mathlib.Core.Logic.{_⊎_, inl, inr}
 use Prim.Native.Nat.{ℕ, _^_, _≤_, _<_}
 use native.Mathlib.Omega.{arith}
-use native.Mathlib.Decide.{ℕ-discrete}
+use native.Mathlib.Decide.{decLt, ℕ-discrete}
 use borrow.Author.Tests.{lt-ltb, le-ltb}
-use Rattle.atoms.proofs.Tests.{decided-true}
+use Rattle.atoms.proofs.Tests.{decided-true, test-cases}
 use Rattle.packed_decimal.specs.Digits.{digits, Below}
 use Rattle.packed_decimal.specs.Reading.{TEN, DIGITS, DIGIT_VALUES, MODULUS, NOT_MEASURED, unpacked, packed, Decimal, isReading, says}
 use Rattle.packed_decimal.specs.Refusals.{badOf}
 use Rattle.packed_decimal.specs.Answers.{numberOf, readingOf}
+use Rattle.packed_decimal.specs.declared.reading.Reading.{Reading}
 use Rattle.packed_decimal.specs.declared.reading.Reading.the-variants.{Measured, NotMeasured}
 use Rattle.packed_decimal.specs.declared.refusal.Refusal.the-variants.{BadReading, LargeNumber}
 use Rattle.packed_decimal.specs.declared.convert.Number.the-variants.{Says, Refused as NumberRefused}
@@ -104,3 +106,42 @@ reading-of-number word h e = (number-says word e, back (ℕ-discrete word NOT_ME
         ap readingOf (measured-says word u)
         ∙ reading-word (unpacked DIGITS word) (unpacked-fits DIGITS word keeps)
         ∙ ap Word (packed-unpacked DIGITS word h keeps)
+
+-- ---- bounds
+
+-- what a word says is not measured or a number up to 9999
+pub said-is : (word : ℕ) (said : Reading) → numberOf word ≡ Says said → (said ≡ NotMeasured) ⊎ ((x : ℕ) × (x < MODULUS) × (said ≡ Measured x))
+said-is word said e = go (test-cases (isReading word)) (ℕ-discrete word NOT_MEASURED)
+  where
+    go : (isReading word ≡ true) ⊎ (isReading word ≡ false) → Dec (word ≡ NOT_MEASURED)
+        → (said ≡ NotMeasured) ⊎ ((x : ℕ) × (x < MODULUS) × (said ≡ Measured x))
+    go (inl r) (yes u) =
+        let answered = number-says word r in
+        let unmeasured = unmeasured-says word u in
+        inl (cc)
+    go (inl r) (no n) =
+        let answered = number-says word r in
+        let measured = measured-says word n in
+        inr (unpacked DIGITS word, unpacked-fits DIGITS word (measured-decimal word n r), cc)
+    go (inr r) d =
+        let refused = number-bad word r in
+        let z : _≡_ {A = ℕ} 0 1 = cc in
+        absurd (omega arith)
+
+-- the word of a reading fits 16 bits
+pub word-fits : (asked : Reading) (word : ℕ) → readingOf asked ≡ Word word → word < DIGIT_VALUES ^ DIGITS
+word-fits NotMeasured word e =
+    let given = reading-unmeasured in
+    let same : word ≡ NOT_MEASURED = cc in
+    omega arith
+word-fits (Measured x) word e = go (decLt x MODULUS)
+  where
+    go : Dec (x < MODULUS) → word < DIGIT_VALUES ^ DIGITS
+    go (yes l) =
+        let given = reading-word x l in
+        let same : word ≡ packed DIGITS x = cc in
+        omega (arith, packed-fits DIGITS x)
+    go (no l) =
+        let refused = reading-large x (omega arith) in
+        let z : _≡_ {A = ℕ} 0 1 = cc in
+        absurd (omega arith)

@@ -4,17 +4,24 @@ use mathlib.Core.Bool.{Bool, true, false, cond}
 use mathlib.Core.List.{List}
 use Prim.Native.Nat.{ℕ, zero, suc, _+_, _*_, _≤_, _<_}
 use native.Mathlib.Omega.{arith}
-use native.Mathlib.Decide.{ℕ-discrete}
+use native.Mathlib.Decide.{decLt, ℕ-discrete}
 use lib.Dec.{ltb, leb}
 use lib.ListN.{length}
 use borrow.Author.Tests.{ltb-true, ltb-false, leb-true, le-leb}
 use Rattle.atoms.specs.Bounded.{Decides}
+use Rattle.atoms.specs.Collected.{lowest}
 use Rattle.atoms.proofs.Tests.{decides, decides-iff, decides-or, decides-not}
 use Rattle.packed_decimal.specs.Reading.{DIGITS, NOT_MEASURED, unpacked, says}
-use Rattle.packed_decimal.specs.Largest.{READING_BYTES, wordAt, BadAt, badAt, larger, largestOf, IsLargest, Right, Right.largest, Right.none-measured}
+use Rattle.packed_decimal.specs.Largest.{READING_BYTES, readings, wordAt, BadAt, badAt, larger, largestOf, largestIn}
+use Rattle.packed_decimal.specs.Largest.{IsLargest, Right, Right.largest, Right.none-measured}
+use Rattle.packed_decimal.specs.Refusals.{refusalSpot}
 use Rattle.packed_decimal.specs.declared.reading.Reading.the-variants.{Measured}
+use Rattle.packed_decimal.specs.declared.refusal.Refusal.{Refusal}
+use Rattle.packed_decimal.specs.declared.refusal.Refusal.the-variants.{BadReading}
+use Rattle.packed_decimal.specs.declared.largest.Largest.the-variants.{Is, Refused}
 use Rattle.packed_decimal.specs.declared.largest.Found.{Found}
 use Rattle.packed_decimal.specs.declared.largest.Found.the-variants.{At}
+use Rattle.packed_decimal.proofs.FirstBad.{unless-refused, unless-answered}
 use Rattle.packed_decimal.proofs.Readings.{decides-reading, unmeasured-says, measured-says}
 
 -- ---- the largest of some words
@@ -113,3 +120,18 @@ decides-bad bytes i =
     let lone : Decides (length bytes ≤ READING_BYTES * i + 1) (leb (length bytes) (READING_BYTES * i + 1)) =
     decides _ (leb-true _ _) (le-leb _ _) in
     decides-iff (λ b. record { bad = b }) (λ h. h .bad) (decides-or lone (decides-not (decides-reading (wordAt bytes i))))
+
+-- a run is refused at one of its readings
+pub refused-within : (bytes : List ℕ) (r : Refusal) → largestIn bytes ≡ Refused r → refusalSpot r < readings bytes
+unfolding largestIn
+refused-within bytes r e = go (decLt (lowest (readings bytes) (badAt bytes)) (readings bytes))
+  where
+    go : Dec (lowest (readings bytes) (badAt bytes) < readings bytes) → refusalSpot r < readings bytes
+    go (yes l) =
+        let refused = unless-refused (readings bytes) (badAt bytes) Refused (Is (largestOf (wordAt bytes) (readings bytes))) l in
+        let same : r ≡ BadReading (lowest (readings bytes) (badAt bytes)) = cc in
+        rw same l
+    go (no l) =
+        let answered = unless-answered (readings bytes) (badAt bytes) Refused (Is (largestOf (wordAt bytes) (readings bytes))) (omega arith) in
+        let z : _≡_ {A = ℕ} 0 1 = cc in
+        absurd (omega arith)

@@ -2,9 +2,10 @@
 use mathlib.Core.Path.{_≡_, refl, sym, ap, ap₂, _∙_}
 use mathlib.Core.Bool.{true}
 use mathlib.Core.List.{[], _∷_}
-use Prim.Native.Nat.{ℕ, _+_, _-_, _*_, _/_, _%_, _≤_, _<_}
+use Prim.Native.Nat.{ℕ, _+_, _-_, _*_, _/_, _%_, _^_, _≤_, _<_}
 use native.Mathlib.Omega.{arith}
-use Rattle.packed_decimal.specs.Reading.{DIGITS, MODULUS, NOT_MEASURED, unpacked, packed, Decimal, isReading, says}
+use native.Mathlib.Decide.{decLt, ℕ-discrete}
+use Rattle.packed_decimal.specs.Reading.{DIGITS, DIGIT_VALUES, MODULUS, NOT_MEASURED, unpacked, packed, Decimal, isReading, says}
 use Rattle.packed_decimal.specs.Refusals.{badOf, firstBad}
 use Rattle.packed_decimal.specs.Answers.{sumOf, addedOf}
 use Rattle.packed_decimal.specs.declared.reading.Reading.{Reading}
@@ -12,9 +13,9 @@ use Rattle.packed_decimal.specs.declared.reading.Reading.the-variants.{M
 use Rattle.packed_decimal.specs.declared.refusal.Refusal.the-variants.{BadReading}
 use Rattle.packed_decimal.specs.declared.sum.Sum.{Sum}
 use Rattle.packed_decimal.specs.declared.sum.Added.the-variants.{Is, Refused}
-use Rattle.packed_decimal.proofs.FirstBad.{unless-refused, unless-answered}
-use Rattle.packed_decimal.proofs.Conversion.{unpacked-packed, packed-decimal, unpacked-fits}
-use Rattle.packed_decimal.proofs.Readings.{measured-says, measured-decimal}
+use Rattle.packed_decimal.proofs.FirstBad.{unless-refused, unless-answered, pair-good}
+use Rattle.packed_decimal.proofs.Conversion.{unpacked-packed, packed-decimal, packed-fits, unpacked-fits}
+use Rattle.packed_decimal.proofs.Readings.{unmeasured-says, measured-says, measured-decimal}
 
 -- "With a reading not measured, a sum (carry 0) .. is not measured"
 abbrev pub unmeasuredSum : Sum
@@ -82,3 +83,40 @@ added-refused a b e l =
 pub added-is : (a b : ℕ) → 2 ≤ firstBad (a ∷ b ∷ []) → addedOf a b ≡ Is (sumOf (says a) (says b))
 unfolding addedOf
 added-is a b l = unless-answered 2 (badOf (a ∷ b ∷ [])) Refused (Is (sumOf (says a) (says b))) l
+
+-- ---- bounds
+
+-- the carry of a sum is at most 1, and its reading fits 16 bits
+pub record SumFits (s : Sum) : Type 0 where
+  pub carry-fits : s .carry ≤ 1
+  pub reading-fits : s .reading < DIGIT_VALUES ^ DIGITS
+
+unmeasured-fits : SumFits unmeasuredSum
+unmeasured-fits = record { carry-fits = omega arith; reading-fits = omega arith }
+
+measured-fits : (x y : ℕ) → x < MODULUS → y < MODULUS → SumFits (sumOf (Measured x) (Measured y))
+measured-fits x y hx hy = record { carry-fits = omega arith; reading-fits = packed-fits DIGITS ((x + y) % MODULUS) }
+
+said-fits : (a b : ℕ) → isReading a ≡ true → isReading b ≡ true → SumFits (sumOf (says a) (says b))
+said-fits a b ra rb = go (ℕ-discrete a NOT_MEASURED) (ℕ-discrete b NOT_MEASURED)
+  where
+    go : Dec (a ≡ NOT_MEASURED) → Dec (b ≡ NOT_MEASURED) → SumFits (sumOf (says a) (says b))
+    go (yes e) d = rw (sum-unmeasured-left (says a) (says b) (unmeasured-says a e)) unmeasured-fits
+    go (no na) (yes e) = rw (sum-unmeasured-right (says a) (says b) (unmeasured-says b e)) unmeasured-fits
+    go (no na) (no nb) =
+        rw (both-say a b ra rb na nb)
+        (measured-fits (unpacked DIGITS a) (unpacked DIGITS b) (left-fits a b ra rb na nb) (right-fits a b ra rb na nb))
+
+pub added-fits : (a b : ℕ) (s : Sum) → addedOf a b ≡ Is s → SumFits s
+added-fits a b s e = go (decLt (firstBad (a ∷ b ∷ [])) 2)
+  where
+    go : Dec (firstBad (a ∷ b ∷ []) < 2) → SumFits s
+    go (yes l) =
+        let refused = added-refused a b refl l in
+        let z : _≡_ {A = ℕ} 0 1 = cc in
+        absurd (omega arith)
+    go (no l) =
+        let good = pair-good a b (omega arith) in
+        let answered = added-is a b (omega arith) in
+        let same : s ≡ sumOf (says a) (says b) = cc in
+        rw same (said-fits a b (good .0) (good .1))

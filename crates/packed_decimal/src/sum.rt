@@ -15,7 +15,7 @@ ghost use Rattle.packed_decimal.specs.declared.reading.Reading.{Reading}
 // A sum: its word, and 1 where it went past 9999.
 pub struct Sum {
     pub reading: u16,
-    pub carry: u64,
+    pub carry: u8,
 }
 
 // The sum of two readings, or their refusal.
