@@ -8,8 +8,10 @@ mod encode;
 mod generator;
 mod library;
 mod lister;
+mod packed;
 mod positions;
 mod random;
+mod readings;
 mod samples;
 mod tally;
 mod text;
@@ -50,6 +52,7 @@ fn main() {
         let compared = compare(&case, &mut Random::for_case(!seed, number), &mut tally);
         tally.note(&case, compared);
     }
+    readings::compare(count, seed, &mut tally);
     tally.print(seed);
     std::process::exit(if tally.failed == 0 { 0 } else { 1 });
 }

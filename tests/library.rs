@@ -17,6 +17,11 @@ extern "C" {
     ) -> u64;
     fn lucarnecress_judge(plan: *const u8, plan_len: usize, position: u64) -> u64;
     fn lucarnecress_sheet(plan: *const u8, plan_len: usize, sheet: *mut u8, sheet_len: usize) -> u64;
+    fn lucarnecress_reading_number(reading: u16) -> u64;
+    fn lucarnecress_reading_of(number: u64) -> u64;
+    fn lucarnecress_reading_sum(a: u16, b: u16) -> u64;
+    fn lucarnecress_reading_compare(reading: u16, limit: u16) -> u64;
+    fn lucarnecress_reading_largest(bytes: *const u8, bytes_len: usize, found: *mut u64, found_len: usize) -> u64;
 }
 
 /// Lists a plan into the lent table and counts; 0 or the code of a refusal.
@@ -45,4 +50,29 @@ pub fn sheet(plan: &[u8]) -> Result<Vec<u8>, u64> {
 /// Writes the sheet into a lent buffer; its length, or 0 if the buffer is too short.
 pub fn write_sheet(plan: &[u8], buffer: &mut [u8]) -> u64 {
     unsafe { lucarnecress_sheet(plan.as_ptr(), plan.len(), buffer.as_mut_ptr(), buffer.len()) }
+}
+
+/// The whole number of a reading, 65,535 for not measured, or the code of a refusal.
+pub fn reading_number(reading: u16) -> u64 {
+    unsafe { lucarnecress_reading_number(reading) }
+}
+
+/// The reading of a whole number or of 65,535, or the code of a refusal.
+pub fn reading_of(number: u64) -> u64 {
+    unsafe { lucarnecress_reading_of(number) }
+}
+
+/// 65,536 times the carry plus the reading, or the code of a refusal.
+pub fn reading_sum(a: u16, b: u16) -> u64 {
+    unsafe { lucarnecress_reading_sum(a, b) }
+}
+
+/// 0 below, 1 equal, 2 above, 65,535 not measured, or the code of a refusal.
+pub fn reading_compare(reading: u16, limit: u16) -> u64 {
+    unsafe { lucarnecress_reading_compare(reading, limit) }
+}
+
+/// 1 with reading and place in the lent words, 0 if none is measured, or the code of a refusal.
+pub fn reading_largest(bytes: &[u8], found: &mut [u64]) -> u64 {
+    unsafe { lucarnecress_reading_largest(bytes.as_ptr(), bytes.len(), found.as_mut_ptr(), found.len()) }
 }

@@ -3,6 +3,7 @@
 
 #[allow(dead_code)]
 mod lister;
+mod packed;
 
 use lister::{Refusal, COUNTS};
 use std::slice;
@@ -53,4 +54,34 @@ pub unsafe extern "C" fn lucarnecress_sheet(
     }
     slice::from_raw_parts_mut(sheet, text.len()).copy_from_slice(text.as_bytes());
     text.len() as u64
+}
+
+#[no_mangle]
+pub extern "C" fn lucarnecress_reading_number(reading: u16) -> u64 {
+    packed::number(reading)
+}
+
+#[no_mangle]
+pub extern "C" fn lucarnecress_reading_of(number: u64) -> u64 {
+    packed::reading_of(number)
+}
+
+#[no_mangle]
+pub extern "C" fn lucarnecress_reading_sum(a: u16, b: u16) -> u64 {
+    packed::sum(a, b)
+}
+
+#[no_mangle]
+pub extern "C" fn lucarnecress_reading_compare(reading: u16, limit: u16) -> u64 {
+    packed::compare(reading, limit)
+}
+
+#[no_mangle]
+pub unsafe extern "C" fn lucarnecress_reading_largest(
+    bytes: *const u8,
+    bytes_len: usize,
+    found: *mut u64,
+    found_len: usize,
+) -> u64 {
+    packed::largest(slice::from_raw_parts(bytes, bytes_len), slice::from_raw_parts_mut(found, found_len))
 }

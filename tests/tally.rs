@@ -17,6 +17,7 @@ pub struct Tally {
     full_lists: u64,
     refused: BTreeMap<u64, u64>,
     families: BTreeMap<&'static str, u64>,
+    readings: BTreeMap<&'static str, u64>,
 }
 
 impl Tally {
@@ -28,6 +29,20 @@ impl Tally {
             Err(difference) => {
                 if self.failed == 0 {
                     print_difference(case, &difference);
+                }
+                self.failed += 1;
+            }
+        }
+    }
+
+    /// Counts a reading, a pair or a run of them; the first difference is printed.
+    pub fn note_reading(&mut self, kind: &'static str, compared: Result<(), String>) {
+        *self.readings.entry(kind).or_default() += 1;
+        match compared {
+            Ok(()) => self.passed += 1,
+            Err(difference) => {
+                if self.failed == 0 {
+                    println!("first difference, readings: {}", difference);
                 }
                 self.failed += 1;
             }
@@ -62,6 +77,7 @@ impl Tally {
             self.settled, self.not_settled, self.positions_refused
         );
         println!("last list against all answer sets of the whole program: {} plans", self.whole_programs);
+        println!("readings: {}", listed(&self.readings));
         println!("{} passed, {} failed", self.passed, self.failed);
     }
 }

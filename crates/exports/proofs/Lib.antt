@@ -1,3 +1,4 @@
 pub mod CopiedCounts
 pub mod Spots
 pub mod HostCodes
+pub mod ReadingCodes

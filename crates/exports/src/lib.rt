@@ -1,4 +1,6 @@
 // The functions that other languages call: a slice passes as a pointer and a length.
+mod readings;
+
 use judge::answer_code;
 use plan::COUNTS;
 use plan::Outcome;

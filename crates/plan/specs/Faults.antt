@@ -74,5 +74,8 @@ CODE_STEP = 2 ^ 16
 abbrev pub WIDEST_SPOT : ℕ
 WIDEST_SPOT = CODE_STEP - 1
 
+abbrev pub codeOf : ℕ → ℕ → ℕ
+codeOf number spot = CODE_STEP * number + min WIDEST_SPOT spot
+
 abbrev pub refusalCode : Fault → ℕ
-refusalCode f = CODE_STEP * number f + min WIDEST_SPOT (spot f)
+refusalCode f = codeOf (number f) (spot f)

@@ -1,6 +1,7 @@
 // The faults for which a plan is refused, each with its number, its spot and its code.
 ghost use mathlib.Core.Path.{_≡_};
-ghost use Rattle.plan.specs.Faults.{number, spot, refusalCode};
+ghost use Prim.Native.Nat.{_<_};
+ghost use Rattle.plan.specs.Faults.{number, spot, CODE_STEP as Faults·CODE_STEP, codeOf, refusalCode};
 
 // A refusal: what is wrong, and its spot (document 01, "Faults, by where they are found"; document 02).
 pub enum Fault {
@@ -77,18 +78,25 @@ pub fn fault_spot(f: Fault) -> usize
 }
 
 // A refusal's code is its number times CODE_STEP and its spot, of which WIDEST_SPOT is the most that fits.
-const CODE_STEP: u64 = 0x10000;
+pub const CODE_STEP: u64 = 0x10000;
 
 const WIDEST_SPOT: usize = 0xffff;
 
-// The refusal as one number.
+// A refusal as one number, from its number and its spot.
+pub fn code_of(number: u64, spot: usize) -> u64
+    requires { ⌜ number < Faults·CODE_STEP ⌝ }
+    ensures { λ r. ⌜ r ≡ codeOf number spot ⌝ }
+{
+    let high = CODE_STEP * number;
+    if WIDEST_SPOT < spot {
+        return high + WIDEST_SPOT as u64;
+    }
+    high + spot as u64
+}
+
+// The refusal of a plan as one number.
 pub fn refusal_code(fault: Fault) -> u64
     ensures { λ r. ⌜ r ≡ refusalCode fault ⌝ }
 {
-    let number = CODE_STEP * fault_number(fault);
-    let spot = fault_spot(fault);
-    if WIDEST_SPOT < spot {
-        return number + WIDEST_SPOT as u64;
-    }
-    number + spot as u64
+    code_of(fault_number(fault), fault_spot(fault))
 }

@@ -3,8 +3,10 @@ mod fault;
 mod limits;
 mod record;
 
+pub use fault::CODE_STEP;
 pub use fault::Fault;
 pub use fault::Outcome;
+pub use fault::code_of;
 pub use fault::fault_number;
 pub use fault::fault_spot;
 pub use fault::refusal_code;

@@ -1,0 +1,112 @@
+-- Readings for hosts: what is asked by a number, the two words of what was found, and that no answer is taken for a refusal.
+use mathlib.Core.Path.{_≡_, refl, ap}
+use mathlib.Core.List.{List, [], _∷_}
+use mathlib.Core.Logic.{_⊎_, inl, inr}
+use Prim.Native.Nat.{ℕ, _+_, _*_, _≤_, _<_, min}
+use native.Mathlib.Omega.{arith}
+use lib.ListN.{length, set}
+use lib.Seq.{take-nil}
+use borrow.Author.Tests.{eq-eqb, ne-eqb}
+use Rattle.plan.specs.Faults.{CODE_STEP, WIDEST_SPOT}
+use Rattle.packed_decimal.specs.Reading.{MODULUS, NOT_MEASURED}
+use Rattle.packed_decimal.specs.Refusals.{refusalNumber, refusalSpot}
+use Rattle.packed_decimal.specs.Answers.{numberOf, readingOf, addedOf}
+use Rattle.packed_decimal.specs.Largest.{READING_BYTES, readings, largestIn}
+use Rattle.packed_decimal.specs.declared.reading.Reading.{Reading}
+use Rattle.packed_decimal.specs.declared.reading.Reading.the-variants.{Measured, NotMeasured}
+use Rattle.packed_decimal.specs.declared.refusal.Refusal.{Refusal}
+use Rattle.packed_decimal.specs.declared.refusal.Refusal.the-variants.{BadReading, LargeNumber}
+use Rattle.packed_decimal.specs.declared.convert.Number.the-variants.{Says}
+use Rattle.packed_decimal.specs.declared.convert.Packed.the-variants.{Word}
+use Rattle.packed_decimal.specs.declared.sum.Sum.{Sum}
+use Rattle.packed_decimal.specs.declared.sum.Added.the-variants.{Is as SumIs}
+use Rattle.packed_decimal.specs.declared.limit.Order.{Order}
+use Rattle.packed_decimal.specs.declared.limit.Order.the-variants.{Below, Equal, Above, NotMeasured as NoOrder}
+use Rattle.packed_decimal.specs.declared.largest.Found.{Found}
+use Rattle.packed_decimal.specs.declared.largest.Found.the-variants.{At, NoneMeasured}
+use Rattle.packed_decimal.specs.declared.largest.Largest.the-variants.{Refused}
+use Rattle.packed_decimal.proofs.Conversion.{said-is, word-fits}
+use Rattle.packed_decimal.proofs.Sums.{added-fits}
+use Rattle.packed_decimal.proofs.LargestMeaning.{refused-within}
+use Rattle.exports.specs.Handed.{copied}
+use Rattle.exports.specs.Readings.{asked, refusedCode, saidCode, sumCode, orderCode, foundCode}
+
+-- ---- what is asked
+
+pub asked-unmeasured : (number : ℕ) → number ≡ NOT_MEASURED → asked number ≡ NotMeasured
+unfolding asked
+asked-unmeasured number e = rw (eq-eqb number NOT_MEASURED e, asked) refl
+
+pub asked-measured : (number : ℕ) → ¬ (number ≡ NOT_MEASURED) → asked number ≡ Measured number
+unfolding asked
+asked-measured number n = rw (ne-eqb number NOT_MEASURED n, asked) refl
+
+-- ---- two words, as far as there is room
+
+module _ (a b : ℕ) where
+  pub no-room : (found : List ℕ) → length found ≡ 0 → found ≡ copied (a ∷ b ∷ []) found
+  unfolding copied
+  no-room [] e = refl
+  no-room (x ∷ found) e = absurd (omega arith)
+
+  pub room-for-one : (found : List ℕ) → ¬ (length found ≡ 0) → length (set found 0 a) ≡ 1 → set found 0 a ≡ copied (a ∷ b ∷ []) found
+  unfolding copied
+  room-for-one [] n e = absurd (n refl)
+  room-for-one (x ∷ []) n e = refl
+  room-for-one (x ∷ y ∷ found) n e = absurd (omega arith)
+
+  pub two-fit : (found : List ℕ) → ¬ (length found ≡ 0) → ¬ (length (set found 0 a) ≡ 1) → 1 < length (set found 0 a)
+  two-fit [] n m = absurd (n refl)
+  two-fit (x ∷ []) n m = absurd (m refl)
+  two-fit (x ∷ y ∷ found) n m = omega arith
+
+  pub room-for-two : (found : List ℕ) → ¬ (length found ≡ 0) → ¬ (length (set found 0 a) ≡ 1)
+      → set (set found 0 a) 1 b ≡ copied (a ∷ b ∷ []) found
+  unfolding copied
+  room-for-two [] n m = absurd (n refl)
+  room-for-two (x ∷ []) n m = absurd (m refl)
+  room-for-two (x ∷ y ∷ found) n m = rw (take-nil {A = ℕ} (length found)) refl
+
+-- ---- refusals and answers
+
+pub number-fits : (r : Refusal) → refusalNumber r < CODE_STEP
+number-fits (BadReading place) = omega arith
+number-fits LargeNumber = omega arith
+
+-- a refusal's code is above every answer of two readings' worth: 20 is above any carry
+refused-above : (r : Refusal) → CODE_STEP * 2 ≤ refusedCode r
+refused-above (BadReading place) = omega arith
+refused-above LargeNumber = omega arith
+
+-- no answer is taken for a refusal
+module _ (r : Refusal) where
+  pub said-no-refusal : (word : ℕ) (said : Reading) → numberOf word ≡ Says said → saidCode said < refusedCode r
+  said-no-refusal word said e = go (said-is word said e)
+    where
+      go : (said ≡ NotMeasured) ⊎ ((x : ℕ) × (x < MODULUS) × (said ≡ Measured x)) → saidCode said < refusedCode r
+      go (inl u) = rw u (omega (arith, refused-above r))
+      go (inr m) = rw (m .2) (omega (arith, m .1, refused-above r))
+
+  pub word-no-refusal : (number word : ℕ) → readingOf (asked number) ≡ Word word → word < refusedCode r
+  word-no-refusal number word e = omega (arith, word-fits (asked number) word e, refused-above r)
+
+  pub sum-no-refusal : (a b : ℕ) (s : Sum) → addedOf a b ≡ SumIs s → sumCode s < refusedCode r
+  sum-no-refusal a b s e = let fits = added-fits a b s e in omega (arith, fits .carry-fits, fits .reading-fits, refused-above r)
+
+  pub order-no-refusal : (order : Order) → orderCode order < refusedCode r
+  order-no-refusal Below = omega (arith, refused-above r)
+  order-no-refusal Equal = omega (arith, refused-above r)
+  order-no-refusal Above = omega (arith, refused-above r)
+  order-no-refusal NoOrder = omega (arith, refused-above r)
+
+  pub found-no-refusal : (what : Found) → foundCode what < refusedCode r
+  found-no-refusal (At word place) = omega (arith, refused-above r)
+  found-no-refusal NoneMeasured = omega (arith, refused-above r)
+
+-- the code has the very spot of a refused run, if the run has no more readings than 16 bits count
+pub code-exact : (bytes : List ℕ) (r : Refusal) → largestIn bytes ≡ Refused r → length bytes ≤ READING_BYTES * CODE_STEP
+    → refusedCode r ≡ CODE_STEP * refusalNumber r + refusalSpot r
+code-exact bytes r e l =
+    let within : refusalSpot r < readings bytes = refused-within bytes r e in
+    let least : min WIDEST_SPOT (refusalSpot r) ≡ refusalSpot r = omega arith in
+    ap (λ (s : ℕ). CODE_STEP * refusalNumber r + s) least

@@ -1,0 +1,24 @@
+-- By the two cases of the answer: its code is the one that the definition gives.
+use mathlib.Core.Path.{sym, ap, _∙_}
+use borrow.Author.Needs.{needs}
+use Rattle.exports.specs.Readings.{numberCode}
+use Rattle.exports.proofs.readings.lucarnecress_reading_number.Statement.{statement}
+use Rattle.exports.proofs.readings.lucarnecress_reading_number.Tie as tie
+
+returns : tie.Need-returns
+returns c = c .said-code .ensures ∙ ap numberCode (sym (c .before .before .said .given .1) ∙ c .before .before .before .before .to-number .ensures)
+
+returns-2 : tie.Need-returns-2
+returns-2 c = c .refused-code .ensures ∙ ap numberCode (sym (c .before .before .refusal .given .1) ∙ c .before .before .before .before .to-number .ensures)
+
+pub lucarnecress-reading-number-spec : {M : Type 1} → statement M
+lucarnecress-reading-number-spec =
+    tie.close
+    (tie.spec
+    (λ c κs. search needs)
+    (λ c. search needs)
+    (λ c κs. search needs)
+    (λ c. search needs)
+    (λ c κs. search needs)
+    returns
+    returns-2)

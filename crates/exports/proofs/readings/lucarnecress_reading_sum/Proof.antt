@@ -1,0 +1,24 @@
+-- By the two cases of the answer: its code is the one that the definition gives.
+use mathlib.Core.Path.{sym, ap, _∙_}
+use borrow.Author.Needs.{needs}
+use Rattle.exports.specs.Readings.{addedCode}
+use Rattle.exports.proofs.readings.lucarnecress_reading_sum.Statement.{statement}
+use Rattle.exports.proofs.readings.lucarnecress_reading_sum.Tie as tie
+
+returns : tie.Need-returns
+returns c = c .sum-code .ensures ∙ ap addedCode (sym (c .before .before .sum .given .1) ∙ c .before .before .before .before .add .ensures)
+
+returns-2 : tie.Need-returns-2
+returns-2 c = c .refused-code .ensures ∙ ap addedCode (sym (c .before .before .refusal .given .1) ∙ c .before .before .before .before .add .ensures)
+
+pub lucarnecress-reading-sum-spec : {M : Type 1} → statement M
+lucarnecress-reading-sum-spec =
+    tie.close
+    (tie.spec
+    (λ c κs. search needs)
+    (λ c. search needs)
+    (λ c κs. search needs)
+    (λ c. search needs)
+    (λ c κs. search needs)
+    returns
+    returns-2)

@@ -1,0 +1,93 @@
+-- What a host is handed back of readings (document 02, S-5): each answer as one number, and its own lent words. A reading is 16 bits, its first
+-- byte the high one; not measured is 65,535. A refusal is its code, with a spot of 65,535 for every place from there on.
+use mathlib.Core.Path.{_≡_}
+use mathlib.Core.Bool.{true, false}
+use mathlib.Core.List.{List, [], _∷_}
+use Prim.Native.Nat.{ℕ, _+_, _*_}
+use lib.Dec.{eqb}
+use Rattle.plan.specs.Faults.{CODE_STEP, codeOf}
+use Rattle.packed_decimal.specs.Reading.{NOT_MEASURED}
+use Rattle.packed_decimal.specs.Refusals.{refusalNumber, refusalSpot}
+use Rattle.packed_decimal.specs.Largest.{largestIn}
+use Rattle.packed_decimal.specs.declared.reading.Reading.{Reading}
+use Rattle.packed_decimal.specs.declared.reading.Reading.the-variants.{Measured, NotMeasured}
+use Rattle.packed_decimal.specs.declared.refusal.Refusal.{Refusal}
+use Rattle.packed_decimal.specs.declared.convert.Number.{Number}
+use Rattle.packed_decimal.specs.declared.convert.Number.the-variants.{Says, Refused as NumberRefused}
+use Rattle.packed_decimal.specs.declared.convert.Packed.{Packed}
+use Rattle.packed_decimal.specs.declared.convert.Packed.the-variants.{Word, Refused as PackedRefused}
+use Rattle.packed_decimal.specs.declared.sum.Sum.{Sum}
+use Rattle.packed_decimal.specs.declared.sum.Added.{Added}
+use Rattle.packed_decimal.specs.declared.sum.Added.the-variants.{Is as SumIs, Refused as SumRefused}
+use Rattle.packed_decimal.specs.declared.limit.Order.{Order}
+use Rattle.packed_decimal.specs.declared.limit.Order.the-variants.{Below, Equal, Above, NotMeasured as NoOrder}
+use Rattle.packed_decimal.specs.declared.limit.Compared.{Compared}
+use Rattle.packed_decimal.specs.declared.limit.Compared.the-variants.{Is as OrderIs, Refused as CompareRefused}
+use Rattle.packed_decimal.specs.declared.largest.Found.{Found}
+use Rattle.packed_decimal.specs.declared.largest.Found.the-variants.{At, NoneMeasured}
+use Rattle.packed_decimal.specs.declared.largest.Largest.{Largest}
+use Rattle.packed_decimal.specs.declared.largest.Largest.the-variants.{Is as FoundIs, Refused as LargestRefused}
+use Rattle.exports.specs.Handed.{copied}
+
+-- a refusal: 65,536 times its number, and its spot
+abbrev pub refusedCode : Refusal → ℕ
+refusedCode r = codeOf (refusalNumber r) (refusalSpot r)
+
+-- what a reading says
+abbrev pub saidCode : Reading → ℕ
+saidCode (Measured x) = x
+saidCode NotMeasured = NOT_MEASURED
+
+abbrev pub numberCode : Number → ℕ
+numberCode (Says said) = saidCode said
+numberCode (NumberRefused r) = refusedCode r
+
+-- what a host asks to be said: 65,535 is not measured
+unfoldable pub asked : ℕ → Reading
+asked number = elim (eqb number NOT_MEASURED) [ true ↦ NotMeasured | false ↦ Measured number ]
+
+abbrev pub readingCode : Packed → ℕ
+readingCode (Word word) = word
+readingCode (PackedRefused r) = refusedCode r
+
+-- a sum: "65,536 times the carry plus the reading"
+abbrev pub sumCode : Sum → ℕ
+sumCode sum = CODE_STEP * sum .carry + sum .reading
+
+abbrev pub addedCode : Added → ℕ
+addedCode (SumIs sum) = sumCode sum
+addedCode (SumRefused r) = refusedCode r
+
+-- a comparison: "0 below, 1 equal, 2 above"
+abbrev pub orderCode : Order → ℕ
+orderCode Below = 0
+orderCode Equal = 1
+orderCode Above = 2
+orderCode NoOrder = NOT_MEASURED
+
+abbrev pub comparedCode : Compared → ℕ
+comparedCode (OrderIs order) = orderCode order
+comparedCode (CompareRefused r) = refusedCode r
+
+-- the largest: "1 with the reading in word 0 and its place in word 1 as far as there is room, 0 if none was measured"
+abbrev pub foundCode : Found → ℕ
+foundCode (At word place) = 1
+foundCode NoneMeasured = 0
+
+abbrev pub foundWords : Found → List ℕ → List ℕ
+foundWords (At word place) found = copied (word ∷ place ∷ []) found
+foundWords NoneMeasured found = found
+
+abbrev pub largestCode : Largest → ℕ
+largestCode (FoundIs what) = foundCode what
+largestCode (LargestRefused r) = refusedCode r
+
+-- "`found` untouched otherwise"
+abbrev pub largestWords : Largest → List ℕ → List ℕ
+largestWords (FoundIs what) found = foundWords what found
+largestWords (LargestRefused r) found = found
+
+-- the largest of a run: the code, and every word of the lent area
+pub record LargestHanded (bytes found found′ : List ℕ) (r : ℕ) : Type 0 where
+  pub code-is : r ≡ largestCode (largestIn bytes)
+  pub found-is : found′ ≡ largestWords (largestIn bytes) found

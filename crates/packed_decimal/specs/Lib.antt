@@ -1,0 +1,6 @@
+pub mod Digits
+pub mod Reading
+pub mod Refusals
+pub mod Answers
+pub mod Largest
+pub mod MeasuredWord

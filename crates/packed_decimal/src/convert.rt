@@ -1,0 +1,45 @@
+// One reading to a whole number, and back.
+use crate::digits::MODULUS;
+use crate::digits::pack;
+use crate::reading::NOT_MEASURED;
+use crate::reading::Reading;
+use crate::reading::is_reading;
+use crate::reading::says;
+use crate::refusal::Refusal;
+ghost use mathlib.Core.Path.{_≡_};
+ghost use Rattle.packed_decimal.specs.Answers.{numberOf, readingOf};
+
+// What a word says as a reading, or its refusal.
+pub enum Number {
+    Says(Reading),
+    Refused(Refusal),
+}
+
+// The word of a reading, or the refusal of a number that none says.
+pub enum Packed {
+    Word(u16),
+    Refused(Refusal),
+}
+
+// The whole number that the reading says, or that nothing was measured.
+pub fn to_number(word: u16) -> Number
+    ensures { λ r. ⌜ r ≡ numberOf word ⌝ }
+{
+    if !is_reading(word) {
+        return Number::Refused(Refusal::BadReading(0));
+    }
+    Number::Says(says(word))
+}
+
+// The reading that says the whole number; not measured stays so.
+pub fn to_reading(number: Reading) -> Packed
+    ensures { λ r. ⌜ r ≡ readingOf number ⌝ }
+{
+    let Reading::Measured(x) = number else {
+        return Packed::Word(NOT_MEASURED);
+    };
+    if MODULUS <= x {
+        return Packed::Refused(Refusal::LargeNumber);
+    }
+    Packed::Word(pack(x))
+}
