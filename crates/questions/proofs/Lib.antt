@@ -1,3 +1,6 @@
 pub mod Counts
 pub mod Held
 pub mod CommonAtoms
+pub mod Walks
+pub mod Questions
+pub mod LentAgain

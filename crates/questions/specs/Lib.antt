@@ -1,3 +1,4 @@
 pub mod Counts
+pub mod Questions
 pub mod Counting
 pub mod Common
