@@ -74,7 +74,7 @@ pub fn fault_spot(f: Fault) -> usize
 }
 
 // A refusal's code is its number times CODE_STEP and its spot, of which WIDEST_SPOT is the most that fits.
-const CODE_STEP: u64 = 0x10000;
+pub const CODE_STEP: u64 = 0x10000;
 
 const WIDEST_SPOT: usize = 0xffff;
 

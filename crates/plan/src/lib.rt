@@ -3,6 +3,7 @@ mod fault;
 mod limits;
 mod record;
 
+pub use fault::CODE_STEP;
 pub use fault::Fault;
 pub use fault::Outcome;
 pub use fault::fault_number;

@@ -4,3 +4,4 @@ pub mod CommonAtoms
 pub mod Walks
 pub mod Questions
 pub mod LentAgain
+pub mod QuestionWords

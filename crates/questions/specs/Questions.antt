@@ -6,6 +6,7 @@ use Prim.Native.Nat.{ℕ, _+_, _*_}
 use lib.ListN.{length}
 use lib.Dec.{ltb}
 use Rattle.atoms.specs.Lists.{padded}
+use Rattle.plan.specs.Faults.{CODE_STEP}
 use Rattle.questions.specs.Counts.{MAX_QUESTIONS, countOf}
 use Rattle.questions.specs.declared.counter.Asked.{Asked}
 use Rattle.questions.specs.declared.question.Question.{Question}
@@ -20,7 +21,20 @@ withCount q count = record { up = q .up; dropped = q .dropped; count = count }
 unfoldable pub counted : List ℕ → Question → Question
 counted list q = withCount q (countOf list (q .up) (q .dropped))
 
--- "Errors: 17, more than 64 questions"
+-- "Errors: 17, more than 64 questions, spot 0": the number and the spot of an answer; 0 is no refusal
+abbrev pub number : Counted → ℕ
+number Filled = 0
+number TooManyQuestions = 17
+
+abbrev pub spot : Counted → ℕ
+spot Filled = 0
+spot TooManyQuestions = 0
+
+-- the answer as one number, a refusal's as that of a plan
+abbrev pub code : Counted → ℕ
+code r = CODE_STEP * number r + spot r
+
+-- more than 64 questions are refused
 unfoldable pub outcome : List Question → Counted
 outcome questions = elim (ltb MAX_QUESTIONS (length questions)) [ true ↦ TooManyQuestions | false ↦ Filled ]
 

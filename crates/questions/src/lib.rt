@@ -2,6 +2,7 @@
 mod common;
 mod counter;
 mod question;
+mod words;
 
 pub use common::Common;
 pub use common::common_atoms;
@@ -11,3 +12,6 @@ pub use counter::counts_of;
 pub use question::Counted;
 pub use question::Question;
 pub use question::count_questions;
+pub use question::counted_code;
+pub use words::QUESTION_WORDS;
+pub use words::count_words;

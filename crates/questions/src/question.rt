@@ -3,11 +3,12 @@
 use crate::counter::Asked;
 use crate::counter::MAX_QUESTIONS;
 use crate::counter::counts_of;
+use plan::CODE_STEP;
 ghost use mathlib.Core.Path.{_≡_};
 ghost use Prim.Native.Nat.{_≤_};
 ghost use lib.ListN.{length};
 ghost use Rattle.questions.specs.Counts.{MAX_QUESTIONS as Counts·MAX_QUESTIONS};
-ghost use Rattle.questions.specs.Questions.{askedOf, withCounts, Answered};
+ghost use Rattle.questions.specs.Questions.{code, askedOf, withCounts, Answered};
 
 // Which positions are asked for: those with every up atom and no dropped one. The count is filled in.
 pub struct Question {
@@ -20,6 +21,19 @@ pub struct Question {
 pub enum Counted {
     Filled,
     TooManyQuestions,
+}
+
+// The number of the refusal, document 02, S-2; its spot is 0.
+const TOO_MANY_QUESTIONS: u64 = 17;
+
+// 0 where the counts are filled in, else the code of the refusal.
+pub fn counted_code(counted: Counted) -> u64
+    ensures { λ r. ⌜ r ≡ code counted ⌝ }
+{
+    match counted {
+        Counted::Filled => 0,
+        Counted::TooManyQuestions => CODE_STEP * TOO_MANY_QUESTIONS,
+    }
 }
 
 // The words of the questions.
