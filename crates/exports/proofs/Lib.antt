@@ -1,1 +1,2 @@
 pub mod CopiedCounts
+pub mod CommonWords

@@ -1,6 +1,6 @@
 -- What a host is handed back: numbers, and its own lent words and bytes.
 use mathlib.Core.Path.{_≡_}
-use mathlib.Core.List.{List, _++_}
+use mathlib.Core.List.{List, [], _∷_, _++_}
 use Prim.Native.Nat.{ℕ, _≤_}
 use lib.ListN.{length, take, drop}
 use Rattle.plan.specs.declared.fault.Outcome.{Outcome}
@@ -8,6 +8,10 @@ use Rattle.plan.specs.declared.fault.Outcome.the-variants.{Accepted, Refused}
 use Rattle.plan.specs.Faults.{refusalCode}
 use Rattle.unit_lists.specs.Answer.{answer}
 use Rattle.sheet.specs.Lent.{answer as written, filled}
+use Rattle.questions.specs.Questions.{outcome, code, answered}
+use Rattle.questions.specs.Words.{questionsIn, inWords, behind}
+use Rattle.questions.specs.Common.{CommonAtoms}
+use Rattle.questions.specs.declared.common.Common.{Common}
 use Rattle.plan_sheet.specs.Sheets.{SHEET_BYTES, writtenBytes, planSheet}
 
 -- the outcome of a listing as one number
@@ -30,3 +34,15 @@ pub record SheetHanded (bytes sheet sheet′ : List ℕ) (r : ℕ) : Type 0 wher
   pub length-is : r ≡ writtenBytes (written (planSheet bytes) sheet)
   pub sheet-is : sheet′ ≡ filled (planSheet bytes) sheet
   pub at-most : length (planSheet bytes) ≤ SHEET_BYTES
+
+-- questions: the answer's code, and every lent word; a rest that is no whole question is as it was
+pub record CountHanded (list words words′ : List ℕ) (r : ℕ) : Type 0 where
+  pub code-is : r ≡ code (outcome (questionsIn words))
+  pub words-are : words′ ≡ inWords (answered list (questionsIn words)) ++ behind words
+
+-- common atoms: the two words, as far as there is room
+pub record CommonHanded (list atoms atoms′ : List ℕ) (r : ℕ) : Type 0 where
+  pub common : Common
+  pub common-is : CommonAtoms list common
+  pub atoms-are : atoms′ ≡ copied (common .all ∷ common .some ∷ []) atoms
+  pub code-is : r ≡ 0
