@@ -1,4 +1,5 @@
 pub mod CopiedCounts
 pub mod Spots
 pub mod HostCodes
+pub mod CommonWords
 pub mod ReadingCodes

@@ -1,7 +1,7 @@
 -- What a host is handed back: numbers, and its own lent words and bytes; and what demands 1 to 3 say of them.
 use mathlib.Core.Path.{_≡_}
 use mathlib.Core.Logic.{_↔_}
-use mathlib.Core.List.{List, _++_}
+use mathlib.Core.List.{List, [], _∷_, _++_}
 use Prim.Native.Nat.{ℕ, _+_, _*_, _≤_}
 use lib.ListN.{length, take, drop, replicate}
 use Rattle.atoms.specs.Word.{below}
@@ -20,6 +20,10 @@ use Rattle.unit_lists.specs.Promised.{Promised}
 use Rattle.unit_lists.specs.declared.listing.Listing.{Listing}
 use Rattle.sheet.specs.Lent.{answer as written, filled}
 use Rattle.plan_sheet.specs.Sheets.{SHEET_BYTES, Says, writtenBytes, planSheet}
+use Rattle.questions.specs.Questions.{outcome, code as countCode, answered}
+use Rattle.questions.specs.Words.{questionsIn, inWords, behind}
+use Rattle.questions.specs.Common.{CommonAtoms}
+use Rattle.questions.specs.declared.common.Common.{Common}
 
 -- the outcome of a listing as one number
 abbrev pub outcomeCode : Outcome → ℕ
@@ -57,3 +61,15 @@ pub record SheetHanded (bytes sheet sheet′ : List ℕ) (r : ℕ) : Type 0 wher
   pub sheet-is : sheet′ ≡ filled (planSheet bytes) sheet
   pub at-most : length (planSheet bytes) ≤ SHEET_BYTES
   pub says : Says bytes (replicate {A = ℕ} TABLE_WORDS 0) (planSheet bytes)
+
+-- questions: the answer's code, and every lent word; a rest that is no whole question is as it was
+pub record CountHanded (list words words′ : List ℕ) (r : ℕ) : Type 0 where
+  pub code-is : r ≡ countCode (outcome (questionsIn words))
+  pub words-are : words′ ≡ inWords (answered list (questionsIn words)) ++ behind words
+
+-- common atoms: the two words, as far as there is room
+pub record CommonHanded (list atoms atoms′ : List ℕ) (r : ℕ) : Type 0 where
+  pub common : Common
+  pub common-is : CommonAtoms list common
+  pub atoms-are : atoms′ ≡ copied (common .all ∷ common .some ∷ []) atoms
+  pub code-is : r ≡ 0

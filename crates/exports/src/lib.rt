@@ -8,9 +8,12 @@ use plan::TABLE_WORDS;
 use plan::refusal_code;
 use plan_sheet::write_plan_sheet;
 use plan_sheet::written_bytes;
+use questions::common_atoms;
+use questions::count_words;
+use questions::counted_code;
 use unit_lists::list_positions;
 ghost use mathlib.Core.Path.{_≡_};
-ghost use Rattle.exports.specs.Handed.{outcomeCode, copied, ListHanded, JudgeHanded, SheetHanded};
+ghost use Rattle.exports.specs.Handed.{outcomeCode, copied, ListHanded, JudgeHanded, SheetHanded, CountHanded, CommonHanded};
 
 // 0 for a plan that is listed, and 65536 times the number plus the spot for a refusal.
 fn outcome_code(outcome: Outcome) -> u64
@@ -60,4 +63,32 @@ pub extern "C" fn lucarnecress_sheet(plan: &[u8], sheet: &mut [u8]) -> u64
 {
     let mut table = [0u64; TABLE_WORDS];
     written_bytes(write_plan_sheet(plan, &mut table, sheet)) as u64
+}
+
+// How many listed positions fit each question, three words to a question: up, dropped, count. 0, or the code of the refusal.
+#[no_mangle]
+pub extern "C" fn lucarnecress_count(list: &[u64], questions: &mut [u64]) -> u64
+    ensures { λ r. ⌜ CountHanded (now (list .entry)) (now (questions .entry)) (now (questions .exit)) r ⌝ }
+{
+    counted_code(count_words(list, questions))
+}
+
+// The atoms up in all listed positions, and those up in some, as far as there is room. 0.
+#[no_mangle]
+pub extern "C" fn lucarnecress_common(list: &[u64], atoms: &mut [u64]) -> u64
+    ensures { λ r. ⌜ CommonHanded (now (list .entry)) (now (atoms .entry)) (now (atoms .exit)) r ⌝ }
+{
+    let found = common_atoms(list);
+    let all = found.all;
+    let some = found.some;
+    let room = atoms.len();
+    if room == 0 {
+        return 0;
+    }
+    atoms[0] = all;
+    if room == 1 {
+        return 0;
+    }
+    atoms[1] = some;
+    0
 }

@@ -1,0 +1,103 @@
+-- The laws of counts: what the test says, and how a count grows along the list.
+use mathlib.Core.Path.{_≡_, refl, sym, ap, ap₂, _∙_, subst}
+use mathlib.Core.Bool.{Bool, true, false, _&&_}
+use mathlib.Core.Logic.{_⊎_, inl, inr}
+use mathlib.Core.List.{List, [], _∷_, _++_}
+use Prim.Native.Nat.{ℕ, zero, suc, _+_, _≤_, _<_}
+use native.Mathlib.Omega.{arith}
+use lib.Dec.{eqb}
+use mir.Val.{boolByte}
+use lib.ListN.{length, getD, take, length-append}
+use lib.Seq.{take-suc}
+use Rattle.atoms.specs.Word.{Has, _∩_, _∪_, _∖_}
+use Rattle.atoms.specs.Bounded.{Decides}
+use Rattle.atoms.specs.Rising.{members}
+use Rattle.atoms.proofs.Sets.{decides-subset, decides-apart, has-dec, has-left, has-right, has-none, empty}
+use Rattle.atoms.proofs.Sets.{has-without, without-left, without-right, has-cut, cut-left, cut-right, union-cases}
+use Rattle.atoms.proofs.Tests.{decides-and, decides-iff, decides-same, decides-equal, decided-false}
+use Rattle.questions.specs.Counts.{Fits, fits, one, countOf}
+
+-- ---- one position
+
+pub decides-fits : (up dropped position : ℕ) → Decides (Fits up dropped position) (fits up dropped position)
+unfolding fits
+decides-fits up dropped position =
+    decides-iff (λ h. record { every-up = h .0; none-dropped = h .1 }) (λ f. (f .every-up, f .none-dropped))
+    (decides-and (decides-subset up position) (decides-apart dropped position))
+
+-- the atoms in the way: up atoms that the position lacks, and dropped ones that it has
+fits-of-none : (up dropped position : ℕ) → (up ∖ position) ∪ (dropped ∩ position) ≡ 0 → Fits up dropped position
+fits-of-none up dropped position e =
+    record {
+      every-up = record { each = λ i h. present i h (has-dec position i) };
+      none-dropped = record { none = λ i d p. clear i (has-right (up ∖ position) (dropped ∩ position) (has-cut dropped position d p)) };
+    }
+  where
+    clear : (i : ℕ) → ¬ Has ((up ∖ position) ∪ (dropped ∩ position)) i
+    clear i h = has-none (subst (λ (w : ℕ). Has w i) e h)
+
+    present : (i : ℕ) → Has up i → Dec (Has position i) → Has position i
+    present i h (yes p) = p
+    present i h (no n) = absurd (clear i (has-left (up ∖ position) (dropped ∩ position) (has-without up position h n)))
+
+none-of-fits : (up dropped position : ℕ) → Fits up dropped position → (up ∖ position) ∪ (dropped ∩ position) ≡ 0
+none-of-fits up dropped position f = empty ((up ∖ position) ∪ (dropped ∩ position)) (λ i h. clear i (union-cases (up ∖ position) (dropped ∩ position) h))
+  where
+    clear : (i : ℕ) → Has (up ∖ position) i ⊎ Has (dropped ∩ position) i → ⊥
+    clear i (inl h) = without-right up position h (f .every-up .each i (without-left up position h))
+    clear i (inr h) = f .none-dropped .none i (cut-left dropped position h) (cut-right dropped position h)
+
+pub fits-test : (up dropped position : ℕ) → eqb ((up ∖ position) ∪ (dropped ∩ position)) 0 ≡ fits up dropped position
+fits-test up dropped position =
+    decides-same (decides-equal ((up ∖ position) ∪ (dropped ∩ position)) 0) (decides-fits up dropped position) (fits-of-none up dropped position)
+    (none-of-fits up dropped position)
+
+-- ---- along the list
+
+pub count-append : (xs ys : List ℕ) (up dropped : ℕ) → countOf (xs ++ ys) up dropped ≡ countOf xs up dropped + countOf ys up dropped
+unfolding countOf
+count-append [] ys up dropped = omega arith
+count-append (x ∷ xs) ys up dropped = let e = count-append xs ys up dropped in omega arith
+
+-- a Bool that is cast to a number
+pub byte-is-one : (b : Bool) → boolByte b ≡ one b
+byte-is-one true = refl
+byte-is-one false = refl
+
+pub one-le : (b : Bool) → one b ≤ 1
+one-le true = omega arith
+one-le false = omega arith
+
+pub count-le : (list : List ℕ) (up dropped : ℕ) → countOf list up dropped ≤ length list
+unfolding countOf
+count-le [] up dropped = omega arith
+count-le (x ∷ xs) up dropped = let l = count-le xs up dropped in omega (arith, one-le (fits up dropped x))
+
+pub count-more : (list : List ℕ) (at up dropped : ℕ) → at < length list
+    → countOf (take (suc at) list) up dropped ≡ countOf (take at list) up dropped + one (fits up dropped (getD list at 0))
+unfolding countOf
+count-more list at up dropped l =
+    ap (λ (xs : List ℕ). countOf xs up dropped) (take-suc list at 0 l)
+    ∙ count-append (take at list) (getD list at 0 ∷ []) up dropped
+    ∙ omega arith
+
+-- "contradictory questions count 0"
+pub contradictory-count : (list : List ℕ) (up dropped atom : ℕ) → Has up atom → Has dropped atom → countOf list up dropped ≡ 0
+unfolding countOf
+contradictory-count [] up dropped atom u d = refl
+contradictory-count (x ∷ xs) up dropped atom u d =
+    ap₂ _+_ (ap one (decided-false (decides-fits up dropped x) (λ f. f .none-dropped .none atom d (f .every-up .each atom u))))
+    (contradictory-count xs up dropped atom u d)
+
+-- the count is the number of places whose position fits
+pub count-places : (list : List ℕ) (up dropped n : ℕ) → n ≤ length list
+    → countOf (take n list) up dropped ≡ length (members (λ at. fits up dropped (getD list at 0)) n)
+unfolding countOf members
+count-places list up dropped zero l = refl
+count-places list up dropped (suc n) l =
+    count-more list n up dropped l ∙ ap (λ (k : ℕ). k + one (fits up dropped (getD list n 0))) (count-places list up dropped n (omega arith))
+    ∙ one-more (members (λ at. fits up dropped (getD list at 0)) n) n (fits up dropped (getD list n 0))
+  where
+    one-more : (xs : List ℕ) (n : ℕ) (b : Bool) → length xs + one b ≡ length (xs ++ elim b [ true ↦ n ∷ [] | false ↦ [] ])
+    one-more xs n true = sym (length-append xs (n ∷ []))
+    one-more xs n false = sym (length-append xs [])
