@@ -9,9 +9,10 @@ type Commands = Vec<Vec<u8>>;
 
 /// A small valid plan to spoil.
 fn sound_draft(random: &mut Random) -> Draft {
-    match random.below(4) {
+    match random.below(5) {
         0 => valid_plans::gadgets(random),
         1 => valid_plans::diamond(random),
+        2 => valid_plans::given_atoms(random),
         _ => valid_plans::layered(random),
     }
 }
@@ -40,6 +41,18 @@ fn break_graph(random: &mut Random, draft: &mut Draft) {
         10..=12 => repeat_rule(draft, rule, unit),
         _ => split_constraint(random, draft),
     }
+}
+
+/// A given atom in one or more heads, while other conditions may be broken too.
+pub fn given_in_heads(random: &mut Random) -> Vec<u8> {
+    let mut draft = sound_draft(random);
+    for _ in 0..random.pick(&[0, 0, 1, 2]) {
+        break_graph(random, &mut draft);
+    }
+    let heads = draft.head_atoms();
+    let most = random.pick(&[1, 1, 2, 12]);
+    draft.given = Some(draft.given.unwrap_or(0) | random.atoms_of(heads, most));
+    draft.bytes()
 }
 
 fn drop_edges(random: &mut Random, draft: &mut Draft) {
@@ -109,8 +122,9 @@ pub fn any_edges(random: &mut Random) -> Vec<u8> {
 
 // ---- Reading faults --------------------------------------------------------------------------
 
-/// The places of the first UNIT, the first EDGE and END among the commands.
+/// The places of the first RULE, the first UNIT, the first EDGE and END among the commands.
 struct Groups {
+    rules: usize,
     units: usize,
     edges: usize,
     end: usize,
@@ -118,9 +132,10 @@ struct Groups {
 
 impl Groups {
     fn of(draft: &Draft) -> Groups {
-        let units = draft.rules.len();
+        let rules = usize::from(draft.given.is_some());
+        let units = rules + draft.rules.len();
         let edges = units + draft.units.len();
-        Groups { units, edges, end: edges + draft.edges.len() }
+        Groups { rules, units, edges, end: edges + draft.edges.len() }
     }
 }
 
@@ -159,7 +174,7 @@ fn break_reading(random: &mut Random, draft: &Draft, groups: &Groups, commands: 
     let any_word = random.word() >> random.below(64);
     let (first, last, command) = match random.below(16) {
         0 => (0, groups.end, vec![random.byte()]),
-        1 => (0, groups.units, encode::rule(0, 0, 0)),
+        1 => (groups.rules, groups.units, encode::rule(0, 0, 0)),
         2 => (groups.units, groups.edges, encode::unit(any_word)),
         3 => (groups.units, groups.edges, encode::unit(1u64.checked_shl(rules as u32).unwrap_or(0))),
         4 => (groups.edges, groups.end, encode::edge(edge.0, edge.1)),
@@ -170,9 +185,9 @@ fn break_reading(random: &mut Random, draft: &Draft, groups: &Groups, commands: 
         9 => (groups.edges, groups.end, encode::unit(0)),
         10 => (0, groups.end, commands[random.below(commands.len())].clone()),
         11 => (0, groups.units, encode::rule(any_word, any_word, any_word)),
-        12 => (0, groups.end, encode::given(0)),
-        13 => (1, groups.end, encode::given(any_word)),
-        14 => (0, 0, [encode::given(0), encode::given(any_word)].concat()),
+        12 => (0, groups.end, encode::given(any_word)),
+        13 => (0, groups.rules, encode::given(any_word)),
+        14 => (groups.rules, groups.units, encode::given(any_word)),
         _ => (groups.end + 1, groups.end + 1, vec![random.pick(&[0, 1, 2, 3, 4, 9]); random.between(1, 30)]),
     };
     let place = random.between(first, last).min(commands.len());
@@ -202,23 +217,24 @@ pub fn any_commands(random: &mut Random) -> Vec<u8> {
 fn any_command(random: &mut Random) -> Vec<u8> {
     let mut small = || random.word() & random.word() & 7;
     let (head, positive, negative) = (small(), small(), small());
-    match random.below(42) {
+    match random.below(40) {
         0..=19 => encode::rule(head, positive, negative),
         20..=29 => encode::unit(head),
-        30..=37 => encode::edge(random.byte() % 4, random.byte() % 4),
+        30..=35 => encode::edge(random.byte() % 4, random.byte() % 4),
+        36 | 37 => encode::given(head << 2),
         38 => encode::end(),
-        39 | 40 => encode::given(0),
         _ => vec![random.byte()],
     }
 }
 
 /// A full plan with one command more, faulty in other ways as well, and perhaps cut short.
 pub fn one_too_many(random: &mut Random) -> Vec<u8> {
-    let draft = full_draft(random.pick(&[60, 64]), 16, 240);
+    let mut draft = full_draft(random.pick(&[60, 64]), 16, 240);
+    draft.given = random.pick(&[None, Some(0), Some(4)]);
     let groups = Groups::of(&draft);
     let mut commands = draft.commands();
     let any = random.word();
-    let (first, last, command) = match random.below(8) {
+    let (first, last, command) = match random.below(9) {
         0 => (groups.units, groups.units, encode::rule(1, 2, 4)),
         1 => (groups.units, groups.units, encode::rule(0, 0, 0)),
         2 => (groups.units + 1, groups.end, encode::rule(1, 0, any % 2)),
@@ -226,6 +242,7 @@ pub fn one_too_many(random: &mut Random) -> Vec<u8> {
         4 => (groups.edges, groups.edges, encode::unit(0)),
         5 => (groups.edges + 1, groups.end, encode::unit(any)),
         6 => (groups.end, groups.end, encode::edge(any as u8 % 18, any as u8 / 18)),
+        7 => (0, groups.end, encode::given(any)),
         _ => (groups.end, groups.end, vec![any as u8]),
     };
     let place = random.between(first, last);

@@ -51,22 +51,28 @@ with_mistake "any satisfying set of one atom is taken" \
 with_mistake "the subset test uses all rules instead of the kept ones" \
     'rules.iter().filter(is_kept).copied()' 'rules.iter().copied()'
 with_mistake "atoms in no head are not looked at" \
-    'Ok(is_subset(position, head_atoms(&plan.rules)) && is_answer_set(&plan.rules, 0, position))' \
-    'Ok(is_answer_set(&plan.rules, 0, position & head_atoms(&plan.rules)))'
+    'Ok(is_subset(position, head_atoms(&plan.rules) | given) && is_answer_set(&plan.rules, given, position))' \
+    'Ok(is_answer_set(&plan.rules, given, position & (head_atoms(&plan.rules) | given)))'
+with_mistake "a given atom in no head is not settled" \
+    'is_subset(position, head_atoms(&plan.rules) | given)' 'is_subset(position, head_atoms(&plan.rules))'
+with_mistake "given atoms are no facts of a judged position" \
+    'is_answer_set(&plan.rules, given, position))' 'is_answer_set(&plan.rules, 0, position))'
 with_mistake "a single position is refused for its graph" \
-    'let plan = read(bytes)?;
-    Ok(' 'let plan = read(bytes)?;
+    'let given = plan.given_atoms();
+    Ok(' 'let given = plan.given_atoms();
     check_graph(&plan)?;
     Ok('
 
 # Reading
 with_mistake "row 5 after row 2" \
     'if plan.has_all(kind) {' 'if plan.has_all(kind) && offset + kind.operand_bytes() < bytes.len() {'
-with_mistake "row 5 before row 4" 'if kind < group {' 'if kind < group && !plan.has_all(kind) {'
+with_mistake "row 5 before row 4" 'if kind < group ||' 'if kind < group && !plan.has_all(kind) ||'
 with_mistake "row 2 before row 4" \
-    'if kind < group {' 'if kind < group && offset + kind.operand_bytes() < bytes.len() {'
-with_mistake "a second GIVEN is taken" 'if self == Kind::Given { Kind::Rule } else { self }' 'self'
-with_mistake "a late GIVEN is taken" 'if kind < group {' 'if kind < group && kind != Kind::Given {'
+    'if kind < group ||' 'if kind < group && offset + kind.operand_bytes() < bytes.len() ||'
+with_mistake "a second GIVEN replaces the first" '|| kind == Kind::Given && plan.given.is_some()' ''
+with_mistake "a second GIVEN cut short is 2" \
+    'plan.given.is_some() {' 'plan.given.is_some() && offset + 8 < bytes.len() {'
+with_mistake "GIVEN after a RULE is taken" 'if kind < group ||' 'if kind < group && kind != Kind::Given ||'
 with_mistake "bytes after END are not seen" 'refuse(9, next)' 'Ok(plan)'
 with_mistake "a repeated edge is taken" '|| self.edges.contains(&(u, v))' ''
 with_mistake "a zero rule is taken" 'return Some(6);' ''
@@ -74,6 +80,13 @@ with_mistake "unit bits above the rules are taken" '(self.rules.len()..64)' '(se
 with_mistake "words are read highest byte first" 'bytes.iter().rev().fold' 'bytes.iter().fold'
 
 # Graph
+with_mistake "16 is looked at after 10" \
+    'refuse_lowest(16, rules, |r| plan.rules[r].head & plan.given_atoms() != 0)?;
+    refuse_lowest(10, rules, |r| plan.units_of(r).is_empty())?;' \
+    'refuse_lowest(10, rules, |r| plan.units_of(r).is_empty())?;
+    refuse_lowest(16, rules, |r| plan.rules[r].head & plan.given_atoms() != 0)?;'
+with_mistake "16 for a given atom in a body" \
+    'plan.rules[r].head & plan.given_atoms()' '(plan.rules[r].head | plan.rules[r].positive) & plan.given_atoms()'
 with_mistake "(a) is looked at after (b)" \
     'refuse_lowest(10, rules, |r| plan.units_of(r).is_empty())?;
     refuse_lowest(11, rules, |r| plan.rules[r].head != 0 && plan.units_of(r).len() != 1)?;' \
@@ -93,6 +106,10 @@ with_mistake "a path stands for an edge" \
 with_mistake "equal rules do not depend on each other" 's != r && depends' 'self.rules[s] != self.rules[r] && depends'
 
 # Unit work
+with_mistake "given atoms are in no first input" \
+    'inputs(given, predecessors).iter()' 'inputs(if predecessors.is_empty() { 0 } else { given }, predecessors).iter()'
+with_mistake "given atoms are not in H of a unit without predecessors" \
+    'let own = self.given_atoms() |' 'let own = if self.predecessors(unit).is_empty() { 0 } else { self.given_atoms() } |'
 with_mistake "short predecessor lists are joined freely" \
     'member & met == input & predecessor.atoms' 'member & met == input & predecessor.atoms || met.count_ones() < 5'
 with_mistake "mere copies of the lists below" \
@@ -100,10 +117,10 @@ with_mistake "mere copies of the lists below" \
     'flat_map(|&input| if predecessors.is_empty() { answer_sets(rules, input) } else { vec![input] })'
 with_mistake "15 for a list of 256" 'list.len() > LIST_WORDS' 'list.len() >= LIST_WORDS'
 with_mistake "15 for many inputs" \
-    'if list.len() > LIST_WORDS {' 'if list.len() > LIST_WORDS || inputs(predecessors).len() > LIST_WORDS {'
+    'if list.len() > LIST_WORDS {' 'if list.len() > LIST_WORDS || inputs(given, predecessors).len() > LIST_WORDS {'
 with_mistake "the highest unit is worked first" \
     '(0..count).find(|&unit| is_ready' '(0..count).rev().find(|&unit| is_ready'
-with_mistake "15 at the last list names unit 16" 'unit_list(&[], &every_unit, count)' 'unit_list(&[], &every_unit, MAX_UNITS)'
+with_mistake "15 at the last list names unit 16" '&[], &every_unit, count)' '&[], &every_unit, MAX_UNITS)'
 
 # Table and sheet
 with_mistake "a count one too high" 'counts[place] = list.len() as u64;' 'counts[place] = list.len() as u64 + 1;'
@@ -114,7 +131,8 @@ with_mistake "words behind the table are cleared" \
             let last'
 with_mistake "15 leaves the table as it was" \
     'Err(refusal) if refusal.number == 15 => table[..TABLE_WORDS].fill(0),' ''
-with_mistake "14 clears the table" 'if refusal.number == 15' 'if refusal.number >= 14'
+with_mistake "14 clears the table" 'if refusal.number == 15' 'if refusal.number == 14 || refusal.number == 15'
+with_mistake "16 clears the table" 'if refusal.number == 15' 'if refusal.number >= 15'
 with_mistake "a short table is noticed after reading" \
     'if table_words < TABLE_WORDS {
         return' 'if read(bytes).is_ok() && table_words < TABLE_WORDS {

@@ -106,7 +106,7 @@ fn check_lister(bytes: &[u8], outcome: &Outcome, tally: &mut Tally) -> Result<()
     let plan = lister::read(bytes).unwrap_or_default();
     if let (Ok(listing), true) = (outcome, is_small(&plan)) {
         tally.whole_programs += 1;
-        same("last list by units and by the whole program", &lister::answer_sets(&plan.rules, 0), &listing.last)?;
+        same("last list by units and by the whole program", &lister::answer_sets(&plan.rules, plan.given_atoms()), &listing.last)?;
         same("inputs by definition", true, lister::inputs_are_by_definition(&plan, listing))?;
     }
     Ok(())

@@ -1,4 +1,4 @@
-//! A plan being drawn: rules, units and edges that can still be changed.
+//! A plan being drawn: given atoms, rules, units and edges that can still be changed.
 
 use crate::encode;
 use crate::random::Random;
@@ -8,6 +8,8 @@ pub type Words = [u64; 3];
 
 #[derive(Clone, Default)]
 pub struct Draft {
+    /// The word of GIVEN, if the plan has one.
+    pub given: Option<u64>,
     pub rules: Vec<Words>,
     /// One word for each unit, bit i for rule i.
     pub units: Vec<u64>,
@@ -54,6 +56,11 @@ impl Draft {
             .fold(0, |atoms, rule| atoms | self.rules[rule][0])
     }
 
+    /// Head atoms of all rules.
+    pub fn head_atoms(&self) -> u64 {
+        self.rules.iter().fold(0, |atoms, words| atoms | words[0])
+    }
+
     /// Adds an edge from a unit to each other unit that heads one of these atoms.
     pub fn add_edges_to_atoms(&mut self, unit: usize, atoms: u64) {
         for other in 0..self.units.len() {
@@ -78,7 +85,8 @@ impl Draft {
         let atoms = random.permutation(64);
         let rules = random.permutation(self.rules.len());
         let units = random.permutation(self.units.len());
-        let mut draft = Draft { rules: self.rules.clone(), units: self.units.clone(), edges: Vec::new() };
+        let given = self.given.map(|word| moved_bits(word, &atoms));
+        let mut draft = Draft { given, rules: self.rules.clone(), units: self.units.clone(), edges: Vec::new() };
         for (rule, words) in self.rules.iter().enumerate() {
             draft.rules[rules[rule]] = words.map(|word| moved_bits(word, &atoms));
         }
@@ -92,10 +100,11 @@ impl Draft {
 
     /// The commands in their order, END included.
     pub fn commands(&self) -> Vec<Vec<u8>> {
+        let given = self.given.iter().map(|&atoms| encode::given(atoms));
         let rules = self.rules.iter().map(|&[head, positive, negative]| encode::rule(head, positive, negative));
         let units = self.units.iter().map(|&unit| encode::unit(unit));
         let edges = self.edges.iter().map(|&(u, v)| encode::edge(u as u8, v as u8));
-        rules.chain(units).chain(edges).chain(std::iter::once(encode::end())).collect()
+        given.chain(rules).chain(units).chain(edges).chain(std::iter::once(encode::end())).collect()
     }
 
     pub fn bytes(&self) -> Vec<u8> {

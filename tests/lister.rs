@@ -1,6 +1,6 @@
 //! A brute-force lister of settled positions.
 //!
-//! Written from document 01 and from Definition 2 of document 004 alone, apart from the proved
+//! Written from documents 01 and 02 and from Definition 2 of document 004 alone, apart from the proved
 //! library. Simple and obviously right comes before fast: every set is tried, every subset of it is
 //! tried, and nothing is searched cleverly.
 
@@ -113,8 +113,8 @@ pub fn answer_sets(rules: &[Rule], facts: u64) -> Vec<u64> {
 
 #[derive(Clone, Debug, Default)]
 pub struct Plan {
-    /// The atoms of GIVEN, none without it.
-    pub given: u64,
+    /// The word of GIVEN, if there is one.
+    pub given: Option<u64>,
     pub rules: Vec<Rule>,
     /// One word for each unit, bit i for rule i.
     pub units: Vec<u64>,
@@ -147,15 +147,10 @@ impl Kind {
     fn operand_bytes(self) -> usize {
         match self {
             Kind::Rule => 24,
-            Kind::Unit | Kind::Given => 8,
+            Kind::Given | Kind::Unit => 8,
             Kind::Edge => 2,
             Kind::End => 0,
         }
-    }
-
-    /// The first kind that may come behind it: GIVEN stands once, a group goes on.
-    fn next(self) -> Kind {
-        if self == Kind::Given { Kind::Rule } else { self }
     }
 }
 
@@ -170,7 +165,7 @@ pub fn read(bytes: &[u8]) -> Result<Plan, Refusal> {
             Some(kind) => kind,
             None => return refuse(3, offset),
         };
-        if kind < group {
+        if kind < group || kind == Kind::Given && plan.given.is_some() {
             return refuse(4, offset);
         }
         if plan.has_all(kind) {
@@ -186,14 +181,19 @@ pub fn read(bytes: &[u8]) -> Result<Plan, Refusal> {
         if kind == Kind::End {
             return if next < bytes.len() { refuse(9, next) } else { Ok(plan) };
         }
-        group = kind.next();
+        group = kind;
         offset = next;
     }
     refuse(2, bytes.len())
 }
 
 impl Plan {
-    /// Is the most of this kind already there? A 241st EDGE is a fault by itself (row 8).
+    /// The given atoms: facts of the whole program.
+    pub fn given_atoms(&self) -> u64 {
+        self.given.unwrap_or(0)
+    }
+
+    /// Is the most of this kind already there? A second GIVEN is out of order (row 4), and a 241st EDGE is a fault by itself (row 8).
     fn has_all(&self, kind: Kind) -> bool {
         match kind {
             Kind::Rule => self.rules.len() == MAX_RULES,
@@ -214,7 +214,7 @@ impl Plan {
     }
 
     fn take_given(&mut self, operands: &[u8]) -> Option<u64> {
-        self.given = word(operands);
+        self.given = Some(word(operands));
         None
     }
 
@@ -258,9 +258,10 @@ fn word(bytes: &[u8]) -> u64 {
 
 // ---- Graph ----------------------------------------------------------------------------------
 
-/// Conditions (a), (b), acyclic, (c), (d), each over the whole plan before the next is tried.
+/// No given atom in a head, then conditions (a), (b), acyclic, (c), (d), each over the whole plan before the next is tried.
 pub fn check_graph(plan: &Plan) -> Result<(), Refusal> {
     let rules = plan.rules.len();
+    refuse_lowest(16, rules, |r| plan.rules[r].head & plan.given_atoms() != 0)?;
     refuse_lowest(10, rules, |r| plan.units_of(r).is_empty())?;
     refuse_lowest(11, rules, |r| plan.rules[r].head != 0 && plan.units_of(r).len() != 1)?;
     refuse_lowest(12, plan.units.len(), |u| plan.reached(u).contains(&u))?;
@@ -327,9 +328,9 @@ impl Plan {
         (0..self.rules.len()).filter(|&rule| self.holds(unit, rule)).map(|rule| self.rules[rule]).collect()
     }
 
-    /// H(u): the head atoms of a unit and of all units it reaches.
+    /// H(u): the head atoms of a unit and of all units it reaches, and the given atoms.
     fn all_head_atoms(&self, unit: usize) -> u64 {
-        let own = head_atoms(&self.unit_rules(unit));
+        let own = self.given_atoms() | head_atoms(&self.unit_rules(unit));
         self.reached(unit).iter().fold(own, |atoms, &other| atoms | head_atoms(&self.unit_rules(other)))
     }
 }
@@ -359,18 +360,18 @@ pub fn work_units(plan: &Plan) -> Result<Listing, Refusal> {
     };
     while let Some(unit) = (0..count).find(|&unit| is_ready(&done, unit)) {
         let predecessors: Vec<&Done> = plan.predecessors(unit).iter().flat_map(|&v| &done[v]).collect();
-        let list = unit_list(&plan.unit_rules(unit), &predecessors, unit)?;
+        let list = unit_list(plan.given_atoms(), &plan.unit_rules(unit), &predecessors, unit)?;
         done[unit] = Some(Done { atoms: plan.all_head_atoms(unit), list });
     }
     // The last list is that of one more unit, with no rules and an edge to every unit.
     let every_unit: Vec<&Done> = done.iter().flatten().collect();
-    let last = unit_list(&[], &every_unit, count)?;
+    let last = unit_list(plan.given_atoms(), &[], &every_unit, count)?;
     Ok(Listing { units: done.into_iter().flatten().map(|unit| unit.list).collect(), last })
 }
 
 /// The rising list of a unit by its rules and its predecessors' lists, refused above 256 members.
-fn unit_list(rules: &[Rule], predecessors: &[&Done], unit: usize) -> Result<Vec<u64>, Refusal> {
-    let mut list: Vec<u64> = inputs(predecessors).iter().flat_map(|&input| answer_sets(rules, input)).collect();
+fn unit_list(given: u64, rules: &[Rule], predecessors: &[&Done], unit: usize) -> Result<Vec<u64>, Refusal> {
+    let mut list: Vec<u64> = inputs(given, predecessors).iter().flat_map(|&input| answer_sets(rules, input)).collect();
     list.sort_unstable();
     list.dedup();
     if list.len() > LIST_WORDS {
@@ -379,12 +380,12 @@ fn unit_list(rules: &[Rule], predecessors: &[&Done], unit: usize) -> Result<Vec<
     Ok(list)
 }
 
-/// Every J over the predecessors' atoms whose cut to each predecessor's atoms is in its list.
-fn inputs(predecessors: &[&Done]) -> Vec<u64> {
+/// Every J over the predecessors' atoms that has the given atoms and whose cut to each predecessor's atoms is in its list.
+fn inputs(given: u64, predecessors: &[&Done]) -> Vec<u64> {
     // Built up one predecessor at a time: `joined` holds every such J for the predecessors met so
     // far, and a list member goes with it where both say the same on the atoms that both speak of.
-    let mut joined = vec![0];
-    let mut met = 0;
+    let mut joined = vec![given];
+    let mut met = given;
     for predecessor in predecessors {
         joined = joined.iter().flat_map(|&input| agreeing(input, met, predecessor)).collect();
         met |= predecessor.atoms;
@@ -399,10 +400,11 @@ fn agreeing(input: u64, met: u64, predecessor: &Done) -> Vec<u64> {
 }
 
 /// The definition of an input, word for word; too slow for anything but a check of `inputs`.
-fn inputs_by_trying_all(predecessors: &[&Done]) -> Vec<u64> {
+fn inputs_by_trying_all(given: u64, predecessors: &[&Done]) -> Vec<u64> {
     let atoms = predecessors.iter().fold(0, |atoms, predecessor| atoms | predecessor.atoms);
     let is_input = |input: u64| predecessors.iter().all(|v| v.list.contains(&(input & v.atoms)));
-    subsets(atoms).filter(|&input| is_input(input)).collect()
+    // An input has all given atoms, so only such sets are tried.
+    subsets(atoms & !given).map(|chosen| chosen | given).filter(|&input| is_input(input)).collect()
 }
 
 /// Do the joined inputs of every unit, the last included, equal the definition's?
@@ -411,9 +413,9 @@ pub fn inputs_are_by_definition(plan: &Plan, listing: &Listing) -> bool {
     let same = |units: &[usize]| {
         let lists: Vec<Done> = units.iter().map(|&unit| done(unit)).collect();
         let lent: Vec<&Done> = lists.iter().collect();
-        let mut joined = inputs(&lent);
+        let mut joined = inputs(plan.given_atoms(), &lent);
         joined.sort_unstable();
-        joined == inputs_by_trying_all(&lent)
+        joined == inputs_by_trying_all(plan.given_atoms(), &lent)
     };
     let every_unit: Vec<usize> = (0..plan.units.len()).collect();
     same(&every_unit) && every_unit.iter().all(|&unit| same(&plan.predecessors(unit)))
@@ -449,10 +451,11 @@ pub fn fill_table(outcome: &Result<Listing, Refusal>, table: &mut [u64]) -> [u64
     counts
 }
 
-/// Is the position an answer set of the whole program? Only the reading place can refuse.
+/// Is the position an answer set of the whole program with the given atoms as facts? Only the reading place can refuse.
 pub fn judge(bytes: &[u8], position: u64) -> Result<bool, Refusal> {
     let plan = read(bytes)?;
-    Ok(is_subset(position, head_atoms(&plan.rules)) && is_answer_set(&plan.rules, 0, position))
+    let given = plan.given_atoms();
+    Ok(is_subset(position, head_atoms(&plan.rules) | given) && is_answer_set(&plan.rules, given, position))
 }
 
 /// The sheet of an outcome, as `settle` prints it.

@@ -25,10 +25,11 @@ pub fn compare(case: &Case, outcome: &Outcome, random: &mut Random, tally: &mut 
 
 /// Positions near to and far from settled ones.
 fn chosen(plan: &Plan, outcome: &Outcome, random: &mut Random) -> Vec<u64> {
-    let heads = lister::head_atoms(&plan.rules);
+    let heads = lister::head_atoms(&plan.rules) | plan.given_atoms();
     let mut positions = vec![0, heads, random.word(), heads | random.atoms_of(!heads, 1)];
     (0..2).for_each(|_| positions.push(random.word() & heads));
     (0..2).for_each(|_| positions.push(random.atoms_of(heads, 4)));
+    positions.extend([plan.given_atoms(), plan.given_atoms() | random.atoms_of(heads, 4)]);
     let settled = settled_positions(plan, outcome);
     if !settled.is_empty() {
         for _ in 0..3 {
@@ -43,15 +44,17 @@ fn chosen(plan: &Plan, outcome: &Outcome, random: &mut Random) -> Vec<u64> {
 fn settled_positions(plan: &Plan, outcome: &Outcome) -> Vec<u64> {
     match outcome {
         Ok(listing) => listing.last.clone(),
-        Err(_) if is_small(plan) => lister::answer_sets(&plan.rules, 0),
+        Err(_) if is_small(plan) => lister::answer_sets(&plan.rules, plan.given_atoms()),
         Err(_) => Vec::new(),
     }
 }
 
 /// The lister's answer; none where it would have to try too many subsets.
 fn expected(case: &Case, plan: &Plan, outcome: &Outcome, position: u64) -> Option<Result<bool, Refusal>> {
-    let has_stray_atom = position & !lister::head_atoms(&plan.rules) != 0;
-    if has_stray_atom || position.count_ones() <= FEW_UP {
+    let given = plan.given_atoms();
+    let has_stray_atom = position & !(lister::head_atoms(&plan.rules) | given) != 0;
+    // Subsets that lack a given atom are not tried.
+    if has_stray_atom || (position & !given).count_ones() <= FEW_UP {
         return Some(lister::judge(&case.plan, position));
     }
     // The last list of an accepted plan is that of all answer sets.

@@ -44,6 +44,8 @@ samples!(
     "circuit-12-nine-units",
     "clingo-default-misses-one",
     "clingo-default-misses-ten",
+    "given-in-heads",
+    "given-keys",
     "inner-list-wider",
     "plan-p",
     "plan-p-without-edge",

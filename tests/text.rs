@@ -1,6 +1,6 @@
 //! Plans as readable text, one command per line, and back.
 //!
-//!     given 0 3                    (atom numbers)
+//!     given 5 6                    (atoms)
 //!     rule head=0,1 pos=2 neg=3    (each part may be left out)
 //!     unit 0 1                     (rule numbers)
 //!     edge 1 0

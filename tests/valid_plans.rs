@@ -212,6 +212,54 @@ pub fn empty_units(random: &mut Random) -> Draft {
     draft.renumbered(random)
 }
 
+// ---- Given atoms -----------------------------------------------------------------------------
+
+/// A plan of another shape with keys in some bodies, of which some are given; a given atom may also stand nowhere.
+pub fn given_atoms(random: &mut Random) -> Draft {
+    let mut draft = match random.below(6) {
+        0 => diamond(random),
+        1 => shared_constraint(random),
+        2 => empty_units(random),
+        3 => gadgets(random),
+        _ => layered(random),
+    };
+    turn_keys(random, &mut draft);
+    draft
+}
+
+/// The same with many atoms in heads.
+pub fn given_among_many(random: &mut Random) -> Draft {
+    let mut draft = match random.below(3) {
+        0 => near_limit(random),
+        1 => pairs_in_units(random),
+        _ => tall(random),
+    };
+    turn_keys(random, &mut draft);
+    draft
+}
+
+/// Puts keys, atoms that no head has, into some bodies and gives some of them.
+fn turn_keys(random: &mut Random, draft: &mut Draft) {
+    let free = !draft.head_atoms();
+    let most_keys = random.pick(&[1, 2, 4, 8]);
+    let keys = random.atoms_of(free, most_keys);
+    for words in draft.rules.iter_mut() {
+        if random.chance(20) {
+            words[1] |= random.atoms_of(keys, 1);
+        }
+        if random.chance(10) {
+            words[2] |= random.atoms_of(keys, 1);
+        }
+    }
+    let given = match random.below(8) {
+        0 => 0,
+        1 => keys | random.atoms_of(free, 60),
+        2 => random.atoms_of(free, 2),
+        _ => random.word() & keys | random.atoms_of(keys, 1),
+    };
+    draft.given = Some(given);
+}
+
 // ---- Long lists ------------------------------------------------------------------------------
 
 /// A choice of one of two relays, as a disjunction or as an even loop.

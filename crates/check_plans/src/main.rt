@@ -26,6 +26,8 @@ fn show_sheets() {
     show(b"circuit-12-nine-units.plan");
     show(b"clingo-default-misses-one.plan");
     show(b"clingo-default-misses-ten.plan");
+    show(b"given-in-heads.plan");
+    show(b"given-keys.plan");
     show(b"inner-list-wider.plan");
     show(b"plan-p.plan");
     show(b"plan-p-without-edge.plan");

@@ -105,7 +105,16 @@ fn list_unit(
     let heads = head_atoms.heads;
     let within = heads[u];
     let unit = unit_at(plan, head_atoms, u);
-    list_one(&plan.rules, &heads, unit, plan.given, within, u, table, counts)
+    list_one(
+        &plan.rules,
+        &heads,
+        unit,
+        plan.given,
+        within,
+        u,
+        table,
+        counts,
+    )
 }
 
 // Lists the units, lowest number first among those whose predecessors are done.
