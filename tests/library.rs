@@ -17,6 +17,8 @@ extern "C" {
     ) -> u64;
     fn lucarnecress_judge(plan: *const u8, plan_len: usize, position: u64) -> u64;
     fn lucarnecress_sheet(plan: *const u8, plan_len: usize, sheet: *mut u8, sheet_len: usize) -> u64;
+    fn lucarnecress_count(list: *const u64, list_len: usize, questions: *mut u64, questions_len: usize) -> u64;
+    fn lucarnecress_common(list: *const u64, list_len: usize, atoms: *mut u64, atoms_len: usize) -> u64;
 }
 
 /// Lists a plan into the lent table and counts; 0 or the code of a refusal.
@@ -45,4 +47,14 @@ pub fn sheet(plan: &[u8]) -> Result<Vec<u8>, u64> {
 /// Writes the sheet into a lent buffer; its length, or 0 if the buffer is too short.
 pub fn write_sheet(plan: &[u8], buffer: &mut [u8]) -> u64 {
     unsafe { lucarnecress_sheet(plan.as_ptr(), plan.len(), buffer.as_mut_ptr(), buffer.len()) }
+}
+
+/// Fills in the counts of the questions; 0 or the code of a refusal.
+pub fn count(list: &[u64], questions: &mut [u64]) -> u64 {
+    unsafe { lucarnecress_count(list.as_ptr(), list.len(), questions.as_mut_ptr(), questions.len()) }
+}
+
+/// Writes the atoms up in all positions and those up in some, as far as there is room.
+pub fn common(list: &[u64], atoms: &mut [u64]) -> u64 {
+    unsafe { lucarnecress_common(list.as_ptr(), list.len(), atoms.as_mut_ptr(), atoms.len()) }
 }

@@ -12,6 +12,7 @@ folder=${EXPORTS_DIR:-target/staticlib}
 if [ "$folder" = stand-in ]; then
     folder=target/tests/stand_in
     build_stand_in tests/stand_in.rs "$folder/libexports.a" staticlib
+    export LIBRARY_BY_FORCE=1 # a sample that is too large for the lister is not asked of it
 fi
 if [ -z "${EXPORTS_DIR:-}" ] && command -v rt >/dev/null; then
     rt staticlib exports # what stands below it and is proved already is not proved again
