@@ -16,6 +16,17 @@ need_rustc() {
     exit 2
 }
 
+# Makes sure that there is a C compiler; on a Debian machine without one, root installs it.
+need_cc() {
+    command -v cc >/dev/null && return
+    if [ "$(id -u)" = 0 ] && command -v apt-get >/dev/null; then
+        { apt-get update && apt-get install -y gcc libc6-dev; } >&2
+    fi
+    command -v cc >/dev/null && return
+    echo "cc is missing: install a C compiler, on Debian as root with: apt-get update && apt-get install -y gcc libc6-dev" >&2
+    exit 2
+}
+
 # build_program SOURCE OUTPUT [OPTIONS]: one program by rustc alone; no other package is needed.
 build_program() {
     local source="$1" output="$2"

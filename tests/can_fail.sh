@@ -139,5 +139,21 @@ with_mistake "a short table is noticed after reading" \
         return'
 with_mistake "upper-case digits" '{:016x}' '{:016X}'
 
+# Questions
+with_mistake "a repeat is counted once" \
+    'list.iter().filter(|&&position| fits' \
+    'list.iter().collect::<std::collections::BTreeSet<_>>().into_iter().filter(|&&position| fits'
+with_mistake "an atom in both words of a question is ignored" \
+    'fits(question[0], question[1], position)' 'fits(question[0] & !question[1], question[1] & !question[0], position)'
+with_mistake "the count is added to what the caller left there" 'question[2] = list' 'question[2] += list'
+with_mistake "64 questions are refused" 'QUESTION_WORDS > MAX_QUESTIONS' 'QUESTION_WORDS >= MAX_QUESTIONS'
+with_mistake "a rest of words makes a question too many" \
+    'questions.len() / QUESTION_WORDS > MAX_QUESTIONS' 'questions.len() > QUESTION_WORDS * MAX_QUESTIONS'
+with_mistake "some counts are filled in before a refusal" 'return refuse(17, 0);' 'questions[2] = 0;
+        return refuse(17, 0);'
+with_mistake "a dropped atom may be up" '!has(dropped, atom) ||' '!has(dropped, atom) || has(up, 63) ||'
+with_mistake "all and some are exchanged for an empty list" '[all, some]' 'if list.is_empty() { [some, all] } else { [all, some] }'
+with_mistake "the first position is left out of what all have" 'list.iter().all(' 'list.iter().skip(1).all('
+
 echo "$tried faulty copies, $unnoticed not noticed"
 [ "$unnoticed" = 0 ]

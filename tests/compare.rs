@@ -10,6 +10,7 @@ mod library;
 mod lister;
 mod packed;
 mod positions;
+mod questions;
 mod random;
 mod readings;
 mod samples;
@@ -75,7 +76,8 @@ fn compare(case: &Case, random: &mut Random, tally: &mut Tally) -> Result<(), St
     compare_table(case, &outcome, tally)?;
     compare_sheet(&case.plan, &lister::sheet(&outcome))?;
     check_lister(&case.plan, &outcome, tally)?;
-    positions::compare(case, &outcome, random, tally)
+    positions::compare(case, &outcome, random, tally)?;
+    questions::compare(&outcome, random, tally)
 }
 
 /// Result, table and counts, with a lent table that holds a pattern before.

@@ -22,6 +22,8 @@ extern "C" {
     fn lucarnecress_reading_sum(a: u16, b: u16) -> u64;
     fn lucarnecress_reading_compare(reading: u16, limit: u16) -> u64;
     fn lucarnecress_reading_largest(bytes: *const u8, bytes_len: usize, found: *mut u64, found_len: usize) -> u64;
+    fn lucarnecress_count(list: *const u64, list_len: usize, questions: *mut u64, questions_len: usize) -> u64;
+    fn lucarnecress_common(list: *const u64, list_len: usize, atoms: *mut u64, atoms_len: usize) -> u64;
 }
 
 /// Lists a plan into the lent table and counts; 0 or the code of a refusal.
@@ -75,4 +77,14 @@ pub fn reading_compare(reading: u16, limit: u16) -> u64 {
 /// 1 with reading and place in the lent words, 0 if none is measured, or the code of a refusal.
 pub fn reading_largest(bytes: &[u8], found: &mut [u64]) -> u64 {
     unsafe { lucarnecress_reading_largest(bytes.as_ptr(), bytes.len(), found.as_mut_ptr(), found.len()) }
+}
+
+/// Fills in the counts of the questions; 0 or the code of a refusal.
+pub fn count(list: &[u64], questions: &mut [u64]) -> u64 {
+    unsafe { lucarnecress_count(list.as_ptr(), list.len(), questions.as_mut_ptr(), questions.len()) }
+}
+
+/// Writes the atoms up in all positions and those up in some, as far as there is room.
+pub fn common(list: &[u64], atoms: &mut [u64]) -> u64 {
+    unsafe { lucarnecress_common(list.as_ptr(), list.len(), atoms.as_mut_ptr(), atoms.len()) }
 }

@@ -10,6 +10,8 @@ pub const LIST_WORDS: usize = 256;
 pub const LAST_LIST_START: usize = MAX_UNITS * LIST_WORDS;
 pub const TABLE_WORDS: usize = LAST_LIST_START + LIST_WORDS;
 pub const COUNTS: usize = MAX_UNITS + 1;
+pub const MAX_QUESTIONS: usize = 64;
+pub const QUESTION_WORDS: usize = 3;
 
 /// What a refused plan gets: the number of the fault and its spot.
 #[derive(Clone, Copy, Debug, PartialEq, Eq)]
@@ -467,4 +469,29 @@ pub fn sheet(outcome: &Result<Listing, Refusal>) -> String {
         }
         Err(refusal) => format!("refused {} at {}\n", refusal.number, refusal.spot),
     }
+}
+
+// ---- Questions over a list: document 02, S-2 ------------------------------------------------
+
+/// Fills in the count of each question, three words to a question: up, dropped, count.
+pub fn count(list: &[u64], questions: &mut [u64]) -> Result<(), Refusal> {
+    if questions.len() / QUESTION_WORDS > MAX_QUESTIONS {
+        return refuse(17, 0);
+    }
+    for question in questions.chunks_exact_mut(QUESTION_WORDS) {
+        question[2] = list.iter().filter(|&&position| fits(question[0], question[1], position)).count() as u64;
+    }
+    Ok(())
+}
+
+fn fits(up: u64, dropped: u64, position: u64) -> bool {
+    (0..64).all(|atom| !has(up, atom) || has(position, atom)) && (0..64).all(|atom| !has(dropped, atom) || !has(position, atom))
+}
+
+/// The atoms up in all positions, and those up in some.
+pub fn common(list: &[u64]) -> [u64; 2] {
+    let atoms = |wanted: &dyn Fn(usize) -> bool| (0..64).filter(|&atom| wanted(atom)).fold(0, |word, atom| word | 1 << atom);
+    let all = atoms(&|atom| list.iter().all(|&position| has(position, atom)));
+    let some = atoms(&|atom| list.iter().any(|&position| has(position, atom)));
+    [all, some]
 }

@@ -85,3 +85,27 @@ pub unsafe extern "C" fn lucarnecress_reading_largest(
 ) -> u64 {
     packed::largest(slice::from_raw_parts(bytes, bytes_len), slice::from_raw_parts_mut(found, found_len))
 }
+
+#[no_mangle]
+pub unsafe extern "C" fn lucarnecress_count(
+    list: *const u64,
+    list_len: usize,
+    questions: *mut u64,
+    questions_len: usize,
+) -> u64 {
+    let questions = slice::from_raw_parts_mut(questions, questions_len);
+    lister::count(slice::from_raw_parts(list, list_len), questions).map_or_else(Refusal::code, |_| 0)
+}
+
+#[no_mangle]
+pub unsafe extern "C" fn lucarnecress_common(
+    list: *const u64,
+    list_len: usize,
+    atoms: *mut u64,
+    atoms_len: usize,
+) -> u64 {
+    let found = lister::common(slice::from_raw_parts(list, list_len));
+    let room = atoms_len.min(found.len());
+    slice::from_raw_parts_mut(atoms, room).copy_from_slice(&found[..room]);
+    0
+}

@@ -13,6 +13,8 @@ pub struct Tally {
     settled: u64,
     not_settled: u64,
     positions_refused: u64,
+    questions: u64,
+    questions_refused: u64,
     accepted: u64,
     full_lists: u64,
     refused: BTreeMap<u64, u64>,
@@ -67,6 +69,13 @@ impl Tally {
         }
     }
 
+    pub fn note_questions(&mut self, count: usize, answer: &Result<(), Refusal>) {
+        match answer {
+            Ok(()) => self.questions += count as u64,
+            Err(_) => self.questions_refused += 1,
+        }
+    }
+
     pub fn print(&self, seed: u64) {
         println!("plans of seed {}: {}", seed, listed(&self.families));
         println!("accepted: {}, of these with 256 positions: {}", self.accepted, self.full_lists);
@@ -76,6 +85,7 @@ impl Tally {
             "single positions: {} settled, {} not settled, {} refused",
             self.settled, self.not_settled, self.positions_refused
         );
+        println!("questions over lists: {} counted, {} times too many", self.questions, self.questions_refused);
         println!("last list against all answer sets of the whole program: {} plans", self.whole_programs);
         println!("readings: {}", listed(&self.readings));
         println!("{} passed, {} failed", self.passed, self.failed);

@@ -1,0 +1,93 @@
+/* Lucarnecress: the functions of target/staticlib/libexports.a, which `rt staticlib exports` builds.
+ *
+ * A lent area passes as a pointer and then its length in elements. The pointer is never NULL, the area has as many elements as its
+ * length says, and no two areas of a call overlap. No area needs a least length: what a short one gets is said at each function.
+ * Words have 64 bits; a position is a word in which bit i is atom i. No function keeps a pointer or has a state of its own. */
+#ifndef LUCARNECRESS_H
+#define LUCARNECRESS_H
+
+#include <stddef.h>
+#include <stdint.h>
+
+#ifdef __cplusplus
+extern "C" {
+#endif
+
+/* ---- refusals ---------------------------------------------------------------------------------------------------------------- */
+
+/* The code of a refusal is its number times LUCARNECRESS_CODE_STEP plus its spot. */
+#define LUCARNECRESS_CODE_STEP 65536u
+#define LUCARNECRESS_NUMBER(code) ((code) / LUCARNECRESS_CODE_STEP)
+#define LUCARNECRESS_SPOT(code) ((code) % LUCARNECRESS_CODE_STEP)
+
+enum {
+    LUCARNECRESS_TABLE_SHORT = 1,
+    LUCARNECRESS_TRUNCATED = 2,
+    LUCARNECRESS_UNKNOWN_COMMAND = 3,
+    LUCARNECRESS_OUT_OF_ORDER = 4,
+    LUCARNECRESS_TOO_MANY = 5,
+    LUCARNECRESS_EMPTY_RULE = 6,
+    LUCARNECRESS_ABSENT_RULE = 7,
+    LUCARNECRESS_BAD_EDGE = 8,
+    LUCARNECRESS_TRAILING_BYTES = 9,
+    LUCARNECRESS_RULE_IN_NO_UNIT = 10,
+    LUCARNECRESS_HEADED_RULE_IN_SEVERAL = 11,
+    LUCARNECRESS_CYCLE = 12,
+    LUCARNECRESS_NONMONOTONIC_UNSEEN = 13,
+    LUCARNECRESS_MONOTONIC_UNSEEN = 14,
+    LUCARNECRESS_LONG_LIST = 15,
+    LUCARNECRESS_TOO_MANY_QUESTIONS = 17
+};
+
+/* ---- lists ------------------------------------------------------------------------------------------------------------------- */
+
+#define LUCARNECRESS_UNITS 16u         /* the most units of a plan */
+#define LUCARNECRESS_LIST_WORDS 256u   /* words of a list in the table, and the most positions of one */
+#define LUCARNECRESS_LAST_LIST 4096u   /* the word of the table where the last list starts; that of unit i starts at 256 * i */
+#define LUCARNECRESS_TABLE_WORDS 4352u /* the least length of a table */
+#define LUCARNECRESS_COUNTS 17u        /* a count for each unit, then that of the last list */
+#define LUCARNECRESS_LAST_COUNT 16u    /* where the count of the last list stands */
+
+/* Lists a plan. The lists go into the table, rising, with zeros behind each; the counts say how many positions each has. Counts are
+ * written as far as there is room. Gives 0, or the code of the refusal: then all counts are 0, and the table is as it was, or for
+ * LUCARNECRESS_LONG_LIST its first LUCARNECRESS_TABLE_WORDS words are 0. */
+uint64_t lucarnecress_list(const uint8_t *plan, size_t plan_length, uint64_t *table, size_t table_length, uint64_t *counts,
+                           size_t counts_length);
+
+/* ---- single positions -------------------------------------------------------------------------------------------------------- */
+
+#define LUCARNECRESS_NOT_SETTLED 0u
+#define LUCARNECRESS_SETTLED 1u
+
+/* Judges one position: LUCARNECRESS_SETTLED, LUCARNECRESS_NOT_SETTLED, or the code of a refusal in reading. */
+uint64_t lucarnecress_judge(const uint8_t *plan, size_t plan_length, uint64_t position);
+
+/* ---- sheets ------------------------------------------------------------------------------------------------------------------ */
+
+#define LUCARNECRESS_SHEET_BYTES 4366u /* no sheet is longer */
+
+/* Writes the plan's sheet. Gives its length in bytes, or 0 where the area is too short; then nothing is written. */
+uint64_t lucarnecress_sheet(const uint8_t *plan, size_t plan_length, uint8_t *sheet, size_t sheet_length);
+
+/* ---- questions over a list --------------------------------------------------------------------------------------------------- */
+
+#define LUCARNECRESS_MAX_QUESTIONS 64u  /* the most questions of a call */
+#define LUCARNECRESS_QUESTION_WORDS 3u  /* words of a question: */
+#define LUCARNECRESS_QUESTION_UP 0u     /* the atoms that are up, */
+#define LUCARNECRESS_QUESTION_DROPPED 1u /* those that are dropped, */
+#define LUCARNECRESS_QUESTION_COUNT 2u  /* and the count, which is filled in */
+
+/* Counts for each question the places of the list whose position has every up atom and no dropped one. There are as many questions as
+ * the words have room for; up to two words behind the last are left alone. Gives 0, or the code of LUCARNECRESS_TOO_MANY_QUESTIONS with
+ * nothing filled in. */
+uint64_t lucarnecress_count(const uint64_t *list, size_t list_length, uint64_t *questions, size_t questions_length);
+
+/* Writes the atoms up in all listed positions to atoms[0] and those up in some to atoms[1], as far as there is room. For an empty list
+ * these are all 64 and none. Gives 0. */
+uint64_t lucarnecress_common(const uint64_t *list, size_t list_length, uint64_t *atoms, size_t atoms_length);
+
+#ifdef __cplusplus
+}
+#endif
+
+#endif

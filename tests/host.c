@@ -1,0 +1,148 @@
+/* A host in C: calls every function of include/lucarnecress.h and checks what it gives. A new function gets a check here and a row in
+ * `checks`; tests/host.sh sees that none is left out. The last line is 'N passed, M failed'. */
+#include <inttypes.h>
+#include <stdio.h>
+#include <string.h>
+
+#include "lucarnecress.h"
+
+static unsigned passed, failed;
+
+/* Counts one comparison; a difference is printed. */
+static void same(const char *what, uint64_t expected, uint64_t actual)
+{
+    if (expected == actual) {
+        passed++;
+        return;
+    }
+    failed++;
+    printf("differs: %s: expected %" PRIu64 ", got %" PRIu64 "\n", what, expected, actual);
+}
+
+static uint64_t refusal(uint64_t number, uint64_t spot)
+{
+    return number * LUCARNECRESS_CODE_STEP + spot;
+}
+
+/* Plan P: head {0, 1}; head {2}, positive {0}; a unit for each; the second depends on the first. */
+static const uint8_t plan_p[] = {
+    0x01, 0x03, 0, 0, 0, 0, 0, 0, 0, 0, 0, 0, 0, 0, 0, 0, 0, 0, 0, 0, 0, 0, 0, 0, 0, /* RULE */
+    0x01, 0x04, 0, 0, 0, 0, 0, 0, 0, 1, 0, 0, 0, 0, 0, 0, 0, 0, 0, 0, 0, 0, 0, 0, 0, /* RULE */
+    0x02, 0x01, 0, 0, 0, 0, 0, 0, 0,                                                 /* UNIT */
+    0x02, 0x02, 0, 0, 0, 0, 0, 0, 0,                                                 /* UNIT */
+    0x03, 1, 0,                                                                      /* EDGE */
+    0x00                                                                             /* END */
+};
+
+/* Where the EDGE of plan P stands, and END in a plan without it. */
+#define EDGE_OFFSET 68u
+#define UNSEEN_LENGTH 69u
+
+static const uint64_t settled[] = {0x2, 0x5};
+
+/* Plan P without its EDGE: refused 14 at 1. */
+static const uint8_t *unseen_plan(void)
+{
+    static uint8_t plan[UNSEEN_LENGTH];
+    memcpy(plan, plan_p, EDGE_OFFSET);
+    plan[EDGE_OFFSET] = 0x00;
+    return plan;
+}
+
+static void check_list(void)
+{
+    static uint64_t table[LUCARNECRESS_TABLE_WORDS + 1];
+    uint64_t counts[LUCARNECRESS_COUNTS];
+    memset(table, 0xa5, sizeof table);
+    same("list, one word short", refusal(LUCARNECRESS_TABLE_SHORT, LUCARNECRESS_TABLE_WORDS - 1),
+         lucarnecress_list(plan_p, sizeof plan_p, table, LUCARNECRESS_TABLE_WORDS - 1, counts, LUCARNECRESS_COUNTS));
+    same("list, refused count", 0, counts[LUCARNECRESS_LAST_COUNT]);
+    same("list, refused table", 0xa5a5a5a5a5a5a5a5u, table[0]);
+    same("list", 0, lucarnecress_list(plan_p, sizeof plan_p, table, LUCARNECRESS_TABLE_WORDS + 1, counts, LUCARNECRESS_COUNTS));
+    same("list, last count", 2, counts[LUCARNECRESS_LAST_COUNT]);
+    same("list, count of unit 0", 2, counts[0]);
+    same("list, count of unit 15", 0, counts[LUCARNECRESS_UNITS - 1]);
+    same("list, first position", settled[0], table[LUCARNECRESS_LAST_LIST]);
+    same("list, second position", settled[1], table[LUCARNECRESS_LAST_LIST + 1]);
+    same("list, zeros behind", 0, table[LUCARNECRESS_LAST_LIST + LUCARNECRESS_LIST_WORDS - 1]);
+    same("list, behind the table", 0xa5a5a5a5a5a5a5a5u, table[LUCARNECRESS_TABLE_WORDS]);
+    same("list, unseen rule", refusal(LUCARNECRESS_MONOTONIC_UNSEEN, 1),
+         lucarnecress_list(unseen_plan(), UNSEEN_LENGTH, table, LUCARNECRESS_TABLE_WORDS, counts, LUCARNECRESS_COUNTS));
+}
+
+static void check_judge(void)
+{
+    same("judge, settled", LUCARNECRESS_SETTLED, lucarnecress_judge(plan_p, sizeof plan_p, settled[1]));
+    same("judge, not settled", LUCARNECRESS_NOT_SETTLED, lucarnecress_judge(plan_p, sizeof plan_p, 0x7));
+    same("judge, no graph", LUCARNECRESS_SETTLED, lucarnecress_judge(unseen_plan(), UNSEEN_LENGTH, settled[1]));
+    same("judge, no bytes", refusal(LUCARNECRESS_TRUNCATED, 0), lucarnecress_judge(plan_p, 0, 0));
+}
+
+static void check_sheet(void)
+{
+    static const char sheet_p[] = "positions 2\n0000000000000002\n0000000000000005\n";
+    static const char sheet_unseen[] = "refused 14 at 1\n";
+    uint8_t sheet[LUCARNECRESS_SHEET_BYTES];
+    same("sheet, length", sizeof sheet_p - 1, lucarnecress_sheet(plan_p, sizeof plan_p, sheet, sizeof sheet));
+    same("sheet, bytes", 0, (uint64_t)(memcmp(sheet, sheet_p, sizeof sheet_p - 1) != 0));
+    same("sheet, no room", 0, lucarnecress_sheet(plan_p, sizeof plan_p, sheet, sizeof sheet_p - 2));
+    same("sheet, refused", sizeof sheet_unseen - 1, lucarnecress_sheet(unseen_plan(), UNSEEN_LENGTH, sheet, sizeof sheet));
+    same("sheet, refused bytes", 0, (uint64_t)(memcmp(sheet, sheet_unseen, sizeof sheet_unseen - 1) != 0));
+}
+
+static void check_count(void)
+{
+    /* A list with a repeat; the last word is no whole question. */
+    static const uint64_t list[] = {0x5, 0x2, 0x5, 0x0};
+    uint64_t questions[] = {0x4, 0x2, 99, 0x0, 0x0, 99, 0x1, 0x1, 99, 77};
+    uint64_t many[LUCARNECRESS_QUESTION_WORDS * (LUCARNECRESS_MAX_QUESTIONS + 1)];
+    size_t most = LUCARNECRESS_QUESTION_WORDS * LUCARNECRESS_MAX_QUESTIONS;
+    same("count", 0, lucarnecress_count(list, 4, questions, 10));
+    same("count, a repeat at each place", 2, questions[LUCARNECRESS_QUESTION_COUNT]);
+    same("count, nothing asked", 4, questions[LUCARNECRESS_QUESTION_WORDS + LUCARNECRESS_QUESTION_COUNT]);
+    same("count, contradictory", 0, questions[2 * LUCARNECRESS_QUESTION_WORDS + LUCARNECRESS_QUESTION_COUNT]);
+    same("count, up word", 0x4, questions[LUCARNECRESS_QUESTION_UP]);
+    same("count, dropped word", 0x2, questions[LUCARNECRESS_QUESTION_DROPPED]);
+    same("count, behind the last question", 77, questions[9]);
+    memset(many, 0, sizeof many);
+    same("count, 64 questions", 0, lucarnecress_count(list, 4, many, most));
+    same("count, the 64th", 4, many[most - 1]);
+    many[most - 1] = 99;
+    same("count, 65 questions", refusal(LUCARNECRESS_TOO_MANY_QUESTIONS, 0),
+         lucarnecress_count(list, 4, many, most + LUCARNECRESS_QUESTION_WORDS));
+    same("count, nothing filled in", 99, many[most - 1]);
+}
+
+static void check_common(void)
+{
+    static const uint64_t list[] = {0x5, 0x7, 0xd};
+    uint64_t atoms[] = {99, 99, 99};
+    same("common", 0, lucarnecress_common(list, 3, atoms, 3));
+    same("common, in all", 0x5, atoms[0]);
+    same("common, in some", 0xf, atoms[1]);
+    same("common, behind", 99, atoms[2]);
+    same("common, empty list", 0, lucarnecress_common(list, 0, atoms, 2));
+    same("common, all 64", UINT64_MAX, atoms[0]);
+    same("common, none", 0, atoms[1]);
+    atoms[1] = 99;
+    same("common, room for one", 0, lucarnecress_common(list, 3, atoms, 1));
+    same("common, room for one: the second word", 99, atoms[1]);
+}
+
+/* Refusals, as a host takes them apart. */
+static void check_codes(void)
+{
+    uint64_t code = refusal(LUCARNECRESS_LONG_LIST, 9);
+    same("number of a code", LUCARNECRESS_LONG_LIST, LUCARNECRESS_NUMBER(code));
+    same("spot of a code", 9, LUCARNECRESS_SPOT(code));
+}
+
+static void (*const checks[])(void) = {check_list, check_judge, check_sheet, check_count, check_common, check_codes};
+
+int main(void)
+{
+    for (size_t i = 0; i < sizeof checks / sizeof checks[0]; i++)
+        checks[i]();
+    printf("%u passed, %u failed\n", passed, failed);
+    return failed != 0;
+}
