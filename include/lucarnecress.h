@@ -15,7 +15,7 @@ extern "C" {
 
 /* ---- refusals ---------------------------------------------------------------------------------------------------------------- */
 
-/* The code of a refusal is its number times LUCARNECRESS_CODE_STEP plus its spot. */
+/* The code of a refusal is its number times LUCARNECRESS_CODE_STEP plus its spot, or plus 65,535 where a run of readings has a greater spot. */
 #define LUCARNECRESS_CODE_STEP 65536u
 #define LUCARNECRESS_NUMBER(code) ((code) / LUCARNECRESS_CODE_STEP)
 #define LUCARNECRESS_SPOT(code) ((code) % LUCARNECRESS_CODE_STEP)
@@ -36,7 +36,9 @@ enum {
     LUCARNECRESS_NONMONOTONIC_UNSEEN = 13,
     LUCARNECRESS_MONOTONIC_UNSEEN = 14,
     LUCARNECRESS_LONG_LIST = 15,
-    LUCARNECRESS_TOO_MANY_QUESTIONS = 17
+    LUCARNECRESS_GIVEN_IN_HEAD = 16,
+    LUCARNECRESS_TOO_MANY_QUESTIONS = 17,
+    LUCARNECRESS_BAD_READING = 20
 };
 
 /* ---- lists ------------------------------------------------------------------------------------------------------------------- */
@@ -85,6 +87,32 @@ uint64_t lucarnecress_count(const uint64_t *list, size_t list_length, uint64_t *
 /* Writes the atoms up in all listed positions to atoms[0] and those up in some to atoms[1], as far as there is room. For an empty list
  * these are all 64 and none. Gives 0. */
 uint64_t lucarnecress_common(const uint64_t *list, size_t list_length, uint64_t *atoms, size_t atoms_length);
+
+/* ---- drop-away readings in packed decimal ------------------------------------------------------------------------------------ */
+
+/* A reading is four decimal digits, four bits each, highest first: 0x1234 is 1234 tenths of a millisecond. */
+#define LUCARNECRESS_NOT_MEASURED 65535u /* 0xffff, the one reading whose digits may be above 9 */
+#define LUCARNECRESS_BELOW 0u
+#define LUCARNECRESS_EQUAL 1u
+#define LUCARNECRESS_ABOVE 2u
+
+/* The whole number of a reading; LUCARNECRESS_NOT_MEASURED stays so. A digit above 9 is LUCARNECRESS_BAD_READING at 0. */
+uint64_t lucarnecress_reading_number(uint16_t reading);
+
+/* The reading of a whole number; LUCARNECRESS_NOT_MEASURED stays so. Any other number above 9999 is LUCARNECRESS_BAD_READING at 0. */
+uint64_t lucarnecress_reading_of(uint64_t number);
+
+/* The sum of two readings modulo 10,000 as a reading, and LUCARNECRESS_CODE_STEP more where it passes 9999. With one that is not measured the sum is
+ * not measured. A bad reading is refused at 0 or 1, the first one counting. */
+uint64_t lucarnecress_reading_sum(uint16_t a, uint16_t b);
+
+/* A reading against a limit: LUCARNECRESS_BELOW, LUCARNECRESS_EQUAL, LUCARNECRESS_ABOVE, or LUCARNECRESS_NOT_MEASURED. Refused as a sum is. */
+uint64_t lucarnecress_reading_compare(uint16_t reading, uint16_t limit);
+
+/* The largest measured reading of a run of bytes, two to a reading, the high one first. Gives 1, with the reading in found[0] and its lowest
+ * place, in readings from 0, in found[1], as far as there is room; or 0 where none is measured. A bad reading, or a lone last byte, is refused
+ * at its place. In these two cases nothing is written. */
+uint64_t lucarnecress_reading_largest(const uint8_t *bytes, size_t bytes_length, uint64_t *found, size_t found_length);
 
 #ifdef __cplusplus
 }

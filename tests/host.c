@@ -129,6 +129,39 @@ static void check_common(void)
     same("common, room for one: the second word", 99, atoms[1]);
 }
 
+static void check_readings(void)
+{
+    same("number of a reading", 1234, lucarnecress_reading_number(0x1234));
+    same("number of what is not measured", LUCARNECRESS_NOT_MEASURED, lucarnecress_reading_number(0xffff));
+    same("number of a bad reading", refusal(LUCARNECRESS_BAD_READING, 0), lucarnecress_reading_number(0xfff9));
+    same("reading of a number", 0x9999, lucarnecress_reading_of(9999));
+    same("reading of 65,535", LUCARNECRESS_NOT_MEASURED, lucarnecress_reading_of(LUCARNECRESS_NOT_MEASURED));
+    same("reading of 10,000", refusal(LUCARNECRESS_BAD_READING, 0), lucarnecress_reading_of(10000));
+    same("sum", 0x9999, lucarnecress_reading_sum(0x9998, 0x0001));
+    same("sum past 9999", LUCARNECRESS_CODE_STEP + 0x0001, lucarnecress_reading_sum(0x9999, 0x0002));
+    same("sum, not measured", LUCARNECRESS_NOT_MEASURED, lucarnecress_reading_sum(0xffff, 0x0002));
+    same("sum, second bad", refusal(LUCARNECRESS_BAD_READING, 1), lucarnecress_reading_sum(0xffff, 0x00a0));
+    same("below", LUCARNECRESS_BELOW, lucarnecress_reading_compare(0x0999, 0x1000));
+    same("equal", LUCARNECRESS_EQUAL, lucarnecress_reading_compare(0x1000, 0x1000));
+    same("above", LUCARNECRESS_ABOVE, lucarnecress_reading_compare(0x1001, 0x1000));
+    same("compared, not measured", LUCARNECRESS_NOT_MEASURED, lucarnecress_reading_compare(0x1001, 0xffff));
+}
+
+static void check_largest(void)
+{
+    static const uint8_t run[] = {0x01, 0x20, 0xff, 0xff, 0x04, 0x56, 0x04, 0x56, 0x0a, 0x00};
+    uint64_t found[] = {99, 99, 99};
+    same("largest", 1, lucarnecress_reading_largest(run, 8, found, 3));
+    same("largest, its reading", 0x0456, found[0]);
+    same("largest, its lowest place", 2, found[1]);
+    same("largest, behind", 99, found[2]);
+    found[0] = 99;
+    same("largest, none measured", 0, lucarnecress_reading_largest(run + 2, 2, found, 3));
+    same("largest, bad reading", refusal(LUCARNECRESS_BAD_READING, 4), lucarnecress_reading_largest(run, sizeof run, found, 3));
+    same("largest, lone byte", refusal(LUCARNECRESS_BAD_READING, 3), lucarnecress_reading_largest(run, 7, found, 3));
+    same("largest, nothing written", 99, found[0]);
+}
+
 /* Refusals, as a host takes them apart. */
 static void check_codes(void)
 {
@@ -137,7 +170,8 @@ static void check_codes(void)
     same("spot of a code", 9, LUCARNECRESS_SPOT(code));
 }
 
-static void (*const checks[])(void) = {check_list, check_judge, check_sheet, check_count, check_common, check_codes};
+static void (*const checks[])(void) = {check_list,     check_judge,   check_sheet, check_count, check_common,
+                                       check_readings, check_largest, check_codes};
 
 int main(void)
 {

@@ -12,7 +12,7 @@ folder=${EXPORTS_DIR:-target/staticlib}
 if [ -z "${EXPORTS_DIR:-}" ] && command -v rt >/dev/null; then
     rt staticlib exports # what stands below it and is proved already is not proved again
 fi
-for name in $(sed -n 's/^pub extern "C" fn \(lucarnecress_[a-z_]*\).*/\1/p' crates/exports/src/lib.rt); do
+for name in $(sed -n 's/^pub extern "C" fn \(lucarnecress_[a-z_]*\).*/\1/p' crates/exports/src/*.rt); do
     for file in include/lucarnecress.h tests/host.c; do
         if ! grep -q "$name(" "$file"; then
             echo "$name is missing in $file" >&2
