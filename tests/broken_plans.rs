@@ -157,7 +157,7 @@ fn break_reading(random: &mut Random, draft: &Draft, groups: &Groups, commands: 
     let (units, rules) = (draft.units.len() as u8, draft.rules.len());
     let edge = (random.byte() % 20, random.byte() % 20);
     let any_word = random.word() >> random.below(64);
-    let (first, last, command) = match random.below(13) {
+    let (first, last, command) = match random.below(16) {
         0 => (0, groups.end, vec![random.byte()]),
         1 => (0, groups.units, encode::rule(0, 0, 0)),
         2 => (groups.units, groups.edges, encode::unit(any_word)),
@@ -170,7 +170,10 @@ fn break_reading(random: &mut Random, draft: &Draft, groups: &Groups, commands: 
         9 => (groups.edges, groups.end, encode::unit(0)),
         10 => (0, groups.end, commands[random.below(commands.len())].clone()),
         11 => (0, groups.units, encode::rule(any_word, any_word, any_word)),
-        _ => (groups.end + 1, groups.end + 1, vec![random.pick(&[0, 1, 2, 3, 9]); random.between(1, 30)]),
+        12 => (0, groups.end, encode::given(0)),
+        13 => (1, groups.end, encode::given(any_word)),
+        14 => (0, 0, [encode::given(0), encode::given(any_word)].concat()),
+        _ => (groups.end + 1, groups.end + 1, vec![random.pick(&[0, 1, 2, 3, 4, 9]); random.between(1, 30)]),
     };
     let place = random.between(first, last).min(commands.len());
     commands.insert(place, command);
@@ -190,7 +193,7 @@ pub fn any_commands(random: &mut Random) -> Vec<u8> {
     let count = random.between(1, 12);
     let mut commands: Commands = (0..count).map(|_| any_command(random)).collect();
     if random.chance(60) {
-        commands.sort_by_key(|command| command[0]);
+        commands.sort_by_key(|command| (command[0] != encode::GIVEN, command[0]));
         commands.push(encode::end());
     }
     commands.concat()
@@ -199,11 +202,12 @@ pub fn any_commands(random: &mut Random) -> Vec<u8> {
 fn any_command(random: &mut Random) -> Vec<u8> {
     let mut small = || random.word() & random.word() & 7;
     let (head, positive, negative) = (small(), small(), small());
-    match random.below(40) {
+    match random.below(42) {
         0..=19 => encode::rule(head, positive, negative),
         20..=29 => encode::unit(head),
         30..=37 => encode::edge(random.byte() % 4, random.byte() % 4),
         38 => encode::end(),
+        39 | 40 => encode::given(0),
         _ => vec![random.byte()],
     }
 }
@@ -258,7 +262,7 @@ fn damage(random: &mut Random, bytes: &mut Vec<u8>) {
 pub fn random_bytes(random: &mut Random) -> Vec<u8> {
     let length = random.between(0, 300);
     let commands_only = random.chance(50);
-    (0..length).map(|_| if commands_only { random.byte() % 4 } else { random.byte() }).collect()
+    (0..length).map(|_| if commands_only { random.byte() % 5 } else { random.byte() }).collect()
 }
 
 pub fn no_bytes(_: &mut Random) -> Vec<u8> {

@@ -65,6 +65,8 @@ with_mistake "row 5 after row 2" \
 with_mistake "row 5 before row 4" 'if kind < group {' 'if kind < group && !plan.has_all(kind) {'
 with_mistake "row 2 before row 4" \
     'if kind < group {' 'if kind < group && offset + kind.operand_bytes() < bytes.len() {'
+with_mistake "a second GIVEN is taken" 'if self == Kind::Given { Kind::Rule } else { self }' 'self'
+with_mistake "a late GIVEN is taken" 'if kind < group {' 'if kind < group && kind != Kind::Given {'
 with_mistake "bytes after END are not seen" 'refuse(9, next)' 'Ok(plan)'
 with_mistake "a repeated edge is taken" '|| self.edges.contains(&(u, v))' ''
 with_mistake "a zero rule is taken" 'return Some(6);' ''

@@ -1,9 +1,14 @@
 //! The bytes of each command of a plan.
 
+pub const GIVEN: u8 = 0x04;
 pub const RULE: u8 = 0x01;
 pub const UNIT: u8 = 0x02;
 pub const EDGE: u8 = 0x03;
 pub const END: u8 = 0x00;
+
+pub fn given(atoms: u64) -> Vec<u8> {
+    command(GIVEN, &[atoms])
+}
 
 pub fn rule(head: u64, positive: u64, negative: u64) -> Vec<u8> {
     command(RULE, &[head, positive, negative])

@@ -113,6 +113,8 @@ pub fn answer_sets(rules: &[Rule], facts: u64) -> Vec<u64> {
 
 #[derive(Clone, Debug, Default)]
 pub struct Plan {
+    /// The atoms of GIVEN, none without it.
+    pub given: u64,
     pub rules: Vec<Rule>,
     /// One word for each unit, bit i for rule i.
     pub units: Vec<u64>,
@@ -123,6 +125,7 @@ pub struct Plan {
 /// The kinds of command, in the order of their groups.
 #[derive(Clone, Copy, PartialEq, Eq, PartialOrd, Ord)]
 enum Kind {
+    Given,
     Rule,
     Unit,
     Edge,
@@ -136,6 +139,7 @@ impl Kind {
             0x01 => Some(Kind::Rule),
             0x02 => Some(Kind::Unit),
             0x03 => Some(Kind::Edge),
+            0x04 => Some(Kind::Given),
             _ => None,
         }
     }
@@ -143,10 +147,15 @@ impl Kind {
     fn operand_bytes(self) -> usize {
         match self {
             Kind::Rule => 24,
-            Kind::Unit => 8,
+            Kind::Unit | Kind::Given => 8,
             Kind::Edge => 2,
             Kind::End => 0,
         }
+    }
+
+    /// The first kind that may come behind it: GIVEN stands once, a group goes on.
+    fn next(self) -> Kind {
+        if self == Kind::Given { Kind::Rule } else { self }
     }
 }
 
@@ -154,7 +163,7 @@ impl Kind {
 /// in the table's order: 3, 4, 5, 2, 6, 7, 8, 9.
 pub fn read(bytes: &[u8]) -> Result<Plan, Refusal> {
     let mut plan = Plan::default();
-    let mut group = Kind::Rule;
+    let mut group = Kind::Given;
     let mut offset = 0;
     while offset < bytes.len() {
         let kind = match Kind::of(bytes[offset]) {
@@ -177,7 +186,7 @@ pub fn read(bytes: &[u8]) -> Result<Plan, Refusal> {
         if kind == Kind::End {
             return if next < bytes.len() { refuse(9, next) } else { Ok(plan) };
         }
-        group = kind;
+        group = kind.next();
         offset = next;
     }
     refuse(2, bytes.len())
@@ -189,18 +198,24 @@ impl Plan {
         match kind {
             Kind::Rule => self.rules.len() == MAX_RULES,
             Kind::Unit => self.units.len() == MAX_UNITS,
-            Kind::Edge | Kind::End => false,
+            Kind::Given | Kind::Edge | Kind::End => false,
         }
     }
 
     /// Adds a command by its complete operands, or returns the number of its fault.
     fn take(&mut self, kind: Kind, operands: &[u8]) -> Option<u64> {
         match kind {
+            Kind::Given => self.take_given(operands),
             Kind::Rule => self.take_rule(operands),
             Kind::Unit => self.take_unit(operands),
             Kind::Edge => self.take_edge(operands),
             Kind::End => None,
         }
+    }
+
+    fn take_given(&mut self, operands: &[u8]) -> Option<u64> {
+        self.given = word(operands);
+        None
     }
 
     fn take_rule(&mut self, operands: &[u8]) -> Option<u64> {

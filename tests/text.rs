@@ -1,5 +1,6 @@
 //! Plans as readable text, one command per line, and back.
 //!
+//!     given 0 3                    (atom numbers)
 //!     rule head=0,1 pos=2 neg=3    (each part may be left out)
 //!     unit 0 1                     (rule numbers)
 //!     edge 1 0
@@ -28,6 +29,7 @@ fn line_to_bytes(line: &str) -> Option<Vec<u8>> {
     let name = parts.next()?;
     let operands: Vec<&str> = parts.collect();
     match name {
+        "given" => Some(encode::given(set(operands.iter().copied())?)),
         "rule" => rule_to_bytes(&operands),
         "unit" => Some(encode::unit(set(operands.iter().copied())?)),
         "edge" if operands.len() == 2 => Some(encode::edge(operands[0].parse().ok()?, operands[1].parse().ok()?)),
@@ -72,6 +74,7 @@ pub fn to_text(bytes: &[u8]) -> String {
 fn command_to_line(bytes: &[u8]) -> Option<(String, usize)> {
     let word = |place: usize| Some(u64::from_le_bytes(bytes.get(1 + 8 * place..9 + 8 * place)?.try_into().ok()?));
     match *bytes.first()? {
+        encode::GIVEN => Some((format!("given {}", numbers(word(0)?, " ")).trim_end().to_string(), 9)),
         encode::RULE => {
             let parts = [("head", word(0)?), ("pos", word(1)?), ("neg", word(2)?)];
             let written = parts.iter().filter(|(_, word)| *word != 0);

@@ -15,7 +15,7 @@ fn write_number(label: &[u8], number: u64) {
     io::print_decimal(STDOUT_FILENO, number);
 }
 
-// Writes how many rules, units and edges the plan has, if it reads.
+// Writes the word of GIVEN, if there is one, and how many rules, units and edges the plan has, if it reads.
 fn write_counts(plan: &[u8]) {
     let reading = reading::read_plan(plan);
     let outcome = reading.outcome;
@@ -23,6 +23,9 @@ fn write_counts(plan: &[u8]) {
         return;
     };
     let read = reading.plan;
+    if 0 < read.given_count {
+        write_number(b" given ", read.given);
+    }
     write_number(b" rules ", read.rule_count as u64);
     write_number(b" units ", read.unit_count as u64);
     write_number(b" edges ", read.edge_count as u64);

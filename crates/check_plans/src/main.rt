@@ -56,9 +56,11 @@ fn judge_positions() {
     ask(b"circuit-11-cycle.plan", 0);
 }
 
-// Plans that read: a rule that is in no unit is judged all the same, and the longest plan has all 64 rules as facts.
+// Plans that read: a rule that is in no unit is judged all the same, a GIVEN stands first, and the longest plan has all 64 rules as facts.
 fn whole_plans() {
     ask(b"reading/rule-in-no-unit.plan", 1);
+    ask(b"reading/given.plan", 0);
+    ask(b"reading/given-of-no-atoms.plan", 0);
     ask(b"reading/longest.plan", 0xffff_ffff_ffff_ffff);
     ask(b"reading/longest.plan", 0x7fff_ffff_ffff_ffff);
 }
@@ -69,6 +71,7 @@ fn cut_short() {
     ask(b"reading/rule-without-operands.plan", 0);
     ask(b"reading/second-rule-cut-short.plan", 0);
     ask(b"reading/unit-cut-short.plan", 0);
+    ask(b"reading/given-cut-short.plan", 0);
     ask(b"reading/edge-cut-short.plan", 0);
 }
 
@@ -76,10 +79,21 @@ fn cut_short() {
 fn unknown() {
     ask(b"reading/unknown-byte.plan", 0);
     ask(b"reading/unknown-byte-behind-unit.plan", 0);
-    ask(b"reading/command-four.plan", 0);
+    ask(b"reading/command-nine.plan", 0);
 }
 
-// Fault 4: command out of group order.
+// Fault 4: a second or late GIVEN.
+fn misplaced_given() {
+    ask(b"reading/second-given.plan", 0);
+    ask(b"reading/second-given-cut-short.plan", 0);
+    ask(b"reading/given-behind-rule.plan", 0);
+    ask(b"reading/given-behind-rule-cut-short.plan", 0);
+    ask(b"reading/given-behind-unit.plan", 0);
+    ask(b"reading/given-behind-edge.plan", 0);
+    ask(b"reading/second-given-behind-rule.plan", 0);
+}
+
+// Fault 4: another command out of group order.
 fn out_of_order() {
     ask(b"reading/rule-behind-unit.plan", 0);
     ask(b"reading/rule-behind-edge.plan", 0);
@@ -131,6 +145,7 @@ fn behind_end() {
     ask(b"reading/two-ends.plan", 0);
     ask(b"reading/plan-p-and-two-bytes.plan", 0);
     ask(b"reading/rule-behind-end.plan", 0);
+    ask(b"reading/given-behind-end.plan", 0);
     ask(b"reading/unknown-byte-behind-end.plan", 0);
 }
 
@@ -147,6 +162,7 @@ fn main() {
     whole_plans();
     cut_short();
     unknown();
+    misplaced_given();
     out_of_order();
     too_many();
     empty_rule();

@@ -21,6 +21,8 @@ use Rattle.dependency_graph.specs.Check.{row, verdict}
 abbrev small : List ℕ → ℕ → List ℕ → ℕ → List ℕ → Plan
 small rules n units m predecessors =
     record {
+      given = 0;
+      «given_count» = 0;
       rules = rules;
       «rule_count» = n;
       units = units;

@@ -1,4 +1,4 @@
--- The numbers and spots of faults. Document 01, "Faults, by where they are found": columns "no." and "spot".
+-- The numbers and spots of faults. Document 01, "Faults, by where they are found": columns "no." and "spot"; from 16 on document 02.
 use mathlib.Core.Path.{_≡_}
 use mathlib.Core.List.{List, [], _∷_}
 use mathlib.Core.Logic.{_⊎_}
@@ -7,6 +7,7 @@ use Rattle.plan.specs.declared.fault.Fault.{Fault}
 use Rattle.plan.specs.declared.fault.Fault.the-variants.{TableShort, Truncated, UnknownCommand, OutOfOrder, TooMany}
 use Rattle.plan.specs.declared.fault.Fault.the-variants.{EmptyRule, AbsentRule, BadEdge, TrailingBytes}
 use Rattle.plan.specs.declared.fault.Fault.the-variants.{RuleInNoUnit, HeadedRuleInSeveral, Cycle, NonmonotonicUnseen, MonotonicUnseen, LongList}
+use Rattle.plan.specs.declared.fault.Fault.the-variants.{GivenInHead}
 use Rattle.plan.specs.declared.fault.Outcome.{Outcome}
 use Rattle.plan.specs.declared.fault.Outcome.the-variants.{Refused}
 
@@ -27,6 +28,7 @@ number (Cycle s) = 12
 number (NonmonotonicUnseen s) = 13
 number (MonotonicUnseen s) = 14
 number (LongList s) = 15
+number (GivenInHead s) = 16
 
 -- column "spot"
 abbrev pub spot : Fault → ℕ
@@ -45,13 +47,14 @@ spot (Cycle s) = s
 spot (NonmonotonicUnseen s) = s
 spot (MonotonicUnseen s) = s
 spot (LongList s) = s
+spot (GivenInHead s) = s
 
 -- "A refusal gives its number and spot"
 pub record RefusedBy (outcome : Outcome) (n s : ℕ) : Type 0 where
   pub fault : Fault
   pub is : outcome ≡ Refused fault
-  pub numbered : number fault ≡ n
-  pub placed : spot fault ≡ s
+  pub number-is : number fault ≡ n
+  pub spot-is : spot fault ≡ s
 
 -- a row of the fault table: its number, when it fits, and its spot
 pub record TableRow : Type 1 where

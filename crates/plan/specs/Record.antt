@@ -14,6 +14,8 @@ pub record Fitting (p : Plan) : Type 0 where
 unfoldable pub emptyPlan : Plan
 emptyPlan =
     record {
+      given = 0;
+      «given_count» = 0;
       rules = replicate {A = ℕ} (RULE_WORDS * MAX_RULES) 0;
       «rule_count» = 0;
       units = replicate {A = ℕ} MAX_UNITS 0;
@@ -22,10 +24,26 @@ emptyPlan =
       «edge_count» = 0;
     }
 
+-- S-1: "the record of a read plan carries them": the GIVEN
+unfoldable pub withGiven : Plan → ℕ → Plan
+withGiven p word =
+    record {
+      given = word;
+      «given_count» = 1;
+      rules = p .rules;
+      «rule_count» = p .«rule_count»;
+      units = p .units;
+      «unit_count» = p .«unit_count»;
+      predecessors = p .predecessors;
+      «edge_count» = p .«edge_count»;
+    }
+
 -- "Rules and units are numbered from 0 as they come": one RULE more
 unfoldable pub withRule : Plan → ℕ → ℕ → ℕ → Plan
 withRule p head positive negative =
     record {
+      given = p .given;
+      «given_count» = p .«given_count»;
       rules =
           set (set (set (p .rules) (RULE_WORDS * p .«rule_count») head) (RULE_WORDS * p .«rule_count» + 1) positive)
           (RULE_WORDS * p .«rule_count» + 2)
@@ -41,6 +59,8 @@ withRule p head positive negative =
 unfoldable pub withUnit : Plan → ℕ → Plan
 withUnit p word =
     record {
+      given = p .given;
+      «given_count» = p .«given_count»;
       rules = p .rules;
       «rule_count» = p .«rule_count»;
       units = set (p .units) (p .«unit_count») word;
@@ -53,6 +73,8 @@ withUnit p word =
 unfoldable pub withEdge : Plan → ℕ → ℕ → Plan
 withEdge p u v =
     record {
+      given = p .given;
+      «given_count» = p .«given_count»;
       rules = p .rules;
       «rule_count» = p .«rule_count»;
       units = p .units;

@@ -2,7 +2,7 @@
 ghost use mathlib.Core.Path.{_≡_};
 ghost use Rattle.plan.specs.Faults.{number, spot, refusalCode};
 
-// A refusal: what is wrong, and its spot (document 01, "Faults, by where they are found").
+// A refusal: what is wrong, and its spot (document 01, "Faults, by where they are found"; document 02).
 pub enum Fault {
     TableShort(usize),
     Truncated(usize),
@@ -19,6 +19,7 @@ pub enum Fault {
     NonmonotonicUnseen(usize),
     MonotonicUnseen(usize),
     LongList(usize),
+    GivenInHead(usize),
 }
 
 // A plan is accepted, or refused with its first fault.
@@ -47,6 +48,7 @@ pub fn fault_number(f: Fault) -> u64
         Fault::NonmonotonicUnseen(_) => 13,
         Fault::MonotonicUnseen(_) => 14,
         Fault::LongList(_) => 15,
+        Fault::GivenInHead(_) => 16,
     }
 }
 
@@ -70,6 +72,7 @@ pub fn fault_spot(f: Fault) -> usize
         Fault::NonmonotonicUnseen(spot) => spot,
         Fault::MonotonicUnseen(spot) => spot,
         Fault::LongList(spot) => spot,
+        Fault::GivenInHead(spot) => spot,
     }
 }
 

@@ -20,5 +20,6 @@ pub use limits::TABLE_WORDS;
 pub use record::Plan;
 pub use record::empty_plan;
 pub use record::with_edge;
+pub use record::with_given;
 pub use record::with_rule;
 pub use record::with_unit;

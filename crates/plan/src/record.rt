@@ -4,14 +4,16 @@ use crate::limits::MAX_UNITS;
 use crate::limits::RULE_WORDS;
 ghost use mathlib.Core.Path.{_≡_};
 ghost use Prim.Native.Nat.{_<_, _+_, _^_};
-ghost use Rattle.plan.specs.Record.{emptyPlan, withRule, withUnit, withEdge};
+ghost use Rattle.plan.specs.Record.{emptyPlan, withGiven, withRule, withUnit, withEdge};
 ghost use Rattle.plan.specs.Limits.{MAX_RULES as Limits·MAX_RULES, MAX_UNITS as Limits·MAX_UNITS};
 
 const ALL_RULE_WORDS: usize = RULE_WORDS * MAX_RULES;
 
-// A read plan: its rules (three words each: head, positive, negative), units and edges, zeros behind; bit v of
-// predecessors[u] is the edge (u, v).
+// A read plan: its given atoms, its rules (three words each: head, positive, negative), units and edges, zeros behind; bit v of
+// predecessors[u] is the edge (u, v). The counts say how many commands of each kind were read.
 pub struct Plan {
+    pub given: u64,
+    pub given_count: usize,
     pub rules: [u64; ALL_RULE_WORDS],
     pub rule_count: usize,
     pub units: [u64; MAX_UNITS],
@@ -25,6 +27,8 @@ pub fn empty_plan() -> Plan
     ensures { λ r. ⌜ r ≡ emptyPlan ⌝ }
 {
     Plan {
+        given: 0,
+        given_count: 0,
         rules: [0; ALL_RULE_WORDS],
         rule_count: 0,
         units: [0; MAX_UNITS],
@@ -32,6 +36,16 @@ pub fn empty_plan() -> Plan
         predecessors: [0; MAX_UNITS],
         edge_count: 0,
     }
+}
+
+// The record with the GIVEN.
+pub fn with_given(read: Plan, word: u64) -> Plan
+    ensures { λ r. ⌜ r ≡ withGiven read word ⌝ }
+{
+    let mut next = read;
+    next.given = word;
+    next.given_count = 1;
+    next
 }
 
 // The record with one RULE more.

@@ -11,8 +11,8 @@ use Rattle.atoms.specs.Word.{Has}
 use Rattle.atoms.proofs.Lists.{getD-tabulate}
 use Rattle.plan.specs.Limits.{MAX_UNITS}
 use Rattle.plan.specs.Record.{emptyPlan}
-use Rattle.reading.specs.Words.{WORD_BYTES}
-use Rattle.reading.specs.Commands.{Kind, rule, unit, edge, end, byteOf, operandBytes}
+use Rattle.reading.specs.Words.{WORD_BYTES, WORD_VALUES}
+use Rattle.reading.specs.Commands.{Kind, given, rule, unit, edge, end, byteOf, operandBytes}
 use Rattle.reading.specs.Reading.{reading, commandBytes}
 use Rattle.reading.specs.Layout.{Contents, endBytes, commands, predecessorsOf, recordOf, IsByte, All, GoodRule, Within, IsPlan}
 use Rattle.reading.proofs.Numbers.{all-drop, word-fits}
@@ -29,6 +29,7 @@ use Rattle.plan.specs.declared.fault.Outcome.the-variants.{Accepted, Refused}
 -- ---- the words, one element more
 
 sized : (k : Kind) (s : List ℕ) → operandBytes k ≤ length s → All IsByte s → Sized k (elementAt k s)
+sized given s long b = word-fits s 0 (omega arith) b
 sized rule s long b = (word-fits s 0 (omega arith) b, (word-fits s WORD_BYTES (omega arith) b, word-fits s (2 * WORD_BYTES) (omega arith) b))
 sized unit s long b = word-fits s 0 (omega arith) b
 sized edge s long b = tt
@@ -36,17 +37,32 @@ sized end s long b = tt
 
 -- what is asked of the elements beyond what `Held` has
 pub record Good (c : Contents) : Type 0 where
+  pub good-given : All (λ word. word < WORD_VALUES) (c .given)
   pub good-rules : All GoodRule (c .rules)
   pub good-units : All (λ word. word < 2 ^ length (c .rules)) (c .units)
 
 good-with : (c : Contents) (k : Kind) (x : Element k) → Sized k x → Fits c k x → Good c → Good (with c k x)
 unfolding recordOf
+good-with c given w z f g =
+    record {
+      good-given = all-snoc (λ y. y < WORD_VALUES) (c .given) w (g .good-given) z;
+      good-rules = g .good-rules;
+      good-units = g .good-units;
+    }
 good-with c rule r z f g =
     let good : GoodRule r = record { head-fits = z .0; positive-fits = z .1 .0; negative-fits = z .1 .1; some-word = f .right } in
-    record { good-rules = all-snoc GoodRule (c .rules) r (g .good-rules) good; good-units = rw (empty (c .units) (omega (arith, f .in-place .on-time))) tt }
+    record {
+      good-given = g .good-given;
+      good-rules = all-snoc GoodRule (c .rules) r (g .good-rules) good;
+      good-units = rw (empty (c .units) (omega (arith, f .in-place .on-time))) tt;
+    }
 good-with c unit w z f g =
-    record { good-rules = g .good-rules; good-units = all-snoc (λ y. y < 2 ^ length (c .rules)) (c .units) w (g .good-units) (f .right) }
-good-with c edge e z f g = record { good-rules = g .good-rules; good-units = g .good-units }
+    record {
+      good-given = g .good-given;
+      good-rules = g .good-rules;
+      good-units = all-snoc (λ y. y < 2 ^ length (c .rules)) (c .units) w (g .good-units) (f .right);
+    }
+good-with c edge e z f g = record { good-given = g .good-given; good-rules = g .good-rules; good-units = g .good-units }
 good-with c end x z f g = g
 
 -- ---- reading on
@@ -92,7 +108,7 @@ module _ (whole : List ℕ) where
       record {
         contents = nothing;
         held = held-none;
-        good = record { good-rules = tt; good-units = tt };
+        good = record { good-given = tt; good-rules = tt; good-units = tt };
         record-is = sym record-none;
         bytes-are = refl;
         placed = refl;
@@ -103,9 +119,11 @@ module _ (whole : List ℕ) where
   read-within p at s r =
       let h = r .held in
       record {
+        one-given = h .few .few-given;
         most-rules = h .few .few-rules;
         most-units = h .few .few-units;
         most-edges = few-edges (r .contents) h;
+        good-given = r .good .good-given;
         good-rules = r .good .good-rules;
         good-units = r .good .good-units;
         good-edges = h .good-edges;

@@ -10,13 +10,15 @@ use native.Mathlib.Decide.{decLt}
 use lib.Dec.{eqb, ltb, leb}
 use borrow.Author.Tests.{leb-true, eqb-true, ne-eqb, ltb-true, ltb-false, lt-ltb, le-ltb}
 use Rattle.atoms.proofs.Tests.{bool-ext, and-true}
-use Rattle.reading.specs.Commands.{Kind, rule, unit, edge, end, byteOf, kindAmong, kinds, kindOf, orderOf, count, countBehind, late}
+use Rattle.reading.specs.Commands.{Kind, given, rule, unit, edge, end, byteOf, kindAmong, kinds, kindOf, orderOf, earliestBehind, count}
+use Rattle.reading.specs.Commands.{countBehind, late}
 use Rattle.plan.specs.declared.record.Plan.{Plan}
 
 -- ---- bytes
 
 pub kind-of-byte : (k : Kind) → kindOf (byteOf k) ≡ some k
 unfolding kindOf
+kind-of-byte given = refl
 kind-of-byte rule = refl
 kind-of-byte unit = refl
 kind-of-byte edge = refl
@@ -84,30 +86,31 @@ pub order-end : (k : Kind) → orderOf k ≤ orderOf end
 order-end k = leb-true _ _ (each-kind (λ j. leb (orderOf j) (orderOf end)) refl k)
 
 module _ (p : Plan) (group : ℕ) where
-  -- a command of a later group that is counted
+  -- a command that is counted, and behind which none of the group may come
   pub record Later : Type 0 where
     pub kind : Kind
-    pub behind : group < orderOf kind
+    pub behind : group < orderOf (earliestBehind kind)
     pub there : 0 < count p kind
 
   some-later : (js : List Kind) → 0 < countBehind p group js → Later
   some-later [] h = absurd (omega arith)
-  some-later (j ∷ js) h = go (ltb group (orderOf j)) refl (some-later js)
+  some-later (j ∷ js) h = go (ltb group (orderOf (earliestBehind j))) refl (some-later js)
     where
-      this-or-next : group < orderOf j → (0 < countBehind p group js → Later) → Dec (0 < count p j) → 0 < count p j + countBehind p group js → Later
+      this-or-next : group < orderOf (earliestBehind j) → (0 < countBehind p group js → Later) → Dec (0 < count p j)
+          → 0 < count p j + countBehind p group js → Later
       this-or-next l rec (yes c) k = record { kind = j; behind = l; there = c }
       this-or-next l rec (no c) k = rec (omega arith)
 
-      go : (t : Bool) → ltb group (orderOf j) ≡ t → (0 < countBehind p group js → Later) → Later
+      go : (t : Bool) → ltb group (orderOf (earliestBehind j)) ≡ t → (0 < countBehind p group js → Later) → Later
       go true t rec = this-or-next (ltb-true _ _ t) rec (decLt 0 (count p j)) (rw (t, countBehind) at h)
       go false t rec = rec (rw (t, countBehind) at h)
 
-  none-later : (js : List Kind) → countBehind p group js ≤ 0 → (k : Kind) → List·Memᴰ k js → group < orderOf k → count p k ≤ 0
+  none-later : (js : List Kind) → countBehind p group js ≤ 0 → (k : Kind) → List·Memᴰ k js → group < orderOf (earliestBehind k) → count p k ≤ 0
   none-later [] h k m l = absurd (List·Memᴰ·not-nil m)
-  none-later (j ∷ js) h k m l = go (ltb group (orderOf j)) refl (none-later js)
+  none-later (j ∷ js) h k m l = go (ltb group (orderOf (earliestBehind j))) refl (none-later js)
     where
-      go : (t : Bool) → ltb group (orderOf j) ≡ t
-          → (countBehind p group js ≤ 0 → (i : Kind) → List·Memᴰ i js → group < orderOf i → count p i ≤ 0) → count p k ≤ 0
+      go : (t : Bool) → ltb group (orderOf (earliestBehind j)) ≡ t
+          → (countBehind p group js ≤ 0 → (i : Kind) → List·Memᴰ i js → group < orderOf (earliestBehind i) → count p i ≤ 0) → count p k ≤ 0
       go true t rec = here-or-there (List·Memᴰ·cases-cons m) (rw (t, countBehind) at h)
         where
           here-or-there : (k ≡ j) ⊎ List·Memᴰ k js → count p j + countBehind p group js ≤ 0 → count p k ≤ 0
@@ -116,31 +119,35 @@ module _ (p : Plan) (group : ℕ) where
       go false t rec = not-here (List·Memᴰ·cases-cons m)
         where
           not-here : (k ≡ j) ⊎ List·Memᴰ k js → count p k ≤ 0
-          not-here (inl e) = absurd (omega (arith, ltb-false group (orderOf j) t, ap orderOf e))
+          not-here (inl e) = absurd (omega (arith, ltb-false group (orderOf (earliestBehind j)) t, ap (λ (i : Kind). orderOf (earliestBehind i)) e))
           not-here (inr n) = rec (rw (t, countBehind) at h) k n l
 
   pub later-there : 0 < countBehind p group kinds → Later
   later-there h = some-later kinds h
 
-  pub none-behind : countBehind p group kinds ≤ 0 → (k : Kind) → group < orderOf k → count p k ≤ 0
+  pub none-behind : countBehind p group kinds ≤ 0 → (k : Kind) → group < orderOf (earliestBehind k) → count p k ≤ 0
   none-behind h k l = none-later kinds h k (all-kinds k) l
 
 -- the last group that is read tells which groups come too late
-pub late-behind : (p : Plan) (k : Kind) (group : ℕ) → 0 < count p k → countBehind p (orderOf k) kinds ≤ 0 → ltb group (orderOf k) ≡ late p group
+pub late-behind : (p : Plan) (k : Kind) (group : ℕ) → 0 < count p k → countBehind p (orderOf (earliestBehind k)) kinds ≤ 0
+    → ltb group (orderOf (earliestBehind k)) ≡ late p group
 unfolding late
 late-behind p k group there last =
     bool-ext _ _ (λ t. lt-ltb _ _ (counted (ltb-true _ _ t) (decLt 0 (countBehind p group kinds))))
-    (λ t. lt-ltb _ _ (before (later-there p group (ltb-true _ _ t)) (decLt group (orderOf k))))
+    (λ t. lt-ltb _ _ (before (later-there p group (ltb-true _ _ t)) (decLt group first)))
   where
-    counted : group < orderOf k → Dec (0 < countBehind p group kinds) → 0 < countBehind p group kinds
+    first : ℕ
+    first = orderOf (earliestBehind k)
+
+    counted : group < first → Dec (0 < countBehind p group kinds) → 0 < countBehind p group kinds
     counted l (yes h) = h
     counted l (no h) = absurd (omega (arith, none-behind p group (omega arith) k l))
 
-    before : Later p group → Dec (group < orderOf k) → group < orderOf k
+    before : Later p group → Dec (group < first) → group < first
     before j (yes h) = h
-    before j (no h) = absurd (omega (arith, j .there, none-behind p (orderOf k) last (j .kind) (omega (arith, j .behind))))
+    before j (no h) = absurd (omega (arith, j .there, none-behind p first last (j .kind) (omega (arith, j .behind))))
 
--- nothing is late where nothing of a later group than the first is read
+-- nothing is late where nothing is read
 pub late-none : (p : Plan) (group : ℕ) → countBehind p 0 kinds ≤ 0 → false ≡ late p group
 unfolding late
 late-none p group h0 = sym (le-ltb _ _ (go (decLt 0 (countBehind p group kinds))))

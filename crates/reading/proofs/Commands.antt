@@ -13,7 +13,7 @@ use lib.Dec.{eqb}
 use borrow.Author.Tests.{eqb-true, ltb-false, leb-false, le-ltb, not-false}
 use Rattle.plan.specs.Limits.{MAX_RULES, MAX_UNITS}
 use Rattle.plan.specs.Record.{emptyPlan}
-use Rattle.reading.specs.Commands.{Kind, rule, unit, edge, end, byteOf, kinds, kindOf, operandBytes, orderOf, carrying, countBehind, late, full}
+use Rattle.reading.specs.Commands.{Kind, given, rule, unit, edge, end, byteOf, kinds, kindOf, operandBytes, orderOf, carrying, countBehind, late, full}
 use Rattle.reading.specs.Commands.{Row, kindRows, operandRows, rows, firstFit, ofKind, commandAt}
 use Rattle.reading.proofs.CommandKinds.{kind-of-byte, kind-byte, byte-own, no-kind}
 use Rattle.reading.specs.Reading.{Step, onward, ended, stepOf, accepted, refused}
@@ -146,6 +146,7 @@ stepWhen false more last = last
 step-is : (p : Plan) (k : Kind) (operands : List ℕ)
     → stepOf p (carrying k operands) ≡ stepWhen (adds k) (onward k (grown p k operands)) (ended (accepted p))
 unfolding carrying
+step-is p given operands = refl
 step-is p rule operands = refl
 step-is p unit operands = refl
 step-is p edge operands = refl

@@ -28,7 +28,7 @@ use Rattle.reading.specs.declared.command.Command.the-variants.{Fault as
 
 module _ (c : Contents) (w : Within c) (all : length (c .edges) ≡ MAX_EDGES) where
   few : Few c
-  few = record { few-rules = w .most-rules; few-units = w .most-units }
+  few = record { few-given = w .one-given; few-rules = w .most-rules; few-units = w .most-units }
 
   -- one edge more would be one too many
   no-new-edge : (e : UnitPair) → NoNewEdge c e
@@ -47,12 +47,12 @@ module _ (c : Contents) (w : Within c) (all : length (c .edges) ≡ MAX_EDGES) w
           }
 
       more : ¬ NoNewEdge c e → Contents
-      more new = record { rules = c .rules; units = c .units; edges = c .edges ++ (e ∷ []) }
+      more new = record { given = c .given; rules = c .rules; units = c .units; edges = c .edges ++ (e ∷ []) }
 
       held : (new : ¬ NoNewEdge c e) → Held (more new)
       held new =
           record {
-            few = record { few-rules = w .most-rules; few-units = w .most-units };
+            few = record { few-given = w .one-given; few-rules = w .most-rules; few-units = w .most-units };
             good-edges = all-snoc (GoodEdge (length (c .units))) (c .edges) e (w .good-edges) (good new);
             no-repeat = distinct-snoc (c .edges) e (w .no-repeat) (λ m. new (repeated m));
           }
@@ -79,10 +79,10 @@ module _ (c : Contents) (w : Within c) (all : length (c .edges) ≡ MAX_EDGES) w
         let e : UnitPair = record { u = getD more 0 0; v = getD more 1 0 } in
         let bad : badEdge (recordOf c) (e .u) (e .v) ≡ true = decided-true (decides-bad c few e) (no-new-edge e) in
         let fault = edge-there (Faulty (BadEdge at)) (simp (le-ltb _ _ long, bad)) in
-        record { fault = BadEdge at; is = ap (λ (r : Reading). r .outcome) (refused-there (BadEdge at) fault); numbered = refl; placed = refl }
+        record { fault = BadEdge at; is = ap (λ (r : Reading). r .outcome) (refused-there (BadEdge at) fault); number-is = refl; spot-is = refl }
 
     pub cut-edge-refused : length more < operandBytes edge → RefusedBy (reading (commands c ++ (byteOf edge ∷ more)) .outcome) 2 at
     unfolding ofKind late
     cut-edge-refused short =
         let fault = edge-there (Faulty (Truncated at)) (simp (lt-ltb _ _ short)) in
-        record { fault = Truncated at; is = ap (λ (r : Reading). r .outcome) (refused-there (Truncated at) fault); numbered = refl; placed = refl }
+        record { fault = Truncated at; is = ap (λ (r : Reading). r .outcome) (refused-there (Truncated at) fault); number-is = refl; spot-is = refl }

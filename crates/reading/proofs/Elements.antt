@@ -17,11 +17,11 @@ use Rattle.atoms.proofs.Lists.{padded-snoc, getD-tabulate}
 use Rattle.atoms.proofs.Sets.{decides-has}
 use Rattle.atoms.proofs.Tests.{decided-true, decided-false, not-both, decides-and, decides-equal}
 use Rattle.plan.specs.Limits.{MAX_RULES, MAX_UNITS, MAX_EDGES, RULE_WORDS}
-use Rattle.plan.specs.Record.{emptyPlan, withRule, withUnit, withEdge}
+use Rattle.plan.specs.Record.{emptyPlan, withGiven, withRule, withUnit, withEdge}
 use Rattle.reading.specs.Words.{WORD_BYTES, WORD_VALUES, wordAt}
-use Rattle.reading.specs.Commands.{Kind, rule, unit, edge, end, byteOf, operandBytes, carrying, operandRows}
+use Rattle.reading.specs.Commands.{Kind, given, rule, unit, edge, end, byteOf, operandBytes, carrying, operandRows}
 use Rattle.reading.specs.Commands.{emptyRule, absentRule, badEdge}
-use Rattle.reading.specs.Layout.{RuleWords, UnitPair, Contents, wordBytes, ruleBytes, unitBytes, edgeBytes, threeWords, commands}
+use Rattle.reading.specs.Layout.{RuleWords, UnitPair, Contents, wordBytes, givenBytes, ruleBytes, unitBytes, edgeBytes, threeWords, commands}
 use Rattle.reading.specs.Layout.{predecessorsOf, recordOf, IsByte, All, Distinct, GoodEdge}
 use Rattle.reading.specs.Reading.{commandBytes}
 use Rattle.reading.proofs.Numbers.{length-bytes, word-behind, word-bytes}
@@ -32,25 +32,28 @@ use Rattle.reading.proofs.Predecessors.{has-member, member-has, rows-sn
 use Rattle.plan.specs.declared.record.Plan.{Plan}
 
 abbrev pub Element : Kind → Type 0
+Element given = ℕ
 Element rule = RuleWords
 Element unit = ℕ
 Element edge = UnitPair
 Element end = Unit {0}
 
 abbrev pub nothing : Contents
-nothing = record { rules = []; units = []; edges = [] }
+nothing = record { given = []; rules = []; units = []; edges = [] }
 
 -- the lists with one element more
 abbrev pub with : Contents → (k : Kind) → Element k → Contents
-with c rule r = record { rules = c .rules ++ (r ∷ []); units = c .units; edges = c .edges }
-with c unit w = record { rules = c .rules; units = c .units ++ (w ∷ []); edges = c .edges }
-with c edge e = record { rules = c .rules; units = c .units; edges = c .edges ++ (e ∷ []) }
+with c given w = record { given = c .given ++ (w ∷ []); rules = c .rules; units = c .units; edges = c .edges }
+with c rule r = record { given = c .given; rules = c .rules ++ (r ∷ []); units = c .units; edges = c .edges }
+with c unit w = record { given = c .given; rules = c .rules; units = c .units ++ (w ∷ []); edges = c .edges }
+with c edge e = record { given = c .given; rules = c .rules; units = c .units; edges = c .edges ++ (e ∷ []) }
 with c end x = c
 
 -- ---- operands
 
 -- the bytes of an element
 abbrev pub operandsOf : (k : Kind) → Element k → List ℕ
+operandsOf given w = wordBytes w
 operandsOf rule r = wordBytes (r .head) ++ (wordBytes (r .positive) ++ wordBytes (r .negative))
 operandsOf unit w = wordBytes w
 operandsOf edge e = e .u ∷ e .v ∷ []
@@ -58,6 +61,7 @@ operandsOf end x = []
 
 -- the element that the bytes spell
 abbrev pub elementAt : (k : Kind) → List ℕ → Element k
+elementAt given s = wordAt 0 s
 elementAt rule s = record { head = wordAt 0 s; positive = wordAt WORD_BYTES s; negative = wordAt (2 * WORD_BYTES) s }
 elementAt unit s = wordAt 0 s
 elementAt edge s = record { u = getD s 0 0; v = getD s 1 0 }
@@ -67,6 +71,7 @@ word-long : (w : ℕ) → length (wordBytes w) ≡ WORD_BYTES
 word-long w = length-bytes WORD_BYTES w
 
 pub operands-long : (k : Kind) (x : Element k) → length (operandsOf k x) ≡ operandBytes k
+operands-long given w = word-long w
 operands-long rule r =
     simp (length-append, length-bytes WORD_BYTES (r .head), length-bytes WORD_BYTES (r .positive), length-bytes WORD_BYTES (r .negative))
 operands-long unit w = word-long w
@@ -78,6 +83,7 @@ word-more s n = ap (λ (t : List ℕ). take WORD_BYTES (drop n s) ++ t) (sym (dr
 
 -- bytes, read and written again
 pub written-again : (k : Kind) (s : List ℕ) → operandBytes k ≤ length s → All IsByte s → operandsOf k (elementAt k s) ++ drop (operandBytes k) s ≡ s
+written-again given s long b = rw (word-bytes s 0 (omega arith) b) (word-more s 0)
 written-again rule s long b =
     rw (word-bytes s 0 (omega arith) b, word-bytes s WORD_BYTES (omega arith) b, word-bytes s (2 * WORD_BYTES) (omega arith) b)
     (regroup (word 0) (word WORD_BYTES) (word (2 * WORD_BYTES)) (drop (operandBytes rule) s)
@@ -99,6 +105,7 @@ written-again end s long b = refl
 
 -- words of 64 bits
 abbrev pub Sized : (k : Kind) → Element k → Type 0
+Sized given w = w < WORD_VALUES
 Sized rule r = (r .head < WORD_VALUES) × ((r .positive < WORD_VALUES) × (r .negative < WORD_VALUES))
 Sized unit w = w < WORD_VALUES
 Sized edge e = Unit {0}
@@ -106,6 +113,7 @@ Sized end x = Unit {0}
 
 -- rows 6, 7 and 8
 abbrev pub Right : Contents → (k : Kind) → Element k → Type 0
+Right c given w = Unit {0}
 Right c rule r = ¬ ((r .head ≡ 0) × ((r .positive ≡ 0) × (r .negative ≡ 0)))
 Right c unit w = w < 2 ^ length (c .rules)
 Right c edge e = GoodEdge (length (c .units)) e × ¬ List·Memᴰ e (c .edges)
@@ -113,6 +121,7 @@ Right c end x = Unit {0}
 
 -- what holds of the lists of every record that is read
 pub record Few (c : Contents) : Type 0 where
+  pub few-given : length (c .given) ≤ 1
   pub few-rules : length (c .rules) ≤ MAX_RULES
   pub few-units : length (c .units) ≤ MAX_UNITS
 
@@ -128,6 +137,7 @@ pub record Fits (c : Contents) (k : Kind) (x : Element k) : Type 0 where
 
 -- an element, written and read again
 pub read-again : (k : Kind) (x : Element k) (rest : List ℕ) → Sized k x → elementAt k (operandsOf k x ++ rest) ≡ x
+read-again given w rest g = word-behind [] 0 w rest refl g
 read-again rule r rest g =
     let h = wordBytes (r .head) in
     let p = wordBytes (r .positive) in
@@ -155,6 +165,7 @@ module _ (c : Contents) (at : ℕ) (s : List ℕ) (few : Few c) where
   -- no row of its operands stops an element exactly if it is right
   pub passed-right : (k : Kind) → Passed (operandRows (recordOf c) at k s) → Right c k (elementAt k s)
   unfolding recordOf absentRule
+  passed-right given h = tt
   passed-right rule h = λ z. decides-empty _ _ _ .no (h .0) ((z .0, z .1 .0), z .1 .1)
   passed-right unit h = leb-false _ _ (h .0)
   passed-right edge h =
@@ -168,6 +179,7 @@ module _ (c : Contents) (at : ℕ) (s : List ℕ) (few : Few c) where
 
   pub right-passed : (k : Kind) → adds k ≡ true → Right c k (elementAt k s) → Passed (operandRows (recordOf c) at k s)
   unfolding recordOf absentRule badEdge
+  right-passed given a g = tt
   right-passed rule a g = (decided-false (decides-empty _ _ _) (λ z. g (z .0 .0, (z .0 .1, z .1))), tt)
   right-passed unit a g = (lt-leb _ _ g, tt)
   right-passed edge a g =
@@ -200,26 +212,38 @@ empty (x ∷ l) h = absurd (omega arith)
 
 held-with : (c : Contents) (k : Kind) (x : Element k) → Held c → Fits c k x → Held (with c k x)
 unfolding recordOf
+held-with c given w h f =
+    let more : length (c .given ++ (w ∷ [])) ≤ 1 = omega (arith, length-snoc (c .given) w, f .in-place .on-time) in
+    record {
+      few = record { few-given = more; few-rules = f .few .few-rules; few-units = f .few .few-units };
+      good-edges = h .good-edges;
+      no-repeat = h .no-repeat;
+    }
 held-with c rule r h f =
     let more : length (c .rules ++ (r ∷ [])) ≤ MAX_RULES = omega (arith, length-snoc (c .rules) r, rule-room (f .in-place)) in
-    record { few = record { few-rules = more; few-units = f .few .few-units }; good-edges = h .good-edges; no-repeat = h .no-repeat }
+    record {
+      few = record { few-given = f .few .few-given; few-rules = more; few-units = f .few .few-units };
+      good-edges = h .good-edges;
+      no-repeat = h .no-repeat;
+    }
 held-with c unit w h f =
     let more : length (c .units ++ (w ∷ [])) ≤ MAX_UNITS = omega (arith, length-snoc (c .units) w, unit-room (f .in-place)) in
     record {
-      few = record { few-rules = f .few .few-rules; few-units = more };
+      few = record { few-given = f .few .few-given; few-rules = f .few .few-rules; few-units = more };
       good-edges = rw (empty (c .edges) (omega (arith, f .in-place .on-time))) tt;
       no-repeat = h .no-repeat;
     }
 held-with c edge e h f =
     record {
-      few = record { few-rules = f .few .few-rules; few-units = f .few .few-units };
+      few = record { few-given = f .few .few-given; few-rules = f .few .few-rules; few-units = f .few .few-units };
       good-edges = all-snoc (GoodEdge (length (c .units))) (c .edges) e (h .good-edges) (f .right .0);
       no-repeat = distinct-snoc (c .edges) e (h .no-repeat) (f .right .1);
     }
 held-with c end x h f = h
 
 pub held-none : Held nothing
-held-none = record { few = record { few-rules = omega arith; few-units = omega arith }; good-edges = tt; no-repeat = tt }
+held-none =
+    record { few = record { few-given = omega arith; few-rules = omega arith; few-units = omega arith }; good-edges = tt; no-repeat = tt }
 
 pub few-edges : (c : Contents) → Held c → length (c .edges) ≤ MAX_EDGES
 few-edges c h = edges-at-most (c .edges) (below (c .edges) (h .good-edges)) (h .no-repeat)
@@ -241,6 +265,10 @@ flat-snoc f (y ∷ xs) x = ap (λ (l : List ℕ). f y ++ l) (flat-snoc f xs x) �
 pub commands-with : (c : Contents) (k : Kind) (x : Element k) (t : List ℕ) → adds k ≡ true → InPlace (recordOf c) k
     → commands (with c k x) ++ t ≡ commands c ++ (byteOf k ∷ (operandsOf k x ++ t))
 unfolding commands recordOf flatMap
+commands-with c given w t a h =
+    let behind = h .on-time in
+    rw (empty (c .rules) (omega arith), empty (c .units) (omega arith), empty (c .edges) (omega arith), flat-snoc givenBytes (c .given) w)
+    (simp (append-nil, append-assoc))
 commands-with c rule r t a h =
     let behind = h .on-time in
     rw (empty (c .units) (omega arith), empty (c .edges) (omega arith), flat-snoc ruleBytes (c .rules) r) (simp (append-nil, append-assoc))
@@ -283,26 +311,39 @@ rules-snoc rules r size l =
     )
     (ap (padded size) (simp append-assoc))
 
-same-plan : {p q : Plan} → p .rules ≡ q .rules → p .«rule_count» ≡ q .«rule_count» → p .units ≡ q .units
-    → p .«unit_count» ≡ q .«unit_count» → p .predecessors ≡ q .predecessors → p .«edge_count» ≡ q .«edge_count» → p ≡ q
-same-plan a b c d e f =
-    λ i. record { rules = a i; «rule_count» = b i; units = c i; «unit_count» = d i; predecessors = e i; «edge_count» = f i }
+same-plan : {p q : Plan} → p .given ≡ q .given → p .«given_count» ≡ q .«given_count» → p .rules ≡ q .rules
+    → p .«rule_count» ≡ q .«rule_count» → p .units ≡ q .units → p .«unit_count» ≡ q .«unit_count» → p .predecessors ≡ q .predecessors
+    → p .«edge_count» ≡ q .«edge_count» → p ≡ q
+same-plan g n a b c d e f =
+    λ i. record {
+      given = g i;
+      «given_count» = n i;
+      rules = a i;
+      «rule_count» = b i;
+      units = c i;
+      «unit_count» = d i;
+      predecessors = e i;
+      «edge_count» = f i;
+    }
 
 -- the record of the lists with one element more
 pub record-with : (c : Contents) (k : Kind) (s : List ℕ) → Fits c k (elementAt k s) → grown (recordOf c) k s ≡ recordOf (with c k (elementAt k s))
-unfolding recordOf withRule withUnit withEdge carrying
+unfolding recordOf withGiven withRule withUnit withEdge carrying
+record-with c given s f =
+    let first = empty (c .given) (omega (arith, f .in-place .on-time)) in
+    same-plan (rw first) (rw first) refl refl refl refl refl refl
 record-with c rule s f =
     let r : RuleWords = elementAt rule s in
     let e = rules-snoc (c .rules) r (RULE_WORDS * MAX_RULES) (omega (arith, rule-room (f .in-place))) in
-    same-plan e (sym (length-snoc (c .rules) r)) refl refl refl refl
+    same-plan refl refl e (sym (length-snoc (c .rules) r)) refl refl refl refl
 record-with c unit s f =
     let w : ℕ = elementAt unit s in
     let e = padded-snoc MAX_UNITS (c .units) (length (c .units)) w refl (unit-room (f .in-place)) in
-    same-plan refl refl e (sym (length-snoc (c .units) w)) refl refl
+    same-plan refl refl refl refl e (sym (length-snoc (c .units) w)) refl refl
 record-with c edge s f =
     let x : UnitPair = elementAt edge s in
     let e = rows-snoc (c .edges) x (omega (arith, f .right .0 .from-there, f .few .few-units)) in
-    same-plan refl refl refl refl e (sym (length-snoc (c .edges) x))
+    same-plan refl refl refl refl refl refl e (sym (length-snoc (c .edges) x))
 record-with c end s f = refl
 
 -- one command more, behind the record of the lists

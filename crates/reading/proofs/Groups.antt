@@ -13,7 +13,7 @@ use types.Run.{OneOf, miss}
 use denote.Enum.Declared.{tagOf}
 use Rattle.reading.proofs.command.Command.{the-type}
 use Rattle.plan.specs.Record.{Fitting, emptyPlan}
-use Rattle.reading.specs.Commands.{Kind, rule, edge, end, orderOf, count, commandAt, carrying}
+use Rattle.reading.specs.Commands.{Kind, given, edge, end, orderOf, earliestBehind, count, commandAt, carrying}
 use Rattle.reading.specs.Reading.{onward, stepOf, walk, reading, accepted, refused, commandBytes}
 use Rattle.reading.specs.Progress.{placeAt, kindOfStep, Reached}
 use Rattle.reading.proofs.Commands.{InPlace, Unstopped, Front, unstopped, stopped, front}
@@ -28,24 +28,24 @@ use Rattle.plan.specs.declared.fault.Outcome.the-variants.{Refused}
 use Rattle.reading.specs.declared.reader.Progress.{Progress}
 use Rattle.reading.specs.declared.reader.Reading.{Reading}
 use Rattle.reading.specs.declared.command.Command.{Command}
-use Rattle.reading.specs.declared.command.Command.the-variants.{Rule, Unit as UnitOf, Edge, End, Fault as Faulty}
+use Rattle.reading.specs.declared.command.Command.the-variants.{Given, Rule, Unit as UnitOf, Edge, End, Fault as Faulty}
 
 -- ---- the order of kinds
 
--- once a command of kind k is read, none of an earlier kind is in place
-in-order : (p : Plan) (k j : Kind) → 0 < count p k → InPlace p j → orderOf k ≤ orderOf j
-in-order p k j h i = go (decLt (orderOf j) (orderOf k))
+-- once a command of kind k is read, none of an earlier kind than may come behind it is in place
+in-order : (p : Plan) (k j : Kind) → 0 < count p k → InPlace p j → orderOf (earliestBehind k) ≤ orderOf j
+in-order p k j h i = go (decLt (orderOf j) (orderOf (earliestBehind k)))
   where
-    go : Dec (orderOf j < orderOf k) → orderOf k ≤ orderOf j
+    go : Dec (orderOf j < orderOf (earliestBehind k)) → orderOf (earliestBehind k) ≤ orderOf j
     go (yes l) = absurd (omega (arith, none-behind p (orderOf j) (i .on-time) k l))
     go (no l) = omega arith
 
-past-after : (p : Plan) (k : Kind) → 0 < count p k → (at : ℕ) (s : List ℕ) → orderOf k ≤ orderOf (kindOfStep (stepOf p (commandAt p at s)))
+past-after : (p : Plan) (k : Kind) → 0 < count p k → (at : ℕ) (s : List ℕ) → orderOf (earliestBehind k) ≤ orderOf (kindOfStep (stepOf p (commandAt p at s)))
 past-after p k h at s = go (front p at s)
   where
-    go : Front p at s → orderOf k ≤ orderOf (kindOfStep (stepOf p (commandAt p at s)))
+    go : Front p at s → orderOf (earliestBehind k) ≤ orderOf (kindOfStep (stepOf p (commandAt p at s)))
     go (unstopped j u) = rw (u .command, step-kind p j (u .operands)) (in-order p k j h (u .in-place))
-    go (stopped f e) = rw e (order-end k)
+    go (stopped f e) = rw e (order-end (earliestBehind k))
 
 -- a command that goes on was stopped by no row
 leads : (p : Plan) (at : ℕ) (s : List ℕ) (k : Kind) (q : Plan) → stepOf p (commandAt p at s) ≡ onward k q → Leads k p at s q
@@ -68,7 +68,7 @@ leads p at s k q e = go (front p at s)
 pub record Taken (k : Kind) (bytes : List ℕ) (r : Progress) (q : Plan) : Type 0 where
   pub leads : Leads k (r .plan) (r .at) (drop (r .at) bytes) q
   pub inside : r .at + commandBytes k ≤ length bytes
-  pub reached : Reached k bytes (placeAt bytes q (r .at + commandBytes k))
+  pub reached : Reached (earliestBehind k) bytes (placeAt bytes q (r .at + commandBytes k))
 
 pub taken : (k : Kind) (bytes : List ℕ) (r : Progress) (x : Command) (q : Plan) → Reached k bytes r → r .command ≡ x
     → stepOf (r .plan) x ≡ onward k q → Taken k bytes r q
@@ -112,7 +112,7 @@ module _ {k : Kind} {bytes : List ℕ} {r : Progress} {q : Plan} (t : Taken k by
   pub taken-fits : Fitting p
   taken-fits = rw e (t .reached .fitting)
 
-  pub taken-there : (next : Progress) → next ≡ placeAt bytes p (r .at + commandBytes k) → Reached k bytes next
+  pub taken-there : (next : Progress) → next ≡ placeAt bytes p (r .at + commandBytes k) → Reached (earliestBehind k) bytes next
   taken-there next f = rw (f, e) (t .reached)
 
   pub taken-less : (next : Progress) → next ≡ placeAt bytes p (r .at + commandBytes k) → length bytes - next .at < length bytes - r .at
@@ -123,7 +123,7 @@ pub place-is : (bytes : List ℕ) (taken : Plan) (at : ℕ) (x : Command) → x 
 place-is bytes taken at x e = ap (λ (y : Command). record { plan = taken; at = at; command = y }) e
 
 -- nothing is read yet
-pub start : (bytes : List ℕ) (q : Plan) (r : Progress) → q ≡ emptyPlan → r ≡ placeAt bytes q 0 → Reached rule bytes r
+pub start : (bytes : List ℕ) (q : Plan) (r : Progress) → q ≡ emptyPlan → r ≡ placeAt bytes q 0 → Reached given bytes r
 unfolding emptyPlan reading
 start bytes q r e f =
     rw (f, e)
@@ -143,6 +143,7 @@ abbrev FAULT : ℕ
 FAULT = suc (orderOf end)
 
 tag-order : (p : Plan) (x : Command) → orderOf (kindOfStep (stepOf p x)) ≡ min (orderOf end) (tagOf the-type x)
+tag-order p (Given word) = refl
 tag-order p (Rule head positive negative) = refl
 tag-order p (UnitOf word) = refl
 tag-order p (Edge u v) = refl
@@ -151,7 +152,7 @@ tag-order p (Faulty f) = refl
 
 -- all tags but one: what is known of a command that is none of that kind
 abbrev tagsBut : ℕ → List ℕ
-tagsBut t = but (0 ∷ 1 ∷ 2 ∷ 3 ∷ 4 ∷ [])
+tagsBut t = but (0 ∷ 1 ∷ 2 ∷ 3 ∷ 4 ∷ 5 ∷ [])
   where
     but : List ℕ → List ℕ
     but [] = []
@@ -176,6 +177,7 @@ passed-by k next bytes r R o n =
 -- behind all EDGEs stands END or a fault
 module _ (bytes : List ℕ) (r : Progress) (R : Reached end bytes r) where
   at-end : (x : Command) → OneOf (tagsBut FAULT) (tagOf the-type x) → orderOf end ≤ orderOf (kindOfStep (stepOf (r .plan) x)) → x ≡ End
+  at-end (Given word) o h = absurd (omega arith)
   at-end (Rule head positive negative) o h = absurd (omega arith)
   at-end (UnitOf word) o h = absurd (omega arith)
   at-end (Edge u v) o h = absurd (omega arith)

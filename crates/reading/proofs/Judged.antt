@@ -63,14 +63,14 @@ stopped-refused bytes small n s h =
     let c = h .contents in
     let w = h .within in
     let at : ℕ = length (commands c) in
-    let few : Few c = record { few-rules = w .most-rules; few-units = w .most-units } in
+    let few : Few c = record { few-given = w .one-given; few-rules = w .most-rules; few-units = w .most-units } in
     let rest-small : All IsByte (h .rest) =
     subst (All IsByte) (drop-at (commands c) (h .rest) at refl) (all-drop IsByte at (commands c ++ h .rest) (subst (All IsByte) (h .split) small)) in
     let found = first-is-fault c few at (h .rest) rest-small n s (h .first) in
     let f = found .0 in
     let comes : reading bytes ≡ refused f =
     ap reading (h .split) ∙ commands-read c w (h .rest) ∙ walk-ended (recordOf c) at (h .rest) (refused f) (ap (stepOf (recordOf c)) (found .1)) in
-    record { fault = f; is = ap (λ (r : Reading). r .outcome) comes; numbered = found .2; placed = found .3 }
+    record { fault = f; is = ap (λ (r : Reading). r .outcome) comes; number-is = found .2; spot-is = found .3 }
 
 pub reading-judged : (bytes : List ℕ) → All IsByte bytes → ReadingJudged bytes (reading bytes .outcome)
 unfolding StopsBy
@@ -84,5 +84,5 @@ reading-judged bytes small = record { accepted = (laid, read-so); refused = λ n
 
     stops : (n s : ℕ) → RefusedBy (reading bytes .outcome) n s → Stopped bytes n s
     stops n s r =
-        subst (λ (m : ℕ). Stopped bytes m s) (r .numbered)
-        (subst (Stopped bytes (number (r .fault))) (r .placed) (refused-stopped bytes small (r .fault) (r .is)))
+        subst (λ (m : ℕ). Stopped bytes m s) (r .number-is)
+        (subst (Stopped bytes (number (r .fault))) (r .spot-is) (refused-stopped bytes small (r .fault) (r .is)))

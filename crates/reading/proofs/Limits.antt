@@ -5,9 +5,9 @@ use mathlib.Core.List.{List, [], _∷_}
 use Prim.Native.Nat.{ℕ, suc, _≤_, _<_}
 use native.Mathlib.Omega.{arith}
 use lib.ListN.{getD}
-use Rattle.plan.specs.Record.{Fitting, emptyPlan, withRule, withUnit, withEdge}
+use Rattle.plan.specs.Record.{Fitting, emptyPlan, withGiven, withRule, withUnit, withEdge}
 use Rattle.reading.specs.Words.{BYTE_VALUES}
-use Rattle.reading.specs.Commands.{Kind, rule, unit, edge, end, carrying, count}
+use Rattle.reading.specs.Commands.{Kind, given, rule, unit, edge, end, carrying, count}
 use Rattle.reading.specs.Reading.{reading}
 use Rattle.reading.specs.Layout.{IsByte, All}
 use Rattle.reading.proofs.Commands.{rule-room, unit-room, Unstopped, adds, grown, Leads}
@@ -25,7 +25,9 @@ pub record Grown (p q : Plan) (k : Kind) : Type 0 where
   pub few-edges : q .«edge_count» ≤ suc (p .«edge_count»)
 
 grown-so : (p : Plan) (at : ℕ) (s : List ℕ) (k : Kind) → adds k ≡ true → (u : Unstopped k p at s) → Grown p (grown p k (u .operands)) k
-unfolding withRule withUnit withEdge carrying
+unfolding withGiven withRule withUnit withEdge carrying
+grown-so p at s given a u =
+    record { fitting = λ f. record { rules-fit = f .rules-fit; units-fit = f .units-fit }; some = omega arith; few-edges = omega arith }
 grown-so p at s rule a u =
     let room = rule-room (u .in-place) in
     record { fitting = λ f. record { rules-fit = omega arith; units-fit = f .units-fit }; some = omega arith; few-edges = omega arith }
@@ -43,7 +45,8 @@ leads-grown p q at s k l = subst (λ (z : Plan). Grown p z k) (l .is) (grown-so 
 pub record-fits : (bytes : List ℕ) → Fitting (reading bytes .plan)
 unfolding reading
 record-fits bytes =
-    walk-keeps (λ p at s. Fitting p) (λ r. Fitting (r .plan)) (λ p q at s k f l. leads-grown p q at s k l .fitting f) (λ p at s f e. f) (λ p at s g f e. empty-fits) emptyPlan 0 bytes empty-fits
+    walk-keeps (λ p at s. Fitting p) (λ r. Fitting (r .plan)) (λ p q at s k f l. leads-grown p q at s k l .fitting f)
+    (λ p at s f e. f) (λ p at s g f e. empty-fits) emptyPlan 0 bytes empty-fits
 
 -- the elements of a slice of bytes are bytes
 pub all-bytes : (s : List ℕ) → ((i : ℕ) → getD s i 0 < BYTE_VALUES) → All IsByte s

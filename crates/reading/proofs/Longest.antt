@@ -1,4 +1,4 @@
--- "The longest plan has 2,465 bytes": no layout within the limits is longer, and one has as many.
+-- "The longest plan has 2,465 bytes", and 9 more with a GIVEN: no layout within the limits is longer, and one has as many.
 use mathlib.Core.Path.{_≡_, refl, ap, _∙_}
 use mathlib.Core.List.{List, [], _∷_, flatMap}
 use Prim.Native.Nat.{ℕ, zero, suc, _+_, _*_, _^_, _≤_, _<_}
@@ -6,9 +6,9 @@ use native.Mathlib.Omega.{arith}
 use native.Mathlib.Nat.{mul-suc}
 use lib.ListN.{length, replicate, length-append}
 use Rattle.plan.specs.Limits.{MAX_RULES, MAX_UNITS, MAX_EDGES}
-use Rattle.reading.specs.Commands.{rule, unit, edge}
+use Rattle.reading.specs.Commands.{given, rule, unit, edge}
 use Rattle.reading.specs.Reading.{commandBytes, LONGEST_PLAN}
-use Rattle.reading.specs.Layout.{ruleBytes, unitBytes, edgeBytes, Contents, commands, layout, All, GoodRule, Within}
+use Rattle.reading.specs.Layout.{givenBytes, ruleBytes, unitBytes, edgeBytes, Contents, commands, layout, All, GoodRule, Within}
 use Rattle.reading.proofs.Elements.{operands-long}
 use Rattle.reading.proofs.Pigeonhole.{edgesBelow, edges-long, edges-good, edges-distinct}
 
@@ -21,19 +21,22 @@ elements-long f k e (x ∷ xs) =
     length-append (f x) (flatMap f xs) ∙ omega (arith, e x, elements-long f k e xs, mul-suc k (length xs))
 
 pub commands-long : (c : Contents)
-    → length (commands c) ≡ commandBytes rule * length (c .rules) + commandBytes unit * length (c .units) + commandBytes edge * length (c .edges)
+    → length (commands c)
+    ≡ commandBytes given * length (c .given) + commandBytes rule * length (c .rules) + commandBytes unit * length (c .units)
+    + commandBytes edge * length (c .edges)
 unfolding commands
 commands-long c =
     simp length-append
     (omega (
       arith,
+      elements-long givenBytes (commandBytes given) (λ g. ap suc (operands-long given g)) (c .given),
       elements-long ruleBytes (commandBytes rule) (λ r. ap suc (operands-long rule r)) (c .rules),
       elements-long unitBytes (commandBytes unit) (λ u. ap suc (operands-long unit u)) (c .units),
       elements-long edgeBytes (commandBytes edge) (λ e. refl) (c .edges),
     ))
 
 pub layout-at-most : (c : Contents) → Within c → length (layout c) ≤ LONGEST_PLAN
-layout-at-most c w = simp length-append (omega (arith, commands-long c, w .most-rules, w .most-units, w .most-edges))
+layout-at-most c w = simp length-append (omega (arith, commands-long c, w .one-given, w .most-rules, w .most-units, w .most-edges))
 
 -- ---- one that is so long
 
@@ -41,10 +44,11 @@ all-replicate : {A : Type 0} (P : A → Type 0) (n : ℕ) (x : A) → P x → Al
 all-replicate P zero x h = tt
 all-replicate P (suc n) x h = (h, all-replicate P n x h)
 
--- as many rules, units and edges as there may be
+-- a GIVEN, and as many rules, units and edges as there may be
 longest : Contents
 longest =
     record {
+      given = 0 ∷ [];
       rules = replicate MAX_RULES (record { head = 1; positive = 0; negative = 0 });
       units = replicate {A = ℕ} MAX_UNITS 0;
       edges = edgesBelow MAX_EDGES;
@@ -54,9 +58,11 @@ longest-within : Within longest
 unfolding longest
 longest-within =
     record {
+      one-given = omega arith;
       most-rules = omega arith;
       most-units = omega arith;
       most-edges = omega (arith, edges-long MAX_EDGES);
+      good-given = (omega arith, tt);
       good-rules = all-replicate GoodRule MAX_RULES _
           (record { head-fits = omega arith; positive-fits = omega arith; negative-fits = omega arith; some-word = λ z. omega (arith, z .0) });
       good-units = all-replicate (λ word. word < 2 ^ MAX_RULES) MAX_UNITS 0 (omega arith);
@@ -69,5 +75,5 @@ unfolding longest
 longest-there =
     (longest, longest-within, simp length-append (omega (arith, commands-long longest, edges-long MAX_EDGES)))
 
-pub longest-bytes : LONGEST_PLAN ≡ 2465
+pub longest-bytes : LONGEST_PLAN ≡ 2474
 longest-bytes = refl

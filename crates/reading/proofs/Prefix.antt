@@ -14,7 +14,7 @@ use lib.Seq.{take-nil, take-take, getD-take}
 use borrow.Author.Tests.{lt-ltb, le-ltb}
 use Rattle.plan.specs.Record.{emptyPlan}
 use Rattle.reading.specs.Words.{WORD_BYTES, number, wordAt}
-use Rattle.reading.specs.Commands.{Kind, rule, unit, edge, end, kindOf, operandBytes, carrying, Row, kindRows, operandRows}
+use Rattle.reading.specs.Commands.{Kind, given, rule, unit, edge, end, kindOf, operandBytes, carrying, Row, kindRows, operandRows}
 use Rattle.reading.specs.Commands.{firstFit, ofKind, commandAt}
 use Rattle.reading.specs.Reading.{ended, stepOf, walk, reading, accepted, refused, commandBytes, DECIDING_BYTES}
 use Rattle.reading.specs.Layout.{Contents, commands, recordOf}
@@ -77,6 +77,7 @@ module _ (p : Plan) (at m : ℕ) (s : List ℕ) where
   operands-kept : (k : Kind) → looksAt k ≤ m
       → firstFit (operandRows p at k (take m s)) (carrying k (take m s)) ≡ firstFit (operandRows p at k s) (carrying k s)
   unfolding carrying
+  operands-kept given h = rw (word-kept 0 m s (omega arith))
   operands-kept rule h = rw (word-kept 0 m s (omega arith), word-kept WORD_BYTES m s (omega arith), word-kept (2 * WORD_BYTES) m s (omega arith))
   operands-kept unit h = rw (word-kept 0 m s (omega arith))
   operands-kept edge h = rw (getD-take m s 0 0 (omega arith), getD-take m s 1 0 (omega arith))
@@ -107,10 +108,11 @@ module _ (n : ℕ) (long : DECIDING_BYTES ≤ n) where
   -- what a command that is in place looks at is kept
   near : (c : Contents) → Held c → (k : Kind) → InPlace (recordOf c) k → length (commands c) + suc (looksAt k) ≤ n
   unfolding recordOf
-  near c h rule i = omega (arith, commands-long c, i .on-time, rule-room i)
-  near c h unit i = omega (arith, commands-long c, i .on-time, unit-room i, h .few .few-rules)
-  near c h edge i = omega (arith, commands-long c, h .few .few-rules, h .few .few-units, few-edges c h)
-  near c h end i = omega (arith, commands-long c, h .few .few-rules, h .few .few-units, few-edges c h)
+  near c h given i = omega (arith, commands-long c, i .on-time)
+  near c h rule i = omega (arith, commands-long c, i .on-time, rule-room i, h .few .few-given)
+  near c h unit i = omega (arith, commands-long c, i .on-time, unit-room i, h .few .few-given, h .few .few-rules)
+  near c h edge i = omega (arith, commands-long c, h .few .few-given, h .few .few-rules, h .few .few-units, few-edges c h)
+  near c h end i = omega (arith, commands-long c, h .few .few-given, h .few .few-rules, h .few .few-units, few-edges c h)
 
   module _ (result : Reading) (p : Plan) (at : ℕ) (s : List ℕ) (cut : Cut n result p at s) where
     near-by : (k : Kind) → InPlace p k → at + suc (looksAt k) ≤ n

@@ -13,9 +13,9 @@ use lib.Seq.{drop-at}
 use borrow.Author.Tests.{le-ltb, lt-leb}
 use Rattle.plan.specs.Limits.{MAX_RULES, MAX_UNITS}
 use Rattle.reading.specs.Words.{WORD_VALUES}
-use Rattle.reading.specs.Commands.{Kind, rule, unit, edge, end, byteOf, operandBytes, carrying, late, rows, ofKind, commandAt}
+use Rattle.reading.specs.Commands.{Kind, given, rule, unit, edge, end, byteOf, operandBytes, carrying, late, rows, ofKind, commandAt}
 use Rattle.reading.specs.Reading.{onward, ended, stepOf, walk, reading, accepted, commandBytes}
-use Rattle.reading.specs.Layout.{RuleWords, UnitPair, Contents, ruleBytes, unitBytes, edgeBytes, endBytes, commands, layout, recordOf}
+use Rattle.reading.specs.Layout.{RuleWords, UnitPair, Contents, givenBytes, ruleBytes, unitBytes, edgeBytes, endBytes, commands, layout, recordOf}
 use Rattle.reading.specs.Layout.{All, Distinct, GoodRule, GoodEdge, Within}
 use Rattle.reading.proofs.Commands.{Passed, none-fits, known-command, in-place-passed, adds, step-when}
 use Rattle.reading.proofs.CommandKinds.{kind-of-byte}
@@ -125,33 +125,47 @@ end-step p at = ap (stepOf p) (read-as p at end [] (refl, (refl, (refl, (refl, t
 -- ---- all groups
 
 module _ (c : Contents) (w : Within c) where
-  rules-only : List RuleWords → Contents
-  rules-only d = record { rules = d; units = []; edges = [] }
+  given-only : List ℕ → Contents
+  given-only d = record { given = d; rules = []; units = []; edges = [] }
+
+  rules-too : List RuleWords → Contents
+  rules-too d = record { given = c .given; rules = d; units = []; edges = [] }
 
   units-too : List ℕ → Contents
-  units-too d = record { rules = c .rules; units = d; edges = [] }
+  units-too d = record { given = c .given; rules = c .rules; units = d; edges = [] }
 
   edges-too : List UnitPair → Contents
-  edges-too d = record { rules = c .rules; units = c .units; edges = d }
+  edges-too d = record { given = c .given; rules = c .rules; units = c .units; edges = d }
 
-  rules-taken : Takes (recordOf nothing) (flatMap ruleBytes (c .rules)) (recordOf (rules-only (c .rules)))
-  unfolding recordOf rules-only
+  given-taken : Takes (recordOf nothing) (flatMap givenBytes (c .given)) (recordOf (given-only (c .given)))
+  unfolding recordOf given-only
+  given-taken =
+      group-takes givenBytes (λ d. recordOf (given-only d)) (λ d x. (length d < 1) × (x < WORD_VALUES))
+      (λ d x f. one-takes (given-only d) given x refl (record {
+        few = record { few-given = omega (arith, f .0); few-rules = omega arith; few-units = omega arith };
+        in-place = record { on-time = omega (arith, f .0); room = refl };
+        right = tt;
+      }) (f .1))
+      (c .given) [] (few-follow 1 (λ x. x < WORD_VALUES) (c .given) [] (omega (arith, w .one-given)) (w .good-given))
+
+  rules-taken : Takes (recordOf (given-only (c .given))) (flatMap ruleBytes (c .rules)) (recordOf (rules-too (c .rules)))
+  unfolding recordOf given-only rules-too
   rules-taken =
-      group-takes ruleBytes (λ d. recordOf (rules-only d)) (λ d x. (length d < MAX_RULES) × GoodRule x)
-      (λ d x f. one-takes (rules-only d) rule x refl (record {
-        few = record { few-rules = omega (arith, f .0); few-units = omega arith };
+      group-takes ruleBytes (λ d. recordOf (rules-too d)) (λ d x. (length d < MAX_RULES) × GoodRule x)
+      (λ d x f. one-takes (rules-too d) rule x refl (record {
+        few = record { few-given = w .one-given; few-rules = omega (arith, f .0); few-units = omega arith };
         in-place = record { on-time = omega arith; room = lt-leb _ _ (f .0) };
         right = f .1 .some-word;
       }) (f .1 .head-fits, (f .1 .positive-fits, f .1 .negative-fits)))
       (c .rules) [] (few-follow MAX_RULES GoodRule (c .rules) [] (omega (arith, w .most-rules)) (w .good-rules))
 
-  units-taken : Takes (recordOf (rules-only (c .rules))) (flatMap unitBytes (c .units)) (recordOf (units-too (c .units)))
-  unfolding recordOf rules-only units-too
+  units-taken : Takes (recordOf (rules-too (c .rules))) (flatMap unitBytes (c .units)) (recordOf (units-too (c .units)))
+  unfolding recordOf rules-too units-too
   units-taken =
       let most : 2 ^ length (c .rules) ≤ WORD_VALUES = pow-mono (w .most-rules) in
       group-takes unitBytes (λ d. recordOf (units-too d)) (λ d x. (length d < MAX_UNITS) × (x < 2 ^ length (c .rules)))
       (λ d x f. one-takes (units-too d) unit x refl (record {
-        few = record { few-rules = w .most-rules; few-units = omega (arith, f .0) };
+        few = record { few-given = w .one-given; few-rules = w .most-rules; few-units = omega (arith, f .0) };
         in-place = record { on-time = omega arith; room = lt-leb _ _ (f .0) };
         right = f .1;
       }) (omega (arith, f .1)))
@@ -162,7 +176,7 @@ module _ (c : Contents) (w : Within c) where
   edges-taken =
       group-takes edgeBytes (λ d. recordOf (edges-too d)) (λ d x. GoodEdge (length (c .units)) x × ¬ List·Memᴰ x d)
       (λ d x f. one-takes (edges-too d) edge x refl (record {
-        few = record { few-rules = w .most-rules; few-units = w .most-units };
+        few = record { few-given = w .one-given; few-rules = w .most-rules; few-units = w .most-units };
         in-place = record { on-time = omega arith; room = refl };
         right = f;
       }) tt)
@@ -170,7 +184,7 @@ module _ (c : Contents) (w : Within c) where
 
   commands-taken : Takes (recordOf nothing) (commands c) (recordOf c)
   unfolding commands
-  commands-taken = takes-both rules-taken (takes-both units-taken edges-taken)
+  commands-taken = takes-both given-taken (takes-both rules-taken (takes-both units-taken edges-taken))
 
   -- behind the commands of lists within the limits reading goes on with their record
   pub commands-read : (rest : List ℕ) → reading (commands c ++ rest) ≡ walk (recordOf c) (length (commands c)) 0 rest

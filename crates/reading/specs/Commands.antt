@@ -11,17 +11,18 @@ use Rattle.reading.specs.Words.{WORD_BYTES, wordAt}
 use Rattle.plan.specs.Limits.{MAX_RULES, MAX_UNITS, RULE_WORDS}
 use Rattle.plan.specs.declared.record.Plan.{Plan}
 use Rattle.reading.specs.declared.command.Command.{Command}
-use Rattle.reading.specs.declared.command.Command.the-variants.{Rule, Unit as UnitOf, Edge, End, Fault as Faulty}
+use Rattle.reading.specs.declared.command.Command.the-variants.{Given, Rule, Unit as UnitOf, Edge, End, Fault as Faulty}
 use Rattle.plan.specs.declared.fault.Fault.{Fault}
 use Rattle.plan.specs.declared.fault.Fault.the-variants.{Truncated, UnknownCommand, OutOfOrder, TooMany}
 use Rattle.plan.specs.declared.fault.Fault.the-variants.{EmptyRule, AbsentRule, BadEdge, TrailingBytes}
 
--- column "command"
+-- column "command", and GIVEN of document 02, S-1
 pub data Kind : Type 0 where
-  rule unit edge end : Kind
+  given rule unit edge end : Kind
 
 -- column "byte"
 abbrev pub byteOf : Kind → ℕ
+byteOf given = 0x04
 byteOf rule = 0x01
 byteOf unit = 0x02
 byteOf edge = 0x03
@@ -34,27 +35,38 @@ kindAmong (kind ∷ kinds) b = elim (eqb b (byteOf kind)) [ true ↦ some kind |
 
 -- all kinds
 abbrev pub kinds : List Kind
-kinds = rule ∷ unit ∷ edge ∷ end ∷ []
+kinds = given ∷ rule ∷ unit ∷ edge ∷ end ∷ []
 
 unfoldable pub kindOf : ℕ → Option Kind
 kindOf b = kindAmong kinds b
 
 -- column "operands", in bytes
 abbrev pub operandBytes : Kind → ℕ
+operandBytes given = WORD_BYTES
 operandBytes rule = RULE_WORDS * WORD_BYTES
 operandBytes unit = WORD_BYTES
 operandBytes edge = 2
 operandBytes end = 0
 
--- "All RULEs come first, then UNITs, then EDGEs, then END": the groups' order
+-- "All RULEs come first, then UNITs, then EDGEs, then END": the groups' order; GIVEN stands "before all RULEs"
 abbrev pub orderOf : Kind → ℕ
-orderOf rule = 0
-orderOf unit = 1
-orderOf edge = 2
-orderOf end = 3
+orderOf given = 0
+orderOf rule = 1
+orderOf unit = 2
+orderOf edge = 3
+orderOf end = 4
 
--- "A command is one of four kinds carrying its operands"
+-- the earliest kind that may come behind a command of this kind: GIVEN "may stand once", a group goes on
+abbrev pub earliestBehind : Kind → Kind
+earliestBehind given = rule
+earliestBehind rule = rule
+earliestBehind unit = unit
+earliestBehind edge = edge
+earliestBehind end = end
+
+-- "A command is one of four kinds carrying its operands": of five, with GIVEN
 unfoldable pub carrying : Kind → List ℕ → Command
+carrying given operands = Given (wordAt 0 operands)
 carrying rule operands = Rule (wordAt 0 operands) (wordAt WORD_BYTES operands) (wordAt (2 * WORD_BYTES) operands)
 carrying unit operands = UnitOf (wordAt 0 operands)
 carrying edge operands = Edge (getD operands 0 0) (getD operands 1 0)
@@ -62,23 +74,25 @@ carrying end operands = End
 
 -- how many commands of the kind are read
 abbrev pub count : Plan → Kind → ℕ
+count p given = p .«given_count»
 count p rule = p .«rule_count»
 count p unit = p .«unit_count»
 count p edge = p .«edge_count»
 count p end = 0
 
--- how many commands of groups behind this one are read
+-- how many commands are read behind which none of this group may come
 abbrev pub countBehind : Plan → ℕ → List Kind → ℕ
 countBehind p group [] = 0
 countBehind p group (j ∷ js) =
-    elim (ltb group (orderOf j)) [ true ↦ count p j + countBehind p group js | false ↦ countBehind p group js ]
+    elim (ltb group (orderOf (earliestBehind j))) [ true ↦ count p j + countBehind p group js | false ↦ countBehind p group js ]
 
--- "command out of group order": one of a later group is read
+-- "command out of group order": there is a command behind which it may not come; "a second or late GIVEN is 4"
 unfoldable pub late : Plan → ℕ → Bool
 late p group = ltb 0 (countBehind p group kinds)
 
 -- column "most": "65th RULE, 17th UNIT"; a 241st EDGE names no unit, joins a unit to itself or is a repeat, so it has row 8 alone
 abbrev pub full : Plan → Kind → Bool
+full p given = false
 full p rule = leb MAX_RULES (p .«rule_count»)
 full p unit = leb MAX_UNITS (p .«unit_count»)
 full p edge = false
@@ -110,6 +124,7 @@ kindRows p at kind = row (late p (orderOf kind)) (OutOfOrder at) ∷ row (full p
 
 -- rows 6 to 9: what the operands tell
 abbrev pub operandRows : Plan → ℕ → Kind → List ℕ → List Row
+operandRows p at given operands = []
 operandRows p at rule operands =
     row (emptyRule (wordAt 0 operands) (wordAt WORD_BYTES operands) (wordAt (2 * WORD_BYTES) operands)) (EmptyRule at) ∷ []
 operandRows p at unit operands = row (absentRule p (wordAt 0 operands)) (AbsentRule at) ∷ []

@@ -4,7 +4,7 @@ use mathlib.Core.List.{List, [], _∷_, _++_, flatMap, List·Memᴰ}
 use mathlib.Core.Bool.{true, false}
 use Prim.Native.Nat.{ℕ, zero, suc, _*_, _/_, _%_, _^_, _≤_, _<_}
 use lib.Dec.{eqb}
-use lib.ListN.{length}
+use lib.ListN.{length, getD}
 use Rattle.atoms.specs.Lists.{padded, tabulate}
 use Rattle.atoms.specs.Word.{_∪_, atom}
 use Rattle.reading.specs.Words.{WORD_BYTES, BYTE_VALUES, WORD_VALUES}
@@ -31,6 +31,10 @@ bytesOf (suc k) w = w % BYTE_VALUES ∷ bytesOf k (w / BYTE_VALUES)
 abbrev pub wordBytes : ℕ → List ℕ
 wordBytes w = bytesOf WORD_BYTES w
 
+-- S-1: "Command 0x04, GIVEN, takes one word"
+abbrev pub givenBytes : ℕ → List ℕ
+givenBytes word = 0x04 ∷ wordBytes word
+
 -- one line of the command table each
 abbrev pub ruleBytes : RuleWords → List ℕ
 ruleBytes r = 0x01 ∷ (wordBytes (r .head) ++ (wordBytes (r .positive) ++ wordBytes (r .negative)))
@@ -46,13 +50,15 @@ endBytes = 0x00 ∷ []
 
 -- what a plan says: its lists
 pub record Contents : Type 0 where
+  pub given : List ℕ
   pub rules : List RuleWords
   pub units : List ℕ
   pub edges : List UnitPair
 
--- "All RULEs come first, then UNITs, then EDGEs": every command but END
+-- GIVEN "before all RULEs", "All RULEs come first, then UNITs, then EDGEs": every command but END
 unfoldable pub commands : Contents → List ℕ
-commands c = flatMap ruleBytes (c .rules) ++ (flatMap unitBytes (c .units) ++ flatMap edgeBytes (c .edges))
+commands c =
+    flatMap givenBytes (c .given) ++ (flatMap ruleBytes (c .rules) ++ (flatMap unitBytes (c .units) ++ flatMap edgeBytes (c .edges)))
 
 -- "then END"
 abbrev pub layout : Contents → List ℕ
@@ -71,6 +77,8 @@ predecessorsOf (e ∷ edges) u =
 unfoldable pub recordOf : Contents → Plan
 recordOf c =
     record {
+      given = getD (c .given) 0 0;
+      «given_count» = length (c .given);
       rules = padded (RULE_WORDS * MAX_RULES) (flatMap threeWords (c .rules));
       «rule_count» = length (c .rules);
       units = padded MAX_UNITS (c .units);
@@ -103,11 +111,13 @@ pub record GoodEdge (n : ℕ) (e : UnitPair) : Type 0 where
   pub to-there : e .v < n
   pub apart : ¬ (e .u ≡ e .v)
 
--- what a plan may hold: column "most", and rows 6, 7 and 8 of the fault table
+-- what a plan may hold: column "most", GIVEN once, and rows 6, 7 and 8 of the fault table
 pub record Within (c : Contents) : Type 0 where
+  pub one-given : length (c .given) ≤ 1
   pub most-rules : length (c .rules) ≤ MAX_RULES
   pub most-units : length (c .units) ≤ MAX_UNITS
   pub most-edges : length (c .edges) ≤ MAX_EDGES
+  pub good-given : All (λ word. word < WORD_VALUES) (c .given)
   pub good-rules : All GoodRule (c .rules)
   pub good-units : All (λ word. word < 2 ^ length (c .rules)) (c .units)
   pub good-edges : All (GoodEdge (length (c .units))) (c .edges)

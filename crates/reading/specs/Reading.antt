@@ -2,11 +2,11 @@
 use mathlib.Core.List.{List, [], _∷_}
 use Prim.Native.Nat.{ℕ, zero, suc, _+_, _*_}
 use Rattle.plan.specs.Limits.{MAX_RULES, MAX_UNITS, MAX_EDGES}
-use Rattle.plan.specs.Record.{emptyPlan, withRule, withUnit, withEdge}
-use Rattle.reading.specs.Commands.{Kind, rule, unit, edge, end, operandBytes, commandAt}
+use Rattle.plan.specs.Record.{emptyPlan, withGiven, withRule, withUnit, withEdge}
+use Rattle.reading.specs.Commands.{Kind, given, rule, unit, edge, end, operandBytes, commandAt}
 use Rattle.plan.specs.declared.record.Plan.{Plan}
 use Rattle.reading.specs.declared.command.Command.{Command}
-use Rattle.reading.specs.declared.command.Command.the-variants.{Rule, Unit as UnitOf, Edge, End, Fault as Faulty}
+use Rattle.reading.specs.declared.command.Command.the-variants.{Given, Rule, Unit as UnitOf, Edge, End, Fault as Faulty}
 use Rattle.plan.specs.declared.fault.Fault.{Fault}
 use Rattle.plan.specs.declared.fault.Outcome.the-variants.{Accepted, Refused}
 use Rattle.reading.specs.declared.reader.Reading.{Reading}
@@ -28,6 +28,7 @@ pub data Step : Type 0 where
   ended : Reading → Step
 
 abbrev pub stepOf : Plan → Command → Step
+stepOf p (Given word) = onward given (withGiven p word)
 stepOf p (Rule head positive negative) = onward rule (withRule p head positive negative)
 stepOf p (UnitOf word) = onward unit (withUnit p word)
 stepOf p (Edge u v) = onward edge (withEdge p u v)
@@ -48,14 +49,14 @@ walk p at zero (b ∷ rest) =
 unfoldable pub reading : List ℕ → Reading
 reading bytes = walk emptyPlan 0 0 bytes
 
--- "RULE 64, UNIT 16, EDGE 240": the bytes of as many commands before END as there may be
+-- GIVEN "may stand once", "RULE 64, UNIT 16, EDGE 240": the bytes of as many commands before END as there may be
 abbrev MOST_BEFORE_END : ℕ
-MOST_BEFORE_END = commandBytes rule * MAX_RULES + commandBytes unit * MAX_UNITS + commandBytes edge * MAX_EDGES
+MOST_BEFORE_END = commandBytes given + commandBytes rule * MAX_RULES + commandBytes unit * MAX_UNITS + commandBytes edge * MAX_EDGES
 
--- "The longest plan has 2,465 bytes."
+-- "The longest plan has 2,465 bytes", and 9 more with a GIVEN
 abbrev pub LONGEST_PLAN : ℕ
 LONGEST_PLAN = MOST_BEFORE_END + commandBytes end
 
--- "every reading fault, a 241st EDGE and bytes after END included, shows within 2,467"
+-- "every reading fault, a 241st EDGE and bytes after END included, shows within 2,467", and 9 more with a GIVEN
 abbrev pub DECIDING_BYTES : ℕ
 DECIDING_BYTES = MOST_BEFORE_END + commandBytes edge

@@ -1,5 +1,5 @@
 -- What reading accepts and refuses, said of a plan's lists and their layout alone: the reader, its record and its steps are not spoken of.
--- Document 01, "Faults, by where they are found", place "reading".
+-- Document 01, "Faults, by where they are found", place "reading"; document 02, S-1.
 use mathlib.Core.Path.{_≡_}
 use mathlib.Core.List.{List, [], _∷_, _++_, List·Memᴰ}
 use mathlib.Core.Logic.{_↔_}
@@ -9,7 +9,7 @@ use Rattle.atoms.specs.Word.{Has}
 use Rattle.plan.specs.Limits.{MAX_RULES, MAX_UNITS}
 use Rattle.plan.specs.Faults.{RefusedBy, TableRow, FirstFit}
 use Rattle.reading.specs.Words.{WORD_VALUES}
-use Rattle.reading.specs.Commands.{Kind, rule, unit, edge, end, byteOf, operandBytes, orderOf}
+use Rattle.reading.specs.Commands.{Kind, given, rule, unit, edge, end, byteOf, operandBytes, orderOf, earliestBehind}
 use Rattle.reading.specs.Layout.{UnitPair, Contents, ruleBytes, unitBytes, edgeBytes, endBytes, commands, layout, Within}
 use Rattle.plan.specs.declared.fault.Outcome.{Outcome}
 use Rattle.plan.specs.declared.fault.Outcome.the-variants.{Accepted}
@@ -23,6 +23,7 @@ pub record Begins (kind : Kind) (rest : List ℕ) : Type 0 where
 
 -- how many commands of the kind there are
 abbrev pub countOf : Contents → Kind → ℕ
+countOf c given = length (c .given)
 countOf c rule = length (c .rules)
 countOf c unit = length (c .units)
 countOf c edge = length (c .edges)
@@ -35,16 +36,17 @@ pub record UnknownByte (rest : List ℕ) : Type 0 where
   pub is : rest ≡ byte ∷ behind
   pub names-none : (kind : Kind) → ¬ (byte ≡ byteOf kind)
 
--- 4: "command out of group order", a command of a later group being there
+-- 4: "command out of group order", a command being there behind which it may not come; "a second or late GIVEN is 4"
 pub record OutOfGroupOrder (c : Contents) (rest : List ℕ) : Type 0 where
   pub kind : Kind
   pub begins : Begins kind rest
-  pub later : Kind
-  pub behind : orderOf kind < orderOf later
-  pub there : 0 < countOf c later
+  pub before : Kind
+  pub there : 0 < countOf c before
+  pub too-late : orderOf kind < orderOf (earliestBehind before)
 
 -- 5: "65th RULE, 17th UNIT"; a 241st EDGE is 8, or 2 where it is cut short
 abbrev pub Full : Contents → Kind → Type 0
+Full c given = ⊥
 Full c rule = MAX_RULES ≤ length (c .rules)
 Full c unit = MAX_UNITS ≤ length (c .units)
 Full c edge = ⊥

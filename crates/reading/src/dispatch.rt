@@ -6,12 +6,15 @@ ghost use Rattle.reading.specs.Commands.{commandAt};
 use crate::command::Command;
 use crate::edge::read_edge;
 use crate::end::read_end;
+use crate::given::read_given;
 use crate::rule::read_rule;
 use crate::unit::read_unit;
 use plan::Fault;
 use plan::Plan;
 
 // Column "byte" of the command table.
+const GIVEN: u8 = 0x04;
+
 const RULE: u8 = 0x01;
 
 const UNIT: u8 = 0x02;
@@ -31,6 +34,7 @@ pub fn read_command(plan: &[u8], at: usize, read: Plan) -> Command
     let code = plan[at];
     let operands = &plan[at + 1..];
     match code {
+        GIVEN => read_given(operands, at, read),
         RULE => read_rule(operands, at, read),
         UNIT => read_unit(operands, at, read),
         EDGE => read_edge(operands, at, read),

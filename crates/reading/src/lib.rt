@@ -1,8 +1,9 @@
-// Reading a plan: from its bytes to the record of its rules, units and edges, or the first fault.
+// Reading a plan: from its bytes to the record of its given atoms, rules, units and edges, or the first fault.
 mod command;
 mod dispatch;
 mod edge;
 mod end;
+mod given;
 mod order;
 mod reader;
 mod rule;

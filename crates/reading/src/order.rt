@@ -1,15 +1,17 @@
-// The order of groups: all RULEs come first, then UNITs, then EDGEs, then END.
+// The order of groups: a GIVEN, then all RULEs, then UNITs, then EDGEs, then END.
 ghost use mathlib.Core.Path.{_≡_};
 ghost use Rattle.reading.specs.Commands.{late};
 use plan::Plan;
 
-pub const RULE_GROUP: usize = 0;
+pub const GIVEN_GROUP: usize = 0;
+
+pub const RULE_GROUP: usize = GIVEN_GROUP + 1;
 
 pub const UNIT_GROUP: usize = RULE_GROUP + 1;
 
 const EDGE_GROUP: usize = UNIT_GROUP + 1;
 
-// Whether a command of a later group than this one is read.
+// Whether a command is read behind which none of this group may come. GIVEN may stand once, so behind it come RULEs at the earliest.
 pub fn is_late(group: usize, read: Plan) -> bool
     ensures { λ r. ⌜ r ≡ late read group ⌝ }
 {
@@ -18,6 +20,12 @@ pub fn is_late(group: usize, read: Plan) -> bool
     }
     if 0 < read.unit_count {
         return group < UNIT_GROUP;
+    }
+    if 0 < read.rule_count {
+        return group < RULE_GROUP;
+    }
+    if 0 < read.given_count {
+        return group < RULE_GROUP;
     }
     false
 }

@@ -1,19 +1,21 @@
-// Reading a plan from the left: RULEs, then UNITs, then EDGEs, then END.
+// Reading a plan from the left: a GIVEN, then RULEs, then UNITs, then EDGEs, then END. Any of these but END may be missing.
 ghost use mathlib.Core.Path.{_≡_};
 ghost use Rattle.plan.specs.Record.{Fitting};
-ghost use Rattle.reading.specs.Commands.{unit, edge, end};
+ghost use Rattle.reading.specs.Commands.{rule, unit, edge, end};
 ghost use Rattle.reading.specs.Progress.{placeAt, Reached};
 ghost use Rattle.reading.specs.Reading.{reading};
 ghost use Rattle.reading.specs.Refusals.{ReadingJudged};
 use crate::command::Command;
 use crate::dispatch::read_command;
 use crate::edge::EDGE_BYTES;
+use crate::given::GIVEN_BYTES;
 use crate::rule::RULE_BYTES;
 use crate::unit::UNIT_BYTES;
 use plan::Outcome;
 use plan::Plan;
 use plan::empty_plan;
 use plan::with_edge;
+use plan::with_given;
 use plan::with_rule;
 use plan::with_unit;
 
@@ -43,11 +45,26 @@ fn place(bytes: &[u8], taken: Plan, at: usize) -> Progress
     }
 }
 
+// The place behind the GIVEN, if there is one.
+fn read_givens(bytes: &[u8]) -> Progress
+    ensures { λ r. ⌜ Reached rule (now (bytes .entry)) r ⌝ }
+{
+    let progress = place(bytes, empty_plan(), 0);
+    let command = progress.command;
+    let Command::Given(word) = command else {
+        return progress;
+    };
+    let taken = with_given(progress.plan, word);
+    let at = progress.at;
+    place(bytes, taken, at + GIVEN_BYTES)
+}
+
 // The place behind all RULEs.
-fn read_rules(bytes: &[u8]) -> Progress
+fn read_rules(bytes: &[u8], from: Progress) -> Progress
+    requires { ⌜ Reached rule (now bytes) from ⌝ }
     ensures { λ r. ⌜ Reached unit (now (bytes .entry)) r ⌝ }
 {
-    let mut progress = place(bytes, empty_plan(), 0);
+    let mut progress = from;
     loop {
         let command = progress.command;
         let Command::Rule {
@@ -103,7 +120,8 @@ pub fn read_plan(plan: &[u8]) -> Reading
     ensures read { λ r. ⌜ r ≡ reading (now (plan .entry)) ⌝ }
     ensures judged { λ r. ⌜ ReadingJudged (now (plan .entry)) (r .outcome) ⌝ }
 {
-    let rules = read_rules(plan);
+    let givens = read_givens(plan);
+    let rules = read_rules(plan, givens);
     let units = read_units(plan, rules);
     let edges = read_edges(plan, units);
     let command = edges.command;

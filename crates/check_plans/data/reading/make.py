@@ -9,6 +9,10 @@ def word(w):
     return w.to_bytes(8, "little")
 
 
+def given(atoms=0):
+    return b"\x04" + word(atoms)
+
+
 def rule(head=0, positive=0, negative=0):
     return b"\x01" + word(head) + word(positive) + word(negative)
 
@@ -31,18 +35,28 @@ ALL_UNITS = unit() * 16
 
 PLANS = {
     "rule-in-no-unit": rule(head=3) + END,
-    "longest": b"".join(rule(1 << i) for i in range(64)) + unit(2**64 - 1) + unit() * 15 + EDGES + END,
+    "given": given(2) + FACT + END,
+    "given-of-no-atoms": given() + END,
+    "longest": given() + b"".join(rule(1 << i) for i in range(64)) + unit(2**64 - 1) + unit() * 15 + EDGES + END,
 
     "no-end": FACT,
     "rule-without-operands": b"\x01",
     "second-rule-cut-short": FACT + FACT[:-1],
     "unit-cut-short": FACT + unit(1)[:-1],
+    "given-cut-short": given(1)[:-1],
     "edge-cut-short": TWO_UNITS + edge(1, 0)[:-1],
 
     "unknown-byte": b"\xff" + END,
     "unknown-byte-behind-unit": FACT + unit(1) + b"\x07",
-    "command-four": b"\x04" + word(1) + END,
+    "command-nine": b"\x09" + word(1) + END,
 
+    "second-given": given(1) + given(1) + END,
+    "second-given-cut-short": given() + b"\x04",
+    "given-behind-rule": FACT + given(2) + END,
+    "given-behind-rule-cut-short": FACT + b"\x04",
+    "given-behind-unit": unit() + given(1) + END,
+    "given-behind-edge": TWO_UNITS + edge(1, 0) + given(1) + END,
+    "second-given-behind-rule": given(2) + FACT + given(2) + END,
     "rule-behind-unit": FACT + unit(1) + FACT + END,
     "rule-behind-edge": TWO_UNITS + edge(1, 0) + FACT + END,
     "unit-behind-edge": TWO_UNITS + edge(1, 0) + unit() + END,
@@ -78,6 +92,7 @@ PLANS = {
     "two-ends": END + END,
     "plan-p-and-two-bytes": PLAN_P + b"\x07\x07",
     "rule-behind-end": END + FACT,
+    "given-behind-end": END + given(1),
     "unknown-byte-behind-end": END + b"\xff",
 
     "5000-ends": END * 5000,

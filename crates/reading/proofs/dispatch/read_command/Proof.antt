@@ -1,6 +1,6 @@
 -- `read_command` meets its contract: the byte at `at` picks the kind, and the part behind it is what `commandAt` calls the operands.
 use Rattle.reading.proofs.Commands.{no-byte-there, kind-there, no-kind-there}
-use Rattle.reading.specs.Commands.{rule, unit, edge, end}
+use Rattle.reading.specs.Commands.{given, rule, unit, edge, end}
 use borrow.Author.Needs.{needs}
 use Rattle.reading.proofs.dispatch.read_command.Statement.{statement}
 use Rattle.reading.proofs.dispatch.read_command.Tie as tie
@@ -9,22 +9,31 @@ returns : tie.Need-returns
 returns c = no-byte-there _ _ _ (c .if1 .taken)
 
 returns-2 : tie.Need-returns-2
-returns-2 c = kind-there _ _ _ (c .before .before .before .before .if1 .left) rule _ (c .before .match .keys1) (c .read-rule .ensures)
+returns-2 c = kind-there _ _ _ (c .before .before .before .before .if1 .left) given _ (c .before .match .keys1) (c .read-given .ensures)
 
 returns-3 : tie.Need-returns-3
-returns-3 c = kind-there _ _ _ (c .before .before .before .before .if1 .left) unit _ (c .before .match .keys2) (c .read-unit .ensures)
+returns-3 c = kind-there _ _ _ (c .before .before .before .before .if1 .left) rule _ (c .before .match .keys2) (c .read-rule .ensures)
 
 returns-4 : tie.Need-returns-4
-returns-4 c = kind-there _ _ _ (c .before .before .before .before .if1 .left) edge _ (c .before .match .keys3) (c .read-edge .ensures)
+returns-4 c = kind-there _ _ _ (c .before .before .before .before .if1 .left) unit _ (c .before .match .keys3) (c .read-unit .ensures)
 
 returns-5 : tie.Need-returns-5
-returns-5 c = kind-there _ _ _ (c .before .before .before .before .if1 .left) end _ (c .before .match .keys4) (c .read-end .ensures)
+returns-5 c = kind-there _ _ _ (c .before .before .before .before .if1 .left) edge _ (c .before .match .keys4) (c .read-edge .ensures)
 
 returns-6 : tie.Need-returns-6
-returns-6 c =
+returns-6 c = kind-there _ _ _ (c .before .before .before .before .if1 .left) end _ (c .before .match .keys5) (c .read-end .ensures)
+
+returns-7 : tie.Need-returns-7
+returns-7 c =
     let none = c .match .rest in
     no-kind-there _ _ _ (c .before .before .before .if1 .left)
-    (elim [ rule ↦ none .0 .0 .0 .1 | unit ↦ none .0 .0 .1 | edge ↦ none .0 .1 | end ↦ none .1 ])
+    (elim [
+      | given ↦ none .0 .0 .0 .0 .1
+      | rule ↦ none .0 .0 .0 .1
+      | unit ↦ none .0 .0 .1
+      | edge ↦ none .0 .1
+      | end ↦ none .1
+    ])
 
 pub read-command-spec : {M : Type 1} → statement M
 read-command-spec =
@@ -40,8 +49,10 @@ read-command-spec =
     (λ c κs. search needs)
     (λ c κs. search needs)
     (λ c κs. search needs)
+    (λ c κs. search needs)
     returns-2
     returns-3
     returns-4
     returns-5
-    returns-6)
+    returns-6
+    returns-7)

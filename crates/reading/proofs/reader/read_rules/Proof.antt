@@ -7,8 +7,7 @@ use lib.ListN.{length}
 use Rattle.reading.specs.Commands.{rule, unit}
 use Rattle.reading.specs.Progress.{Reached}
 use Rattle.reading.proofs.Commands.{rule-room}
-use Rattle.reading.proofs.Groups.{start, Turn, taken, taken-fits, taken-there, taken-less, passed-by}
-use Rattle.reading.proofs.Limits.{empty-fits}
+use Rattle.reading.proofs.Groups.{Turn, taken, taken-fits, taken-there, taken-less, passed-by}
 use borrow.Author.Needs.{needs}
 use Rattle.reading.proofs.reader.read_rules.Statement.{statement}
 use Rattle.reading.proofs.reader.read_rules.Tie as tie
@@ -32,13 +31,11 @@ read-rules-spec =
     (tie.spec
     Inv-loop
     μ-loop
-    (λ c κs. search needs)
-    (λ c κs. rw (c .empty-plan .ensures) empty-fits)
-    (λ c. start _ _ _ (c .before .empty-plan .ensures) (c .place .ensures))
+    (λ c. c .before .pre)
     (λ c. search needs)
     returns
     (λ c κs. rule-room (took (c .before) .1 .leads .read .in-place))
     (λ c. omega (arith, took (c .before .before) .1 .inside))
     (λ c κs. taken-fits (took (c .before .before) .1) _ (c .with-rule .ensures))
-    (λ c. taken-less (took (c .before .before .before) .1) _ (c .before .with-rule .ensures) _ (c .place2 .ensures))
-    (λ c. taken-there (took (c .before .before .before) .1) _ (c .before .with-rule .ensures) _ (c .place2 .ensures)))
+    (λ c. taken-less (took (c .before .before .before) .1) _ (c .before .with-rule .ensures) _ (c .place .ensures))
+    (λ c. taken-there (took (c .before .before .before) .1) _ (c .before .with-rule .ensures) _ (c .place .ensures)))

@@ -1,0 +1,29 @@
+// GIVEN: its operand, and the rows of the fault table that it is held against.
+ghost use mathlib.Core.Path.{_≡_};
+ghost use Rattle.reading.specs.Commands.{ofKind, given};
+use crate::command::Command;
+use crate::order::GIVEN_GROUP;
+use crate::order::is_late;
+use crate::words::WORD_BYTES;
+use crate::words::read_word;
+use plan::Fault;
+use plan::Plan;
+
+// Column "operands", in bytes, and with the command's byte.
+const GIVEN_OPERANDS: usize = WORD_BYTES;
+
+pub const GIVEN_BYTES: usize = 1 + GIVEN_OPERANDS;
+
+// The GIVEN with these operands, or the fault that stops it.
+pub fn read_given(operands: &[u8], at: usize, read: Plan) -> Command
+    ensures { λ r. ⌜ r ≡ ofKind read at given (now (operands .entry)) ⌝ }
+{
+    if is_late(GIVEN_GROUP, read) {
+        return Command::Fault(Fault::OutOfOrder(at));
+    }
+    if operands.len() < GIVEN_OPERANDS {
+        return Command::Fault(Fault::Truncated(at));
+    }
+    let word = read_word(operands, 0);
+    Command::Given(word)
+}
