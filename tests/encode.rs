@@ -1,5 +1,6 @@
 //! The bytes of each command of a plan.
 
+pub const GIVEN: u8 = 0x04;
 pub const RULE: u8 = 0x01;
 pub const UNIT: u8 = 0x02;
 pub const EDGE: u8 = 0x03;

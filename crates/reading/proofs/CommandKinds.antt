@@ -10,7 +10,8 @@ use native.Mathlib.Decide.{decLt}
 use lib.Dec.{eqb, ltb, leb}
 use borrow.Author.Tests.{leb-true, eqb-true, ne-eqb, ltb-true, ltb-false, lt-ltb, le-ltb}
 use Rattle.atoms.proofs.Tests.{bool-ext, and-true}
-use Rattle.reading.specs.Commands.{Kind, given, rule, unit, edge, end, byteOf, kindAmong, kinds, kindOf, orderOf, earliestBehind, count, countBehind, late}
+use Rattle.reading.specs.Commands.{Kind, given, rule, unit, edge, end, byteOf, kindAmong, kinds, kindOf, orderOf, earliestBehind, count}
+use Rattle.reading.specs.Commands.{countBehind, late}
 use Rattle.plan.specs.declared.record.Plan.{Plan}
 
 -- ---- bytes
@@ -95,7 +96,8 @@ module _ (p : Plan) (group : ℕ) where
   some-later [] h = absurd (omega arith)
   some-later (j ∷ js) h = go (ltb group (orderOf (earliestBehind j))) refl (some-later js)
     where
-      this-or-next : group < orderOf (earliestBehind j) → (0 < countBehind p group js → Later) → Dec (0 < count p j) → 0 < count p j + countBehind p group js → Later
+      this-or-next : group < orderOf (earliestBehind j) → (0 < countBehind p group js → Later) → Dec (0 < count p j)
+          → 0 < count p j + countBehind p group js → Later
       this-or-next l rec (yes c) k = record { kind = j; behind = l; there = c }
       this-or-next l rec (no c) k = rec (omega arith)
 

@@ -21,7 +21,9 @@ elements-long f k e (x ∷ xs) =
     length-append (f x) (flatMap f xs) ∙ omega (arith, e x, elements-long f k e xs, mul-suc k (length xs))
 
 pub commands-long : (c : Contents)
-    → length (commands c) ≡ commandBytes given * length (c .given) + commandBytes rule * length (c .rules) + commandBytes unit * length (c .units) + commandBytes edge * length (c .edges)
+    → length (commands c)
+    ≡ commandBytes given * length (c .given) + commandBytes rule * length (c .rules) + commandBytes unit * length (c .units)
+    + commandBytes edge * length (c .edges)
 unfolding commands
 commands-long c =
     simp length-append

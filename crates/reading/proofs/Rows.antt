@@ -20,7 +20,8 @@ use Rattle.atoms.proofs.Sets.{decides-has, has-lt, has-without, has-below, has-
 use Rattle.plan.specs.Limits.{MAX_UNITS}
 use Rattle.plan.specs.Faults.{number, spot, TableRow, FirstFit}
 use Rattle.reading.specs.Words.{WORD_BYTES, wordAt}
-use Rattle.reading.specs.Commands.{Kind, given, rule, unit, edge, end, byteOf, kindOf, operandBytes, orderOf, earliestBehind, carrying, kinds, count, countBehind, late, full}
+use Rattle.reading.specs.Commands.{Kind, given, rule, unit, edge, end, byteOf, kindOf, operandBytes, orderOf, earliestBehind, carrying, kinds}
+use Rattle.reading.specs.Commands.{count, countBehind, late, full}
 use Rattle.reading.specs.Commands.{emptyRule, absentRule, badEdge, Row, operandRows, rows, firstFit, ofKind, commandAt}
 use Rattle.reading.specs.Layout.{RuleWords, UnitPair, Contents, predecessorsOf, recordOf, IsByte, All}
 use Rattle.reading.specs.Refusals.{Begins, countOf, Full, UnknownByte, OutOfGroupOrder, OneTooMany, CutShort, before-end, inside-operands}
@@ -309,27 +310,41 @@ module _ (c : Contents) (few : Few c) (operands : List ℕ) where
         (meets (meet refl refl (order-decided k))
         (λ e. meets (meet refl refl (many-decided k)) (λ f. meets (meet refl refl (short-decided k)) (λ g. below (ltb-false _ _ g)))))
 
+    -- the rows of another command's operands do not fit
+    past-rule : (at : ℕ) (k : Kind) → eqb (byteOf rule) (byteOf k) ≡ false → {rs : List Row} {ts : List TableRow}
+        → Agree rs ts → Agree rs (row 6 (ZeroRule (byteOf k ∷ operands)) at ∷ ts)
+    past-rule at k e a = skips (λ (z : ZeroRule (byteOf k ∷ operands)). other rule k e (z .is)) a
+
+    past-unit : (at : ℕ) (k : Kind) → eqb (byteOf unit) (byteOf k) ≡ false → {rs : List Row} {ts : List TableRow}
+        → Agree rs ts → Agree rs (row 7 (NamesAbsentRule c (byteOf k ∷ operands)) at ∷ ts)
+    past-unit at k e a = skips (λ (n : NamesAbsentRule c (byteOf k ∷ operands)). other unit k e (n .is)) a
+
+    past-edge : (at : ℕ) (k : Kind) → eqb (byteOf edge) (byteOf k) ≡ false → {rs : List Row} {ts : List TableRow}
+        → Agree rs ts → Agree rs (row 8 (WrongEdge c (byteOf k ∷ operands)) at ∷ ts)
+    past-edge at k e a = skips (λ (w : WrongEdge c (byteOf k ∷ operands)). other edge k e (w .is)) a
+
+    past-end : (at : ℕ) (k : Kind) → eqb (byteOf end) (byteOf k) ≡ false → {rs : List Row} {ts : List TableRow}
+        → Agree rs ts → Agree rs (row 9 (BytesAfterEnd (byteOf k ∷ operands)) (suc at) ∷ ts)
+    past-end at k e a = skips (λ (b : BytesAfterEnd (byteOf k ∷ operands)). other end k e (b .is)) a
+
     agree : (at : ℕ) (k : Kind) → Agree (rows (recordOf c) at k operands) (readingPlace c at (byteOf k ∷ operands))
     agree at given =
         kind-rows at given
-        (λ long. skips (λ z. other rule given refl (z .is)) (skips (λ a. other unit given refl (a .is))
-        (skips (λ w. other edge given refl (w .is)) (skips (λ b. other end given refl (b .is)) done))))
+        (λ long. past-rule at given refl (past-unit at given refl (past-edge at given refl (past-end at given refl done))))
     agree at rule =
         kind-rows at rule
         (λ long. meets (meet refl refl (zero-decided long))
-        (λ e. skips (λ a. other unit rule refl (a .is)) (skips (λ w. other edge rule refl (w .is)) (skips (λ b. other end rule refl (b .is)) done))))
+        (λ e. past-unit at rule refl (past-edge at rule refl (past-end at rule refl done))))
     agree at unit =
         kind-rows at unit
-        (λ long. skips (λ z. other rule unit refl (z .is)) (meets (meet refl refl (absent-decided long))
-        (λ e. skips (λ w. other edge unit refl (w .is)) (skips (λ b. other end unit refl (b .is)) done))))
+        (λ long. past-rule at unit refl (meets (meet refl refl (absent-decided long))
+        (λ e. past-edge at unit refl (past-end at unit refl done))))
     agree at edge =
         kind-rows at edge
-        (λ long. skips (λ z. other rule edge refl (z .is)) (skips (λ a. other unit edge refl (a .is))
-        (meets (meet refl refl (edge-decided long)) (λ e. skips (λ b. other end edge refl (b .is)) done))))
+        (λ long. past-rule at edge refl (past-unit at edge refl (meets (meet refl refl (edge-decided long)) (λ e. past-end at edge refl done))))
     agree at end =
         kind-rows at end
-        (λ long. skips (λ z. other rule end refl (z .is)) (skips (λ a. other unit end refl (a .is))
-        (skips (λ w. other edge end refl (w .is)) (meets (meet refl (add-one at) end-decided) (λ e. done)))))
+        (λ long. past-rule at end refl (past-unit at end refl (past-edge at end refl (meets (meet refl (add-one at) end-decided) (λ e. done)))))
 
 -- ---- the command at the front of s
 
