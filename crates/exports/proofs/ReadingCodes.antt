@@ -1,5 +1,5 @@
 -- Readings for hosts: what is asked by a number, the two words of what was found, and that no answer is taken for a refusal.
-use mathlib.Core.Path.{_≡_, refl, ap}
+use mathlib.Core.Path.{_≡_, refl, sym, ap, _∙_, subst}
 use mathlib.Core.List.{List, [], _∷_}
 use mathlib.Core.Logic.{_⊎_, inl, inr}
 use Prim.Native.Nat.{ℕ, _+_, _*_, _≤_, _<_, min}
@@ -12,24 +12,32 @@ use Rattle.packed_decimal.specs.Reading.{MODULUS, NOT_MEASURED}
 use Rattle.packed_decimal.specs.Refusals.{refusalNumber, refusalSpot}
 use Rattle.packed_decimal.specs.Answers.{numberOf, readingOf, addedOf}
 use Rattle.packed_decimal.specs.Largest.{READING_BYTES, readings, largestIn}
+use Rattle.packed_decimal.specs.Promised.{SaysNumber, Numbered, Repacked, Summed, Held, Sought}
 use Rattle.packed_decimal.specs.declared.reading.Reading.{Reading}
 use Rattle.packed_decimal.specs.declared.reading.Reading.the-variants.{Measured, NotMeasured}
 use Rattle.packed_decimal.specs.declared.refusal.Refusal.{Refusal}
 use Rattle.packed_decimal.specs.declared.refusal.Refusal.the-variants.{BadReading, LargeNumber}
+use Rattle.packed_decimal.specs.declared.convert.Number.{Number}
 use Rattle.packed_decimal.specs.declared.convert.Number.the-variants.{Says}
+use Rattle.packed_decimal.specs.declared.convert.Packed.{Packed}
 use Rattle.packed_decimal.specs.declared.convert.Packed.the-variants.{Word}
 use Rattle.packed_decimal.specs.declared.sum.Sum.{Sum}
+use Rattle.packed_decimal.specs.declared.sum.Added.{Added}
 use Rattle.packed_decimal.specs.declared.sum.Added.the-variants.{Is as SumIs}
+use Rattle.packed_decimal.specs.declared.limit.Compared.{Compared}
 use Rattle.packed_decimal.specs.declared.limit.Order.{Order}
 use Rattle.packed_decimal.specs.declared.limit.Order.the-variants.{Below, Equal, Above, NotMeasured as NoOrder}
 use Rattle.packed_decimal.specs.declared.largest.Found.{Found}
 use Rattle.packed_decimal.specs.declared.largest.Found.the-variants.{At, NoneMeasured}
+use Rattle.packed_decimal.specs.declared.largest.Largest.{Largest}
 use Rattle.packed_decimal.specs.declared.largest.Largest.the-variants.{Refused}
 use Rattle.packed_decimal.proofs.Conversion.{said-is, word-fits}
 use Rattle.packed_decimal.proofs.Sums.{added-fits}
 use Rattle.packed_decimal.proofs.LargestMeaning.{refused-within}
 use Rattle.exports.specs.Handed.{copied}
-use Rattle.exports.specs.Readings.{asked, refusedCode, saidCode, sumCode, orderCode, foundCode}
+use Rattle.exports.specs.Readings.{asked, refusedCode, saidCode, numberCode, readingCode, sumCode, addedCode, orderCode, comparedCode}
+use Rattle.exports.specs.Readings.{foundCode, largestCode, largestWords}
+use Rattle.exports.specs.Readings.{NumberHanded, ReadingHanded, SumHanded, CompareHanded, LargestHanded}
 
 -- ---- what is asked
 
@@ -66,6 +74,57 @@ module _ (a b : ℕ) where
   room-for-two [] n m = absurd (n refl)
   room-for-two (x ∷ []) n m = absurd (m refl)
   room-for-two (x ∷ y ∷ found) n m = rw (take-nil {A = ℕ} (length found)) refl
+
+-- ---- from what the functions promise to what their codes tell
+
+pub number-handed : {reading r : ℕ} {answer : Number} → Numbered reading answer → r ≡ numberCode answer → NumberHanded reading r
+number-handed p e = record {
+  code-is = e ∙ ap numberCode (p .is);
+  refused = λ h. e ∙ ap numberCode (p .bad h);
+  unmeasured = λ u. e ∙ ap numberCode (p .unmeasured u);
+  measured = λ x s. e ∙ ap numberCode (p .measured x s);
+}
+
+pub reading-handed : {number r : ℕ} {said : Reading} {answer : Packed} → Repacked said answer → said ≡ asked number → r ≡ readingCode answer
+    → ReadingHanded number r
+reading-handed {number} {r} {said} {answer} p q e = record {
+  code-is = e ∙ ap readingCode (p .is ∙ ap readingOf q);
+  unmeasured = λ u. e ∙ ap readingCode (p .unmeasured (q ∙ asked-unmeasured number u));
+  refused = λ n l. e ∙ ap readingCode (p .large number (q ∙ asked-measured number n) l);
+  measured = λ l.
+      let m = p .measured number (q ∙ asked-measured number (λ u. omega arith)) l in
+      subst (λ (w : ℕ). SaysNumber w number) (sym (e ∙ ap readingCode (m .1))) (m .2);
+}
+
+pub sum-handed : {a b r : ℕ} {answer : Added} → Summed a b answer → r ≡ addedCode answer → SumHanded a b r
+sum-handed p e = record {
+  code-is = e ∙ ap addedCode (p .is);
+  refuses = record { first = λ h. e ∙ ap addedCode (p .refuses .first h); second = λ g h. e ∙ ap addedCode (p .refuses .second g h) };
+  unmeasured = λ g h u. e ∙ ap addedCode (p .unmeasured g h u);
+  measured = λ x y s t. let m = p .measured x y s t in (m .0, e ∙ ap addedCode (m .1), m .2);
+}
+
+pub compare-handed : {reading limit r : ℕ} {answer : Compared} → Held reading limit answer → r ≡ comparedCode answer → CompareHanded reading limit r
+compare-handed p e = record {
+  code-is = e ∙ ap comparedCode (p .is);
+  refuses = record { first = λ h. e ∙ ap comparedCode (p .refuses .first h); second = λ g h. e ∙ ap comparedCode (p .refuses .second g h) };
+  unmeasured = λ g h u. e ∙ ap comparedCode (p .unmeasured g h u);
+  below = λ x y s t l. e ∙ ap comparedCode (p .below x y s t l);
+  equal = λ x y s t q. e ∙ ap comparedCode (p .equal x y s t q);
+  above = λ x y s t l. e ∙ ap comparedCode (p .above x y s t l);
+}
+
+pub largest-handed : {bytes found found′ : List ℕ} {r : ℕ} {answer : Largest} → Sought bytes answer → r ≡ largestCode answer
+    → found′ ≡ largestWords answer found → LargestHanded bytes found found′ r
+largest-handed {bytes} {found} p e w = record {
+  code-is = e ∙ ap largestCode (p .is);
+  found-is = w ∙ words (p .is);
+  refused = λ i l least. (e ∙ ap largestCode (p .refused i l least), w ∙ words (p .refused i l least));
+  sought = λ none. let f = p .found none in (f .0, f .2, e ∙ ap largestCode (f .1), w ∙ words (f .1));
+}
+  where
+    words : {l m : Largest} → l ≡ m → largestWords l found ≡ largestWords m found
+    words q = ap (λ (l : Largest). largestWords l found) q
 
 -- ---- refusals and answers
 

@@ -3,15 +3,20 @@
 use mathlib.Core.Path.{_≡_}
 use mathlib.Core.Bool.{true, false}
 use mathlib.Core.List.{List, [], _∷_}
-use Prim.Native.Nat.{ℕ, _+_, _*_}
+use mathlib.Core.Logic.{_⊎_}
+use Prim.Native.Nat.{ℕ, _+_, _*_, _≤_, _<_}
 use lib.Dec.{eqb}
 use Rattle.plan.specs.Faults.{CODE_STEP, codeOf}
-use Rattle.packed_decimal.specs.Reading.{NOT_MEASURED}
+use Rattle.atoms.specs.Collected.{Least}
+use Rattle.packed_decimal.specs.Reading.{MODULUS, NOT_MEASURED, IsReading}
 use Rattle.packed_decimal.specs.Refusals.{refusalNumber, refusalSpot}
-use Rattle.packed_decimal.specs.Largest.{largestIn}
+use Rattle.packed_decimal.specs.Answers.{numberOf, readingOf, addedOf, comparedOf}
+use Rattle.packed_decimal.specs.Largest.{readings, wordAt, BadAt, largestIn, Right}
+use Rattle.packed_decimal.specs.Promised.{SaysNumber, RefusesBad, Adds}
 use Rattle.packed_decimal.specs.declared.reading.Reading.{Reading}
 use Rattle.packed_decimal.specs.declared.reading.Reading.the-variants.{Measured, NotMeasured}
 use Rattle.packed_decimal.specs.declared.refusal.Refusal.{Refusal}
+use Rattle.packed_decimal.specs.declared.refusal.Refusal.the-variants.{BadReading, LargeNumber}
 use Rattle.packed_decimal.specs.declared.convert.Number.{Number}
 use Rattle.packed_decimal.specs.declared.convert.Number.the-variants.{Says, Refused as NumberRefused}
 use Rattle.packed_decimal.specs.declared.convert.Packed.{Packed}
@@ -87,7 +92,42 @@ abbrev pub largestWords : Largest → List ℕ → List ℕ
 largestWords (FoundIs what) found = foundWords what found
 largestWords (LargestRefused r) found = found
 
--- the largest of a run: the code, and every word of the lent area
+-- ---- what each function hands back: the code by the definition, and the same in the words of S-5
+
+-- the whole number that a reading says
+pub record NumberHanded (reading r : ℕ) : Type 0 where
+  pub code-is : r ≡ numberCode (numberOf reading)
+  pub refused : ¬ IsReading reading → r ≡ refusedCode (BadReading 0)
+  pub unmeasured : reading ≡ NOT_MEASURED → r ≡ NOT_MEASURED
+  pub measured : (x : ℕ) → SaysNumber reading x → r ≡ x
+
+-- the way back
+pub record ReadingHanded (number r : ℕ) : Type 0 where
+  pub code-is : r ≡ readingCode (readingOf (asked number))
+  pub unmeasured : number ≡ NOT_MEASURED → r ≡ NOT_MEASURED
+  pub refused : ¬ (number ≡ NOT_MEASURED) → MODULUS ≤ number → r ≡ refusedCode LargeNumber
+  pub measured : number < MODULUS → SaysNumber r number
+
+-- a sum
+pub record SumHanded (a b r : ℕ) : Type 0 where
+  pub code-is : r ≡ addedCode (addedOf a b)
+  pub refuses : RefusesBad a b refusedCode r
+  pub unmeasured : IsReading a → IsReading b → (a ≡ NOT_MEASURED) ⊎ (b ≡ NOT_MEASURED) → r ≡ NOT_MEASURED
+  pub measured : (x y : ℕ) → SaysNumber a x → SaysNumber b y → (s : Sum) × (r ≡ sumCode s) × Adds x y s
+
+-- a comparison
+pub record CompareHanded (reading limit r : ℕ) : Type 0 where
+  pub code-is : r ≡ comparedCode (comparedOf reading limit)
+  pub refuses : RefusesBad reading limit refusedCode r
+  pub unmeasured : IsReading reading → IsReading limit → (reading ≡ NOT_MEASURED) ⊎ (limit ≡ NOT_MEASURED) → r ≡ NOT_MEASURED
+  pub below : (x y : ℕ) → SaysNumber reading x → SaysNumber limit y → x < y → r ≡ 0
+  pub equal : (x y : ℕ) → SaysNumber reading x → SaysNumber limit y → x ≡ y → r ≡ 1
+  pub above : (x y : ℕ) → SaysNumber reading x → SaysNumber limit y → y < x → r ≡ 2
+
+-- the largest of a run, with every word of the lent area
 pub record LargestHanded (bytes found found′ : List ℕ) (r : ℕ) : Type 0 where
   pub code-is : r ≡ largestCode (largestIn bytes)
   pub found-is : found′ ≡ largestWords (largestIn bytes) found
+  pub refused : (i : ℕ) → i < readings bytes → Least (BadAt bytes) i → (r ≡ refusedCode (BadReading i)) × (found′ ≡ found)
+  pub sought : ((i : ℕ) → i < readings bytes → ¬ BadAt bytes i)
+      → (what : Found) × Right (wordAt bytes) (readings bytes) what × (r ≡ foundCode what) × (found′ ≡ foundWords what found)

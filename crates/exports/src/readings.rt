@@ -21,10 +21,9 @@ use plan::CODE_STEP;
 use plan::code_of;
 ghost use mathlib.Core.Path.{_≡_};
 ghost use mathlib.Core.List.{[], _∷_};
-ghost use Rattle.packed_decimal.specs.Answers.{numberOf, readingOf, addedOf, comparedOf};
 ghost use Rattle.exports.specs.Handed.{copied};
-ghost use Rattle.exports.specs.Readings.{refusedCode, saidCode, numberCode, asked as askedFor, readingCode, sumCode, addedCode};
-ghost use Rattle.exports.specs.Readings.{orderCode, comparedCode, foundCode, foundWords, LargestHanded};
+ghost use Rattle.exports.specs.Readings.{refusedCode, saidCode, asked as askedFor, sumCode, orderCode, foundCode, foundWords};
+ghost use Rattle.exports.specs.Readings.{NumberHanded, ReadingHanded, SumHanded, CompareHanded, LargestHanded};
 
 // Not measured, as a number.
 const NO_NUMBER: u64 = NOT_MEASURED as u64;
@@ -104,7 +103,7 @@ fn write_pair(first: u64, second: u64, found: &mut [u64])
 // The whole number that a reading says: 65,535 where nothing was measured, else the code of the refusal.
 #[no_mangle]
 pub extern "C" fn lucarnecress_reading_number(reading: u16) -> u64
-    ensures { λ r. ⌜ r ≡ numberCode (numberOf reading) ⌝ }
+    ensures { λ r. ⌜ NumberHanded reading r ⌝ }
 {
     match to_number(reading) {
         Number::Says(said) => said_code(said),
@@ -115,7 +114,7 @@ pub extern "C" fn lucarnecress_reading_number(reading: u16) -> u64
 // The reading that says a whole number, and 65,535 for 65,535; else the code of the refusal.
 #[no_mangle]
 pub extern "C" fn lucarnecress_reading_of(number: u64) -> u64
-    ensures { λ r. ⌜ r ≡ readingCode (readingOf (askedFor number)) ⌝ }
+    ensures { λ r. ⌜ ReadingHanded number r ⌝ }
 {
     match to_reading(asked(number)) {
         Packed::Word(word) => word as u64,
@@ -126,7 +125,7 @@ pub extern "C" fn lucarnecress_reading_of(number: u64) -> u64
 // The sum of two readings modulo 10,000: 65,536 times the carry plus the reading, else the code of the refusal.
 #[no_mangle]
 pub extern "C" fn lucarnecress_reading_sum(a: u16, b: u16) -> u64
-    ensures { λ r. ⌜ r ≡ addedCode (addedOf a b) ⌝ }
+    ensures { λ r. ⌜ SumHanded a b r ⌝ }
 {
     match add(a, b) {
         Added::Is(sum) => sum_code(sum),
@@ -137,7 +136,7 @@ pub extern "C" fn lucarnecress_reading_sum(a: u16, b: u16) -> u64
 // A reading against a limit: 0 below, 1 equal, 2 above, 65,535 not measured, else the code of the refusal.
 #[no_mangle]
 pub extern "C" fn lucarnecress_reading_compare(reading: u16, limit: u16) -> u64
-    ensures { λ r. ⌜ r ≡ comparedCode (comparedOf reading limit) ⌝ }
+    ensures { λ r. ⌜ CompareHanded reading limit r ⌝ }
 {
     match compare(reading, limit) {
         Compared::Is(order) => order_code(order),

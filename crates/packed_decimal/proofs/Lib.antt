@@ -7,3 +7,4 @@ pub mod Sums
 pub mod Orders
 pub mod LargestReading
 pub mod LargestMeaning
+pub mod Promises

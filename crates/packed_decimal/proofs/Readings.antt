@@ -5,7 +5,7 @@ use Prim.Native.Nat.{ℕ, zero, suc, _/_, _%_, _^_, _<_}
 use lib.Dec.{ltb}
 use borrow.Author.Tests.{ltb-true, lt-ltb, eq-eqb, ne-eqb}
 use Rattle.atoms.specs.Bounded.{Decides}
-use Rattle.atoms.proofs.Tests.{decides, decides-iff, decides-and, decides-or, decides-equal}
+use Rattle.atoms.proofs.Tests.{decides, decided-true, decides-iff, decides-and, decides-or, decides-equal}
 use Rattle.packed_decimal.specs.Reading.{TEN, DIGITS, DIGIT_VALUES, NOT_MEASURED, unpacked, Decimal, decimal, IsReading, isReading, says}
 use Rattle.packed_decimal.specs.MeasuredWord.{MeasuredWord}
 use Rattle.packed_decimal.specs.declared.reading.Reading.the-variants.{Measured, NotMeasured}
@@ -61,3 +61,6 @@ module _ (word : ℕ) (other : ¬ (word ≡ NOT_MEASURED)) where
 -- a word that keeps the digit rule is a reading, and measured
 pub decimal-measured : (word : ℕ) → Decimal DIGITS word → ¬ (word ≡ NOT_MEASURED)
 decimal-measured word d e = unmeasured-breaks-rule (rw e at d)
+
+pub decimal-reading : (word : ℕ) → Decimal DIGITS word → isReading word ≡ true
+decimal-reading word d = measured-is word (decimal-measured word d) ∙ decided-true (decides-decimal DIGITS word) d

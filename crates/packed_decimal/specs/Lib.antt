@@ -3,4 +3,5 @@ pub mod Reading
 pub mod Refusals
 pub mod Answers
 pub mod Largest
+pub mod Promised
 pub mod MeasuredWord

@@ -6,8 +6,7 @@ use crate::reading::Reading;
 use crate::reading::is_reading;
 use crate::reading::says;
 use crate::refusal::Refusal;
-ghost use mathlib.Core.Path.{_≡_};
-ghost use Rattle.packed_decimal.specs.Answers.{numberOf, readingOf};
+ghost use Rattle.packed_decimal.specs.Promised.{Numbered, Repacked};
 
 // What a word says as a reading, or its refusal.
 pub enum Number {
@@ -23,7 +22,7 @@ pub enum Packed {
 
 // The whole number that the reading says, or that nothing was measured.
 pub fn to_number(word: u16) -> Number
-    ensures { λ r. ⌜ r ≡ numberOf word ⌝ }
+    ensures { λ r. ⌜ Numbered word r ⌝ }
 {
     if !is_reading(word) {
         return Number::Refused(Refusal::BadReading(0));
@@ -33,7 +32,7 @@ pub fn to_number(word: u16) -> Number
 
 // The reading that says the whole number; not measured stays so.
 pub fn to_reading(number: Reading) -> Packed
-    ensures { λ r. ⌜ r ≡ readingOf number ⌝ }
+    ensures { λ r. ⌜ Repacked number r ⌝ }
 {
     let Reading::Measured(x) = number else {
         return Packed::Word(NOT_MEASURED);

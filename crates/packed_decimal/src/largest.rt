@@ -8,7 +8,8 @@ ghost use lib.ListN.{length};
 ghost use mathlib.Core.Bool.{true};
 ghost use Rattle.packed_decimal.specs.Reading.{isReading, says};
 ghost use Rattle.packed_decimal.specs.MeasuredWord.{MeasuredFound};
-ghost use Rattle.packed_decimal.specs.Largest.{larger as largerOf, READING_BYTES as Largest·READING_BYTES, wordAt, largestIn};
+ghost use Rattle.packed_decimal.specs.Largest.{larger as largerOf, READING_BYTES as Largest·READING_BYTES, wordAt};
+ghost use Rattle.packed_decimal.specs.Promised.{Sought};
 
 // What a run of readings has: the word of its largest measured one with its lowest place, counted in readings from 0; or none measured.
 pub enum Found {
@@ -28,7 +29,7 @@ const BYTE_VALUES: u16 = 0x100;
 
 // The largest measured reading of the bytes, or that none was measured.
 pub fn find_largest(bytes: &[u8]) -> Largest
-    ensures { λ r. ⌜ r ≡ largestIn (now (bytes .entry)) ⌝ }
+    ensures { λ r. ⌜ Sought (now (bytes .entry)) r ⌝ }
 {
     let whole = bytes.len() / READING_BYTES;
     let mut found = Found::NoneMeasured;

@@ -6,7 +6,8 @@ use crate::refusal::Refusal;
 ghost use mathlib.Core.Path.{_≡_};
 ghost use mathlib.Core.Bool.{true};
 ghost use Rattle.packed_decimal.specs.Reading.{isReading, says};
-ghost use Rattle.packed_decimal.specs.Answers.{orderOf, comparedOf};
+ghost use Rattle.packed_decimal.specs.Answers.{orderOf};
+ghost use Rattle.packed_decimal.specs.Promised.{Held};
 
 // How a reading stands to its limit.
 pub enum Order {
@@ -24,7 +25,7 @@ pub enum Compared {
 
 // Holds a reading against a limit.
 pub fn compare(word: u16, limit: u16) -> Compared
-    ensures { λ r. ⌜ r ≡ comparedOf word limit ⌝ }
+    ensures { λ r. ⌜ Held word limit r ⌝ }
 {
     let bad = first_bad(word, limit);
     if bad < PAIR {

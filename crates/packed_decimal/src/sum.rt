@@ -9,7 +9,8 @@ use crate::refusal::Refusal;
 ghost use mathlib.Core.Path.{_≡_};
 ghost use mathlib.Core.Bool.{true};
 ghost use Rattle.packed_decimal.specs.Reading.{isReading, says};
-ghost use Rattle.packed_decimal.specs.Answers.{sumOf, addedOf};
+ghost use Rattle.packed_decimal.specs.Answers.{sumOf};
+ghost use Rattle.packed_decimal.specs.Promised.{Summed};
 ghost use Rattle.packed_decimal.specs.declared.reading.Reading.{Reading};
 
 // A sum: its word, and 1 where it went past 9999.
@@ -26,7 +27,7 @@ pub enum Added {
 
 // The sum modulo 10,000, and its carry.
 pub fn add(a: u16, b: u16) -> Added
-    ensures { λ r. ⌜ r ≡ addedOf a b ⌝ }
+    ensures { λ r. ⌜ Summed a b r ⌝ }
 {
     let bad = first_bad(a, b);
     if bad < PAIR {

@@ -2,14 +2,19 @@
 use mathlib.Core.Path.{sym, ap, _∙_}
 use borrow.Author.Needs.{needs}
 use Rattle.exports.specs.Readings.{comparedCode}
+use Rattle.exports.proofs.ReadingCodes.{compare-handed}
 use Rattle.exports.proofs.readings.lucarnecress_reading_compare.Statement.{statement}
 use Rattle.exports.proofs.readings.lucarnecress_reading_compare.Tie as tie
 
 returns : tie.Need-returns
-returns c = c .order-code .ensures ∙ ap comparedCode (sym (c .before .before .order .given .1) ∙ c .before .before .before .before .compare .ensures)
+returns c =
+    compare-handed (c .before .before .before .before .compare .ensures)
+    (c .order-code .ensures ∙ ap comparedCode (sym (c .before .before .order .given .1)))
 
 returns-2 : tie.Need-returns-2
-returns-2 c = c .refused-code .ensures ∙ ap comparedCode (sym (c .before .before .refusal .given .1) ∙ c .before .before .before .before .compare .ensures)
+returns-2 c =
+    compare-handed (c .before .before .before .before .compare .ensures)
+    (c .refused-code .ensures ∙ ap comparedCode (sym (c .before .before .refusal .given .1)))
 
 pub lucarnecress-reading-compare-spec : {M : Type 1} → statement M
 lucarnecress-reading-compare-spec =

@@ -3,27 +3,24 @@ use mathlib.Core.Path.{sym, ap, _∙_}
 use borrow.Author.Needs.{needs}
 use Rattle.packed_decimal.specs.declared.largest.Largest.{Largest}
 use Rattle.exports.specs.Readings.{largestCode, largestWords}
+use Rattle.exports.proofs.ReadingCodes.{largest-handed}
 use Rattle.exports.proofs.readings.lucarnecress_reading_largest.Statement.{statement}
 use Rattle.exports.proofs.readings.lucarnecress_reading_largest.Tie as tie
 
 returns : tie.Need-returns
 returns c =
     let found = c .before .before .before .before .before .before .before .before .before .before .args .found .now in
-    let told = c .before .before .before .before .before .what .given .1 in
-    let answer = sym told ∙ c .before .before .before .before .before .before .before .find-largest .ensures in
-    record {
-      code-is = c .before .before .hand-found .ensures .0 ∙ ap largestCode answer;
-      found-is = c .before .before .hand-found .ensures .1 ∙ ap (λ (l : Largest). largestWords l found) answer;
-    }
+    let told = sym (c .before .before .before .before .before .what .given .1) in
+    largest-handed (c .before .before .before .before .before .before .before .find-largest .ensures)
+    (c .before .before .hand-found .ensures .0 ∙ ap largestCode told)
+    (c .before .before .hand-found .ensures .1 ∙ ap (λ (l : Largest). largestWords l found) told)
 
 returns-2 : tie.Need-returns-2
 returns-2 c =
     let found = c .before .before .before .before .before .before .before .args .found .now in
-    let answer = sym (c .before .before .refusal .given .1) ∙ c .before .before .before .before .find-largest .ensures in
-    record {
-      code-is = c .refused-code .ensures ∙ ap largestCode answer;
-      found-is = ap (λ (l : Largest). largestWords l found) answer;
-    }
+    let told = sym (c .before .before .refusal .given .1) in
+    largest-handed (c .before .before .before .before .find-largest .ensures) (c .refused-code .ensures ∙ ap largestCode told)
+    (ap (λ (l : Largest). largestWords l found) told)
 
 pub lucarnecress-reading-largest-spec : {M : Type 1} → statement M
 lucarnecress-reading-largest-spec =

@@ -2,14 +2,19 @@
 use mathlib.Core.Path.{sym, ap, _∙_}
 use borrow.Author.Needs.{needs}
 use Rattle.exports.specs.Readings.{numberCode}
+use Rattle.exports.proofs.ReadingCodes.{number-handed}
 use Rattle.exports.proofs.readings.lucarnecress_reading_number.Statement.{statement}
 use Rattle.exports.proofs.readings.lucarnecress_reading_number.Tie as tie
 
 returns : tie.Need-returns
-returns c = c .said-code .ensures ∙ ap numberCode (sym (c .before .before .said .given .1) ∙ c .before .before .before .before .to-number .ensures)
+returns c =
+    number-handed (c .before .before .before .before .to-number .ensures)
+    (c .said-code .ensures ∙ ap numberCode (sym (c .before .before .said .given .1)))
 
 returns-2 : tie.Need-returns-2
-returns-2 c = c .refused-code .ensures ∙ ap numberCode (sym (c .before .before .refusal .given .1) ∙ c .before .before .before .before .to-number .ensures)
+returns-2 c =
+    number-handed (c .before .before .before .before .to-number .ensures)
+    (c .refused-code .ensures ∙ ap numberCode (sym (c .before .before .refusal .given .1)))
 
 pub lucarnecress-reading-number-spec : {M : Type 1} → statement M
 lucarnecress-reading-number-spec =

@@ -2,14 +2,19 @@
 use mathlib.Core.Path.{sym, ap, _∙_}
 use borrow.Author.Needs.{needs}
 use Rattle.exports.specs.Readings.{addedCode}
+use Rattle.exports.proofs.ReadingCodes.{sum-handed}
 use Rattle.exports.proofs.readings.lucarnecress_reading_sum.Statement.{statement}
 use Rattle.exports.proofs.readings.lucarnecress_reading_sum.Tie as tie
 
 returns : tie.Need-returns
-returns c = c .sum-code .ensures ∙ ap addedCode (sym (c .before .before .sum .given .1) ∙ c .before .before .before .before .add .ensures)
+returns c =
+    sum-handed (c .before .before .before .before .add .ensures)
+    (c .sum-code .ensures ∙ ap addedCode (sym (c .before .before .sum .given .1)))
 
 returns-2 : tie.Need-returns-2
-returns-2 c = c .refused-code .ensures ∙ ap addedCode (sym (c .before .before .refusal .given .1) ∙ c .before .before .before .before .add .ensures)
+returns-2 c =
+    sum-handed (c .before .before .before .before .add .ensures)
+    (c .refused-code .ensures ∙ ap addedCode (sym (c .before .before .refusal .given .1)))
 
 pub lucarnecress-reading-sum-spec : {M : Type 1} → statement M
 lucarnecress-reading-sum-spec =

@@ -4,17 +4,24 @@ use borrow.Author.Needs.{needs}
 use Rattle.packed_decimal.specs.Answers.{readingOf}
 use Rattle.packed_decimal.specs.declared.convert.Packed.the-variants.{Word}
 use Rattle.packed_decimal.proofs.Conversion.{reading-large, reading-word, reading-unmeasured}
+use Rattle.packed_decimal.proofs.Promises.{repacked}
 use Rattle.packed_decimal.proofs.convert.to_reading.Statement.{statement}
 use Rattle.packed_decimal.proofs.convert.to_reading.Tie as tie
 
 returns : tie.Need-returns
-returns c = sym reading-unmeasured ∙ ap readingOf (sym (c .enum-told .given .1))
+returns c =
+    repacked _
+    (sym reading-unmeasured ∙ ap readingOf (sym (c .enum-told .given .1)))
 
 returns-2 : tie.Need-returns-2
-returns-2 c = sym (reading-large _ (c .if1 .taken)) ∙ ap readingOf (sym (c .before .before .number .given .1))
+returns-2 c =
+    repacked _
+    (sym (reading-large _ (c .if1 .taken)) ∙ ap readingOf (sym (c .before .before .number .given .1)))
 
 returns-3 : tie.Need-returns-3
-returns-3 c = ap Word (c .pack .ensures) ∙ sym (reading-word _ (c .before .if1 .left)) ∙ ap readingOf (sym (c .before .before .before .number .given .1))
+returns-3 c =
+    repacked _
+    (ap Word (c .pack .ensures) ∙ sym (reading-word _ (c .before .if1 .left)) ∙ ap readingOf (sym (c .before .before .before .number .given .1)))
 
 pub to-reading-spec : {M : Type 1} → statement M
 to-reading-spec = tie.close (tie.spec (λ c. search needs) (λ c. search needs) returns returns-2 (λ c κs. search needs) returns-3)

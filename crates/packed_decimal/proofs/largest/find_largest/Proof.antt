@@ -5,6 +5,7 @@ use native.Mathlib.Omega.{arith}
 use borrow.Author.Needs.{needs}
 use borrow.Author.Tests.{not-true, not-false}
 use Rattle.packed_decimal.proofs.LargestReading.{Seeking, seeking-start, seeking-bad, seeking-more, seeking-lone, seeking-all}
+use Rattle.packed_decimal.proofs.Promises.{sought}
 use Rattle.packed_decimal.proofs.largest.find_largest.Statement.{statement}
 use Rattle.packed_decimal.proofs.largest.find_largest.Tie as tie
 
@@ -16,9 +17,10 @@ abbrev μ-loop : tie.MeasureT-loop
 
 returns : tie.Need-returns Inv-loop μ-loop
 returns c =
-    sym
+    sought _
+    (sym
     (seeking-bad (c .before .before .before .before .loop .inv) (c .before .before .word-at .ensures) (c .before .before .before .loop-test .taken)
-    (sym (c .before .is-reading .ensures) ∙ not-true _ (c .if1 .taken)))
+    (sym (c .before .is-reading .ensures) ∙ not-true _ (c .if1 .taken))))
 
 larger-requires : tie.Need-larger-requires Inv-loop μ-loop
 larger-requires c κs = (
@@ -33,10 +35,14 @@ loop-again c =
     (sym (c .before .before .is-reading .ensures) ∙ not-false _ (c .before .if1 .left)) (c .larger .ensures)
 
 returns-2 : tie.Need-returns-2 Inv-loop μ-loop
-returns-2 c = sym (seeking-lone (c .before .before .loop .inv) (c .before .loop-test .left) (c .if2 .taken))
+returns-2 c =
+    sought _
+    (sym (seeking-lone (c .before .before .loop .inv) (c .before .loop-test .left) (c .if2 .taken)))
 
 returns-3 : tie.Need-returns-3 Inv-loop μ-loop
-returns-3 c = sym (seeking-all (c .before .before .loop .inv) (c .before .loop-test .left) (c .if2 .left))
+returns-3 c =
+    sought _
+    (sym (seeking-all (c .before .before .loop .inv) (c .before .loop-test .left) (c .if2 .left)))
 
 pub find-largest-spec : {M : Type 1} → statement M
 find-largest-spec =

@@ -5,11 +5,14 @@ use borrow.Author.Needs.{needs}
 use Rattle.packed_decimal.specs.declared.limit.Compared.the-variants.{Is}
 use Rattle.packed_decimal.proofs.FirstBad.{pair-good}
 use Rattle.packed_decimal.proofs.Orders.{compared-refused, compared-is}
+use Rattle.packed_decimal.proofs.Promises.{held}
 use Rattle.packed_decimal.proofs.limit.compare.Statement.{statement}
 use Rattle.packed_decimal.proofs.limit.compare.Tie as tie
 
 returns : tie.Need-returns
-returns c = sym (compared-refused (c .before .before .args .word) (c .before .before .args .limit) (c .before .first-bad .ensures) (c .if1 .taken))
+returns c =
+    held _ _
+    (sym (compared-refused (c .before .before .args .word) (c .before .before .args .limit) (c .before .first-bad .ensures) (c .if1 .taken)))
 
 order-of-requires : tie.Need-order-of-requires
 order-of-requires c κs =
@@ -18,8 +21,9 @@ order-of-requires c κs =
 returns-2 : tie.Need-returns-2
 returns-2 c =
     let args = c .before .before .before .args in
-    ap Is (c .order-of .ensures)
-    ∙ sym (compared-is (args .word) (args .limit) (omega (arith, c .before .before .first-bad .ensures, c .before .if1 .left)))
+    held _ _
+    (ap Is (c .order-of .ensures)
+    ∙ sym (compared-is (args .word) (args .limit) (omega (arith, c .before .before .first-bad .ensures, c .before .if1 .left))))
 
 pub compare-spec : {M : Type 1} → statement M
 compare-spec = tie.close (tie.spec (λ c κs. search needs) returns order-of-requires returns-2)

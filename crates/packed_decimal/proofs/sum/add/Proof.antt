@@ -5,11 +5,14 @@ use borrow.Author.Needs.{needs}
 use Rattle.packed_decimal.proofs.FirstBad.{pair-good}
 use Rattle.packed_decimal.proofs.Sums.{added-refused, added-is}
 use Rattle.packed_decimal.specs.declared.sum.Added.the-variants.{Is}
+use Rattle.packed_decimal.proofs.Promises.{summed}
 use Rattle.packed_decimal.proofs.sum.add.Statement.{statement}
 use Rattle.packed_decimal.proofs.sum.add.Tie as tie
 
 returns : tie.Need-returns
-returns c = sym (added-refused (c .before .before .args .a) (c .before .before .args .b) (c .before .first-bad .ensures) (c .if1 .taken))
+returns c =
+    summed _ _
+    (sym (added-refused (c .before .before .args .a) (c .before .before .args .b) (c .before .first-bad .ensures) (c .if1 .taken)))
 
 sum-of-requires : tie.Need-sum-of-requires
 sum-of-requires c κs =
@@ -18,8 +21,9 @@ sum-of-requires c κs =
 returns-2 : tie.Need-returns-2
 returns-2 c =
     let args = c .before .before .before .args in
-    ap Is (c .sum-of .ensures)
-    ∙ sym (added-is (args .a) (args .b) (omega (arith, c .before .before .first-bad .ensures, c .before .if1 .left)))
+    summed _ _
+    (ap Is (c .sum-of .ensures)
+    ∙ sym (added-is (args .a) (args .b) (omega (arith, c .before .before .first-bad .ensures, c .before .if1 .left))))
 
 pub add-spec : {M : Type 1} → statement M
 add-spec = tie.close (tie.spec (λ c κs. search needs) returns sum-of-requires returns-2)

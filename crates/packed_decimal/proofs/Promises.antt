@@ -1,0 +1,141 @@
+-- The definitions of the answers say what document 02 says: each promise of specs/Promised.antt holds of its definition, and of a result that
+-- equals it.
+use mathlib.Core.Path.{_≡_, sym, ap, ap₂, _∙_}
+use mathlib.Core.Bool.{true, false}
+use mathlib.Core.List.{List, [], _∷_}
+use mathlib.Core.Logic.{_⊎_, inl, inr}
+use Prim.Native.Nat.{ℕ, _+_, _%_, _<_}
+use native.Mathlib.Omega.{arith}
+use Rattle.atoms.proofs.Tests.{decided-true, decided-false}
+use Rattle.packed_decimal.specs.Reading.{DIGITS, MODULUS, NOT_MEASURED, packed, IsReading, isReading, says}
+use Rattle.packed_decimal.specs.Refusals.{firstBad}
+use Rattle.packed_decimal.specs.Answers.{numberOf, readingOf, sumOf, addedOf, orderOf, comparedOf}
+use Rattle.packed_decimal.specs.Largest.{readings, wordAt, badAt, largestOf, largestIn}
+use Rattle.packed_decimal.specs.Promised.{SaysNumber, Numbered, Repacked, Adds, Summed, Held, Sought}
+use Rattle.packed_decimal.specs.declared.reading.Reading.{Reading}
+use Rattle.packed_decimal.specs.declared.reading.Reading.the-variants.{Measured}
+use Rattle.packed_decimal.specs.declared.convert.Number.{Number}
+use Rattle.packed_decimal.specs.declared.convert.Number.the-variants.{Says}
+use Rattle.packed_decimal.specs.declared.convert.Packed.{Packed}
+use Rattle.packed_decimal.specs.declared.sum.Added.{Added}
+use Rattle.packed_decimal.specs.declared.sum.Added.the-variants.{Is as SumIs}
+use Rattle.packed_decimal.specs.declared.limit.Order.the-variants.{NotMeasured as NoOrder}
+use Rattle.packed_decimal.specs.declared.limit.Compared.{Compared}
+use Rattle.packed_decimal.specs.declared.limit.Compared.the-variants.{Is as OrderIs}
+use Rattle.packed_decimal.specs.declared.largest.Largest.{Largest}
+use Rattle.packed_decimal.specs.declared.largest.Largest.the-variants.{Is as FoundIs, Refused as LargestRefused}
+use Rattle.packed_decimal.proofs.FirstBad.{unless-first, unless-none, pair-first, pair-second, pair-none}
+use Rattle.packed_decimal.proofs.Sums.{unmeasuredSum, sum-unmeasured-left, sum-unmeasured-right, added-refused, added-is}
+use Rattle.packed_decimal.proofs.Orders.{order-unmeasured-left, order-unmeasured-right, order-below, order-above, order-equal}
+use Rattle.packed_decimal.proofs.Orders.{compared-refused, compared-is}
+use Rattle.packed_decimal.proofs.LargestMeaning.{largest-right, decides-bad}
+use Rattle.packed_decimal.proofs.Conversion.{number-bad, number-says, reading-large, reading-word, reading-unmeasured}
+use Rattle.packed_decimal.proofs.Conversion.{unpacked-packed, packed-decimal, packed-fits, unpacked-fits}
+use Rattle.packed_decimal.proofs.Readings.{decides-reading, unmeasured-is, unmeasured-says, measured-says, decimal-measured, decimal-reading}
+
+-- ---- a word that says a number
+
+said : {word x : ℕ} → SaysNumber word x → says word ≡ Measured x
+said {word} s = measured-says word (decimal-measured word (s .rule)) ∙ ap Measured (s .says-is)
+
+said-lt : {word x : ℕ} → SaysNumber word x → x < MODULUS
+said-lt {word} s = rw (← s .says-is) (unpacked-fits DIGITS word (s .rule))
+
+packed-says : (x : ℕ) → x < MODULUS → SaysNumber (packed DIGITS x) x
+packed-says x l = record { fits = packed-fits DIGITS x; rule = packed-decimal DIGITS x; says-is = unpacked-packed DIGITS x l }
+
+said-good : {word x : ℕ} → SaysNumber word x → isReading word ≡ true
+said-good {word} s = decimal-reading word (s .rule)
+
+good : {word : ℕ} → IsReading word → isReading word ≡ true
+good {word} h = decided-true (decides-reading word) h
+
+bad : {word : ℕ} → ¬ IsReading word → isReading word ≡ false
+bad {word} h = decided-false (decides-reading word) h
+
+-- ---- one reading
+
+pub numbered : (word : ℕ) {r : Number} → r ≡ numberOf word → Numbered word r
+numbered word e = record {
+  is = e;
+  bad = λ h. e ∙ number-bad word (bad h);
+  unmeasured = λ u. e ∙ number-says word (unmeasured-is word u) ∙ ap Says (unmeasured-says word u);
+  measured = λ x s. e ∙ number-says word (said-good s) ∙ ap Says (said s);
+}
+
+pub repacked : (number : Reading) {r : Packed} → r ≡ readingOf number → Repacked number r
+repacked number e = record {
+  is = e;
+  unmeasured = λ u. e ∙ ap readingOf u ∙ reading-unmeasured;
+  large = λ x m l. e ∙ ap readingOf m ∙ reading-large x l;
+  measured = λ x m l. (packed DIGITS x, e ∙ ap readingOf m ∙ reading-word x l, packed-says x l);
+}
+
+-- ---- two readings
+
+sum-adds-up : (x y : ℕ) → x < MODULUS → y < MODULUS → Adds x y (sumOf (Measured x) (Measured y))
+sum-adds-up x y hx hy = record { rest = (x + y) % MODULUS; says-rest = packed-says ((x + y) % MODULUS) (omega arith); total = omega arith }
+
+module _ (a b : ℕ) {r : Added} (e : r ≡ addedOf a b) where
+  added : isReading a ≡ true → isReading b ≡ true → r ≡ SumIs (sumOf (says a) (says b))
+  added ga gb = let none : firstBad (a ∷ b ∷ []) ≡ 2 = pair-none a b ga gb in e ∙ added-is a b (omega arith)
+
+  added-unmeasured : (a ≡ NOT_MEASURED) ⊎ (b ≡ NOT_MEASURED) → sumOf (says a) (says b) ≡ unmeasuredSum
+  added-unmeasured (inl u) = sum-unmeasured-left (says a) (says b) (unmeasured-says a u)
+  added-unmeasured (inr u) = sum-unmeasured-right (says a) (says b) (unmeasured-says b u)
+
+  pub summed : Summed a b r
+  summed = record {
+    is = e;
+    refuses = record {
+      first = λ h. e ∙ added-refused a b (sym (pair-first a b (bad h))) (omega arith);
+      second = λ g h. e ∙ added-refused a b (sym (pair-second a b (good g) (bad h))) (omega arith);
+    };
+    unmeasured = λ g h u. added (good g) (good h) ∙ ap SumIs (added-unmeasured u);
+    measured = λ x y s t. (
+      sumOf (Measured x) (Measured y),
+      added (said-good s) (said-good t) ∙ ap SumIs (ap₂ sumOf (said s) (said t)),
+      sum-adds-up x y (said-lt s) (said-lt t),
+    );
+  }
+
+module _ (word limit : ℕ) {r : Compared} (e : r ≡ comparedOf word limit) where
+  compared : isReading word ≡ true → isReading limit ≡ true → r ≡ OrderIs (orderOf (says word) (says limit))
+  compared gw gl = let none : firstBad (word ∷ limit ∷ []) ≡ 2 = pair-none word limit gw gl in e ∙ compared-is word limit (omega arith)
+
+  compared-unmeasured : (word ≡ NOT_MEASURED) ⊎ (limit ≡ NOT_MEASURED) → orderOf (says word) (says limit) ≡ NoOrder
+  compared-unmeasured (inl u) = order-unmeasured-left (says word) (says limit) (unmeasured-says word u)
+  compared-unmeasured (inr u) = order-unmeasured-right (says word) (says limit) (unmeasured-says limit u)
+
+  numbers : {x y : ℕ} → SaysNumber word x → SaysNumber limit y → r ≡ OrderIs (orderOf (Measured x) (Measured y))
+  numbers s t = compared (said-good s) (said-good t) ∙ ap OrderIs (ap₂ orderOf (said s) (said t))
+
+  pub held : Held word limit r
+  held = record {
+    is = e;
+    refuses = record {
+      first = λ h. e ∙ compared-refused word limit (sym (pair-first word limit (bad h))) (omega arith);
+      second = λ g h. e ∙ compared-refused word limit (sym (pair-second word limit (good g) (bad h))) (omega arith);
+    };
+    unmeasured = λ g h u. compared (good g) (good h) ∙ ap OrderIs (compared-unmeasured u);
+    below = λ x y s t l. numbers s t ∙ ap OrderIs (order-below x y l);
+    equal = λ x y s t q. numbers s t ∙ ap OrderIs (order-equal x y (omega arith) (omega arith));
+    above = λ x y s t l. numbers s t ∙ ap OrderIs (order-above x y l);
+  }
+
+-- ---- a run
+
+pub sought : (bytes : List ℕ) {r : Largest} → r ≡ largestIn bytes → Sought bytes r
+unfolding largestIn
+sought bytes e = record {
+  is = e;
+  refused = λ i l least.
+      e ∙ unless-first (readings bytes) (badAt bytes) LargestRefused (FoundIs (largestOf (wordAt bytes) (readings bytes))) i l
+      (decided-true (decides-bad bytes i) (least .here)) (λ j k. decided-false (decides-bad bytes j) (least .least j k));
+  found = λ none. (
+    largestOf (wordAt bytes) (readings bytes),
+    e ∙ unless-none (readings bytes) (badAt bytes) LargestRefused (FoundIs (largestOf (wordAt bytes) (readings bytes)))
+        (λ j k. decided-false (decides-bad bytes j) (none j k)),
+    largest-right (wordAt bytes) (readings bytes),
+  );
+}
