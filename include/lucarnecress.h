@@ -38,7 +38,8 @@ enum {
     LUCARNECRESS_LONG_LIST = 15,
     LUCARNECRESS_GIVEN_IN_HEAD = 16,
     LUCARNECRESS_TOO_MANY_QUESTIONS = 17,
-    LUCARNECRESS_BAD_READING = 20
+    LUCARNECRESS_BAD_READING = 20,
+    LUCARNECRESS_CONTRADICTORY_BODY = 21
 };
 
 /* ---- lists ------------------------------------------------------------------------------------------------------------------- */

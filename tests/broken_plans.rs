@@ -172,7 +172,7 @@ fn break_reading(random: &mut Random, draft: &Draft, groups: &Groups, commands: 
     let (units, rules) = (draft.units.len() as u8, draft.rules.len());
     let edge = (random.byte() % 20, random.byte() % 20);
     let any_word = random.word() >> random.below(64);
-    let (first, last, command) = match random.below(16) {
+    let (first, last, command) = match random.below(19) {
         0 => (0, groups.end, vec![random.byte()]),
         1 => (groups.rules, groups.units, encode::rule(0, 0, 0)),
         2 => (groups.units, groups.edges, encode::unit(any_word)),
@@ -188,6 +188,9 @@ fn break_reading(random: &mut Random, draft: &Draft, groups: &Groups, commands: 
         12 => (0, groups.end, encode::given(any_word)),
         13 => (0, groups.rules, encode::given(any_word)),
         14 => (groups.rules, groups.units, encode::given(any_word)),
+        15 => (groups.rules, groups.units, encode::rule(any_word, 1 << 63, 1 << 63)),
+        16 => (groups.rules, groups.units, encode::rule(0, any_word | 1, any_word | 3)),
+        17 => (groups.rules, groups.end, encode::rule(any_word, any_word, any_word)),
         _ => (groups.end + 1, groups.end + 1, vec![random.pick(&[0, 1, 2, 3, 4, 9]); random.between(1, 30)]),
     };
     let place = random.between(first, last).min(commands.len());

@@ -76,6 +76,8 @@ with_mistake "GIVEN after a RULE is taken" 'if kind < group ||' 'if kind < group
 with_mistake "bytes after END are not seen" 'refuse(9, next)' 'Ok(plan)'
 with_mistake "a repeated edge is taken" '|| self.edges.contains(&(u, v))' ''
 with_mistake "a zero rule is taken" 'return Some(6);' ''
+with_mistake "a body that wants an atom up and dropped is taken" 'return Some(21);' ''
+with_mistake "an atom in head and body is refused" 'rule.positive & rule.negative != 0' '(rule.head | rule.positive) & rule.negative != 0'
 with_mistake "unit bits above the rules are taken" '(self.rules.len()..64)' '(self.rules.len() + 1..64)'
 with_mistake "words are read highest byte first" 'bytes.iter().rev().fold' 'bytes.iter().fold'
 

@@ -29,11 +29,11 @@ impl Draft {
         self.units.len() - 1
     }
 
-    /// Adds a rule to a unit, unless there are 64 already or all three words are 0.
+    /// Adds a rule to a unit, unless there are 64 already or all three words are 0. No atom is left in both body words.
     pub fn add_rule(&mut self, unit: usize, words: Words) {
         if self.rules.len() < 64 && words != [0; 3] {
             self.units[unit] |= 1 << self.rules.len();
-            self.rules.push(words);
+            self.rules.push([words[0], words[1], words[2] & !words[1]]);
         }
     }
 

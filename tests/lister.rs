@@ -229,6 +229,9 @@ impl Plan {
         if rule.head == 0 && rule.positive == 0 && rule.negative == 0 {
             return Some(6);
         }
+        if rule.positive & rule.negative != 0 {
+            return Some(21);
+        }
         self.rules.push(rule);
         None
     }

@@ -44,6 +44,7 @@ samples!(
     "circuit-12-nine-units",
     "clingo-default-misses-one",
     "clingo-default-misses-ten",
+    "contradictory-body",
     "given-in-heads",
     "given-keys",
     "inner-list-wider",

@@ -26,6 +26,7 @@ fn show_sheets() {
     show(b"circuit-12-nine-units.plan");
     show(b"clingo-default-misses-one.plan");
     show(b"clingo-default-misses-ten.plan");
+    show(b"contradictory-body.plan");
     show(b"given-in-heads.plan");
     show(b"given-keys.plan");
     show(b"inner-list-wider.plan");
@@ -122,6 +123,15 @@ fn empty_rule() {
     ask(b"reading/rule-of-zeros-cut-short.plan", 0);
 }
 
+// Fault 21: positive and negative words share an atom.
+fn contradictory_body() {
+    ask(b"reading/contradictory-rule.plan", 0);
+    ask(b"reading/contradictory-constraint.plan", 0);
+    ask(b"reading/contradictory-rule-cut-short.plan", 0);
+    ask(b"reading/contradictory-rule-behind-unit.plan", 0);
+    ask(b"reading/atom-in-head-and-body.plan", 0);
+}
+
 // Fault 7: UNIT names a rule that isn't there.
 fn absent_rule() {
     ask(b"reading/unit-of-an-absent-rule.plan", 0);
@@ -168,6 +178,7 @@ fn main() {
     out_of_order();
     too_many();
     empty_rule();
+    contradictory_body();
     absent_rule();
     bad_edge();
     behind_end();

@@ -14,7 +14,7 @@ use Rattle.answer_sets.specs.Lent.{lent}
 use Rattle.answer_sets.specs.Test.{body, satisfies, satisfiesAll, kept, keptIf, someSmaller, answerSet}
 use Rattle.reading.specs.Words.{number, wordAt}
 use Rattle.plan.specs.Record.{emptyPlan, withRule, withUnit, withEdge}
-use Rattle.reading.specs.Commands.{kindOf, carrying, late, emptyRule, absentRule, badEdge, ofKind, commandAt}
+use Rattle.reading.specs.Commands.{kindOf, carrying, late, emptyRule, contradictory, absentRule, badEdge, ofKind, commandAt}
 use Rattle.reading.specs.Reading.{walk, reading}
 use Rattle.plan.specs.declared.fault.Fault.the-variants.{Cycle, NonmonotonicUnseen, MonotonicUnseen}
 use Rattle.plan.specs.declared.fault.Outcome.{Outcome}
@@ -95,7 +95,7 @@ shown bytes =
 
 -- the results of all of them; and of circuit 2: "Position 3 isn't settled."
 pub circuits : (map shown plans ≡ results) × (judged circuit-2 3 ≡ NotSettled)
-unfolding judged shown answer tableOutcome reading walk commandAt ofKind kindOf carrying late emptyRule absentRule badEdge emptyPlan withRule
+unfolding judged shown answer tableOutcome reading walk commandAt ofKind kindOf carrying late emptyRule contradictory absentRule badEdge emptyPlan withRule
     withUnit withEdge number wordAt unlessRefused workFrom noCounts tableWith countsWith listAt runs padded tabulate lastList unitList inList isInput
     members allBelow someBelow wordBelow unionIn twiceBelow heads inputHeads own reach reachVia through withLast unitsOf lent answerSet someSmaller
     satisfiesAll satisfies body kept keptIf has subset apart _∩_ _∪_ _∖_ atom below verdict row givenInHead ruleInNoUnit headedRuleInSeveral cycle

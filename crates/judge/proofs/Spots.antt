@@ -43,7 +43,7 @@ first-fit-by n p (r ∷ rs) x a h = go (r .fits) refl (first-fit-by n p rs x (a 
 
 operand-rows-by : (p : Plan) (at : ℕ) (k : Kind) (operands : List ℕ) → RowsBy (at + 1) (operandRows p at k operands)
 operand-rows-by p at given operands = tt
-operand-rows-by p at rule operands = (omega arith, tt)
+operand-rows-by p at rule operands = (omega arith, (omega arith, tt))
 operand-rows-by p at unit operands = (omega arith, tt)
 operand-rows-by p at edge operands = (omega arith, tt)
 operand-rows-by p at end operands = (omega arith, tt)

@@ -6,7 +6,7 @@ use Rattle.plan.specs.declared.fault.Fault.{Fault}
 use Rattle.plan.specs.declared.fault.Fault.the-variants.{TableShort, Truncated, UnknownCommand, OutOfOrder, TooMany}
 use Rattle.plan.specs.declared.fault.Fault.the-variants.{EmptyRule, AbsentRule, BadEdge, TrailingBytes}
 use Rattle.plan.specs.declared.fault.Fault.the-variants.{RuleInNoUnit, HeadedRuleInSeveral, Cycle, NonmonotonicUnseen, MonotonicUnseen, LongList}
-use Rattle.plan.specs.declared.fault.Fault.the-variants.{GivenInHead}
+use Rattle.plan.specs.declared.fault.Fault.the-variants.{GivenInHead, ContradictoryBody}
 
 pub number-fits : (f : Fault) → number f < CODE_STEP
 number-fits (TableShort s) = omega arith
@@ -25,3 +25,4 @@ number-fits (NonmonotonicUnseen s) = omega arith
 number-fits (MonotonicUnseen s) = omega arith
 number-fits (LongList s) = omega arith
 number-fits (GivenInHead s) = omega arith
+number-fits (ContradictoryBody s) = omega arith

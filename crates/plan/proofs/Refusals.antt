@@ -9,7 +9,7 @@ use Rattle.plan.specs.declared.fault.Fault.{Fault}
 use Rattle.plan.specs.declared.fault.Fault.the-variants.{TableShort, Truncated, UnknownCommand, OutOfOrder, TooMany}
 use Rattle.plan.specs.declared.fault.Fault.the-variants.{EmptyRule, AbsentRule, BadEdge, TrailingBytes}
 use Rattle.plan.specs.declared.fault.Fault.the-variants.{RuleInNoUnit, HeadedRuleInSeveral, Cycle, NonmonotonicUnseen, MonotonicUnseen, LongList}
-use Rattle.plan.specs.declared.fault.Fault.the-variants.{GivenInHead}
+use Rattle.plan.specs.declared.fault.Fault.the-variants.{GivenInHead, ContradictoryBody}
 use Rattle.plan.specs.declared.fault.Outcome.{Outcome}
 use Rattle.plan.specs.declared.fault.Outcome.the-variants.{Refused}
 
@@ -34,6 +34,11 @@ faultAt n s =
     ∷ MonotonicUnseen s
     ∷ LongList s
     ∷ GivenInHead s
+    ∷ TableShort s
+    ∷ TableShort s
+    ∷ TableShort s
+    ∷ TableShort s
+    ∷ ContradictoryBody s
     ∷ [])
     n (TableShort s)
 
@@ -54,6 +59,7 @@ fault-told (NonmonotonicUnseen s) = refl
 fault-told (MonotonicUnseen s) = refl
 fault-told (LongList s) = refl
 fault-told (GivenInHead s) = refl
+fault-told (ContradictoryBody s) = refl
 
 pub refused-by : (f : Fault) {outcome : Outcome} → RefusedBy outcome (number f) (spot f) ↔ (outcome ≡ Refused f)
 refused-by f = (

@@ -7,7 +7,7 @@ use Rattle.plan.specs.declared.fault.Fault.{Fault}
 use Rattle.plan.specs.declared.fault.Fault.the-variants.{TableShort, Truncated, UnknownCommand, OutOfOrder, TooMany}
 use Rattle.plan.specs.declared.fault.Fault.the-variants.{EmptyRule, AbsentRule, BadEdge, TrailingBytes}
 use Rattle.plan.specs.declared.fault.Fault.the-variants.{RuleInNoUnit, HeadedRuleInSeveral, Cycle, NonmonotonicUnseen, MonotonicUnseen, LongList}
-use Rattle.plan.specs.declared.fault.Fault.the-variants.{GivenInHead}
+use Rattle.plan.specs.declared.fault.Fault.the-variants.{GivenInHead, ContradictoryBody}
 use Rattle.plan.specs.declared.fault.Outcome.{Outcome}
 use Rattle.plan.specs.declared.fault.Outcome.the-variants.{Refused}
 
@@ -29,6 +29,7 @@ number (NonmonotonicUnseen s) = 13
 number (MonotonicUnseen s) = 14
 number (LongList s) = 15
 number (GivenInHead s) = 16
+number (ContradictoryBody s) = 21
 
 -- column "spot"
 abbrev pub spot : Fault → ℕ
@@ -48,6 +49,7 @@ spot (NonmonotonicUnseen s) = s
 spot (MonotonicUnseen s) = s
 spot (LongList s) = s
 spot (GivenInHead s) = s
+spot (ContradictoryBody s) = s
 
 -- "A refusal gives its number and spot"
 pub record RefusedBy (outcome : Outcome) (n s : ℕ) : Type 0 where

@@ -21,6 +21,7 @@ pub enum Fault {
     MonotonicUnseen(usize),
     LongList(usize),
     GivenInHead(usize),
+    ContradictoryBody(usize),
 }
 
 // A plan is accepted, or refused with its first fault.
@@ -50,6 +51,7 @@ pub fn fault_number(f: Fault) -> u64
         Fault::MonotonicUnseen(_) => 14,
         Fault::LongList(_) => 15,
         Fault::GivenInHead(_) => 16,
+        Fault::ContradictoryBody(_) => 21,
     }
 }
 
@@ -74,6 +76,7 @@ pub fn fault_spot(f: Fault) -> usize
         Fault::MonotonicUnseen(spot) => spot,
         Fault::LongList(spot) => spot,
         Fault::GivenInHead(spot) => spot,
+        Fault::ContradictoryBody(spot) => spot,
     }
 }
 

@@ -50,7 +50,7 @@ good-with c given w z f g =
       good-units = g .good-units;
     }
 good-with c rule r z f g =
-    let good : GoodRule r = record { head-fits = z .0; positive-fits = z .1 .0; negative-fits = z .1 .1; some-word = f .right } in
+    let good : GoodRule r = record { head-fits = z .0; positive-fits = z .1 .0; negative-fits = z .1 .1; some-word = f .right .0; none-shared = f .right .1 } in
     record {
       good-given = g .good-given;
       good-rules = all-snoc GoodRule (c .rules) r (g .good-rules) good;

@@ -9,18 +9,18 @@ use Prim.Native.Nat.{ℕ, _+_, _*_, _^_, _≤_, _<_}
 use native.Mathlib.Omega.{arith}
 use lib.ListN.{length, take, drop, getD, set, length-append, take-append-drop}
 use lib.Seq.{drop-drop}
-use borrow.Author.Tests.{leb-false, lt-leb, ne-eqb}
+use borrow.Author.Tests.{leb-false, lt-leb, ne-eqb, not-false}
 use Rattle.atoms.specs.Lists.{padded, tabulate}
 use Rattle.atoms.specs.Bounded.{Decides}
-use Rattle.atoms.specs.Word.{has}
+use Rattle.atoms.specs.Word.{has, Apart}
 use Rattle.atoms.proofs.Lists.{padded-snoc, getD-tabulate}
-use Rattle.atoms.proofs.Sets.{decides-has}
-use Rattle.atoms.proofs.Tests.{decided-true, decided-false, not-both, decides-and, decides-equal}
+use Rattle.atoms.proofs.Sets.{decides-has, decides-apart}
+use Rattle.atoms.proofs.Tests.{decided-true, decided-false, not-both, decides-and, decides-not, decides-equal}
 use Rattle.plan.specs.Limits.{MAX_RULES, MAX_UNITS, MAX_EDGES, RULE_WORDS}
 use Rattle.plan.specs.Record.{emptyPlan, withGiven, withRule, withUnit, withEdge}
 use Rattle.reading.specs.Words.{WORD_BYTES, WORD_VALUES, wordAt}
 use Rattle.reading.specs.Commands.{Kind, given, rule, unit, edge, end, byteOf, operandBytes, carrying, operandRows}
-use Rattle.reading.specs.Commands.{emptyRule, absentRule, badEdge}
+use Rattle.reading.specs.Commands.{emptyRule, contradictory, absentRule, badEdge}
 use Rattle.reading.specs.Layout.{RuleWords, UnitPair, Contents, wordBytes, givenBytes, ruleBytes, unitBytes, edgeBytes, threeWords, commands}
 use Rattle.reading.specs.Layout.{predecessorsOf, recordOf, IsByte, All, Distinct, GoodEdge}
 use Rattle.reading.specs.Reading.{commandBytes}
@@ -111,10 +111,10 @@ Sized unit w = w < WORD_VALUES
 Sized edge e = Unit {0}
 Sized end x = Unit {0}
 
--- rows 6, 7 and 8
+-- rows 6, 21, 7 and 8
 abbrev pub Right : Contents → (k : Kind) → Element k → Type 0
 Right c given w = Unit {0}
-Right c rule r = ¬ ((r .head ≡ 0) × ((r .positive ≡ 0) × (r .negative ≡ 0)))
+Right c rule r = (¬ ((r .head ≡ 0) × ((r .positive ≡ 0) × (r .negative ≡ 0)))) × Apart (r .positive) (r .negative)
 Right c unit w = w < 2 ^ length (c .rules)
 Right c edge e = GoodEdge (length (c .units)) e × ¬ List·Memᴰ e (c .edges)
 Right c end x = Unit {0}
@@ -157,6 +157,14 @@ pub decides-empty : (h b n : ℕ) → Decides (((h ≡ 0) × (b ≡ 0)) × (n �
 unfolding emptyRule
 decides-empty h b n = decides-and (decides-and (decides-equal h 0) (decides-equal b 0)) (decides-equal n 0)
 
+pub decides-contradictory : (b n : ℕ) → Decides (¬ Apart b n) (contradictory b n)
+unfolding contradictory
+decides-contradictory b n = decides-not (decides-apart b n)
+
+none-shared : (b n : ℕ) → contradictory b n ≡ false → Apart b n
+unfolding contradictory
+none-shared b n e = decides-apart b n .yes (not-false _ e)
+
 module _ (c : Contents) (few : Few c) where
   pub row-is : (u : ℕ) → u < length (c .units) → getD (tabulate MAX_UNITS (predecessorsOf (c .edges))) u 0 ≡ predecessorsOf (c .edges) u
   row-is u l = getD-tabulate MAX_UNITS (predecessorsOf (c .edges)) u (omega (arith, few .few-units))
@@ -166,7 +174,7 @@ module _ (c : Contents) (at : ℕ) (s : List ℕ) (few : Few c) where
   pub passed-right : (k : Kind) → Passed (operandRows (recordOf c) at k s) → Right c k (elementAt k s)
   unfolding recordOf absentRule
   passed-right given h = tt
-  passed-right rule h = λ z. decides-empty _ _ _ .no (h .0) ((z .0, z .1 .0), z .1 .1)
+  passed-right rule h = (λ z. decides-empty _ _ _ .no (h .0) ((z .0, z .1 .0), z .1 .1), none-shared _ _ (h .1 .0))
   passed-right unit h = leb-false _ _ (h .0)
   passed-right edge h =
       let e : UnitPair = elementAt edge s in
@@ -180,7 +188,10 @@ module _ (c : Contents) (at : ℕ) (s : List ℕ) (few : Few c) where
   pub right-passed : (k : Kind) → adds k ≡ true → Right c k (elementAt k s) → Passed (operandRows (recordOf c) at k s)
   unfolding recordOf absentRule badEdge
   right-passed given a g = tt
-  right-passed rule a g = (decided-false (decides-empty _ _ _) (λ z. g (z .0 .0, (z .0 .1, z .1))), tt)
+  right-passed rule a g = (
+    decided-false (decides-empty _ _ _) (λ z. g .0 (z .0 .0, (z .0 .1, z .1))),
+    (decided-false (decides-contradictory _ _) (λ n. n (g .1)), tt),
+  )
   right-passed unit a g = (lt-leb _ _ g, tt)
   right-passed edge a g =
       let e : UnitPair = elementAt edge s in

@@ -5,6 +5,7 @@ use Prim.Native.Nat.{ℕ, zero, suc, _+_, _*_, _^_, _≤_, _<_}
 use native.Mathlib.Omega.{arith}
 use native.Mathlib.Nat.{mul-suc}
 use lib.ListN.{length, replicate, length-append}
+use Rattle.atoms.proofs.Sets.{has-none}
 use Rattle.plan.specs.Limits.{MAX_RULES, MAX_UNITS, MAX_EDGES}
 use Rattle.reading.specs.Commands.{given, rule, unit, edge}
 use Rattle.reading.specs.Reading.{commandBytes, LONGEST_PLAN}
@@ -64,7 +65,7 @@ longest-within =
       most-edges = omega (arith, edges-long MAX_EDGES);
       good-given = (omega arith, tt);
       good-rules = all-replicate GoodRule MAX_RULES _
-          (record { head-fits = omega arith; positive-fits = omega arith; negative-fits = omega arith; some-word = λ z. omega (arith, z .0) });
+          (record { head-fits = omega arith; positive-fits = omega arith; negative-fits = omega arith; some-word = λ z. omega (arith, z .0); none-shared = record { none = λ i p. absurd (has-none p) } });
       good-units = all-replicate (λ word. word < 2 ^ MAX_RULES) MAX_UNITS 0 (omega arith);
       good-edges = edges-good MAX_EDGES (omega arith);
       no-repeat = edges-distinct MAX_EDGES;

@@ -155,7 +155,7 @@ module _ (c : Contents) (w : Within c) where
       (λ d x f. one-takes (rules-too d) rule x refl (record {
         few = record { few-given = w .one-given; few-rules = omega (arith, f .0); few-units = omega arith };
         in-place = record { on-time = omega arith; room = lt-leb _ _ (f .0) };
-        right = f .1 .some-word;
+        right = (f .1 .some-word, f .1 .none-shared);
       }) (f .1 .head-fits, (f .1 .positive-fits, f .1 .negative-fits)))
       (c .rules) [] (few-follow MAX_RULES GoodRule (c .rules) [] (omega (arith, w .most-rules)) (w .good-rules))
 

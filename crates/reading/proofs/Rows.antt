@@ -13,25 +13,25 @@ use lib.ListN.{length, drop, getD}
 use lib.Dec.{eqb, ltb, leb}
 use borrow.Author.Tests.{eqb-false, leb-true, leb-false, ltb-true, ltb-false}
 use Rattle.atoms.specs.Bounded.{Decides}
-use Rattle.atoms.specs.Word.{Has, _∖_, below}
+use Rattle.atoms.specs.Word.{Has, Apart, _∩_, _∖_, below}
 use Rattle.atoms.specs.Lists.{tabulate}
 use Rattle.atoms.proofs.Tests.{decides-iff, decides-or, decides-equal}
-use Rattle.atoms.proofs.Sets.{decides-has, has-lt, has-without, has-below, has-none, without-left, without-right, below-lt, lt-of-has, some-atom}
+use Rattle.atoms.proofs.Sets.{decides-has, has-lt, has-cut, cut-left, cut-right, has-without, has-below, has-none, without-left, without-right, below-lt, lt-of-has, some-atom}
 use Rattle.plan.specs.Limits.{MAX_UNITS}
 use Rattle.plan.specs.Faults.{number, spot, TableRow, FirstFit}
 use Rattle.reading.specs.Words.{WORD_BYTES, wordAt}
 use Rattle.reading.specs.Commands.{Kind, given, rule, unit, edge, end, byteOf, kindOf, operandBytes, orderOf, earliestBehind, carrying, kinds}
 use Rattle.reading.specs.Commands.{count, countBehind, late, full}
-use Rattle.reading.specs.Commands.{emptyRule, absentRule, badEdge, Row, operandRows, rows, firstFit, ofKind, commandAt}
+use Rattle.reading.specs.Commands.{emptyRule, contradictory, absentRule, badEdge, Row, operandRows, rows, firstFit, ofKind, commandAt}
 use Rattle.reading.specs.Layout.{RuleWords, UnitPair, Contents, predecessorsOf, recordOf, IsByte, All}
 use Rattle.reading.specs.Refusals.{Begins, countOf, Full, UnknownByte, OutOfGroupOrder, OneTooMany, CutShort, before-end, inside-operands}
-use Rattle.reading.specs.Refusals.{ZeroRule, NamesAbsentRule, NoNewEdge, no-such-u, no-such-v, to-itself, repeated, WrongEdge, BytesAfterEnd}
+use Rattle.reading.specs.Refusals.{ZeroRule, ContradictoryRule, NamesAbsentRule, NoNewEdge, no-such-u, no-such-v, to-itself, repeated, WrongEdge, BytesAfterEnd}
 use Rattle.reading.specs.Refusals.{row, readingPlace}
 use Rattle.reading.proofs.Numbers.{word-fits}
 use Rattle.reading.proofs.CommandKinds.{kind-of-byte, kind-byte, byte-own, Later, later-there, none-behind}
 use Rattle.reading.proofs.Commands.{Passed, none-fits, known-command, unknown-command, not-faulty}
 use Rattle.reading.proofs.Predecessors.{has-member, member-has}
-use Rattle.reading.proofs.Elements.{Element, operandsOf, elementAt, written-again, read-again, Sized, Few, decides-empty, row-is}
+use Rattle.reading.proofs.Elements.{Element, operandsOf, elementAt, written-again, read-again, Sized, Few, decides-empty, decides-contradictory, row-is}
 use Rattle.plan.specs.declared.fault.Fault.{Fault}
 use Rattle.plan.specs.declared.fault.Fault.the-variants.{Truncated, UnknownCommand}
 use Rattle.reading.specs.declared.command.Command.{Command}
@@ -111,6 +111,12 @@ begins-own j k operands b = byte-own j k (sym (head-same (b .is)))
 
 decides-le : (a b : ℕ) → Decides (a ≤ b) (leb a b)
 decides-le a b = record { yes = leb-true a b; no = λ e h. omega (arith, leb-false a b e) }
+
+-- words that are not apart share an atom
+shared-atom : (a b : ℕ) → ¬ Apart a b → (i : ℕ) × Has a i × Has b i
+shared-atom a b n =
+    let i = some-atom (a ∩ b) (λ e. n (record { none = λ j p q. has-none (subst (λ (x : ℕ). Has x j) e (has-cut a b p q)) })) in
+    (i .0, cut-left a b (i .1), cut-right a b (i .1))
 
 -- a word from 2 ^ n on has an atom from n on
 atom-from : (n w : ℕ) → 2 ^ n ≤ w → (i : ℕ) × Has w i × (n ≤ i)
@@ -257,6 +263,32 @@ module _ (c : Contents) (few : Few c) (operands : List ℕ) where
             let x : elementAt rule operands ≡ zeroRule = spelt rule zeroRule (z .more) (z .is) (omega arith, (omega arith, omega arith)) in
             ((ap (λ (y : RuleWords). y .head) x, ap (λ (y : RuleWords). y .positive) x), ap (λ (y : RuleWords). y .negative) x)
 
+    contradictory-decided : operandBytes rule ≤ length operands
+        → Decides (ContradictoryRule (byteOf rule ∷ operands)) (contradictory (wordAt WORD_BYTES operands) (wordAt (2 * WORD_BYTES) operands))
+    contradictory-decided long = decides-iff shares share (decides-contradictory _ _)
+      where
+        shares : ¬ Apart (wordAt WORD_BYTES operands) (wordAt (2 * WORD_BYTES) operands) → ContradictoryRule (byteOf rule ∷ operands)
+        shares n =
+            let i = shared-atom _ _ n in
+            record {
+              words = elementAt rule operands;
+              more = behind rule;
+              is = written rule long;
+              head-fits = word-fits operands 0 (omega arith) small;
+              positive-fits = word-fits operands WORD_BYTES (omega arith) small;
+              negative-fits = word-fits operands (2 * WORD_BYTES) (omega arith) small;
+              atom = i .0;
+              wanted-up = i .1;
+              wanted-dropped = i .2;
+            }
+
+        share : ContradictoryRule (byteOf rule ∷ operands) → ¬ Apart (wordAt WORD_BYTES operands) (wordAt (2 * WORD_BYTES) operands)
+        share r apart =
+            let x : elementAt rule operands ≡ r .words =
+            spelt rule (r .words) (r .more) (r .is) (r .head-fits, (r .positive-fits, r .negative-fits)) in
+            let a : Apart (r .words .positive) (r .words .negative) = subst (λ (y : RuleWords). Apart (y .positive) (y .negative)) x apart in
+            a .none (r .atom) (r .wanted-up) (r .wanted-dropped)
+
     absent-decided : operandBytes unit ≤ length operands
         → Decides (NamesAbsentRule c (byteOf unit ∷ operands)) (absentRule (recordOf c) (wordAt 0 operands))
     unfolding absentRule recordOf
@@ -312,8 +344,10 @@ module _ (c : Contents) (few : Few c) (operands : List ℕ) where
 
     -- the rows of another command's operands do not fit
     past-rule : (at : ℕ) (k : Kind) → eqb (byteOf rule) (byteOf k) ≡ false → {rs : List Row} {ts : List TableRow}
-        → Agree rs ts → Agree rs (row 6 (ZeroRule (byteOf k ∷ operands)) at ∷ ts)
-    past-rule at k e a = skips (λ (z : ZeroRule (byteOf k ∷ operands)). other rule k e (z .is)) a
+        → Agree rs ts → Agree rs (row 6 (ZeroRule (byteOf k ∷ operands)) at ∷ row 21 (ContradictoryRule (byteOf k ∷ operands)) at ∷ ts)
+    past-rule at k e a =
+        skips (λ (z : ZeroRule (byteOf k ∷ operands)). other rule k e (z .is))
+        (skips (λ (r : ContradictoryRule (byteOf k ∷ operands)). other rule k e (r .is)) a)
 
     past-unit : (at : ℕ) (k : Kind) → eqb (byteOf unit) (byteOf k) ≡ false → {rs : List Row} {ts : List TableRow}
         → Agree rs ts → Agree rs (row 7 (NamesAbsentRule c (byteOf k ∷ operands)) at ∷ ts)
@@ -334,7 +368,8 @@ module _ (c : Contents) (few : Few c) (operands : List ℕ) where
     agree at rule =
         kind-rows at rule
         (λ long. meets (meet refl refl (zero-decided long))
-        (λ e. past-unit at rule refl (past-edge at rule refl (past-end at rule refl done))))
+        (λ e. meets (meet refl refl (contradictory-decided long))
+        (λ f. past-unit at rule refl (past-edge at rule refl (past-end at rule refl done)))))
     agree at unit =
         kind-rows at unit
         (λ long. past-rule at unit refl (meets (meet refl refl (absent-decided long))

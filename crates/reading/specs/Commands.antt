@@ -1,12 +1,12 @@
 -- One command: its kind, its operands, and the rows of the fault table that it is held against.
 -- Document 01, "The plan" and "Faults, by where they are found", place "reading".
 use mathlib.Core.List.{List, [], _∷_, _++_}
-use mathlib.Core.Bool.{Bool, true, false, _||_, _&&_}
+use mathlib.Core.Bool.{Bool, true, false, not, _||_, _&&_}
 use mathlib.Core.Option.{Option, some, none}
 use Prim.Native.Nat.{ℕ, _+_, _*_, _^_}
 use lib.ListN.{length, getD}
 use lib.Dec.{eqb, ltb, leb}
-use Rattle.atoms.specs.Word.{has}
+use Rattle.atoms.specs.Word.{has, apart}
 use Rattle.reading.specs.Words.{WORD_BYTES, wordAt}
 use Rattle.plan.specs.Limits.{MAX_RULES, MAX_UNITS, RULE_WORDS}
 use Rattle.plan.specs.declared.record.Plan.{Plan}
@@ -14,7 +14,7 @@ use Rattle.reading.specs.declared.command.Command.{Command}
 use Rattle.reading.specs.declared.command.Command.the-variants.{Given, Rule, Unit as UnitOf, Edge, End, Fault as Faulty}
 use Rattle.plan.specs.declared.fault.Fault.{Fault}
 use Rattle.plan.specs.declared.fault.Fault.the-variants.{Truncated, UnknownCommand, OutOfOrder, TooMany}
-use Rattle.plan.specs.declared.fault.Fault.the-variants.{EmptyRule, AbsentRule, BadEdge, TrailingBytes}
+use Rattle.plan.specs.declared.fault.Fault.the-variants.{EmptyRule, ContradictoryBody, AbsentRule, BadEdge, TrailingBytes}
 
 -- column "command", and GIVEN of document 02, S-1
 pub data Kind : Type 0 where
@@ -102,6 +102,10 @@ full p end = false
 unfoldable pub emptyRule : ℕ → ℕ → ℕ → Bool
 emptyRule head positive negative = eqb head 0 && eqb positive 0 && eqb negative 0
 
+-- S-6: "positive and negative words share an atom"
+unfoldable pub contradictory : ℕ → ℕ → Bool
+contradictory positive negative = not (apart positive negative)
+
 -- "UNIT names a rule that isn't there": a bit from the count of rules on
 unfoldable pub absentRule : Plan → ℕ → Bool
 absentRule p word = leb (2 ^ p .«rule_count») word
@@ -122,11 +126,13 @@ row b f = record { fits = b; fault = f }
 abbrev pub kindRows : Plan → ℕ → Kind → List Row
 kindRows p at kind = row (late p (orderOf kind)) (OutOfOrder at) ∷ row (full p kind) (TooMany at) ∷ []
 
--- rows 6 to 9: what the operands tell
+-- rows 6, 21 and 7 to 9: what the operands tell
 abbrev pub operandRows : Plan → ℕ → Kind → List ℕ → List Row
 operandRows p at given operands = []
 operandRows p at rule operands =
-    row (emptyRule (wordAt 0 operands) (wordAt WORD_BYTES operands) (wordAt (2 * WORD_BYTES) operands)) (EmptyRule at) ∷ []
+    row (emptyRule (wordAt 0 operands) (wordAt WORD_BYTES operands) (wordAt (2 * WORD_BYTES) operands)) (EmptyRule at)
+    ∷ row (contradictory (wordAt WORD_BYTES operands) (wordAt (2 * WORD_BYTES) operands)) (ContradictoryBody at)
+    ∷ []
 operandRows p at unit operands = row (absentRule p (wordAt 0 operands)) (AbsentRule at) ∷ []
 operandRows p at edge operands = row (badEdge p (getD operands 0 0) (getD operands 1 0)) (BadEdge at) ∷ []
 operandRows p at end operands = row (ltb 0 (length operands)) (TrailingBytes (at + 1)) ∷ []

@@ -6,7 +6,7 @@ use Prim.Native.Nat.{ℕ, zero, suc, _*_, _/_, _%_, _^_, _≤_, _<_}
 use lib.Dec.{eqb}
 use lib.ListN.{length, getD}
 use Rattle.atoms.specs.Lists.{padded, tabulate}
-use Rattle.atoms.specs.Word.{_∪_, atom}
+use Rattle.atoms.specs.Word.{Apart, _∪_, atom}
 use Rattle.reading.specs.Words.{WORD_BYTES, BYTE_VALUES, WORD_VALUES}
 use Rattle.plan.specs.Limits.{MAX_RULES, MAX_UNITS, MAX_EDGES, RULE_WORDS}
 use Rattle.plan.specs.declared.record.Plan.{Plan}
@@ -98,12 +98,13 @@ abbrev pub Distinct : {A : Type 0} → List A → Type 0
 Distinct [] = Unit {0}
 Distinct (x ∷ xs) = ¬ List·Memᴰ x xs × Distinct xs
 
--- three words, not all zero
+-- three words, not all zero; S-6: the positive and the negative one share no atom
 pub record GoodRule (r : RuleWords) : Type 0 where
   pub head-fits : r .head < WORD_VALUES
   pub positive-fits : r .positive < WORD_VALUES
   pub negative-fits : r .negative < WORD_VALUES
   pub some-word : ¬ ((r .head ≡ 0) × ((r .positive ≡ 0) × (r .negative ≡ 0)))
+  pub none-shared : Apart (r .positive) (r .negative)
 
 -- an edge between two of n units
 pub record GoodEdge (n : ℕ) (e : UnitPair) : Type 0 where
@@ -111,7 +112,7 @@ pub record GoodEdge (n : ℕ) (e : UnitPair) : Type 0 where
   pub to-there : e .v < n
   pub apart : ¬ (e .u ≡ e .v)
 
--- what a plan may hold: column "most", GIVEN once, and rows 6, 7 and 8 of the fault table
+-- what a plan may hold: column "most", GIVEN once, and rows 6, 21, 7 and 8 of the fault table
 pub record Within (c : Contents) : Type 0 where
   pub one-given : length (c .given) ≤ 1
   pub most-rules : length (c .rules) ≤ MAX_RULES

@@ -10,7 +10,7 @@ use Rattle.plan.specs.Limits.{MAX_RULES, MAX_UNITS}
 use Rattle.plan.specs.Faults.{RefusedBy, TableRow, FirstFit}
 use Rattle.reading.specs.Words.{WORD_VALUES}
 use Rattle.reading.specs.Commands.{Kind, given, rule, unit, edge, end, byteOf, operandBytes, orderOf, earliestBehind}
-use Rattle.reading.specs.Layout.{UnitPair, Contents, ruleBytes, unitBytes, edgeBytes, endBytes, commands, layout, Within}
+use Rattle.reading.specs.Layout.{RuleWords, UnitPair, Contents, ruleBytes, unitBytes, edgeBytes, endBytes, commands, layout, Within}
 use Rattle.plan.specs.declared.fault.Outcome.{Outcome}
 use Rattle.plan.specs.declared.fault.Outcome.the-variants.{Accepted}
 
@@ -67,6 +67,18 @@ pub record ZeroRule (rest : List ℕ) : Type 0 where
   pub more : List ℕ
   pub is : rest ≡ ruleBytes (record { head = 0; positive = 0; negative = 0 }) ++ more
 
+-- 21 (02, S-6): "positive and negative words share an atom"
+pub record ContradictoryRule (rest : List ℕ) : Type 0 where
+  pub words : RuleWords
+  pub more : List ℕ
+  pub is : rest ≡ ruleBytes words ++ more
+  pub head-fits : words .head < WORD_VALUES
+  pub positive-fits : words .positive < WORD_VALUES
+  pub negative-fits : words .negative < WORD_VALUES
+  pub atom : ℕ
+  pub wanted-up : Has (words .positive) atom
+  pub wanted-dropped : Has (words .negative) atom
+
 -- 7: "UNIT names a rule that isn't there"
 pub record NamesAbsentRule (c : Contents) (rest : List ℕ) : Type 0 where
   pub word : ℕ
@@ -109,6 +121,7 @@ readingPlace c offset rest =
     ∷ row 5 (OneTooMany c rest) offset
     ∷ row 2 (CutShort rest) offset
     ∷ row 6 (ZeroRule rest) offset
+    ∷ row 21 (ContradictoryRule rest) offset
     ∷ row 7 (NamesAbsentRule c rest) offset
     ∷ row 8 (WrongEdge c rest) offset
     ∷ row 9 (BytesAfterEnd rest) (suc offset)

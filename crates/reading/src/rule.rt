@@ -49,6 +49,9 @@ pub fn read_rule(operands: &[u8], at: usize, read: Plan) -> Command
     if is_empty_rule(head, positive, negative) {
         return Command::Fault(Fault::EmptyRule(at));
     }
+    if !atoms::are_apart(positive, negative) {
+        return Command::Fault(Fault::ContradictoryBody(at));
+    }
     Command::Rule {
         head,
         positive,

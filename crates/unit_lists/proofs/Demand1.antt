@@ -79,21 +79,21 @@ cleared-long table l =
 
 -- ---- the numbers of the places
 
-abbrev Below15 : List TableRow → Type 0
-Below15 [] = Unit {0}
-Below15 (r ∷ rows) = (r .no < 15) × Below15 rows
+abbrev None15 : List TableRow → Type 0
+None15 [] = Unit {0}
+None15 (r ∷ rows) = (¬ (r .no ≡ 15)) × None15 rows
 
-fit-below : (rows : List TableRow) (n s : ℕ) → Below15 rows → FirstFit rows n s → n < 15
-fit-below (r ∷ rows) n s b (inl h) = omega (arith, b .0, h .1 .0)
-fit-below (r ∷ rows) n s b (inr h) = fit-below rows n s (b .1) (h .1)
+fit-not-15 : (rows : List TableRow) (n s : ℕ) → None15 rows → FirstFit rows n s → ¬ (n ≡ 15)
+fit-not-15 (r ∷ rows) n s b (inl h) e = b .0 (sym (h .1 .0) ∙ e)
+fit-not-15 (r ∷ rows) n s b (inr h) e = fit-not-15 rows n s (b .1) (h .1) e
 
 -- no row of the reading place is numbered 15
 reading-number : {bytes : List ℕ} {n s : ℕ} → Stopped bytes n s → ¬ (n ≡ 15)
-reading-number {n = n} {s = s} st e =
-    let numbers : Below15 (readingPlace (st .contents) (length (commands (st .contents))) (st .rest)) =
-    (omega arith, (omega arith, (omega arith, (omega arith, (omega arith, (omega arith, (omega arith, (omega arith, tt)))))))) in
-    let l : n < 15 = fit-below (readingPlace (st .contents) (length (commands (st .contents))) (st .rest)) n s numbers (st .first) in
-    omega arith
+reading-number {n = n} {s = s} st =
+    let numbers : None15 (readingPlace (st .contents) (length (commands (st .contents))) (st .rest)) =
+    (λ e. omega arith, (λ e. omega arith, (λ e. omega arith, (λ e. omega arith, (λ e. omega arith, (λ e. omega arith, (λ e. omega arith,
+    (λ e. omega arith, (λ e. omega arith, tt))))))))) in
+    fit-not-15 (readingPlace (st .contents) (length (commands (st .contents))) (st .rest)) n s numbers (st .first)
 
 -- nor is one of the graph place
 graph-number : {S : Units} {o : Outcome} {n s : ℕ} → Right S o → RefusedBy o n s → ¬ (n ≡ 15)

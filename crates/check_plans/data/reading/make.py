@@ -75,6 +75,12 @@ PLANS = {
     "second-rule-of-zeros": FACT + rule() + END,
     "rule-of-zeros-cut-short": rule()[:-1],
 
+    "contradictory-rule": rule(head=1, positive=6, negative=4) + unit(1) + END,
+    "contradictory-constraint": FACT + rule(positive=1 << 63, negative=1 << 63) + END,
+    "contradictory-rule-cut-short": rule(head=1, positive=2, negative=2)[:-1],
+    "contradictory-rule-behind-unit": FACT + unit(1) + rule(head=1, positive=2, negative=2) + END,
+    "atom-in-head-and-body": rule(head=3, positive=1, negative=2) + END,
+
     "unit-of-an-absent-rule": FACT + unit(2) + END,
     "unit-of-rule-63-of-63": FACT * 63 + unit(1 << 63) + END,
     "unit-of-an-absent-rule-cut-short": FACT + unit(2)[:-1],

@@ -1,7 +1,8 @@
 -- `read_rule` meets its contract: at each return the tests that led there say which row of the fault table fits.
-use mathlib.Core.Path.{sym, _∙_}
+use mathlib.Core.Path.{sym, ap, _∙_}
+use mathlib.Core.Bool.{not}
 use borrow.Author.Tests.{lt-ltb, le-ltb, le-leb, lt-leb}
-use Rattle.reading.specs.Commands.{ofKind, carrying}
+use Rattle.reading.specs.Commands.{ofKind, contradictory, carrying}
 use borrow.Author.Needs.{needs}
 use Rattle.reading.proofs.rule.read_rule.Statement.{statement}
 use Rattle.reading.proofs.rule.read_rule.Tie as tie
@@ -36,9 +37,10 @@ returns-4 c =
     )
 
 returns-5 : tie.Need-returns-5
-unfolding ofKind carrying
+unfolding ofKind contradictory
 returns-5 c =
-    let words = c .before .before in
+    let tested = c .before .before in
+    let words = tested .before .before in
     let whole = words .before .before .before in
     simp (
       sym (whole .before .before .before .is-late .ensures) ∙ whole .before .before .if1 .left,
@@ -47,7 +49,25 @@ returns-5 c =
       ← words .before .before .read-word .ensures,
       ← words .before .read-word2 .ensures,
       ← words .read-word3 .ensures,
-      sym (c .before .is-empty-rule .ensures) ∙ c .if4 .left,
+      sym (tested .before .is-empty-rule .ensures) ∙ tested .if4 .left,
+      ap not (sym (c .before .are-apart .ensures)) ∙ c .if5 .taken,
+    )
+
+returns-6 : tie.Need-returns-6
+unfolding ofKind contradictory carrying
+returns-6 c =
+    let tested = c .before .before in
+    let words = tested .before .before in
+    let whole = words .before .before .before in
+    simp (
+      sym (whole .before .before .before .is-late .ensures) ∙ whole .before .before .if1 .left,
+      lt-leb _ _ (whole .before .if2 .left),
+      le-ltb _ _ (whole .if3 .left),
+      ← words .before .before .read-word .ensures,
+      ← words .before .read-word2 .ensures,
+      ← words .read-word3 .ensures,
+      sym (tested .before .is-empty-rule .ensures) ∙ tested .if4 .left,
+      ap not (sym (c .before .are-apart .ensures)) ∙ c .if5 .left,
     )
 
 pub read-rule-spec : {M : Type 1} → statement M
@@ -64,4 +84,6 @@ read-rule-spec =
     (λ c κs. search needs)
     (λ c κs. search needs)
     returns-4
-    returns-5)
+    (λ c κs. search needs)
+    returns-5
+    returns-6)
