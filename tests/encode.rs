@@ -4,7 +4,6 @@ pub const GIVEN: u8 = 0x04;
 pub const RULE: u8 = 0x01;
 pub const UNIT: u8 = 0x02;
 pub const EDGE: u8 = 0x03;
-pub const GIVEN: u8 = 0x04;
 pub const END: u8 = 0x00;
 
 pub fn given(atoms: u64) -> Vec<u8> {
