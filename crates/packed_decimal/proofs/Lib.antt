@@ -8,3 +8,4 @@ pub mod Orders
 pub mod LargestReading
 pub mod LargestMeaning
 pub mod Promises
+pub mod Examples

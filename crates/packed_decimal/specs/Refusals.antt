@@ -10,10 +10,9 @@ use Rattle.packed_decimal.specs.Reading.{isReading}
 use Rattle.packed_decimal.specs.declared.refusal.Refusal.{Refusal}
 use Rattle.packed_decimal.specs.declared.refusal.Refusal.the-variants.{BadReading, LargeNumber}
 
--- "20"
+-- "20", for either
 abbrev pub refusalNumber : Refusal → ℕ
-refusalNumber (BadReading place) = 20
-refusalNumber LargeNumber = 20
+refusalNumber refusal = 20
 
 -- "spot the number from 0 ..", "or .. spot 0"
 abbrev pub refusalSpot : Refusal → ℕ

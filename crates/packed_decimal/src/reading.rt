@@ -16,10 +16,10 @@ pub const NOT_MEASURED: u16 = 0xffff;
 pub fn is_reading(word: u16) -> bool
     ensures { λ r. ⌜ r ≡ isReading word ⌝ }
 {
-    if word == NOT_MEASURED {
-        return true;
+    if word != NOT_MEASURED {
+        return is_decimal(word);
     }
-    is_decimal(word)
+    true
 }
 
 // What the reading says.

@@ -8,13 +8,15 @@ pub enum Refusal {
     LargeNumber,
 }
 
+const NUMBER: u64 = 20;
+
 // The number of the refusal.
 pub fn refusal_number(refusal: Refusal) -> u64
     ensures { λ r. ⌜ r ≡ refusalNumber refusal ⌝ }
 {
     match refusal {
-        Refusal::BadReading(_) => 20,
-        Refusal::LargeNumber => 20,
+        Refusal::BadReading(_) => NUMBER,
+        Refusal::LargeNumber => NUMBER,
     }
 }
 

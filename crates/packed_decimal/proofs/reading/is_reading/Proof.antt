@@ -6,10 +6,10 @@ use Rattle.packed_decimal.proofs.reading.is_reading.Statement.{statemen
 use Rattle.packed_decimal.proofs.reading.is_reading.Tie as tie
 
 returns : tie.Need-returns
-returns c = sym (unmeasured-is (c .before .args .word) (c .if1 .taken))
+returns c = c .is-decimal .ensures ∙ sym (measured-is (c .before .before .args .word) (c .before .if1 .taken))
 
 returns-2 : tie.Need-returns-2
-returns-2 c = c .is-decimal .ensures ∙ sym (measured-is (c .before .before .args .word) (c .before .if1 .left))
+returns-2 c = sym (unmeasured-is (c .before .args .word) (c .if1 .left))
 
 pub is-reading-spec : {M : Type 1} → statement M
-is-reading-spec = tie.close (tie.spec returns (λ c κs. search needs) returns-2)
+is-reading-spec = tie.close (tie.spec (λ c κs. search needs) returns returns-2)
