@@ -90,9 +90,28 @@ fit-not-15 (r ∷ rows) n s b (inr h) e = fit-not-15 rows n s (b .1) (h .1) e
 -- no row of the reading place is numbered 15
 reading-number : {bytes : List ℕ} {n s : ℕ} → Stopped bytes n s → ¬ (n ≡ 15)
 reading-number {n = n} {s = s} st =
-    let numbers : None15 (readingPlace (st .contents) (length (commands (st .contents))) (st .rest)) =
-    (λ e. omega arith, (λ e. omega arith, (λ e. omega arith, (λ e. omega arith, (λ e. omega arith, (λ e. omega arith, (λ e. omega arith,
-    (λ e. omega arith, (λ e. omega arith, tt))))))))) in
+    let numbers : None15 (readingPlace (st .contents) (length (commands (st .contents))) (st .rest)) = (
+      λ e. omega arith,
+      (
+        λ e. omega arith,
+        (
+          λ e. omega arith,
+          (
+            λ e. omega arith,
+            (
+              λ e. omega arith,
+              (
+                λ e. omega arith,
+                (
+                  λ e. omega arith,
+                  (λ e. omega arith, (λ e. omega arith, tt)),
+                ),
+              ),
+            ),
+          ),
+        ),
+      ),
+    ) in
     fit-not-15 (readingPlace (st .contents) (length (commands (st .contents))) (st .rest)) n s numbers (st .first)
 
 -- nor is one of the graph place
