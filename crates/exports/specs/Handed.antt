@@ -46,7 +46,8 @@ pub record ListHanded (bytes table table′ counts counts′ : List ℕ) (r : �
   pub listed : listing .outcome ≡ Accepted → r ≡ 0
   pub refused : (n s : ℕ) → FirstFault bytes table n s → r ≡ CODE_STEP * n + s
 
--- a judged position: 1 exactly if it is an answer set of the plan's rules with its given atoms as facts, and otherwise 0; the number and the spot of a reading fault
+-- a judged position: 1 exactly if it is an answer set of the plan's rules with its given atoms as facts, and otherwise 0; the number and the
+-- spot of a reading fault
 pub record JudgeHanded (bytes : List ℕ) (position r : ℕ) : Type 0 where
   pub code-is : r ≡ code (judged bytes position)
   pub settled : (c : Contents) → Lays bytes c

@@ -65,7 +65,13 @@ longest-within =
       most-edges = omega (arith, edges-long MAX_EDGES);
       good-given = (omega arith, tt);
       good-rules = all-replicate GoodRule MAX_RULES _
-          (record { head-fits = omega arith; positive-fits = omega arith; negative-fits = omega arith; some-word = λ z. omega (arith, z .0); none-shared = record { none = λ i p. absurd (has-none p) } });
+          (record {
+            head-fits = omega arith;
+            positive-fits = omega arith;
+            negative-fits = omega arith;
+            some-word = λ z. omega (arith, z .0);
+            none-shared = record { none = λ i p. absurd (has-none p) };
+          });
       good-units = all-replicate (λ word. word < 2 ^ MAX_RULES) MAX_UNITS 0 (omega arith);
       good-edges = edges-good MAX_EDGES (omega arith);
       no-repeat = edges-distinct MAX_EDGES;

@@ -16,7 +16,8 @@ use Rattle.atoms.specs.Bounded.{Decides}
 use Rattle.atoms.specs.Word.{Has, Apart, _∩_, _∖_, below}
 use Rattle.atoms.specs.Lists.{tabulate}
 use Rattle.atoms.proofs.Tests.{decides-iff, decides-or, decides-equal}
-use Rattle.atoms.proofs.Sets.{decides-has, has-lt, has-cut, cut-left, cut-right, has-without, has-below, has-none, without-left, without-right, below-lt, lt-of-has, some-atom}
+use Rattle.atoms.proofs.Sets.{decides-has, has-lt, has-cut, cut-left, cut-right, has-without, has-below, has-none}
+use Rattle.atoms.proofs.Sets.{without-left, without-right, below-lt, lt-of-has, some-atom}
 use Rattle.plan.specs.Limits.{MAX_UNITS}
 use Rattle.plan.specs.Faults.{number, spot, TableRow, FirstFit}
 use Rattle.reading.specs.Words.{WORD_BYTES, wordAt}
@@ -25,7 +26,8 @@ use Rattle.reading.specs.Commands.{count, countBehind, late, full}
 use Rattle.reading.specs.Commands.{emptyRule, contradictory, absentRule, badEdge, Row, operandRows, rows, firstFit, ofKind, commandAt}
 use Rattle.reading.specs.Layout.{RuleWords, UnitPair, Contents, predecessorsOf, recordOf, IsByte, All}
 use Rattle.reading.specs.Refusals.{Begins, countOf, Full, UnknownByte, OutOfGroupOrder, OneTooMany, CutShort, before-end, inside-operands}
-use Rattle.reading.specs.Refusals.{ZeroRule, ContradictoryRule, NamesAbsentRule, NoNewEdge, no-such-u, no-such-v, to-itself, repeated, WrongEdge, BytesAfterEnd}
+use Rattle.reading.specs.Refusals.{ZeroRule, ContradictoryRule, NamesAbsentRule, NoNewEdge, no-such-u, no-such-v, to-itself, repeated}
+use Rattle.reading.specs.Refusals.{WrongEdge, BytesAfterEnd}
 use Rattle.reading.specs.Refusals.{row, readingPlace}
 use Rattle.reading.proofs.Numbers.{word-fits}
 use Rattle.reading.proofs.CommandKinds.{kind-of-byte, kind-byte, byte-own, Later, later-there, none-behind}

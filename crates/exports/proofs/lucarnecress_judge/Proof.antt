@@ -11,7 +11,8 @@ use Rattle.exports.proofs.lucarnecress_judge.Tie as tie
 returns : tie.Need-returns
 returns c =
     let known = c .before .before in
-    judge-handed (now (known .before .args .plan)) (known .before .args .position) (all-bytes (now (known .before .args .plan)) (λ i. known .shared-slice-known .given i .fits))
+    judge-handed (now (known .before .args .plan)) (known .before .args .position)
+    (all-bytes (now (known .before .args .plan)) (λ i. known .shared-slice-known .given i .fits))
     (c .answer-code .ensures ∙ ap code (c .before .judge .ensures .is))
 
 pub lucarnecress-judge-spec : {M : Type 1} → statement M

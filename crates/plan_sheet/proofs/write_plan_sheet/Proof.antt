@@ -28,7 +28,9 @@ answered c = answer (now (start c .args .plan)) (now (start c .args .table))
 
 -- the plan's bytes are bytes
 said : (c : tie.After-list-positions) → Says (now (start c .args .plan)) (now (start c .args .table)) (sheetOf (answered c))
-said c = sheet-says (now (start c .args .plan)) (now (start c .args .table)) (all-bytes (now (start c .args .plan)) (λ i. c .before .before .before .before .shared-slice-known .given i .fits))
+said c =
+    sheet-says (now (start c .args .plan)) (now (start c .args .table))
+    (all-bytes (now (start c .args .plan)) (λ i. c .before .before .before .before .shared-slice-known .given i .fits))
 
 accepted : (c : tie.After-enum-told) → answered (listed c) .outcome ≡ Accepted
 accepted c = sym (listed c .list-positions .ensures .0 .outcome-is) ∙ c .enum-told .given .1
