@@ -9,7 +9,7 @@ use Rattle.plan.specs.declared.fault.Fault.{Fault}
 use Rattle.plan.specs.declared.fault.Fault.the-variants.{TableShort, Truncated, UnknownCommand, OutOfOrder, TooMany}
 use Rattle.plan.specs.declared.fault.Fault.the-variants.{EmptyRule, AbsentRule, BadEdge, TrailingBytes}
 use Rattle.plan.specs.declared.fault.Fault.the-variants.{RuleInNoUnit, HeadedRuleInSeveral, Cycle, NonmonotonicUnseen, MonotonicUnseen, LongList}
-use Rattle.plan.specs.declared.fault.Fault.the-variants.{GivenInHead, ContradictoryBody}
+use Rattle.plan.specs.declared.fault.Fault.the-variants.{GivenInHead, BadTable, BadUse, ContradictoryBody}
 use Rattle.plan.specs.declared.fault.Outcome.{Outcome}
 use Rattle.plan.specs.declared.fault.Outcome.the-variants.{Refused}
 
@@ -35,8 +35,8 @@ faultAt n s =
     ∷ LongList s
     ∷ GivenInHead s
     ∷ TableShort s
-    ∷ TableShort s
-    ∷ TableShort s
+    ∷ BadTable s
+    ∷ BadUse s
     ∷ TableShort s
     ∷ ContradictoryBody s
     ∷ [])
@@ -59,6 +59,8 @@ fault-told (NonmonotonicUnseen s) = refl
 fault-told (MonotonicUnseen s) = refl
 fault-told (LongList s) = refl
 fault-told (GivenInHead s) = refl
+fault-told (BadTable s) = refl
+fault-told (BadUse s) = refl
 fault-told (ContradictoryBody s) = refl
 
 pub refused-by : (f : Fault) {outcome : Outcome} → RefusedBy outcome (number f) (spot f) ↔ (outcome ≡ Refused f)

@@ -7,7 +7,7 @@ use Rattle.plan.specs.declared.fault.Fault.{Fault}
 use Rattle.plan.specs.declared.fault.Fault.the-variants.{TableShort, Truncated, UnknownCommand, OutOfOrder, TooMany}
 use Rattle.plan.specs.declared.fault.Fault.the-variants.{EmptyRule, AbsentRule, BadEdge, TrailingBytes}
 use Rattle.plan.specs.declared.fault.Fault.the-variants.{RuleInNoUnit, HeadedRuleInSeveral, Cycle, NonmonotonicUnseen, MonotonicUnseen, LongList}
-use Rattle.plan.specs.declared.fault.Fault.the-variants.{GivenInHead, ContradictoryBody}
+use Rattle.plan.specs.declared.fault.Fault.the-variants.{GivenInHead, BadTable, BadUse, ContradictoryBody}
 use Rattle.plan.specs.declared.fault.Outcome.{Outcome}
 use Rattle.plan.specs.declared.fault.Outcome.the-variants.{Refused}
 
@@ -29,6 +29,8 @@ number (NonmonotonicUnseen s) = 13
 number (MonotonicUnseen s) = 14
 number (LongList s) = 15
 number (GivenInHead s) = 16
+number (BadTable s) = 18
+number (BadUse s) = 19
 number (ContradictoryBody s) = 21
 
 -- column "spot"
@@ -49,6 +51,8 @@ spot (NonmonotonicUnseen s) = s
 spot (MonotonicUnseen s) = s
 spot (LongList s) = s
 spot (GivenInHead s) = s
+spot (BadTable s) = s
+spot (BadUse s) = s
 spot (ContradictoryBody s) = s
 
 -- "A refusal gives its number and spot"

@@ -15,9 +15,35 @@ MAX_UNITS = 16
 abbrev pub MAX_EDGES : ℕ
 MAX_EDGES = MAX_UNITS * (MAX_UNITS - 1)
 
--- "head, positive, negative: three words"
+-- S-4: "At most 16 tables and 256 USEs"
+abbrev pub MAX_TABLES : ℕ
+MAX_TABLES = 16
+
+abbrev pub MAX_USES : ℕ
+MAX_USES = 256
+
+-- S-4: "an input word of at most six atoms"
+abbrev pub MAX_INPUTS : ℕ
+MAX_INPUTS = 6
+
+-- S-4: a contact table has "an input word .. and a truth word"
+abbrev pub CONTACT_WORDS : ℕ
+CONTACT_WORDS = 2
+
+-- the record has the words of the contact tables in front, then those of the rules
+abbrev pub FIRST_RULE : ℕ
+FIRST_RULE = CONTACT_WORDS * MAX_TABLES
+
+-- "head, positive, negative: three words", and the word of the rule's uses behind them
 abbrev pub RULE_WORDS : ℕ
-RULE_WORDS = 3
+RULE_WORDS = 4
+
+abbrev pub USES : ℕ
+USES = 3
+
+-- all words of contact tables and rules
+abbrev pub PROGRAM_WORDS : ℕ
+PROGRAM_WORDS = FIRST_RULE + RULE_WORDS * MAX_RULES
 
 -- "zeros fill up its 256 words"
 abbrev pub LIST_WORDS : ℕ

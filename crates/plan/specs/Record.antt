@@ -2,7 +2,7 @@
 use Prim.Native.Nat.{ℕ, _+_, _*_, _≤_}
 use lib.ListN.{getD, set, replicate}
 use Rattle.atoms.specs.Word.{_∪_, atom}
-use Rattle.plan.specs.Limits.{MAX_RULES, MAX_UNITS, RULE_WORDS}
+use Rattle.plan.specs.Limits.{MAX_TABLES, MAX_RULES, MAX_UNITS, CONTACT_WORDS, RULE_WORDS, FIRST_RULE, USES, PROGRAM_WORDS}
 use Rattle.plan.specs.declared.record.Plan.{Plan}
 
 -- no more rules and units than there may be
@@ -16,8 +16,10 @@ emptyPlan =
     record {
       given = 0;
       «given_count» = 0;
-      rules = replicate {A = ℕ} (RULE_WORDS * MAX_RULES) 0;
+      rules = replicate {A = ℕ} PROGRAM_WORDS 0;
+      «table_count» = 0;
       «rule_count» = 0;
+      «use_count» = 0;
       units = replicate {A = ℕ} MAX_UNITS 0;
       «unit_count» = 0;
       predecessors = replicate {A = ℕ} MAX_UNITS 0;
@@ -31,7 +33,25 @@ withGiven p word =
       given = word;
       «given_count» = 1;
       rules = p .rules;
+      «table_count» = p .«table_count»;
       «rule_count» = p .«rule_count»;
+      «use_count» = p .«use_count»;
+      units = p .units;
+      «unit_count» = p .«unit_count»;
+      predecessors = p .predecessors;
+      «edge_count» = p .«edge_count»;
+    }
+
+-- S-4: "TABLEs .., numbered from 0 as they come": one TABLE more
+unfoldable pub withTable : Plan → ℕ → ℕ → Plan
+withTable p inputs truth =
+    record {
+      given = p .given;
+      «given_count» = p .«given_count»;
+      rules = set (set (p .rules) (CONTACT_WORDS * p .«table_count») inputs) (CONTACT_WORDS * p .«table_count» + 1) truth;
+      «table_count» = p .«table_count» + 1;
+      «rule_count» = p .«rule_count»;
+      «use_count» = p .«use_count»;
       units = p .units;
       «unit_count» = p .«unit_count»;
       predecessors = p .predecessors;
@@ -45,10 +65,36 @@ withRule p head positive negative =
       given = p .given;
       «given_count» = p .«given_count»;
       rules =
-          set (set (set (p .rules) (RULE_WORDS * p .«rule_count») head) (RULE_WORDS * p .«rule_count» + 1) positive)
-          (RULE_WORDS * p .«rule_count» + 2)
+          set (set (set (p .rules) (FIRST_RULE + RULE_WORDS * p .«rule_count») head) (FIRST_RULE + RULE_WORDS * p .«rule_count» + 1) positive)
+          (FIRST_RULE + RULE_WORDS * p .«rule_count» + 2)
           negative;
+      «table_count» = p .«table_count»;
       «rule_count» = p .«rule_count» + 1;
+      «use_count» = p .«use_count»;
+      units = p .units;
+      «unit_count» = p .«unit_count»;
+      predecessors = p .predecessors;
+      «edge_count» = p .«edge_count»;
+    }
+
+-- S-4: "0 for must be true or 1 for must be false": the bit of a rule's uses for this table and sign
+abbrev pub wantedBit : ℕ → ℕ → ℕ
+wantedBit table sign = MAX_TABLES * sign + table
+
+-- where the word of rule r's uses stands
+abbrev pub usesAt : ℕ → ℕ
+usesAt r = FIRST_RULE + RULE_WORDS * r + USES
+
+-- S-4: "USE .. with three bytes: rule, table, and 0 for must be true or 1 for must be false": one USE more
+unfoldable pub withUse : Plan → ℕ → ℕ → ℕ → Plan
+withUse p r table sign =
+    record {
+      given = p .given;
+      «given_count» = p .«given_count»;
+      rules = set (p .rules) (usesAt r) (getD (p .rules) (usesAt r) 0 ∪ atom (wantedBit table sign));
+      «table_count» = p .«table_count»;
+      «rule_count» = p .«rule_count»;
+      «use_count» = p .«use_count» + 1;
       units = p .units;
       «unit_count» = p .«unit_count»;
       predecessors = p .predecessors;
@@ -62,7 +108,9 @@ withUnit p word =
       given = p .given;
       «given_count» = p .«given_count»;
       rules = p .rules;
+      «table_count» = p .«table_count»;
       «rule_count» = p .«rule_count»;
+      «use_count» = p .«use_count»;
       units = set (p .units) (p .«unit_count») word;
       «unit_count» = p .«unit_count» + 1;
       predecessors = p .predecessors;
@@ -76,7 +124,9 @@ withEdge p u v =
       given = p .given;
       «given_count» = p .«given_count»;
       rules = p .rules;
+      «table_count» = p .«table_count»;
       «rule_count» = p .«rule_count»;
+      «use_count» = p .«use_count»;
       units = p .units;
       «unit_count» = p .«unit_count»;
       predecessors = set (p .predecessors) u (getD (p .predecessors) u 0 ∪ atom v);

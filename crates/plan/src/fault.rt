@@ -21,6 +21,8 @@ pub enum Fault {
     MonotonicUnseen(usize),
     LongList(usize),
     GivenInHead(usize),
+    BadTable(usize),
+    BadUse(usize),
     ContradictoryBody(usize),
 }
 
@@ -51,6 +53,8 @@ pub fn fault_number(f: Fault) -> u64
         Fault::MonotonicUnseen(_) => 14,
         Fault::LongList(_) => 15,
         Fault::GivenInHead(_) => 16,
+        Fault::BadTable(_) => 18,
+        Fault::BadUse(_) => 19,
         Fault::ContradictoryBody(_) => 21,
     }
 }
@@ -76,6 +80,8 @@ pub fn fault_spot(f: Fault) -> usize
         Fault::MonotonicUnseen(spot) => spot,
         Fault::LongList(spot) => spot,
         Fault::GivenInHead(spot) => spot,
+        Fault::BadTable(spot) => spot,
+        Fault::BadUse(spot) => spot,
         Fault::ContradictoryBody(spot) => spot,
     }
 }

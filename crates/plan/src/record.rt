@@ -1,21 +1,29 @@
 // The record of a read plan.
+use crate::limits::CONTACT_WORDS;
+use crate::limits::FIRST_RULE;
 use crate::limits::MAX_RULES;
+use crate::limits::MAX_TABLES;
 use crate::limits::MAX_UNITS;
 use crate::limits::RULE_WORDS;
+use crate::limits::USES;
 ghost use mathlib.Core.Path.{_≡_};
 ghost use Prim.Native.Nat.{_<_, _+_, _^_};
-ghost use Rattle.plan.specs.Record.{emptyPlan, withGiven, withRule, withUnit, withEdge};
-ghost use Rattle.plan.specs.Limits.{MAX_RULES as Limits·MAX_RULES, MAX_UNITS as Limits·MAX_UNITS};
+ghost use Rattle.plan.specs.Record.{emptyPlan, withGiven, withTable, withRule, withUse, withUnit, withEdge};
+ghost use Rattle.plan.specs.Limits.{MAX_RULES as Limits·MAX_RULES, MAX_TABLES as Limits·MAX_TABLES, MAX_UNITS as Limits·MAX_UNITS};
 
-const ALL_RULE_WORDS: usize = RULE_WORDS * MAX_RULES;
+const PROGRAM_WORDS: usize = FIRST_RULE + RULE_WORDS * MAX_RULES;
 
-// A read plan: its given atoms, its rules (three words each: head, positive, negative), units and edges, zeros behind; bit v of
-// predecessors[u] is the edge (u, v). The counts say how many commands of each kind were read.
+// A read plan: its given atoms, its contact tables (two words each: inputs, truth) and behind their room its rules (four words each:
+// head, positive, negative, uses), its units and edges, zeros behind. Bit t of a rule's uses says that table t must be true, bit
+// MAX_TABLES + t that it must be false; bit v of predecessors[u] is the edge (u, v). The counts say how many commands of each kind
+// were read.
 pub struct Plan {
     pub given: u64,
     pub given_count: usize,
-    pub rules: [u64; ALL_RULE_WORDS],
+    pub rules: [u64; PROGRAM_WORDS],
+    pub table_count: usize,
     pub rule_count: usize,
+    pub use_count: usize,
     pub units: [u64; MAX_UNITS],
     pub unit_count: usize,
     pub predecessors: [u64; MAX_UNITS],
@@ -29,8 +37,10 @@ pub fn empty_plan() -> Plan
     Plan {
         given: 0,
         given_count: 0,
-        rules: [0; ALL_RULE_WORDS],
+        rules: [0; PROGRAM_WORDS],
+        table_count: 0,
         rule_count: 0,
+        use_count: 0,
         units: [0; MAX_UNITS],
         unit_count: 0,
         predecessors: [0; MAX_UNITS],
@@ -48,18 +58,46 @@ pub fn with_given(read: Plan, word: u64) -> Plan
     next
 }
 
+// The record with one TABLE more.
+pub fn with_table(read: Plan, inputs: u64, truth: u64) -> Plan
+    requires { ⌜ read .«table_count» < Limits·MAX_TABLES ⌝ }
+    ensures { λ r. ⌜ r ≡ withTable read inputs truth ⌝ }
+{
+    let count = read.table_count;
+    let first = CONTACT_WORDS * count;
+    let mut next = read;
+    next.rules[first] = inputs;
+    next.rules[first + 1] = truth;
+    next.table_count = count + 1;
+    next
+}
+
 // The record with one RULE more.
 pub fn with_rule(read: Plan, head: u64, positive: u64, negative: u64) -> Plan
     requires { ⌜ read .«rule_count» < Limits·MAX_RULES ⌝ }
     ensures { λ r. ⌜ r ≡ withRule read head positive negative ⌝ }
 {
     let count = read.rule_count;
-    let first = RULE_WORDS * count;
+    let first = FIRST_RULE + RULE_WORDS * count;
     let mut next = read;
     next.rules[first] = head;
     next.rules[first + 1] = positive;
     next.rules[first + 2] = negative;
     next.rule_count = count + 1;
+    next
+}
+
+// The record with one USE more: the rule wants the table true (sign 0) or false (sign 1).
+pub fn with_use(read: Plan, rule: u8, table: u8, sign: u8) -> Plan
+    requires { ⌜ (rule < Limits·MAX_RULES) × (table < Limits·MAX_TABLES) × (sign < 2) × (read .«use_count» + 1 < 2 ^ 64) ⌝ }
+    ensures { λ r. ⌜ r ≡ withUse read rule table sign ⌝ }
+{
+    let count = read.use_count;
+    let at = FIRST_RULE + RULE_WORDS * rule as usize + USES;
+    let wanted = atoms::single(MAX_TABLES * sign as usize + table as usize);
+    let mut next = read;
+    next.rules[at] = atoms::union(next.rules[at], wanted);
+    next.use_count = count + 1;
     next
 }
 

@@ -1,0 +1,23 @@
+-- `with_table` meets its contract: the words stand where the definition puts them.
+use mathlib.Core.Path.{refl}
+use Rattle.plan.specs.Record.{withTable}
+use borrow.Author.Needs.{needs}
+use Rattle.plan.proofs.record.with_table.Statement.{statement}
+use Rattle.plan.proofs.record.with_table.Tie as tie
+
+returns : tie.Need-returns
+unfolding withTable
+returns c = refl
+
+pub with-table-spec : {M : Type 1} → statement M
+with-table-spec =
+    tie.close
+    (tie.spec
+    (λ c. search needs)
+    (λ c. search needs)
+    (λ c. search needs)
+    (λ c. search needs)
+    (λ c. search needs)
+    (λ c. search needs)
+    (λ c. search needs)
+    returns)
