@@ -71,7 +71,7 @@ module _ (rules : List ℕ) (r : ℕ) where
 
 -- ---- nothing but what is looked at counts
 
-use-same : (rules : List ℕ) (i M N : ℕ) → inputs rules (tableOf i) ∩ M ≡ inputs rules (tableOf i) ∩ N → useHolds rules i M ≡ useHolds rules i N
+pub use-same : (rules : List ℕ) (i M N : ℕ) → inputs rules (tableOf i) ∩ M ≡ inputs rules (tableOf i) ∩ N → useHolds rules i M ≡ useHolds rules i N
 unfolding useHolds
 use-same rules i M N e = ap (asks i) (answer-same (inputs rules (tableOf i)) (truth rules (tableOf i)) M N e)
 

@@ -5,6 +5,7 @@ pub mod HalfDecided
 pub mod Bodies
 pub mod Truths
 pub mod Parts
+pub mod HalfKnown
 pub mod Narrows
 pub mod RulePass
 pub mod Candidates

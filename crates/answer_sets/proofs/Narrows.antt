@@ -2,7 +2,7 @@
 use mathlib.Core.Logic.{_⊎_, inl, inr}
 use Prim.Native.Nat.{ℕ}
 use Rattle.atoms.specs.Word.{Has, _⊆_, Apart, _∪_, atom}
-use Rattle.atoms.proofs.Sets.{subset-refl, subset-trans, has-left, union-cases, atom-only}
+use Rattle.atoms.proofs.Sets.{subset-refl, subset-trans, has-left, has-right, has-atom, union-cases, atom-only}
 use Rattle.answer_sets.specs.State.{Completes, Narrows, clashed}
 use Rattle.answer_sets.specs.declared.state.State.{State}
 
@@ -95,6 +95,10 @@ pub overlap-none : {s : State} {N : ℕ} → ¬ Apart (s .up) (s .dropped) → C
 overlap-none h p = h (record { none = λ i u d. p .no-dropped .none i d (p .has-up .each i u) })
 
 -- so where nothing of interest completes a state it may clash
+pub clash-overlaps : (s : State) → ¬ Apart (clashed s .up) (clashed s .dropped)
+unfolding clashed
+clash-overlaps s n = n .none 0 (has-right (s .up) (atom 0) (has-atom 0)) (has-right (s .dropped) (atom 0) (has-atom 0))
+
 pub clash-narrows : {K : ℕ → Type 0} (s : State) → ((N : ℕ) → K N → ¬ Completes s N) → Narrows K s (clashed s)
 unfolding clashed
 clash-narrows s h = record {

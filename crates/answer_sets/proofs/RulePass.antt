@@ -1,38 +1,54 @@
 -- The rule pass: what each of its steps does to a state keeps every position that satisfies the rule.
-use mathlib.Core.Path.{_≡_, sym, _∙_, subst}
-use mathlib.Core.Bool.{Bool, true}
+use mathlib.Core.Path.{_≡_, refl, sym, _∙_, subst}
+use mathlib.Core.Bool.{Bool, true, not}
 use mathlib.Core.Logic.{_↔_}
 use mathlib.Core.List.{List}
 use Prim.Native.Nat.{ℕ}
-use Rattle.atoms.specs.Word.{Has, _⊆_, subset, Apart, _∪_, _∖_, AtMostOne}
-use Rattle.atoms.proofs.Sets.{has-none, has-without, has-dec, decides-subset}
+use borrow.Author.Tests.{not-true}
+use Rattle.atoms.specs.Word.{Has, _⊆_, subset, Apart, apart, _∪_, _∖_, AtMostOne}
+use Rattle.atoms.proofs.Sets.{has-none, has-without, without-left, without-right, has-dec, some-atom, decides-subset, decides-apart}
 use Rattle.answer_sets.specs.Program.{Body, Satisfies}
 use Rattle.answer_sets.specs.Lent.{lent}
 use Rattle.answer_sets.specs.State.{Completes, Narrows, clashed}
 use Rattle.answer_sets.specs.Known.{BodySays, halfDecided}
-use Rattle.answer_sets.specs.RulePass.{HeadUp, Held}
+use Rattle.answer_sets.specs.RulePass.{HeadUp, Held, Forced, Stepped}
 use Rattle.answer_sets.specs.declared.state.State.{State}
 use Rattle.answer_sets.specs.declared.state.Truth.{Truth}
 use Rattle.answer_sets.specs.declared.state.Truth.the-variants.{Holds}
 use Rattle.answer_sets.proofs.Parts.{known-holds, completes-known}
 use Rattle.answer_sets.proofs.Bodies.{parts-body}
-use Rattle.answer_sets.proofs.Narrows.{narrows-when, clash-narrows, up-narrows, down-narrows, with-all-up, with-all-dropped}
+use Rattle.answer_sets.proofs.Narrows.{narrows-refl, narrows-when, clash-overlaps, clash-narrows, up-narrows, down-narrows, with-all-up, with-all-dropped}
 
 -- ---- a word of which one atom has to be up; `w` are those that are not dropped
+
+-- an atom that is left of a word is not dropped
+not-all-dropped : (word dropped : ℕ) {w : ℕ} → w ≡ word ∖ dropped → ¬ (w ≡ 0) → ¬ (word ⊆ dropped)
+not-all-dropped word dropped {w} e n d =
+    let i = some-atom w n in
+    let k = subst (λ (x : ℕ). Has x (i .0)) e (i .1) in
+    without-right word dropped k (d .each (i .0) (without-left word dropped k))
 
 module _ {word w : ℕ} {s : State} (e : w ≡ word ∖ s .dropped) where
   -- one that is up is not dropped
   left-atom : (N : ℕ) → (k : HeadUp word N) → Completes s N → Has w (k .atom)
   left-atom N k p = rw e (has-without word (s .dropped) (k .in-head) (λ d. p .no-dropped .none (k .atom) d (k .is-up)))
 
-  pub head-clash : {t : State} → w ≡ 0 → t ≡ clashed s → Narrows (HeadUp word) s t
-  head-clash z f = rw f (clash-narrows s (λ N k p. has-none (rw z at (left-atom N k p))))
+  pub head-clash : {t : State} → w ≡ 0 → t ≡ clashed s → Forced word s t
+  head-clash z f = rw f (record {
+    narrows = clash-narrows s (λ N k p. has-none (rw z at (left-atom N k p)));
+    stops = λ d. clash-overlaps s;
+  })
 
-  pub head-forced : {up : ℕ} → AtMostOne w → up ≡ s .up ∪ w → Narrows (HeadUp word) s (record { up = up; dropped = s .dropped })
-  head-forced o f =
+  pub head-forced : {up : ℕ} → ¬ (w ≡ 0) → AtMostOne w → up ≡ s .up ∪ w → Forced word s (record { up = up; dropped = s .dropped })
+  head-forced n o f =
       rw f
-      (up-narrows s w
-      (λ N k p. record { each = λ i h. rw (o .same (k .atom) i (left-atom N k p) h) at (k .is-up) }))
+      (record {
+        narrows = up-narrows s w (λ N k p. record { each = λ i h. rw (o .same (k .atom) i (left-atom N k p) h) at (k .is-up) });
+        stops = λ d. absurd (not-all-dropped word (s .dropped) e n d);
+      })
+
+  pub head-open : ¬ (w ≡ 0) → Forced word s s
+  head-open n = record { narrows = narrows-refl; stops = λ d. absurd (not-all-dropped word (s .dropped) e n d) }
 
 -- ---- one rule
 
@@ -40,21 +56,40 @@ module _ {word w : ℕ} {s : State} (e : w ≡ word ∖ s .dropped) where
 pub subset-read : {read word whole : ℕ} {r : Bool} → read ≡ word → r ≡ subset read whole → r ≡ true → word ⊆ whole
 subset-read {read} {word} {whole} e f t = rw e at (decides-subset read whole .yes (sym f ∙ t))
 
--- where the body is known to hold, a position that satisfies the rule has a head atom
-pub holds-head : (rules : List ℕ) (r : ℕ) {h : ℕ} {s t : State} {k : Truth} → h ≡ lent rules .head r
-    → BodySays rules r (s .up) (s .dropped) k → k ≡ Holds → Narrows (HeadUp h) s t → Narrows (Satisfies (lent rules) r) s t
-holds-head rules r {h} {s} {t} reads e f n = narrows-when up n
-  where
-    up : (N : ℕ) → Satisfies (lent rules) r N → Completes s N → HeadUp h N
-    up N k p =
-        let a = k .head-up (known-holds rules r (s .up) (s .dropped) e N (completes-known p) f) in
-        record { atom = a .0; in-head = rw reads (a .1); is-up = a .2 }
-
--- ---- the last open atom
-
 pub held-known : {rules : List ℕ} {r up dropped : ℕ} {t : Truth} {answer : Bool} → BodySays rules r up dropped t
     → (answer ≡ true) ↔ (t ≡ Holds) → Held rules r up dropped answer
 held-known k e = record { exactly = (λ f. k .holds .0 (e .0 f), λ f. e .1 (k .holds .1 f)) }
+
+module _ (rules : List ℕ) (r : ℕ) {s : State} where
+  -- a body that is known to hold is told so
+  held-told : {t : Truth} → BodySays rules r (s .up) (s .dropped) t → Held rules r (s .up) (s .dropped) true → t ≡ Holds
+  held-told k h = k .holds .1 (h .exactly .0 refl)
+
+  -- a head atom is up already
+  pub head-met : {h : ℕ} {a : Bool} → h ≡ lent rules .head r → a ≡ apart h (s .up) → not a ≡ true → Stepped rules r s s
+  head-met {h} {a} reads e f = record {
+    narrows = narrows-refl;
+    stops = λ k d n.
+        decides-apart h (s .up) .no (sym e ∙ not-true a f)
+        (record { none = λ i p u. n .none i u (d .each i (rw reads at p)) });
+  }
+
+  -- where the body is known to hold, a position that satisfies the rule has a head atom
+  pub holds-head : {h : ℕ} {t : State} {k : Truth} → h ≡ lent rules .head r → BodySays rules r (s .up) (s .dropped) k → k ≡ Holds
+      → Forced h s t → Stepped rules r s t
+  holds-head {h} {t} reads e f n = record { narrows = narrows-when up (n .narrows); stops = λ k d. n .stops (rw reads d) }
+    where
+      up : (N : ℕ) → Satisfies (lent rules) r N → Completes s N → HeadUp h N
+      up N k p =
+          let a = k .head-up (known-holds rules r (s .up) (s .dropped) e N (completes-known p) f) in
+          record { atom = a .0; in-head = rw reads (a .1); is-up = a .2 }
+
+  -- where it is not, there is no stop
+  pub not-held : {t : State} {k : Truth} → BodySays rules r (s .up) (s .dropped) k → ¬ (k ≡ Holds) → Narrows (Satisfies (lent rules) r) s t
+      → Stepped rules r s t
+  not-held k n m = record { narrows = m; stops = λ h d. absurd (n (held-told k h)) }
+
+-- ---- the last open atom
 
 held-holds : (rules : List ℕ) (r up dropped : ℕ) {answer : Bool} → Held rules r up dropped answer → answer ≡ true → (N : ℕ)
     → Completes (halfDecided up dropped) N → Body (lent rules) r N

@@ -10,7 +10,7 @@ ghost use mathlib.Core.Path.{_≡_};
 ghost use Rattle.answer_sets.specs.Program.{Satisfies, SatisfiesAll};
 ghost use Rattle.answer_sets.specs.Lent.{lent, IsLent, Lent};
 ghost use Rattle.answer_sets.specs.State.{Narrows, clashed};
-ghost use Rattle.answer_sets.specs.RulePass.{HeadUp, Held};
+ghost use Rattle.answer_sets.specs.RulePass.{Held, Forced, Stepped};
 ghost use Rattle.atoms.specs.Word.{_⊆_, AtMostOne};
 
 // A state that nothing completes: an atom is both up and dropped.
@@ -25,7 +25,7 @@ pub fn clash(s: State) -> State
 
 // One atom of the word is up: the state in which it is so where just one is not dropped; nothing completes it where all are.
 fn forced(word: u64, s: State) -> State
-    ensures { λ t. ⌜ Narrows (HeadUp word) s t ⌝ }
+    ensures { λ t. ⌜ Forced word s t ⌝ }
 {
     let left = atoms::without(word, s.dropped);
     if left == 0 {
@@ -92,10 +92,10 @@ fn denied(rules: &[u64], rule: usize, s: State) -> State
     s
 }
 
-// The state after one rule: where its body holds and no head atom is up, one has to go up.
-fn rule_step(rules: &[u64], rule: usize, s: State) -> State
+// The state after one rule: where its body holds and no head atom is up, one has to go up; where all are dropped, the search stops.
+pub fn rule_step(rules: &[u64], rule: usize, s: State) -> State
     requires { ⌜ IsLent (now rules) rule ⌝ }
-    ensures { λ t. ⌜ Narrows (Satisfies (lent (now (rules .entry))) rule) s t ⌝ }
+    ensures { λ t. ⌜ Stepped (now (rules .entry)) rule s t ⌝ }
 {
     let head = head(rules, rule);
     if !atoms::are_apart(head, s.up) {

@@ -1,5 +1,5 @@
 -- No atom left that is not dropped, one left, or more.
-use Rattle.answer_sets.proofs.RulePass.{head-clash, head-forced}
+use Rattle.answer_sets.proofs.RulePass.{head-clash, head-forced, head-open}
 use borrow.Author.Needs.{needs}
 use Rattle.answer_sets.proofs.rule_pass.forced.Statement.{statement}
 use Rattle.answer_sets.proofs.rule_pass.forced.Tie as tie
@@ -9,7 +9,7 @@ returns c = head-clash (c .before .before .without .ensures) (c .before .if1 .ta
 
 returns-2 : tie.Need-returns-2
 returns-2 c =
-    head-forced (c .before .before .before .before .without .ensures) (c .before .before .at-most-one .ensures .yes (c .before .if2 .taken))
+    head-forced (c .before .before .before .before .without .ensures) (c .before .before .before .if1 .left) (c .before .before .at-most-one .ensures .yes (c .before .if2 .taken))
     (c .union .ensures)
 
 pub forced-spec : {M : Type 1} → statement M
@@ -22,4 +22,4 @@ forced-spec =
     (λ c κs. search needs)
     (λ c κs. search needs)
     returns-2
-    (λ c. search needs))
+    (λ c. head-open (c .before .before .before .without .ensures) (c .before .before .if1 .left)))

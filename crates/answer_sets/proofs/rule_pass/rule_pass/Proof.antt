@@ -23,7 +23,7 @@ rule-step-requires c κs =
 loop-again : tie.Need-loop-again Inv-loop μ-loop
 loop-again c =
     carrying-next (c .before .before .before .before .loop .inv) (c .before .before .lowest .ensures .0) (c .drop .ensures)
-    (λ h n. narrows-trans n (narrows-for (λ N all. all .each _ h) (c .before .rule-step .ensures)))
+    (λ h n. narrows-trans n (narrows-for (λ N all. all .each _ h) (c .before .rule-step .ensures .narrows)))
 
 pub rule-pass-spec : {M : Type 1} → statement M
 rule-pass-spec =

@@ -1,8 +1,14 @@
--- Where the body is known to hold, a head atom is up in every position that satisfies the rule; where it is open, `denied` tells.
-use Rattle.answer_sets.proofs.RulePass.{holds-head}
+-- A head atom is up already; or the body is known to hold, and one has to go up; or it is open, and `denied` tells.
+use mathlib.Core.Path.{sym, _∙_}
+use Rattle.answer_sets.proofs.Narrows.{narrows-refl}
+use Rattle.answer_sets.proofs.Truths.{holds-not-fails, open-not-holds}
+use Rattle.answer_sets.proofs.RulePass.{head-met, holds-head, not-held}
 use borrow.Author.Needs.{needs}
 use Rattle.answer_sets.proofs.rule_pass.rule_step.Statement.{statement}
 use Rattle.answer_sets.proofs.rule_pass.rule_step.Tie as tie
+
+returns : tie.Need-returns
+returns c = head-met _ _ (c .before .before .head .ensures) (c .before .are-apart .ensures) (c .if1 .taken)
 
 returns-2 : tie.Need-returns-2
 returns-2 c =
@@ -10,13 +16,22 @@ returns-2 c =
     holds-head _ _ (known .before .before .before .head .ensures) (known .body-known .ensures) (c .before .enum-told .given .1)
     (c .forced .ensures)
 
+returns-3 : tie.Need-returns-3
+returns-3 c =
+    not-held _ _ (c .before .before .body-known .ensures) (λ e. holds-not-fails (sym e ∙ c .enum-told2 .given .1)) narrows-refl
+
+returns-4 : tie.Need-returns-4
+returns-4 c =
+    not-held _ _ (c .before .before .before .body-known .ensures) (λ e. open-not-holds (sym (c .before .enum-told3 .given .1) ∙ e))
+    (c .denied .ensures)
+
 pub rule-step-spec : {M : Type 1} → statement M
 rule-step-spec =
     tie.close
     (tie.spec
     (λ c κs. search needs)
     (λ c κs. search needs)
-    (λ c. search needs)
+    returns
     (λ c κs. search needs)
     (λ c. search needs)
     (λ c κs. search needs)
@@ -24,5 +39,5 @@ rule-step-spec =
     (λ c. search needs)
     (λ c κs. search needs)
     returns-2
-    (λ c. search needs)
-    (λ c. search needs))
+    returns-3
+    returns-4)
