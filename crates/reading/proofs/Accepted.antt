@@ -152,14 +152,6 @@ accepted-is-plan bytes small =
 
 -- ---- the edges of an accepted plan
 
-all-member : {A : Type 0} (P : A → Type 0) (xs : List A) (e : A) → All P xs → List·Memᴰ e xs → P e
-all-member P [] e a m = absurd (List·Memᴰ·not-nil m)
-all-member P (x ∷ xs) e a m = go (List·Memᴰ·cases-cons m) (all-member P xs e (a .1))
-  where
-    go : (e ≡ x) ⊎ List·Memᴰ e xs → (List·Memᴰ e xs → P e) → P e
-    go (inl q) rec = subst P (sym q) (a .0)
-    go (inr k) rec = rec k
-
 -- it names no predecessor that is not there
 pub predecessors-there : (bytes : List ℕ) → All IsByte bytes → reading bytes .outcome ≡ Accepted → (u v : ℕ)
     → u < reading bytes .plan .«unit_count» → Has (getD (reading bytes .plan .predecessors) u 0) v → v < reading bytes .plan .«unit_count»

@@ -1,12 +1,17 @@
 pub mod Numbers
 pub mod Units
+pub mod Tables
 pub mod Edges
+pub mod Uses
 pub mod CommandKinds
 pub mod Commands
 pub mod Walk
 pub mod Limits
 pub mod Groups
+pub mod Snoc
+pub mod KeyedWords
 pub mod Predecessors
+pub mod Program
 pub mod Pigeonhole
 pub mod Elements
 pub mod Rows
