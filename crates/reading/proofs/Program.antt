@@ -42,7 +42,7 @@ padded-zero size xs l =
 
 -- ---- contact tables
 
-abbrev tableWords : List TableWords → List ℕ
+abbrev pub tableWords : List TableWords → List ℕ
 tableWords tables = padded FIRST_RULE (flatMap twoWords tables)
 
 tables-long : (tables : List TableWords) → length (flatMap twoWords tables) ≡ CONTACT_WORDS * length tables
@@ -92,14 +92,13 @@ ruleSpace = RULE_WORDS * MAX_RULES
 abbrev bodies : List TableUse → List RuleWords → List ℕ
 bodies uses rules = padded ruleSpace (ruleWords uses 0 rules)
 
--- one RULE more: its uses come later
-pub rules-snoc : (front : List ℕ) (rules : List RuleWords) (r : RuleWords) → length front ≡ FIRST_RULE → length rules < MAX_RULES
+rules-snoc-unused : (front : List ℕ) (rules : List RuleWords) (r : RuleWords) → length front ≡ FIRST_RULE → length rules < MAX_RULES
     → set
     (set (set (front ++ bodies [] rules) (FIRST_RULE + RULE_WORDS * length rules) (r .head)) (FIRST_RULE + RULE_WORDS * length rules + 1) (r .positive))
     (FIRST_RULE + RULE_WORDS * length rules + 2)
     (r .negative)
     ≡ front ++ bodies [] (rules ++ (r ∷ []))
-rules-snoc front rules r whole l =
+rules-snoc-unused front rules r whole l =
     let w = ruleWords [] 0 rules in
     let n : ℕ = RULE_WORDS * length rules in
     let long = words-long [] 0 rules in
@@ -120,6 +119,16 @@ rules-snoc front rules r whole l =
       padded-snoc ruleSpace body (n + 2) (r .negative) (omega arith) (omega arith),
     )
     (ap (λ (x : List ℕ). front ++ x) (sym (padded-zero ruleSpace three (omega arith)) ∙ ap (padded ruleSpace) words))
+
+-- one RULE more: its uses come later
+pub rules-snoc : (front : List ℕ) (uses : List TableUse) (rules : List RuleWords) (r : RuleWords) → length front ≡ FIRST_RULE
+    → length rules < MAX_RULES → uses ≡ []
+    → set
+    (set (set (front ++ bodies uses rules) (FIRST_RULE + RULE_WORDS * length rules) (r .head)) (FIRST_RULE + RULE_WORDS * length rules + 1) (r .positive))
+    (FIRST_RULE + RULE_WORDS * length rules + 2)
+    (r .negative)
+    ≡ front ++ bodies uses (rules ++ (r ∷ []))
+rules-snoc front uses rules r whole l none = rw none (rules-snoc-unused front rules r whole l)
 
 -- ---- uses
 
@@ -162,6 +171,15 @@ module _ (uses : List TableUse) where
       let e : suc n + i ≡ n + suc i = omega arith in
       ap (λ (k : ℕ). getD (ruleWords uses n (r ∷ rules)) k 0) next ∙ words-at (suc n) rules i (omega arith) ∙ ap (usesOf uses) e
 
+  pub uses-word : (front : List ℕ) (rules : List RuleWords) (i : ℕ) → length front ≡ FIRST_RULE → length rules ≤ MAX_RULES → i < length rules
+      → getD (front ++ bodies uses rules) (usesAt i) 0 ≡ usesOf uses i
+  uses-word front rules i whole most l =
+      let k : ℕ = RULE_WORDS * i + USES in
+      let there : usesAt i ≡ length front + k = omega arith in
+      let zero-first : 0 + i ≡ i = omega arith in
+      getD-second front (bodies uses rules) k (usesAt i) there
+      ∙ padded-at ruleSpace (ruleWords uses 0 rules) k (omega (arith, words-long uses 0 rules)) ∙ words-at 0 rules i l ∙ ap (usesOf uses) zero-first
+
   module _ (x : TableUse) where
     abbrev more : List TableUse
     more = uses ++ (x ∷ [])
@@ -200,10 +218,8 @@ module _ (uses : List TableUse) where
         let long = words-long uses 0 rules in
         let there : usesAt i ≡ length front + k = omega arith in
         let zero-first : 0 + i ≡ i = omega arith in
-        let old : getD (front ++ bodies uses rules) (usesAt i) 0 ≡ usesOf uses i =
-        getD-second front (bodies uses rules) k (usesAt i) there ∙ padded-at ruleSpace w k (omega arith) ∙ words-at 0 rules i l ∙ ap (usesOf uses) zero-first in
         let new : getD (front ++ bodies uses rules) (usesAt i) 0 ∪ atom (bitOf x) ≡ usesOf more (0 + i) =
-        ap (λ (v : ℕ). v ∪ atom (bitOf x)) old ∙ word-same ruleOf bitOf uses x ∙ ap (usesOf more) (sym zero-first) in
+        ap (λ (v : ℕ). v ∪ atom (bitOf x)) (uses-word front rules i whole most l) ∙ word-same ruleOf bitOf uses x ∙ ap (usesOf more) (sym zero-first) in
         let fill : ruleSpace - length w ≡ ruleSpace - length (ruleWords more 0 rules) = omega (arith, words-long more 0 rules) in
         ap (set (front ++ bodies uses rules) (usesAt i)) new
         ∙ set-second front (bodies uses rules) k (usesAt i) there (usesOf more (0 + i))

@@ -19,21 +19,27 @@ use Rattle.atoms.proofs.Tests.{decides-iff, decides-or, decides-equal}
 use Rattle.atoms.proofs.Sets.{decides-has, has-lt, has-cut, cut-left, cut-right, has-without, has-below, has-none}
 use Rattle.atoms.proofs.Sets.{without-left, without-right, below-lt, lt-of-has, some-atom}
 use Rattle.plan.specs.Limits.{MAX_UNITS}
+use Rattle.plan.specs.Record.{usesAt}
 use Rattle.plan.specs.Faults.{number, spot, TableRow, FirstFit}
 use Rattle.reading.specs.Words.{WORD_BYTES, wordAt}
-use Rattle.reading.specs.Commands.{Kind, given, rule, unit, edge, end, byteOf, kindOf, operandBytes, orderOf, earliestBehind, carrying, kinds}
-use Rattle.reading.specs.Commands.{count, countBehind, late, full}
-use Rattle.reading.specs.Commands.{emptyRule, contradictory, absentRule, badEdge, Row, operandRows, rows, firstFit, ofKind, commandAt}
-use Rattle.reading.specs.Layout.{RuleWords, UnitPair, Contents, predecessorsOf, recordOf, IsByte, All}
+use Rattle.reading.specs.Commands.{Kind, given, table, rule, usage, unit, edge, end, byteOf, kindOf, operandBytes, orderOf, earliestBehind}
+use Rattle.reading.specs.Commands.{carrying, kinds, count, countBehind, late, full}
+use Rattle.reading.specs.Commands.{emptyRule, contradictory, badTable, badUse, absentRule, badEdge, Row, operandRows, rows, firstFit, ofKind, commandAt}
+use Rattle.reading.specs.Layout.{TableWords, RuleWords, TableUse, UnitPair, Contents, usesOf, predecessorsOf, recordOf, IsByte, All}
 use Rattle.reading.specs.Refusals.{Begins, countOf, Full, UnknownByte, OutOfGroupOrder, OneTooMany, CutShort, before-end, inside-operands}
+use Rattle.reading.specs.Refusals.{NoTable, WrongTable, NoNewUse, no-such-rule, no-such-table, another-sign, again, WrongUse}
 use Rattle.reading.specs.Refusals.{ZeroRule, ContradictoryRule, NamesAbsentRule, NoNewEdge, no-such-u, no-such-v, to-itself, repeated}
 use Rattle.reading.specs.Refusals.{WrongEdge, BytesAfterEnd}
 use Rattle.reading.specs.Refusals.{row, readingPlace}
 use Rattle.reading.proofs.Numbers.{word-fits}
+use Rattle.reading.proofs.Units.{atom-from}
 use Rattle.reading.proofs.CommandKinds.{kind-of-byte, kind-byte, byte-own, Later, later-there, none-behind}
 use Rattle.reading.proofs.Commands.{Passed, none-fits, known-command, unknown-command, not-faulty}
 use Rattle.reading.proofs.Predecessors.{has-member, member-has}
-use Rattle.reading.proofs.Elements.{Element, operandsOf, elementAt, written-again, read-again, Sized, Few, decides-empty, decides-contradictory, row-is}
+use Rattle.reading.proofs.Tables.{decides-bad-table}
+use Rattle.reading.proofs.Program.{bitOf, use-has}
+use Rattle.reading.proofs.Elements.{Element, operandsOf, elementAt, written-again, read-again, Sized, Few, decides-empty, decides-contradictory}
+use Rattle.reading.proofs.Elements.{row-is, uses-are, bit-of-use}
 use Rattle.plan.specs.declared.fault.Fault.{Fault}
 use Rattle.plan.specs.declared.fault.Fault.the-variants.{Truncated, UnknownCommand}
 use Rattle.reading.specs.declared.command.Command.{Command}
@@ -120,28 +126,13 @@ shared-atom a b n =
     let i = some-atom (a ∩ b) (λ e. n (record { none = λ j p q. has-none (subst (λ (x : ℕ). Has x j) e (has-cut a b p q)) })) in
     (i .0, cut-left a b (i .1), cut-right a b (i .1))
 
--- a word from 2 ^ n on has an atom from n on
-atom-from : (n w : ℕ) → 2 ^ n ≤ w → (i : ℕ) × Has w i × (n ≤ i)
-atom-from n w h =
-    let above = some-atom (w ∖ below n) (λ e. omega (arith, lt-of-has w n (λ i p. within e i p (decLt i n)))) in (
-      above .0,
-      without-left w (below n) (above .1),
-      not-below (above .0) (without-right w (below n) (above .1)) (decLt (above .0) n),
-    )
-  where
-    within : w ∖ below n ≡ 0 → (i : ℕ) → Has w i → Dec (i < n) → i < n
-    within e i p (yes l) = l
-    within e i p (no l) = absurd (has-none (subst (λ (x : ℕ). Has x i) e (has-without w (below n) p (λ b. l (below-lt n b)))))
-
-    not-below : (i : ℕ) → ¬ Has (below n) i → Dec (i < n) → n ≤ i
-    not-below i p (yes l) = absurd (p (has-below n i l))
-    not-below i p (no l) = omega arith
-
 module _ (c : Contents) (few : Few c) where
   count-of : (k : Kind) → count (recordOf c) k ≡ countOf c k
   unfolding recordOf
   count-of given = refl
+  count-of table = refl
   count-of rule = refl
+  count-of usage = refl
   count-of unit = refl
   count-of edge = refl
   count-of end = refl
@@ -149,10 +140,44 @@ module _ (c : Contents) (few : Few c) where
   decides-full : (k : Kind) → Decides (Full c k) (full (recordOf c) k)
   unfolding recordOf
   decides-full given = record { yes = λ e. true≢false (sym e); no = λ e x. x }
+  decides-full table = decides-le _ _
   decides-full rule = decides-le _ _
+  decides-full usage = decides-le _ _
   decides-full unit = decides-le _ _
   decides-full edge = record { yes = λ e. true≢false (sym e); no = λ e x. x }
   decides-full end = record { yes = λ e. true≢false (sym e); no = λ e x. x }
+
+  decides-bad-use : (x : TableUse) → Decides (NoNewUse c x) (badUse (recordOf c) (x .rule) (x .table) (x .sign))
+  unfolding recordOf badUse
+  decides-bad-use x =
+      decides-iff tested stated (decides-or (decides-or (decides-or (decides-le _ _) (decides-le _ _)) (decides-le _ _)) (decides-has _ _))
+    where
+      word : ℕ
+      word = getD (recordOf c .rules) (usesAt (x .rule)) 0
+
+      Tested : Type 0
+      Tested = (((length (c .rules) ≤ x .rule) ⊎ (length (c .tables) ≤ x .table)) ⊎ (2 ≤ x .sign)) ⊎ Has word (bitOf x)
+
+      in-word : Dec (x .rule < length (c .rules)) → Dec (x .table < length (c .tables)) → Has word (bitOf x) → NoNewUse c x
+      in-word (yes l) (yes k) h = again (bit-of-use c few x k (subst (λ (w : ℕ). Has w (bitOf x)) (uses-are c few (x .rule) l) h))
+      in-word (yes l) (no k) h = no-such-table (omega arith)
+      in-word (no l) k h = no-such-rule (omega arith)
+
+      tested : Tested → NoNewUse c x
+      tested (inl (inl (inl h))) = no-such-rule h
+      tested (inl (inl (inr h))) = no-such-table h
+      tested (inl (inr h)) = another-sign (λ e. omega arith) (λ e. omega arith)
+      tested (inr h) = in-word (decLt (x .rule) (length (c .rules))) (decLt (x .table) (length (c .tables))) h
+
+      as-word : Dec (x .rule < length (c .rules)) → List·Memᴰ x (c .uses) → Tested
+      as-word (yes l) m = inr (subst (λ (w : ℕ). Has w (bitOf x)) (sym (uses-are c few (x .rule) l)) (use-has (c .uses) x m))
+      as-word (no l) m = inl (inl (inl (omega arith)))
+
+      stated : NoNewUse c x → Tested
+      stated (no-such-rule h) = inl (inl (inl h))
+      stated (no-such-table h) = inl (inl (inr h))
+      stated (another-sign h k) = inl (inr (omega arith))
+      stated (again m) = as-word (decLt (x .rule) (length (c .rules))) m
 
   pub decides-bad : (e : UnitPair) → Decides (NoNewEdge c e) (badEdge (recordOf c) (e .u) (e .v))
   unfolding recordOf badEdge
@@ -291,6 +316,30 @@ module _ (c : Contents) (few : Few c) (operands : List ℕ) where
             let a : Apart (r .words .positive) (r .words .negative) = subst (λ (y : RuleWords). Apart (y .positive) (y .negative)) x apart in
             a .none (r .atom) (r .wanted-up) (r .wanted-dropped)
 
+    table-decided : operandBytes table ≤ length operands
+        → Decides (WrongTable (byteOf table ∷ operands)) (badTable (wordAt 0 operands) (wordAt WORD_BYTES operands))
+    table-decided long = decides-iff wrong none (decides-bad-table (elementAt table operands))
+      where
+        wrong : NoTable (elementAt table operands) → WrongTable (byteOf table ∷ operands)
+        wrong n =
+            record {
+              words = elementAt table operands;
+              more = behind table;
+              is = written table long;
+              inputs-fit = word-fits operands 0 (omega arith) small;
+              truth-fits = word-fits operands WORD_BYTES (omega arith) small;
+              wrong = n;
+            }
+
+        none : WrongTable (byteOf table ∷ operands) → NoTable (elementAt table operands)
+        none w = subst NoTable (sym (spelt table (w .words) (w .more) (w .is) (w .inputs-fit, w .truth-fits))) (w .wrong)
+
+    use-decided : operandBytes usage ≤ length operands
+        → Decides (WrongUse c (byteOf usage ∷ operands)) (badUse (recordOf c) (getD operands 0 0) (getD operands 1 0) (getD operands 2 0))
+    use-decided long =
+        decides-iff (λ w. record { three = elementAt usage operands; more = behind usage; is = written usage long; wrong = w })
+        (λ w. subst (NoNewUse c) (sym (spelt usage (w .three) (w .more) (w .is) tt)) (w .wrong)) (decides-bad-use c few (elementAt usage operands))
+
     absent-decided : operandBytes unit ≤ length operands
         → Decides (NamesAbsentRule c (byteOf unit ∷ operands)) (absentRule (recordOf c) (wordAt 0 operands))
     unfolding absentRule recordOf
@@ -351,6 +400,14 @@ module _ (c : Contents) (few : Few c) (operands : List ℕ) where
         skips (λ (z : ZeroRule (byteOf k ∷ operands)). other rule k e (z .is))
         (skips (λ (r : ContradictoryRule (byteOf k ∷ operands)). other rule k e (r .is)) a)
 
+    past-table : (at : ℕ) (k : Kind) → eqb (byteOf table) (byteOf k) ≡ false → {rs : List Row} {ts : List TableRow}
+        → Agree rs ts → Agree rs (row 18 (WrongTable (byteOf k ∷ operands)) at ∷ ts)
+    past-table at k e a = skips (λ (w : WrongTable (byteOf k ∷ operands)). other table k e (w .is)) a
+
+    past-use : (at : ℕ) (k : Kind) → eqb (byteOf usage) (byteOf k) ≡ false → {rs : List Row} {ts : List TableRow}
+        → Agree rs ts → Agree rs (row 19 (WrongUse c (byteOf k ∷ operands)) at ∷ ts)
+    past-use at k e a = skips (λ (w : WrongUse c (byteOf k ∷ operands)). other usage k e (w .is)) a
+
     past-unit : (at : ℕ) (k : Kind) → eqb (byteOf unit) (byteOf k) ≡ false → {rs : List Row} {ts : List TableRow}
         → Agree rs ts → Agree rs (row 7 (NamesAbsentRule c (byteOf k ∷ operands)) at ∷ ts)
     past-unit at k e a = skips (λ (n : NamesAbsentRule c (byteOf k ∷ operands)). other unit k e (n .is)) a
@@ -366,22 +423,25 @@ module _ (c : Contents) (few : Few c) (operands : List ℕ) where
     agree : (at : ℕ) (k : Kind) → Agree (rows (recordOf c) at k operands) (readingPlace c at (byteOf k ∷ operands))
     agree at given =
         kind-rows at given
-        (λ long. past-rule at given refl (past-unit at given refl (past-edge at given refl (past-end at given refl done))))
+        (λ long. past-rule at given refl (past-table at given refl (past-use at given refl (past-unit at given refl (past-edge at given refl (past-end at given refl done))))))
+    agree at table =
+        kind-rows at table
+        (λ long. past-rule at table refl (meets (meet refl refl (table-decided long)) (λ e. past-use at table refl (past-unit at table refl (past-edge at table refl (past-end at table refl done))))))
     agree at rule =
         kind-rows at rule
-        (λ long. meets (meet refl refl (zero-decided long))
-        (λ e. meets (meet refl refl (contradictory-decided long))
-        (λ f. past-unit at rule refl (past-edge at rule refl (past-end at rule refl done)))))
+        (λ long. meets (meet refl refl (zero-decided long)) (λ e. meets (meet refl refl (contradictory-decided long)) (λ f. past-table at rule refl (past-use at rule refl (past-unit at rule refl (past-edge at rule refl (past-end at rule refl done)))))))
+    agree at usage =
+        kind-rows at usage
+        (λ long. past-rule at usage refl (past-table at usage refl (meets (meet refl refl (use-decided long)) (λ e. past-unit at usage refl (past-edge at usage refl (past-end at usage refl done))))))
     agree at unit =
         kind-rows at unit
-        (λ long. past-rule at unit refl (meets (meet refl refl (absent-decided long))
-        (λ e. past-edge at unit refl (past-end at unit refl done))))
+        (λ long. past-rule at unit refl (past-table at unit refl (past-use at unit refl (meets (meet refl refl (absent-decided long)) (λ e. past-edge at unit refl (past-end at unit refl done))))))
     agree at edge =
         kind-rows at edge
-        (λ long. past-rule at edge refl (past-unit at edge refl (meets (meet refl refl (edge-decided long)) (λ e. past-end at edge refl done))))
+        (λ long. past-rule at edge refl (past-table at edge refl (past-use at edge refl (past-unit at edge refl (meets (meet refl refl (edge-decided long)) (λ e. past-end at edge refl done))))))
     agree at end =
         kind-rows at end
-        (λ long. past-rule at end refl (past-unit at end refl (past-edge at end refl (meets (meet refl (add-one at) end-decided) (λ e. done)))))
+        (λ long. past-rule at end refl (past-table at end refl (past-use at end refl (past-unit at end refl (past-edge at end refl (meets (meet refl (add-one at) end-decided) (λ e. done)))))))
 
 -- ---- the command at the front of s
 
