@@ -490,7 +490,8 @@ record-with c table s f =
 record-with c rule s f =
     let r : RuleWords = elementAt rule s in
     let whole = table-words-long (c .tables) (f .few .few-tables) in
-    let e = rules-snoc (tableWords (c .tables)) (c .uses) (c .rules) r whole (rule-room (f .in-place)) (empty (c .uses) (omega (arith, f .in-place .on-time))) in
+    let unused = empty (c .uses) (omega (arith, f .in-place .on-time)) in
+    let e = rules-snoc (tableWords (c .tables)) (c .uses) (c .rules) r whole (rule-room (f .in-place)) unused in
     same-plan refl refl e refl (sym (length-snoc (c .rules) r)) refl refl refl refl refl
 record-with c usage s f =
     let x : TableUse = elementAt usage s in

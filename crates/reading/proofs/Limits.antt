@@ -1,5 +1,5 @@
 -- What holds of the record of every reading, accepted or not.
-use mathlib.Core.Path.{_≡_, sym, subst}
+use mathlib.Core.Path.{_≡_, refl, sym, subst}
 use mathlib.Core.Bool.{true, true≢false}
 use mathlib.Core.List.{List, [], _∷_}
 use Prim.Native.Nat.{ℕ, suc, _≤_, _<_}
@@ -18,6 +18,11 @@ pub empty-fits : Fitting emptyPlan
 unfolding emptyPlan
 empty-fits = record { tables-fit = omega arith; rules-fit = omega arith; units-fit = omega arith }
 
+fits-still : {p q : Plan} → q .«table_count» ≡ p .«table_count» → q .«rule_count» ≡ p .«rule_count» → q .«unit_count» ≡ p .«unit_count»
+    → Fitting p → Fitting q
+fits-still t r u f =
+    record { tables-fit = omega (arith, f .tables-fit); rules-fit = omega (arith, f .rules-fit); units-fit = omega (arith, f .units-fit) }
+
 -- one command more is counted, is at most one EDGE more, and the record still fits
 pub record Grown (p q : Plan) (k : Kind) : Type 0 where
   pub fitting : Fitting p → Fitting q
@@ -26,7 +31,7 @@ pub record Grown (p q : Plan) (k : Kind) : Type 0 where
 
 grown-so : (p : Plan) (at : ℕ) (s : List ℕ) (k : Kind) → adds k ≡ true → (u : Unstopped k p at s) → Grown p (grown p k (u .operands)) k
 unfolding withGiven withTable withRule withUse withUnit withEdge carrying
-grown-so p at s given a u = record { fitting = λ f. record { tables-fit = f .tables-fit; rules-fit = f .rules-fit; units-fit = f .units-fit }; some = omega arith; few-edges = omega arith }
+grown-so p at s given a u = record { fitting = fits-still refl refl refl; some = omega arith; few-edges = omega arith }
 grown-so p at s table a u =
     let room = table-room (u .in-place) in
     record {
@@ -41,7 +46,7 @@ grown-so p at s rule a u =
       some = omega arith;
       few-edges = omega arith;
     }
-grown-so p at s usage a u = record { fitting = λ f. record { tables-fit = f .tables-fit; rules-fit = f .rules-fit; units-fit = f .units-fit }; some = omega arith; few-edges = omega arith }
+grown-so p at s usage a u = record { fitting = fits-still refl refl refl; some = omega arith; few-edges = omega arith }
 grown-so p at s unit a u =
     let room = unit-room (u .in-place) in
     record {
@@ -49,7 +54,7 @@ grown-so p at s unit a u =
       some = omega arith;
       few-edges = omega arith;
     }
-grown-so p at s edge a u = record { fitting = λ f. record { tables-fit = f .tables-fit; rules-fit = f .rules-fit; units-fit = f .units-fit }; some = omega arith; few-edges = omega arith }
+grown-so p at s edge a u = record { fitting = fits-still refl refl refl; some = omega arith; few-edges = omega arith }
 grown-so p at s end a u = absurd (true≢false (sym a))
 
 pub leads-grown : (p q : Plan) (at : ℕ) (s : List ℕ) (k : Kind) → Leads k p at s q → Grown p q k

@@ -94,7 +94,12 @@ longest-within =
       most-edges = omega (arith, edges-long MAX_EDGES);
       good-given = (omega arith, tt);
       good-tables = all-replicate GoodTable MAX_TABLES _
-          (record { inputs-fit = omega arith; truth-fits = omega arith; few-inputs = omega (arith, ones-le 0 0 (omega arith)); rows-there = λ j p. absurd (has-none p) });
+          (record {
+            inputs-fit = omega arith;
+            truth-fits = omega arith;
+            few-inputs = omega (arith, ones-le 0 0 (omega arith));
+            rows-there = λ j p. absurd (has-none p);
+          });
       good-rules = all-replicate GoodRule MAX_RULES _
           (record {
             head-fits = omega arith;

@@ -11,7 +11,7 @@ use native.Mathlib.Decide.{decLt}
 use native.Mathlib.Numerals.{add-one}
 use lib.ListN.{length, drop, getD}
 use lib.Dec.{eqb, ltb, leb}
-use borrow.Author.Tests.{eqb-false, leb-true, leb-false, ltb-true, ltb-false}
+use borrow.Author.Tests.{eqb-true, eqb-false, leb-true, leb-false, ltb-true, ltb-false}
 use Rattle.atoms.specs.Bounded.{Decides}
 use Rattle.atoms.specs.Word.{Has, Apart, _∩_, _∖_, below}
 use Rattle.atoms.specs.Lists.{tabulate}
@@ -33,7 +33,7 @@ use Rattle.reading.specs.Refusals.{WrongEdge, BytesAfterEnd}
 use Rattle.reading.specs.Refusals.{row, readingPlace}
 use Rattle.reading.proofs.Numbers.{word-fits}
 use Rattle.reading.proofs.Units.{atom-from}
-use Rattle.reading.proofs.CommandKinds.{kind-of-byte, kind-byte, byte-own, Later, later-there, none-behind}
+use Rattle.reading.proofs.CommandKinds.{kind-of-byte, kind-byte, byte-own, each-kind, Later, later-there, none-behind}
 use Rattle.reading.proofs.Commands.{Passed, none-fits, known-command, unknown-command, not-faulty}
 use Rattle.reading.proofs.Predecessors.{has-member, member-has}
 use Rattle.reading.proofs.Tables.{decides-bad-table}
@@ -393,55 +393,80 @@ module _ (c : Contents) (few : Few c) (operands : List ℕ) where
         (meets (meet refl refl (order-decided k))
         (λ e. meets (meet refl refl (many-decided k)) (λ f. meets (meet refl refl (short-decided k)) (λ g. below (ltb-false _ _ g)))))
 
-    -- the rows of another command's operands do not fit
-    past-rule : (at : ℕ) (k : Kind) → eqb (byteOf rule) (byteOf k) ≡ false → {rs : List Row} {ts : List TableRow}
-        → Agree rs ts → Agree rs (row 6 (ZeroRule (byteOf k ∷ operands)) at ∷ row 21 (ContradictoryRule (byteOf k ∷ operands)) at ∷ ts)
-    past-rule at k e a =
+    -- the rows that go by the operands of a command of kind j, at a command of kind k
+    abbrev ownRows : ℕ → Kind → Kind → List TableRow
+    ownRows at k given = []
+    ownRows at k table = row 18 (WrongTable (byteOf k ∷ operands)) at ∷ []
+    ownRows at k rule = row 6 (ZeroRule (byteOf k ∷ operands)) at ∷ row 21 (ContradictoryRule (byteOf k ∷ operands)) at ∷ []
+    ownRows at k usage = row 19 (WrongUse c (byteOf k ∷ operands)) at ∷ []
+    ownRows at k unit = row 7 (NamesAbsentRule c (byteOf k ∷ operands)) at ∷ []
+    ownRows at k edge = row 8 (WrongEdge c (byteOf k ∷ operands)) at ∷ []
+    ownRows at k end = row 9 (BytesAfterEnd (byteOf k ∷ operands)) (suc at) ∷ []
+
+    -- those of another kind do not fit
+    other-skipped : (at : ℕ) (k j : Kind) → eqb (byteOf j) (byteOf k) ≡ false → {rs : List Row} {ts : List TableRow}
+        → Agree rs ts → Agree rs (ownRows at k j ++ ts)
+    other-skipped at k given e a = a
+    other-skipped at k table e a = skips (λ (w : WrongTable (byteOf k ∷ operands)). other table k e (w .is)) a
+    other-skipped at k rule e a =
         skips (λ (z : ZeroRule (byteOf k ∷ operands)). other rule k e (z .is))
         (skips (λ (r : ContradictoryRule (byteOf k ∷ operands)). other rule k e (r .is)) a)
+    other-skipped at k usage e a = skips (λ (w : WrongUse c (byteOf k ∷ operands)). other usage k e (w .is)) a
+    other-skipped at k unit e a = skips (λ (n : NamesAbsentRule c (byteOf k ∷ operands)). other unit k e (n .is)) a
+    other-skipped at k edge e a = skips (λ (w : WrongEdge c (byteOf k ∷ operands)). other edge k e (w .is)) a
+    other-skipped at k end e a = skips (λ (b : BytesAfterEnd (byteOf k ∷ operands)). other end k e (b .is)) a
 
-    past-table : (at : ℕ) (k : Kind) → eqb (byteOf table) (byteOf k) ≡ false → {rs : List Row} {ts : List TableRow}
-        → Agree rs ts → Agree rs (row 18 (WrongTable (byteOf k ∷ operands)) at ∷ ts)
-    past-table at k e a = skips (λ (w : WrongTable (byteOf k ∷ operands)). other table k e (w .is)) a
+    -- those of its own kind are decided
+    own-decided : (at : ℕ) (k : Kind) → operandBytes k ≤ length operands → {ts : List TableRow}
+        → Agree [] ts → Agree (operandRows (recordOf c) at k operands) (ownRows at k k ++ ts)
+    own-decided at given long a = a
+    own-decided at table long a = meets (meet refl refl (table-decided long)) (λ e. a)
+    own-decided at rule long a =
+        meets (meet refl refl (zero-decided long)) (λ e. meets (meet refl refl (contradictory-decided long)) (λ f. a))
+    own-decided at usage long a = meets (meet refl refl (use-decided long)) (λ e. a)
+    own-decided at unit long a = meets (meet refl refl (absent-decided long)) (λ e. a)
+    own-decided at edge long a = meets (meet refl refl (edge-decided long)) (λ e. a)
+    own-decided at end long a = meets (meet refl (add-one at) end-decided) (λ e. a)
 
-    past-use : (at : ℕ) (k : Kind) → eqb (byteOf usage) (byteOf k) ≡ false → {rs : List Row} {ts : List TableRow}
-        → Agree rs ts → Agree rs (row 19 (WrongUse c (byteOf k ∷ operands)) at ∷ ts)
-    past-use at k e a = skips (λ (w : WrongUse c (byteOf k ∷ operands)). other usage k e (w .is)) a
+    -- the rows of a list of kinds, in which k stands once
+    abbrev rowsOf : ℕ → Kind → List Kind → List TableRow
+    rowsOf at k [] = []
+    rowsOf at k (j ∷ js) = ownRows at k j ++ rowsOf at k js
 
-    past-unit : (at : ℕ) (k : Kind) → eqb (byteOf unit) (byteOf k) ≡ false → {rs : List Row} {ts : List TableRow}
-        → Agree rs ts → Agree rs (row 7 (NamesAbsentRule c (byteOf k ∷ operands)) at ∷ ts)
-    past-unit at k e a = skips (λ (n : NamesAbsentRule c (byteOf k ∷ operands)). other unit k e (n .is)) a
+    abbrev lacks : Kind → List Kind → Bool
+    lacks k [] = true
+    lacks k (j ∷ js) = elim (eqb (byteOf j) (byteOf k)) [ true ↦ false | false ↦ lacks k js ]
 
-    past-edge : (at : ℕ) (k : Kind) → eqb (byteOf edge) (byteOf k) ≡ false → {rs : List Row} {ts : List TableRow}
-        → Agree rs ts → Agree rs (row 8 (WrongEdge c (byteOf k ∷ operands)) at ∷ ts)
-    past-edge at k e a = skips (λ (w : WrongEdge c (byteOf k ∷ operands)). other edge k e (w .is)) a
+    abbrev once : Kind → List Kind → Bool
+    once k [] = false
+    once k (j ∷ js) = elim (eqb (byteOf j) (byteOf k)) [ true ↦ lacks k js | false ↦ once k js ]
 
-    past-end : (at : ℕ) (k : Kind) → eqb (byteOf end) (byteOf k) ≡ false → {rs : List Row} {ts : List TableRow}
-        → Agree rs ts → Agree rs (row 9 (BytesAfterEnd (byteOf k ∷ operands)) (suc at) ∷ ts)
-    past-end at k e a = skips (λ (b : BytesAfterEnd (byteOf k ∷ operands)). other end k e (b .is)) a
+    module _ (at : ℕ) (k : Kind) (long : operandBytes k ≤ length operands) where
+      none-own : (js : List Kind) → lacks k js ≡ true → Agree [] (rowsOf at k js)
+      none-own [] h = done
+      none-own (j ∷ js) h = go (eqb (byteOf j) (byteOf k)) refl (none-own js)
+        where
+          go : (b : Bool) → eqb (byteOf j) (byteOf k) ≡ b → (lacks k js ≡ true → Agree [] (rowsOf at k js)) → Agree [] (rowsOf at k (j ∷ js))
+          go true e rec = absurd (true≢false (sym (rw (e, lacks) at h)))
+          go false e rec = other-skipped at k j e (rec (rw (e, lacks) at h))
+
+      own-once : (js : List Kind) → once k js ≡ true → Agree (operandRows (recordOf c) at k operands) (rowsOf at k js)
+      own-once [] h = absurd (true≢false (sym h))
+      own-once (j ∷ js) h = go (eqb (byteOf j) (byteOf k)) refl (own-once js)
+        where
+          go : (b : Bool) → eqb (byteOf j) (byteOf k) ≡ b → (once k js ≡ true → Agree (operandRows (recordOf c) at k operands) (rowsOf at k js))
+              → Agree (operandRows (recordOf c) at k operands) (rowsOf at k (j ∷ js))
+          go true e rec =
+              subst (λ (i : Kind). Agree (operandRows (recordOf c) at k operands) (ownRows at k i ++ rowsOf at k js))
+              (sym (byte-own j k (eqb-true _ _ e))) (own-decided at k long (none-own js (rw (e, once) at h)))
+          go false e rec = other-skipped at k j e (rec (rw (e, once) at h))
+
+    -- the kinds in the order of their rows
+    abbrev byRows : List Kind
+    byRows = rule ∷ table ∷ usage ∷ unit ∷ edge ∷ end ∷ given ∷ []
 
     agree : (at : ℕ) (k : Kind) → Agree (rows (recordOf c) at k operands) (readingPlace c at (byteOf k ∷ operands))
-    agree at given =
-        kind-rows at given
-        (λ long. past-rule at given refl (past-table at given refl (past-use at given refl (past-unit at given refl (past-edge at given refl (past-end at given refl done))))))
-    agree at table =
-        kind-rows at table
-        (λ long. past-rule at table refl (meets (meet refl refl (table-decided long)) (λ e. past-use at table refl (past-unit at table refl (past-edge at table refl (past-end at table refl done))))))
-    agree at rule =
-        kind-rows at rule
-        (λ long. meets (meet refl refl (zero-decided long)) (λ e. meets (meet refl refl (contradictory-decided long)) (λ f. past-table at rule refl (past-use at rule refl (past-unit at rule refl (past-edge at rule refl (past-end at rule refl done)))))))
-    agree at usage =
-        kind-rows at usage
-        (λ long. past-rule at usage refl (past-table at usage refl (meets (meet refl refl (use-decided long)) (λ e. past-unit at usage refl (past-edge at usage refl (past-end at usage refl done))))))
-    agree at unit =
-        kind-rows at unit
-        (λ long. past-rule at unit refl (past-table at unit refl (past-use at unit refl (meets (meet refl refl (absent-decided long)) (λ e. past-edge at unit refl (past-end at unit refl done))))))
-    agree at edge =
-        kind-rows at edge
-        (λ long. past-rule at edge refl (past-table at edge refl (past-use at edge refl (past-unit at edge refl (meets (meet refl refl (edge-decided long)) (λ e. past-end at edge refl done))))))
-    agree at end =
-        kind-rows at end
-        (λ long. past-rule at end refl (past-table at end refl (past-use at end refl (past-unit at end refl (past-edge at end refl (meets (meet refl (add-one at) end-decided) (λ e. done)))))))
+    agree at k = kind-rows at k (λ long. own-once at k long byRows (each-kind (λ j. once j byRows) refl k))
 
 -- ---- the command at the front of s
 
