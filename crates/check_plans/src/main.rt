@@ -59,11 +59,18 @@ fn judge_positions() {
     ask(b"circuit-11-cycle.plan", 0);
 }
 
-// Plans that read: a rule that is in no unit is judged all the same, a GIVEN stands first, and the longest plan has all 64 rules as facts.
+// Plans that read: a rule that is in no unit is judged all the same, a GIVEN stands first, then TABLEs, and the longest plan has all 64 rules as facts.
 fn whole_plans() {
     ask(b"reading/rule-in-no-unit.plan", 1);
     ask(b"reading/given.plan", 0);
     ask(b"reading/given-of-no-atoms.plan", 0);
+    ask(b"reading/table-used.plan", 3);
+    ask(b"reading/table-used.plan", 1);
+    ask(b"reading/table-unused.plan", 1);
+    ask(b"reading/table-of-no-inputs.plan", 0);
+    ask(b"reading/table-of-six-inputs.plan", 0);
+    ask(b"reading/row-31-of-five-inputs.plan", 0);
+    ask(b"reading/use-of-the-other-sign.plan", 1);
     ask(b"reading/longest.plan", 0xffff_ffff_ffff_ffff);
     ask(b"reading/longest.plan", 0x7fff_ffff_ffff_ffff);
 }
@@ -75,6 +82,8 @@ fn cut_short() {
     ask(b"reading/second-rule-cut-short.plan", 0);
     ask(b"reading/unit-cut-short.plan", 0);
     ask(b"reading/given-cut-short.plan", 0);
+    ask(b"reading/table-cut-short.plan", 0);
+    ask(b"reading/use-cut-short.plan", 0);
     ask(b"reading/edge-cut-short.plan", 0);
 }
 
@@ -96,6 +105,19 @@ fn misplaced_given() {
     ask(b"reading/second-given-behind-rule.plan", 0);
 }
 
+// Fault 4: a late TABLE or USE, and what comes too late behind them.
+fn misplaced_table() {
+    ask(b"reading/given-behind-table.plan", 0);
+    ask(b"reading/table-behind-rule.plan", 0);
+    ask(b"reading/table-behind-rule-cut-short.plan", 0);
+    ask(b"reading/table-behind-use.plan", 0);
+    ask(b"reading/17th-table-behind-rule.plan", 0);
+    ask(b"reading/rule-behind-use.plan", 0);
+    ask(b"reading/use-behind-unit.plan", 0);
+    ask(b"reading/use-behind-edge-cut-short.plan", 0);
+    ask(b"reading/257th-use-behind-unit.plan", 0);
+}
+
 // Fault 4: another command out of group order.
 fn out_of_order() {
     ask(b"reading/rule-behind-unit.plan", 0);
@@ -106,11 +128,17 @@ fn out_of_order() {
     ask(b"reading/17th-unit-behind-edge.plan", 0);
 }
 
-// Fault 5: 65th RULE, 17th UNIT.
+// Fault 5: 65th RULE, 17th TABLE, 257th USE, 17th UNIT.
 fn too_many() {
     ask(b"reading/65th-rule.plan", 0);
     ask(b"reading/65th-rule-cut-short.plan", 0);
     ask(b"reading/65th-rule-of-zeros.plan", 0);
+    ask(b"reading/17th-table.plan", 0);
+    ask(b"reading/17th-table-cut-short.plan", 0);
+    ask(b"reading/17th-table-of-seven-inputs.plan", 0);
+    ask(b"reading/257th-use.plan", 0);
+    ask(b"reading/257th-use-cut-short.plan", 0);
+    ask(b"reading/257th-use-repeated.plan", 0);
     ask(b"reading/17th-unit.plan", 0);
     ask(b"reading/17th-unit-cut-short.plan", 0);
     ask(b"reading/17th-unit-of-an-absent-rule.plan", 0);
@@ -121,6 +149,7 @@ fn empty_rule() {
     ask(b"reading/rule-of-zeros.plan", 0);
     ask(b"reading/second-rule-of-zeros.plan", 0);
     ask(b"reading/rule-of-zeros-cut-short.plan", 0);
+    ask(b"reading/rule-of-zeros-with-a-use.plan", 0);
 }
 
 // Fault 21: positive and negative words share an atom.
@@ -130,6 +159,27 @@ fn contradictory_body() {
     ask(b"reading/contradictory-rule-cut-short.plan", 0);
     ask(b"reading/contradictory-rule-behind-unit.plan", 0);
     ask(b"reading/atom-in-head-and-body.plan", 0);
+}
+
+// Fault 18: TABLE with seven or more inputs, or a truth bit behind its last row.
+fn bad_table() {
+    ask(b"reading/table-of-seven-inputs.plan", 0);
+    ask(b"reading/table-of-64-inputs.plan", 0);
+    ask(b"reading/table-row-too-many.plan", 0);
+    ask(b"reading/row-1-of-no-inputs.plan", 0);
+    ask(b"reading/row-32-of-five-inputs.plan", 0);
+    ask(b"reading/table-of-seven-inputs-cut-short.plan", 0);
+}
+
+// Fault 19: USE of an absent rule or table, another sign, or a repeat.
+fn bad_use() {
+    ask(b"reading/use-of-an-absent-rule.plan", 0);
+    ask(b"reading/use-of-an-absent-table.plan", 0);
+    ask(b"reading/use-of-table-16.plan", 0);
+    ask(b"reading/use-without-tables.plan", 0);
+    ask(b"reading/use-of-sign-2.plan", 0);
+    ask(b"reading/use-repeated.plan", 0);
+    ask(b"reading/use-of-an-absent-rule-cut-short.plan", 0);
 }
 
 // Fault 7: UNIT names a rule that isn't there.
@@ -175,10 +225,13 @@ fn main() {
     cut_short();
     unknown();
     misplaced_given();
+    misplaced_table();
     out_of_order();
     too_many();
     empty_rule();
     contradictory_body();
+    bad_table();
+    bad_use();
     absent_rule();
     bad_edge();
     behind_end();
