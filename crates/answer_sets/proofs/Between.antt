@@ -15,13 +15,14 @@ use Rattle.atoms.proofs.Sets.{decides-apart, has-dec, has-lt, subset-refl, subs
 use Rattle.atoms.proofs.Sets.{outside-lacks, has-atom}
 use Rattle.atoms.proofs.Counts.{count-lt, count-proper}
 use Rattle.answer_sets.specs.Program.{Program, Body, Satisfies, SatisfiesAll}
-use Rattle.answer_sets.specs.Lent.{lent, negative}
+use Rattle.answer_sets.specs.Lent.{lent}
 use Rattle.answer_sets.specs.State.{Completes, Narrows, undecided}
-use Rattle.answer_sets.specs.SubsetTest.{Between, Confines, Candidates, InRule, in-head, in-negative}
+use Rattle.answer_sets.specs.SubsetTest.{Between, Confines, Candidates, InRule, in-head, in-looks}
 use Rattle.answer_sets.specs.Test.{Smaller, SubsetTested}
 use Rattle.answer_sets.specs.declared.state.State.{State}
 use Rattle.answer_sets.proofs.Narrows.{completes-back, overlap-none, with-up, with-dropped, without-up, without-dropped}
 use Rattle.answer_sets.proofs.HalfDecided.{decided-cases, undecided-up, undecided-dropped, undecided-shrinks}
+use Rattle.answer_sets.proofs.Bodies.{rest-same}
 use Rattle.answer_sets.proofs.Judged.{decides-smaller}
 
 -- ---- which completions lie within M
@@ -111,15 +112,11 @@ module _ (rules : List ℕ) (r : ℕ) (t : State)
       go (inl p) = p
       go (inr p) = absurd (c .no-dropped .none i p h)
 
+  -- atoms that stand in the rule are up in N just where they are up here
   settled-body : Body (lent rules) r (t .up) → Body (lent rules) r N
-  unfolding lent
   settled-body b = record {
     positive-up = subset-trans (b .positive-up) (c .has-up);
-    rest-holds = decided-true (decides-apart (negative rules r) N)
-        (record {
-          none = λ i p q.
-              decides-apart (negative rules r) (t .up) .yes (b .rest-holds) .none i p (settled-atom i (in-negative p) q);
-        });
+    rest-holds = rest-same rules r N (t .up) (λ i p. (settled-atom i (in-looks p), c .has-up .each i)) ∙ b .rest-holds;
   }
 
   settled-rule : Satisfies (lent rules) r N → Satisfies (lent rules) r (t .up)

@@ -4,8 +4,8 @@ use mathlib.Core.List.{List}
 use Prim.Native.Nat.{ℕ, _<_, _^_}
 use Rattle.atoms.specs.Word.{ATOMS, Has, _∩_, _∪_}
 use Rattle.atoms.proofs.Sets.{has-none, has-lt, has-cut, cut-left, has-left, has-right}
-use Rattle.answer_sets.specs.Lent.{lent, negative}
-use Rattle.answer_sets.specs.SubsetTest.{InRule, in-head, in-positive, in-negative, Candidates}
+use Rattle.answer_sets.specs.Lent.{lent, looks}
+use Rattle.answer_sets.specs.SubsetTest.{InRule, in-head, in-positive, in-looks, Candidates}
 
 module _ (rules : List ℕ) (r free : ℕ) {head v : ℕ} (reads : head ≡ lent rules .head r) (cuts : v ≡ free ∩ head) where
   pub candidates-head : ¬ (v ≡ 0) → Candidates rules r free v
@@ -14,10 +14,10 @@ module _ (rules : List ℕ) (r free : ℕ) {head v : ℕ} (reads : head ≡ lent
     none-left = λ z. absurd (n z);
   }
 
-  pub candidates-body : {positive negatives body w : ℕ} → v ≡ 0 → positive ≡ lent rules .positive r → negatives ≡ negative rules r
-      → head < 2 ^ ATOMS → positive < 2 ^ ATOMS → negatives < 2 ^ ATOMS → body ≡ positive ∪ negatives → w ≡ free ∩ body
+  pub candidates-body : {positive looked body w : ℕ} → v ≡ 0 → positive ≡ lent rules .positive r → looked ≡ looks rules r
+      → head < 2 ^ ATOMS → positive < 2 ^ ATOMS → looked < 2 ^ ATOMS → body ≡ positive ∪ looked → w ≡ free ∩ body
       → Candidates rules r free w
-  candidates-body {positive} {negatives} {body} {w} none pos neg hf pf nf e f = record {
+  candidates-body {positive} {looked} {body} {w} none pos neg hf pf nf e f = record {
     within = record { each = λ i h. cut-left free body (rw f at h) };
     none-left = go;
   }
@@ -29,6 +29,6 @@ module _ (rules : List ℕ) (r free : ℕ) {head v : ℕ} (reads : head ≡ lent
       go : w ≡ 0 → (i : ℕ) → InRule rules r i → (i < ATOMS) × ¬ Has free i
       go z i (in-head h) = let k = rw (sym reads) at h in (has-lt head ATOMS hf k, gone cuts none k)
       go z i (in-positive h) =
-          let k = rw (sym pos) at h in (has-lt positive ATOMS pf k, gone f z (rw e (has-left positive negatives k)))
-      go z i (in-negative h) =
-          let k = rw (sym neg) at h in (has-lt negatives ATOMS nf k, gone f z (rw e (has-right positive negatives k)))
+          let k = rw (sym pos) at h in (has-lt positive ATOMS pf k, gone f z (rw e (has-left positive looked k)))
+      go z i (in-looks h) =
+          let k = rw (sym neg) at h in (has-lt looked ATOMS nf k, gone f z (rw e (has-right positive looked k)))

@@ -6,7 +6,7 @@ use Prim.Native.Nat.{ℕ}
 use borrow.Author.Tests.{not-true, not-false}
 use Rattle.atoms.specs.Word.{subset, apart, _∖_, atom}
 use Rattle.answer_sets.specs.Program.{Program}
-use Rattle.answer_sets.specs.Lent.{lent, negative}
+use Rattle.answer_sets.specs.Lent.{lent, negative, usesHold}
 use Rattle.answer_sets.specs.Test.{body, satisfies, satisfiesAll, kept, keptIf, someSmaller, answerSet}
 
 -- ---- one rule
@@ -16,9 +16,14 @@ module _ (rules : List ℕ) (r M : ℕ) {p : ℕ} {test : Bool} (read : p ≡ le
   unfolding body
   body-short e = let f = rw read at tested in simp (sym f, not-true test e)
 
-  pub body-rest : {n : ℕ} {free : Bool} → not test ≡ false → n ≡ negative rules r → free ≡ apart n M → free ≡ body (lent rules) r M
-  unfolding body lent
-  body-rest e m a = let f = rw read at tested in simp (a, m, sym f, not-false test e)
+  module _ {n : ℕ} {free : Bool} (e : not test ≡ false) (m : n ≡ negative rules r) (a : free ≡ apart n M) where
+    pub body-met : not free ≡ true → false ≡ body (lent rules) r M
+    unfolding body lent
+    body-met f = let g = rw read at tested in let b = rw m at a in simp (sym g, not-false test e, sym b, not-true free f)
+
+    pub body-rest : {u : Bool} → not free ≡ false → u ≡ usesHold rules r M → u ≡ body (lent rules) r M
+    unfolding body lent
+    body-rest f h = let g = rw read at tested in let b = rw m at a in simp (h, sym g, not-false test e, sym b, not-false free f)
 
 module _ (P : Program) (r M : ℕ) {b : Bool} (tested : b ≡ body P r M) where
   pub satisfies-fails : not b ≡ true → true ≡ satisfies P r M

@@ -7,8 +7,8 @@ use native.Mathlib.Omega.{arith}
 use lib.ListN.{length}
 use Rattle.atoms.specs.Word.{Has, _⊆_, _∩_, below}
 use Rattle.atoms.proofs.Sets.{has-cut, cut-left, cut-right, has-below, below-lt}
-use Rattle.plan.specs.Limits.{MAX_RULES, RULE_WORDS}
-use Rattle.answer_sets.specs.Lent.{lent, ruleCount, IsLent, Lent, numbered}
+use Rattle.plan.specs.Limits.{MAX_RULES}
+use Rattle.answer_sets.specs.Lent.{lent, ruleAt, ruleCount, IsLent, Lent, numbered}
 use Rattle.answer_sets.specs.Test.{kept}
 use Rattle.answer_sets.proofs.Judged.{kept-at}
 
@@ -16,7 +16,7 @@ pub lent-within : {rules : List ℕ} {v w : ℕ} → v ⊆ w → Lent rules w �
 lent-within f l = record { each = λ r h. l .each r (f .each r h) }
 
 -- the first n rules, where their words are there
-pub lent-below : (rules : List ℕ) (n : ℕ) → RULE_WORDS * n ≤ length rules → Lent rules (below n)
+pub lent-below : (rules : List ℕ) (n : ℕ) → ruleAt n ≤ length rules → Lent rules (below n)
 lent-below rules n long = record { each = λ r h. let l : r < n = below-lt n h in omega arith }
 
 pub lent-kept : {rules : List ℕ} {which word : ℕ} (M : ℕ) → word ≡ kept (lent rules) which M → Lent rules which → Lent rules word

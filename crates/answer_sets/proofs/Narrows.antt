@@ -54,6 +54,28 @@ with-dropped s i {N} c h = record {
     go j q (inl p) = c .no-dropped .none j p q
     go j q (inr p) = h (rw (atom-only i p) q)
 
+-- the same with several atoms
+pub with-all-up : (s : State) (w : ℕ) {N : ℕ} → Completes s N → w ⊆ N → Completes (record { up = s .up ∪ w; dropped = s .dropped }) N
+with-all-up s w {N} c f = record {
+  has-up = record { each = λ j p. go j (union-cases (s .up) w p) };
+  no-dropped = c .no-dropped;
+}
+  where
+    go : (j : ℕ) → Has (s .up) j ⊎ Has w j → Has N j
+    go j (inl p) = c .has-up .each j p
+    go j (inr p) = f .each j p
+
+pub with-all-dropped : (s : State) (w : ℕ) {N : ℕ} → Completes s N → Apart w N
+    → Completes (record { up = s .up; dropped = s .dropped ∪ w }) N
+with-all-dropped s w {N} c a = record {
+  has-up = c .has-up;
+  no-dropped = record { none = λ j p q. go j q (union-cases (s .dropped) w p) };
+}
+  where
+    go : (j : ℕ) → Has N j → Has (s .dropped) j ⊎ Has w j → ⊥
+    go j q (inl p) = c .no-dropped .none j p q
+    go j q (inr p) = a .none j p q
+
 -- and back
 pub without-up : (s : State) (i : ℕ) {N : ℕ} → Completes (record { up = s .up ∪ atom i; dropped = s .dropped }) N → Completes s N
 without-up s i c = record {

@@ -3,5 +3,6 @@ pub mod AnswerSet
 pub mod Test
 pub mod Lent
 pub mod State
+pub mod Known
 pub mod RulePass
 pub mod SubsetTest

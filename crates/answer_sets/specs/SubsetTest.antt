@@ -4,7 +4,7 @@ use mathlib.Core.List.{List}
 use Prim.Native.Nat.{ℕ, _<_}
 use Rattle.atoms.specs.Word.{ATOMS, Has, _⊆_, _⊂_}
 use Rattle.answer_sets.specs.Program.{Program, Satisfies, SatisfiesAll}
-use Rattle.answer_sets.specs.Lent.{lent, negative}
+use Rattle.answer_sets.specs.Lent.{lent, looks}
 use Rattle.answer_sets.specs.State.{Completes}
 use Rattle.answer_sets.specs.declared.state.State.{State}
 use Rattle.answer_sets.specs.declared.reduct.Found.{Found}
@@ -26,11 +26,11 @@ abbrev pub Unsatisfied : Program → ℕ → ℕ → Found → Type 0
 Unsatisfied P which M (Rule r) = Has which r × ¬ Satisfies P r M
 Unsatisfied P which M Nothing = SatisfiesAll P which M
 
--- atom i stands in rule r
+-- atom i stands in rule r: in its head, its positive word, its negative word or among the inputs of a table it uses
 pub data InRule (rules : List ℕ) (r i : ℕ) : Type 0 where
   in-head : Has (lent rules .head r) i → InRule rules r i
   in-positive : Has (lent rules .positive r) i → InRule rules r i
-  in-negative : Has (negative rules r) i → InRule rules r i
+  in-looks : Has (looks rules r) i → InRule rules r i
 
 -- w holds atoms of `free`, and none only where no atom of rule r is in `free`
 pub record Candidates (rules : List ℕ) (r free w : ℕ) : Type 0 where

@@ -2,31 +2,24 @@
 use crate::rule::negative_body;
 use crate::rule::positive_body;
 use crate::state::Truth;
+use crate::truth::both;
+use crate::truth::word_known;
+use crate::uses::uses_known;
 ghost use mathlib.Core.Path.{_≡_};
 ghost use Rattle.answer_sets.specs.Lent.{IsLent};
-ghost use Rattle.answer_sets.specs.State.{bodyKnown, undecided as undecidedOf};
+ghost use Rattle.answer_sets.specs.Known.{BodySays};
+ghost use Rattle.answer_sets.specs.State.{undecided as undecidedOf};
 
-// Whether the body holds at every completion, fails at every one, or neither is known.
+// Whether the body holds, fails or is open: each word and each use of a table by what it is in every completion.
 pub fn body_known(rules: &[u64], rule: usize, up: u64, dropped: u64) -> Truth
     requires { ⌜ IsLent (now rules) rule ⌝ }
-    ensures { λ r. ⌜ r ≡ bodyKnown (now (rules .entry)) rule up dropped ⌝ }
+    ensures { λ r. ⌜ BodySays (now (rules .entry)) rule up dropped r ⌝ }
 {
-    let positive = positive_body(rules, rule);
-    let negative = negative_body(rules, rule);
     let down = atoms::without(dropped, up);
-    if !atoms::are_apart(positive, down) {
-        return Truth::Fails;
-    }
-    if !atoms::are_apart(negative, up) {
-        return Truth::Fails;
-    }
-    if !atoms::is_subset(positive, up) {
-        return Truth::Open;
-    }
-    if !atoms::is_subset(negative, down) {
-        return Truth::Open;
-    }
-    Truth::Holds
+    let positive = word_known(positive_body(rules, rule), up, down);
+    let negative = word_known(negative_body(rules, rule), down, up);
+    let words = both(positive, negative);
+    both(words, uses_known(rules, rule, up, dropped))
 }
 
 // The atoms that are neither up nor dropped.

@@ -6,6 +6,8 @@ pub mod rule;
 pub mod rule_pass;
 pub mod smaller;
 mod state;
+mod truth;
+mod uses;
 
 pub use position::has_smaller;
 pub use position::is_answer_set;

@@ -1,4 +1,7 @@
 // One lent rule: its words, its body and whether a position satisfies it. Where a rule's words stand is known here alone.
+use crate::uses::used_inputs;
+use crate::uses::uses_hold;
+use plan::FIRST_RULE;
 use plan::RULE_WORDS;
 ghost use mathlib.Core.Path.{_≡_};
 ghost use Rattle.answer_sets.specs.Lent.{lent, ruleCount, IsLent, negative, looks};
@@ -8,7 +11,10 @@ ghost use Rattle.answer_sets.specs.Test.{body, satisfies as satisfiesAt}
 pub fn rule_count(rules: &[u64]) -> usize
     ensures { λ r. ⌜ r ≡ ruleCount (now (rules .entry)) ⌝ }
 {
-    rules.len() / RULE_WORDS
+    if rules.len() < FIRST_RULE {
+        return 0;
+    }
+    (rules.len() - FIRST_RULE) / RULE_WORDS
 }
 
 // The head's atoms.
@@ -16,7 +22,7 @@ pub fn head(rules: &[u64], rule: usize) -> u64
     requires { ⌜ IsLent (now rules) rule ⌝ }
     ensures { λ r. ⌜ r ≡ lent (now (rules .entry)) .head rule ⌝ }
 {
-    rules[RULE_WORDS * rule]
+    rules[FIRST_RULE + RULE_WORDS * rule]
 }
 
 // The atoms that the body wants up.
@@ -24,7 +30,7 @@ pub fn positive_body(rules: &[u64], rule: usize) -> u64
     requires { ⌜ IsLent (now rules) rule ⌝ }
     ensures { λ r. ⌜ r ≡ lent (now (rules .entry)) .positive rule ⌝ }
 {
-    rules[RULE_WORDS * rule + 1]
+    rules[FIRST_RULE + RULE_WORDS * rule + 1]
 }
 
 // The atoms that the body wants dropped.
@@ -32,7 +38,7 @@ pub fn negative_body(rules: &[u64], rule: usize) -> u64
     requires { ⌜ IsLent (now rules) rule ⌝ }
     ensures { λ r. ⌜ r ≡ negative (now (rules .entry)) rule ⌝ }
 {
-    rules[RULE_WORDS * rule + 2]
+    rules[FIRST_RULE + RULE_WORDS * rule + 2]
 }
 
 // The atoms that the rest of the body looks at.
@@ -40,7 +46,7 @@ pub fn looks(rules: &[u64], rule: usize) -> u64
     requires { ⌜ IsLent (now rules) rule ⌝ }
     ensures { λ r. ⌜ r ≡ looks (now (rules .entry)) rule ⌝ }
 {
-    negative_body(rules, rule)
+    atoms::union(negative_body(rules, rule), used_inputs(rules, rule))
 }
 
 // Whether the body holds at the position.
@@ -51,7 +57,10 @@ pub fn body_holds(rules: &[u64], rule: usize, position: u64) -> bool
     if !atoms::is_subset(positive_body(rules, rule), position) {
         return false;
     }
-    atoms::are_apart(negative_body(rules, rule), position)
+    if !atoms::are_apart(negative_body(rules, rule), position) {
+        return false;
+    }
+    uses_hold(rules, rule, position)
 }
 
 // Whether the position satisfies the rule: its body fails, or a head atom is up.

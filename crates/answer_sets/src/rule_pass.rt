@@ -1,7 +1,8 @@
 // The rule pass: what every position that satisfies the rules must have or lack, told from what is known of it.
 use crate::known::body_known;
+use crate::known::undecided;
 use crate::rule::head;
-use crate::rule::negative_body;
+use crate::rule::looks;
 use crate::rule::positive_body;
 use crate::state::State;
 use crate::state::Truth;
@@ -9,7 +10,8 @@ ghost use mathlib.Core.Path.{_≡_};
 ghost use Rattle.answer_sets.specs.Program.{Satisfies, SatisfiesAll};
 ghost use Rattle.answer_sets.specs.Lent.{lent, IsLent, Lent};
 ghost use Rattle.answer_sets.specs.State.{Narrows, clashed};
-ghost use Rattle.answer_sets.specs.RulePass.{HeadUp, NotAll};
+ghost use Rattle.answer_sets.specs.RulePass.{HeadUp, Held};
+ghost use Rattle.atoms.specs.Word.{_⊆_, AtMostOne};
 
 // A state that nothing completes: an atom is both up and dropped.
 pub fn clash(s: State) -> State
@@ -38,18 +40,37 @@ fn forced(word: u64, s: State) -> State
     s
 }
 
-// Not all atoms of the word are up: the state in which one is dropped where just one is not up; nothing completes it where all are.
-fn spared(word: u64, s: State) -> State
-    ensures { λ t. ⌜ Narrows (NotAll word) s t ⌝ }
+// Whether the body is known to hold.
+fn is_held(rules: &[u64], rule: usize, up: u64, dropped: u64) -> bool
+    requires { ⌜ IsLent (now rules) rule ⌝ }
+    ensures { λ r. ⌜ Held (now (rules .entry)) rule up dropped r ⌝ }
 {
-    let left = atoms::without(word, s.up);
-    if left == 0 {
-        return clash(s);
+    let truth = body_known(rules, rule, up, dropped);
+    match truth {
+        Truth::Holds => true,
+        Truth::Fails => false,
+        Truth::Open => false,
     }
-    if atoms::at_most_one(left) {
+}
+
+// The state in which the body does not hold by its last open atom: where it would with the atom up, the atom is dropped,
+// and the other way round.
+fn decided_by(rules: &[u64], rule: usize, left: u64, s: State) -> State
+    requires { ⌜ IsLent (now rules) rule × AtMostOne left × (lent (now rules) .head rule ⊆ s .dropped) ⌝ }
+    ensures { λ t. ⌜ Narrows (Satisfies (lent (now (rules .entry))) rule) s t ⌝ }
+{
+    let up = atoms::union(s.up, left);
+    let down = atoms::union(s.dropped, left);
+    if is_held(rules, rule, up, s.dropped) {
         return State {
             up: s.up,
-            dropped: atoms::union(s.dropped, left),
+            dropped: down,
+        };
+    }
+    if is_held(rules, rule, s.up, down) {
+        return State {
+            up,
+            dropped: s.dropped,
         };
     }
     s
@@ -63,13 +84,10 @@ fn denied(rules: &[u64], rule: usize, s: State) -> State
     if !atoms::is_subset(head(rules, rule), s.dropped) {
         return s;
     }
-    let positive = positive_body(rules, rule);
-    let negative = negative_body(rules, rule);
-    if atoms::is_subset(negative, s.dropped) {
-        return spared(positive, s);
-    }
-    if atoms::is_subset(positive, s.up) {
-        return forced(negative, s);
+    let body = atoms::union(positive_body(rules, rule), looks(rules, rule));
+    let left = atoms::cut(undecided(s.up, s.dropped), body);
+    if atoms::at_most_one(left) {
+        return decided_by(rules, rule, left, s);
     }
     s
 }

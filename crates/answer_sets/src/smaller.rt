@@ -4,7 +4,7 @@ use crate::known::undecided;
 use crate::reduct::Found;
 use crate::reduct::find_unsatisfied;
 use crate::rule::head;
-use crate::rule::negative_body;
+use crate::rule::looks;
 use crate::rule::positive_body;
 use crate::rule_pass::rule_pass;
 use crate::state::State;
@@ -25,7 +25,7 @@ fn candidates(rules: &[u64], rule: usize, free: u64) -> u64
     if heads != 0 {
         return heads;
     }
-    let body = atoms::union(positive_body(rules, rule), negative_body(rules, rule));
+    let body = atoms::union(positive_body(rules, rule), looks(rules, rule));
     atoms::cut(free, body)
 }
 

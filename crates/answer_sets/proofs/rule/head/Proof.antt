@@ -9,4 +9,4 @@ unfolding lent
 returns c = search needs
 
 pub head-spec : {M : Type 1} → statement M
-head-spec = tie.close (tie.spec (λ c. search needs) (λ c. search needs) (λ c. search needs) returns)
+head-spec = tie.close (tie.spec (λ c. search needs) (λ c. search needs) (λ c. search needs) (λ c. search needs) returns)

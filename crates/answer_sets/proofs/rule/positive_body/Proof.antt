@@ -10,4 +10,4 @@ returns c = search needs
 
 pub positive-body-spec : {M : Type 1} → statement M
 positive-body-spec =
-    tie.close (tie.spec (λ c. search needs) (λ c. search needs) (λ c. search needs) (λ c. search needs) returns)
+    tie.close (tie.spec (λ c. search needs) (λ c. search needs) (λ c. search needs) (λ c. search needs) (λ c. search needs) returns)

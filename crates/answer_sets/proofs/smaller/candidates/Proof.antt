@@ -10,11 +10,11 @@ returns c = candidates-head _ _ _ (c .before .before .head .ensures) (c .before 
 returns-2 : tie.Need-returns-2
 returns-2 c =
     let positive = c .before .before .before in
-    let negative = c .before .before in
+    let looked = c .before .before in
     let head = positive .before .before .before in
     candidates-body _ _ _ (head .head .ensures) (positive .before .before .cut .ensures) (positive .before .if1 .left)
-    (positive .positive-body .ensures) (negative .negative-body .ensures) (head .head .ok) (positive .positive-body .ok)
-    (negative .negative-body .ok) (c .before .union .ensures) (c .cut2 .ensures)
+    (positive .positive-body .ensures) (looked .looks .ensures) (head .head .ok) (positive .positive-body .ok)
+    (looked .looks .ok) (c .before .union .ensures) (c .cut2 .ensures)
 
 pub candidates-spec : {M : Type 1} → statement M
 candidates-spec =

@@ -1,0 +1,141 @@
+-- The uses of contact tables: what a use asks by its sign, that the rest of a body depends on what it looks at alone, and a body by its parts.
+use mathlib.Core.Path.{_≡_, refl, sym, ap, ap₂, _∙_, subst}
+use mathlib.Core.Bool.{Bool, true, false, not, _&&_}
+use mathlib.Core.Logic.{_↔_}
+use mathlib.Core.List.{List}
+use Prim.Native.Nat.{ℕ, _-_, _<_, _≤_}
+use native.Mathlib.Omega.{arith}
+use borrow.Author.Tests.{lt-ltb, le-ltb}
+use Rattle.atoms.specs.Word.{Has, _∩_, _∪_, apart, below}
+use Rattle.atoms.specs.Bounded.{allIn}
+use Rattle.atoms.proofs.Tests.{and-true, bool-ext, decided-true}
+use Rattle.atoms.proofs.Sets.{ext, has-cut, cut-left, cut-right, has-left, has-right, has-below, below-lt, decides-apart}
+use Rattle.atoms.proofs.Bounded.{all-in-at, all-in-intro, all-in-fails, union-has}
+use Rattle.atoms.proofs.TakenNumbers.{Taking, taking-start}
+use Rattle.plan.specs.Limits.{MAX_TABLES}
+use Rattle.contact_tables.specs.Table.{answer}
+use Rattle.contact_tables.proofs.RowBits.{answer-same}
+use Rattle.answer_sets.specs.Program.{Body}
+use Rattle.answer_sets.specs.Lent.{lent, negative, inputs, truth, uses, USE_BITS, tableOf, asks, useHolds, usesHold, usedInputs, looks}
+use Rattle.answer_sets.specs.Known.{Part, positive-word, negative-word, table-use, PartHolds, InBody, has-positive, has-negative, has-use}
+
+-- ---- what a use asks
+
+pub table-first : (i : ℕ) → i < MAX_TABLES → i ≡ tableOf i
+unfolding tableOf
+table-first i l = rw (lt-ltb i MAX_TABLES l, tableOf) refl
+
+pub table-second : (i : ℕ) → MAX_TABLES ≤ i → i - MAX_TABLES ≡ tableOf i
+unfolding tableOf
+table-second i l = rw (le-ltb i MAX_TABLES l, tableOf) refl
+
+module _ (rules : List ℕ) (i M : ℕ) where
+  -- what the table of use i says at M
+  abbrev pub said : Bool
+  said = answer (inputs rules (tableOf i)) (truth rules (tableOf i)) M
+
+  pub wanted-true : i < MAX_TABLES → said ≡ useHolds rules i M
+  unfolding useHolds asks
+  wanted-true l = rw (lt-ltb i MAX_TABLES l, asks) refl
+
+  pub wanted-false : MAX_TABLES ≤ i → not said ≡ useHolds rules i M
+  unfolding useHolds asks
+  wanted-false l = rw (le-ltb i MAX_TABLES l, asks) refl
+
+-- what was read of the table
+pub said-read : (rules : List ℕ) (i M : ℕ) {table ins tr : ℕ} {t : Bool} → table ≡ tableOf i → ins ≡ inputs rules table → tr ≡ truth rules table
+    → t ≡ answer ins tr M → t ≡ said rules i M
+said-read rules i M e f g h = rw (h, f, g, e) refl
+
+-- ---- the uses of a rule, in a loop
+
+pub taking-uses : {v word first rest : ℕ} {Done : ℕ → Type 0} → word ≡ v → first ≡ below USE_BITS → rest ≡ word ∩ first
+    → Taking (v ∩ below USE_BITS) rest Done
+taking-uses {v} {rest = rest} {Done = Done} e f g = subst (λ (w : ℕ). Taking w rest Done) (g ∙ ap₂ _∩_ e f) taking-start
+
+module _ (rules : List ℕ) (r : ℕ) where
+  pub use-lt : {i : ℕ} → Has (uses rules r ∩ below USE_BITS) i → i < USE_BITS
+  use-lt h = below-lt USE_BITS (cut-right (uses rules r) (below USE_BITS) h)
+
+  pub use-fails : (M : ℕ) {i : ℕ} → Has (uses rules r ∩ below USE_BITS) i → useHolds rules i M ≡ false → false ≡ usesHold rules r M
+  unfolding usesHold
+  use-fails M {i} h e =
+      sym (all-in-fails USE_BITS (uses rules r) (λ k. useHolds rules k M) i (use-lt h) (cut-left (uses rules r) (below USE_BITS) h) e)
+
+  pub all-uses-hold : (M : ℕ) → ((i : ℕ) → Has (uses rules r ∩ below USE_BITS) i → useHolds rules i M ≡ true) → true ≡ usesHold rules r M
+  unfolding usesHold
+  all-uses-hold M f =
+      sym
+      (all-in-intro USE_BITS (uses rules r) (λ k. useHolds rules k M)
+      (λ i l h. f i (has-cut (uses rules r) (below USE_BITS) h (has-below USE_BITS i l))))
+
+-- ---- nothing but what is looked at counts
+
+use-same : (rules : List ℕ) (i M N : ℕ) → inputs rules (tableOf i) ∩ M ≡ inputs rules (tableOf i) ∩ N → useHolds rules i M ≡ useHolds rules i N
+unfolding useHolds
+use-same rules i M N e = ap (asks i) (answer-same (inputs rules (tableOf i)) (truth rules (tableOf i)) M N e)
+
+module _ (rules : List ℕ) (r M N : ℕ) (same : (a : ℕ) → Has (looks rules r) a → Has M a ↔ Has N a) where
+  -- the inputs of a table that is used
+  inputs-same : (i : ℕ) → i < USE_BITS → Has (uses rules r) i → inputs rules (tableOf i) ∩ M ≡ inputs rules (tableOf i) ∩ N
+  unfolding usedInputs
+  inputs-same i l h =
+      ext (inputs rules (tableOf i) ∩ M) (inputs rules (tableOf i) ∩ N)
+      (λ a p. let q = cut-left (inputs rules (tableOf i)) M p in
+      has-cut (inputs rules (tableOf i)) N q (same a (used a q) .0 (cut-right (inputs rules (tableOf i)) M p)))
+      (λ a p. let q = cut-left (inputs rules (tableOf i)) N p in
+      has-cut (inputs rules (tableOf i)) M q (same a (used a q) .1 (cut-right (inputs rules (tableOf i)) N p)))
+    where
+      used : (a : ℕ) → Has (inputs rules (tableOf i)) a → Has (looks rules r) a
+      used a q =
+          has-right (negative rules r) (usedInputs rules r) (union-has USE_BITS (uses rules r) (λ k. inputs rules (tableOf k)) i a l h q)
+
+  uses-same : usesHold rules r M ≡ usesHold rules r N
+  unfolding usesHold
+  uses-same =
+      bool-ext (allIn USE_BITS (uses rules r) (λ i. useHolds rules i M)) (allIn USE_BITS (uses rules r) (λ i. useHolds rules i N))
+      (λ e. all-in-intro USE_BITS (uses rules r) (λ i. useHolds rules i N)
+      (λ i l h. sym (use-same rules i M N (inputs-same i l h)) ∙ all-in-at USE_BITS (uses rules r) (λ i. useHolds rules i M) e i l h))
+      (λ e. all-in-intro USE_BITS (uses rules r) (λ i. useHolds rules i M)
+      (λ i l h. use-same rules i M N (inputs-same i l h) ∙ all-in-at USE_BITS (uses rules r) (λ i. useHolds rules i N) e i l h))
+
+  negative-same : apart (negative rules r) M ≡ apart (negative rules r) N
+  negative-same =
+      bool-ext (apart (negative rules r) M) (apart (negative rules r) N)
+      (λ e. decided-true (decides-apart (negative rules r) N)
+      (record { none = λ a h k. decides-apart (negative rules r) M .yes e .none a h (same a (seen a h) .1 k) }))
+      (λ e. decided-true (decides-apart (negative rules r) M)
+      (record { none = λ a h k. decides-apart (negative rules r) N .yes e .none a h (same a (seen a h) .0 k) }))
+    where
+      seen : (a : ℕ) → Has (negative rules r) a → Has (looks rules r) a
+      seen a h = has-left (negative rules r) (usedInputs rules r) h
+
+  pub rest-same : lent rules .rest r M ≡ lent rules .rest r N
+  unfolding lent
+  rest-same = ap₂ _&&_ negative-same uses-same
+
+-- ---- a body by its parts
+
+module _ (rules : List ℕ) (r N : ℕ) where
+  pub body-parts : Body (lent rules) r N → (p : Part) → InBody rules r p → PartHolds rules r p N
+  unfolding lent usesHold
+  body-parts b _ has-positive = b .positive-up
+  body-parts b _ has-negative =
+      decides-apart (negative rules r) N .yes (and-true (apart (negative rules r) N) (usesHold rules r N) .0 (b .rest-holds) .0)
+  body-parts b _ (has-use k l h) =
+      all-in-at USE_BITS (uses rules r) (λ i. useHolds rules i N)
+      (and-true (apart (negative rules r) N) (usesHold rules r N) .0 (b .rest-holds) .1) k l h
+
+  pub parts-body : ((p : Part) → InBody rules r p → PartHolds rules r p N) → Body (lent rules) r N
+  unfolding lent usesHold
+  parts-body f = record {
+    positive-up = f positive-word has-positive;
+    rest-holds = and-true (apart (negative rules r) N) (usesHold rules r N) .1 (
+      decided-true (decides-apart (negative rules r) N) (f negative-word has-negative),
+      all-in-intro USE_BITS (uses rules r) (λ i. useHolds rules i N) (λ i l h. f (table-use i) (has-use i l h)),
+    );
+  }
+
+  -- the negative atoms of a body that holds are not up
+  pub negative-down : Body (lent rules) r N → (i : ℕ) → Has (negative rules r) i → ¬ Has N i
+  negative-down b i h = body-parts b negative-word has-negative .none i h

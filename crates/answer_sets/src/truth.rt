@@ -1,0 +1,59 @@
+// What is known of a test at a half-decided position, put together from what is known of its parts.
+use crate::state::Truth;
+ghost use mathlib.Core.Path.{_≡_};
+ghost use Rattle.atoms.specs.Word.{Apart};
+ghost use Rattle.answer_sets.specs.Known.{both as bothOf, opposite as oppositeOf, WordSays, RowsSay};
+
+// Of two tests together: both hold, one fails, or neither is known.
+pub fn both(a: Truth, b: Truth) -> Truth
+    ensures { λ r. ⌜ r ≡ bothOf a b ⌝ }
+{
+    match a {
+        Truth::Fails => Truth::Fails,
+        Truth::Holds => b,
+        Truth::Open => match b {
+            Truth::Fails => Truth::Fails,
+            Truth::Holds => Truth::Open,
+            Truth::Open => Truth::Open,
+        },
+    }
+}
+
+// Of the test that holds where this one fails.
+pub fn opposite(t: Truth) -> Truth
+    ensures { λ r. ⌜ r ≡ oppositeOf t ⌝ }
+{
+    match t {
+        Truth::Holds => Truth::Fails,
+        Truth::Fails => Truth::Holds,
+        Truth::Open => Truth::Open,
+    }
+}
+
+// Of a word of atoms, all of which are wanted; no atom is both wanted and barred.
+pub fn word_known(word: u64, wanted: u64, barred: u64) -> Truth
+    requires { ⌜ Apart wanted barred ⌝ }
+    ensures { λ r. ⌜ WordSays word wanted barred r ⌝ }
+{
+    if !atoms::are_apart(word, barred) {
+        return Truth::Fails;
+    }
+    if atoms::is_subset(word, wanted) {
+        return Truth::Holds;
+    }
+    Truth::Open
+}
+
+// Of the rows that are left, at least one: whether the truth word has them.
+pub fn rows_known(rows: u64, word: u64) -> Truth
+    requires { ⌜ (rows ≡ 0 → ⊥) ⌝ }
+    ensures { λ r. ⌜ RowsSay rows word r ⌝ }
+{
+    if atoms::is_subset(rows, word) {
+        return Truth::Holds;
+    }
+    if atoms::are_apart(rows, word) {
+        return Truth::Fails;
+    }
+    Truth::Open
+}

@@ -1,0 +1,123 @@
+// The uses that a rule makes of contact tables: what they ask of a position, and what is known of them at a half-decided one.
+use crate::state::Truth;
+use crate::truth::both;
+use crate::truth::opposite;
+use crate::truth::rows_known;
+use plan::CONTACT_WORDS;
+use plan::FIRST_RULE;
+use plan::MAX_TABLES;
+use plan::RULE_WORDS;
+use plan::USES;
+ghost use mathlib.Core.Path.{_≡_};
+ghost use mathlib.Core.Bool.{true};
+ghost use Prim.Native.Nat.{_<_, _≤_};
+ghost use lib.ListN.{length};
+ghost use Rattle.plan.specs.Limits.{FIRST_RULE as Limits·FIRST_RULE, MAX_TABLES as Limits·MAX_TABLES};
+ghost use Rattle.answer_sets.specs.Lent.{IsLent, USE_BITS as Lent·USE_BITS, uses, tableOf, inputs, truth, useHolds, usesHold, usedInputs};
+ghost use Rattle.answer_sets.specs.Known.{Says, PartsSay, IsUse, halfDecided};
+
+// A bit for each table that must be true, and one for each that must be false.
+const USE_BITS: usize = 2 * MAX_TABLES;
+
+// The word of the rule's uses.
+pub fn uses(rules: &[u64], rule: usize) -> u64
+    requires { ⌜ IsLent (now rules) rule ⌝ }
+    ensures { λ r. ⌜ r ≡ uses (now (rules .entry)) rule ⌝ }
+{
+    rules[FIRST_RULE + RULE_WORDS * rule + USES]
+}
+
+// The table that the use is of.
+fn table_of(i: usize) -> usize
+    requires { ⌜ i < Lent·USE_BITS ⌝ }
+    ensures { λ r. ⌜ (r ≡ tableOf i) × (r < Limits·MAX_TABLES) ⌝ }
+{
+    if i < MAX_TABLES { i } else { i - MAX_TABLES }
+}
+
+// The table's input atoms.
+fn table_inputs(rules: &[u64], table: usize) -> u64
+    requires { ⌜ (Limits·FIRST_RULE ≤ length (now rules)) × (table < Limits·MAX_TABLES) ⌝ }
+    ensures { λ r. ⌜ r ≡ inputs (now (rules .entry)) table ⌝ }
+{
+    rules[CONTACT_WORDS * table]
+}
+
+// The table's truth word.
+fn table_truth(rules: &[u64], table: usize) -> u64
+    requires { ⌜ (Limits·FIRST_RULE ≤ length (now rules)) × (table < Limits·MAX_TABLES) ⌝ }
+    ensures { λ r. ⌜ r ≡ truth (now (rules .entry)) table ⌝ }
+{
+    rules[CONTACT_WORDS * table + 1]
+}
+
+// Whether the use holds at the position.
+fn use_holds(rules: &[u64], i: usize, position: u64) -> bool
+    requires { ⌜ (Limits·FIRST_RULE ≤ length (now rules)) × (i < Lent·USE_BITS) ⌝ }
+    ensures { λ r. ⌜ r ≡ useHolds (now (rules .entry)) i position ⌝ }
+{
+    let table = table_of(i);
+    let said = contact_tables::answer(
+        table_inputs(rules, table),
+        table_truth(rules, table),
+        position,
+    );
+    if i < MAX_TABLES { said } else { !said }
+}
+
+// Whether all uses of the rule hold at the position.
+pub fn uses_hold(rules: &[u64], rule: usize, position: u64) -> bool
+    requires { ⌜ IsLent (now rules) rule ⌝ }
+    ensures { λ r. ⌜ r ≡ usesHold (now (rules .entry)) rule position ⌝ }
+{
+    let mut rest = atoms::cut(uses(rules, rule), atoms::first(USE_BITS));
+    while rest != 0 {
+        let i = atoms::lowest(rest);
+        if !use_holds(rules, i, position) {
+            return false;
+        }
+        rest = atoms::drop(rest, i);
+    }
+    true
+}
+
+// The input atoms of the tables that the rule uses.
+pub fn used_inputs(rules: &[u64], rule: usize) -> u64
+    requires { ⌜ IsLent (now rules) rule ⌝ }
+    ensures { λ r. ⌜ r ≡ usedInputs (now (rules .entry)) rule ⌝ }
+{
+    let mut all = 0;
+    let mut rest = atoms::cut(uses(rules, rule), atoms::first(USE_BITS));
+    while rest != 0 {
+        let i = atoms::lowest(rest);
+        all = atoms::union(all, table_inputs(rules, table_of(i)));
+        rest = atoms::drop(rest, i);
+    }
+    all
+}
+
+// What is known of the use: the rows that completions have, held against the truth word.
+fn use_known(rules: &[u64], i: usize, up: u64, dropped: u64) -> Truth
+    requires { ⌜ (Limits·FIRST_RULE ≤ length (now rules)) × (i < Lent·USE_BITS) ⌝ }
+    ensures { λ r. ⌜ Says (λ N. useHolds (now (rules .entry)) i N ≡ true) (halfDecided up dropped) r ⌝ }
+{
+    let table = table_of(i);
+    let rows = contact_tables::agreeing_rows(table_inputs(rules, table), up, dropped);
+    let said = rows_known(rows, table_truth(rules, table));
+    if i < MAX_TABLES { said } else { opposite(said) }
+}
+
+// What is known of all uses of the rule.
+pub fn uses_known(rules: &[u64], rule: usize, up: u64, dropped: u64) -> Truth
+    requires { ⌜ IsLent (now rules) rule ⌝ }
+    ensures { λ r. ⌜ PartsSay (now (rules .entry)) rule (IsUse (now (rules .entry)) rule) (halfDecided up dropped) r ⌝ }
+{
+    let mut known = Truth::Holds;
+    let mut rest = atoms::cut(uses(rules, rule), atoms::first(USE_BITS));
+    while rest != 0 {
+        let i = atoms::lowest(rest);
+        known = both(known, use_known(rules, i, up, dropped));
+        rest = atoms::drop(rest, i);
+    }
+    known
+}

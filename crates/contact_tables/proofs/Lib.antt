@@ -1,0 +1,4 @@
+pub mod Places
+pub mod RowBits
+pub mod Columns
+pub mod Sifting

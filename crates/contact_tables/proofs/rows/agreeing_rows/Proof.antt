@@ -1,0 +1,65 @@
+-- The loop takes the inputs from the lowest on. The measure is how many are left.
+use mathlib.Core.Path.{_∙_, ap}
+use mathlib.Core.Logic.{_⊎_, inl, inr}
+use Prim.Native.Nat.{ℕ, _≤_, _^_}
+use native.Mathlib.Omega.{arith}
+use lib.Count.{ones}
+use lib.Pow.{pow-mono}
+use borrow.Author.Needs.{needs}
+use borrow.Author.Tests.{ltb-true, ltb-false}
+use Rattle.atoms.specs.Word.{ATOMS, atom, below, _∩_}
+use Rattle.atoms.proofs.Counts.{taken-less}
+use Rattle.contact_tables.proofs.Sifting.{Sifting, sifting-start, sifting-next, sifting-end}
+use Rattle.contact_tables.proofs.rows.agreeing_rows.Statement.{statement}
+use Rattle.contact_tables.proofs.rows.agreeing_rows.Tie as tie
+
+abbrev Inv-loop : tie.InvT-loop
+Inv-loop inputs up dropped rows₀ rest₀ k₀ rows rest k = Sifting inputs up dropped rows rest k
+
+abbrev μ-loop : tie.MeasureT-loop
+μ-loop inputs up dropped rows₀ rest₀ k₀ rows rest k = ones rest
+
+loop-again : tie.Need-loop-again Inv-loop μ-loop
+loop-again c =
+    let low = c .before .before in
+    sifting-next (low .before .before .before .loop .inv) (low .lowest .ensures .0) (ltb-true _ _ (low .before .if1 .taken)) (c .before .sifted .ensures)
+    (c .drop .ensures)
+
+-- how many inputs are done
+abbrev done : tie.After-single Inv-loop μ-loop → ℕ
+done c = c .before .before .loop .k
+
+rows-small : (c : tie.After-single Inv-loop μ-loop) → atom (done c) ≤ ATOMS
+unfolding atom
+rows-small c = pow-mono (c .before .before .loop .inv .few)
+
+first-requires-2 : tie.Need-first-requires-2 Inv-loop μ-loop
+first-requires-2 c κs = let l = rows-small c in let e = c .single .ensures in omega arith
+
+returns : tie.Need-returns Inv-loop μ-loop
+unfolding atom
+returns c =
+    let one = c .before .before in
+    let exit = one .before in
+    sifting-end (exit .before .before .before .fits .inputs .fits) (exit .before .loop .inv)
+    (elim (exit .loop-test .came) [ inl q ↦ inr (ltb-false _ _ (q .1 .left)) | inr q ↦ inl (q .left) ])
+    (c .cut .ensures ∙ ap (λ (w : ℕ). exit .before .loop .rows ∩ w) (c .before .first2 .ensures ∙ ap below (one .single .ensures)))
+
+pub agreeing-rows-spec : {M : Type 1} → statement M
+agreeing-rows-spec =
+    tie.close
+    (tie.spec
+    Inv-loop
+    μ-loop
+    (λ c κs. search needs)
+    (λ c. sifting-start (c .first .ensures))
+    (λ c κs. c .before .loop-test .taken)
+    (λ c κs. (ltb-true _ _ (c .before .if1 .taken), c .lowest .ensures .1))
+    (λ c κs. c .before .lowest .ensures .1)
+    (λ c. omega (arith, c .before .before .before .before .before .loop .inv .few))
+    (λ c. taken-less (c .before .before .lowest .ensures .0) (c .drop .ensures))
+    loop-again
+    (λ c κs. let l = c .before .loop .inv .few in omega arith)
+    first-requires-2
+    (λ c κs. search needs)
+    returns)

@@ -1,0 +1,11 @@
+-- The word at place k of the six.
+use borrow.Author.Needs.{needs}
+use Rattle.contact_tables.proofs.Columns.{column-collects}
+use Rattle.contact_tables.proofs.rows.column.Statement.{statement}
+use Rattle.contact_tables.proofs.rows.column.Tie as tie
+
+returns : tie.Need-returns
+returns c = column-collects _ (c .pre)
+
+pub column-spec : {M : Type 1} → statement M
+column-spec = tie.close (tie.spec (λ c. search needs) (λ c. search needs) returns)
