@@ -14,7 +14,7 @@ use Rattle.atoms.proofs.Tests.{decided-true, decided-false}
 use Rattle.answer_sets.specs.Lent.{lent, Lent}
 use Rattle.answer_sets.proofs.Judged.{decides-answer-set}
 use Rattle.answer_sets.proofs.Support.{Supported, supported}
-use Rattle.plan.specs.Limits.{MAX_RULES, RULE_WORDS}
+use Rattle.plan.specs.Limits.{MAX_RULES, PROGRAM_WORDS}
 use Rattle.plan.specs.Record.{Fitting}
 use Rattle.reading.specs.Reading.{reading}
 use Rattle.reading.proofs.Limits.{record-fits}
@@ -30,7 +30,7 @@ use Rattle.judge.specs.declared.Answer.the-variants.{Settled, NotSettled
 -- ---- the whole program of a record
 
 -- each rule of the record is among its words
-pub whole-lent : (p : Plan) (which : ℕ) → Fitting p → length (p .rules) ≡ RULE_WORDS * MAX_RULES → which ≡ below (p .«rule_count»)
+pub whole-lent : (p : Plan) (which : ℕ) → Fitting p → length (p .rules) ≡ PROGRAM_WORDS → which ≡ below (p .«rule_count»)
     → Lent (p .rules) which
 whole-lent p which f l e =
     record { each = λ r h. let k : r < p .«rule_count» = below-lt (p .«rule_count») (rw e at h) in omega (arith, f .rules-fit) }
