@@ -1,11 +1,13 @@
 -- Small circuits of document 01 at the graph place: the definitions give the verdicts that the paper has.
 use mathlib.Core.Path.{_≡_, refl}
-use mathlib.Core.List.{List, [], _∷_, map}
+use mathlib.Core.List.{List, [], _∷_, _++_, map}
 use Prim.Native.Nat.{ℕ}
+use lib.ListN.{replicate}
 use Rattle.atoms.specs.Word.{has, apart, subset, _∩_, _∪_, _∖_, atom, below}
 use Rattle.atoms.specs.Bounded.{unionIn, wordBelow}
 use Rattle.atoms.specs.Collected.{lowest, lowestOf}
-use Rattle.answer_sets.specs.Lent.{lent}
+use Rattle.plan.specs.Limits.{FIRST_RULE}
+use Rattle.answer_sets.specs.Lent.{lent, usedInputs, tableOf}
 use Rattle.plan.specs.declared.record.Plan.{Plan}
 use Rattle.plan.specs.declared.fault.Fault.{Fault}
 use Rattle.plan.specs.declared.fault.Outcome.{Outcome}
@@ -17,25 +19,38 @@ use Rattle.dependency_graph.specs.Offenders.{twiceBelow, seen, unseenHea
 use Rattle.dependency_graph.specs.Offenders.{givenInHead, ruleInNoUnit, headedRuleInSeveral, cycle, nonmonotonicUnseen, monotonicUnseen}
 use Rattle.dependency_graph.specs.Check.{row, verdict}
 
--- a small plan: given atoms, rules and their count, units and their count, edges
-abbrev giving : ℕ → List ℕ → ℕ → List ℕ → ℕ → List ℕ → Plan
-giving given rules n units m predecessors =
+-- the words of rules without uses
+abbrev plain : List ℕ → List ℕ
+plain [] = []
+plain (head ∷ []) = []
+plain (head ∷ positive ∷ []) = []
+plain (head ∷ positive ∷ negative ∷ rules) = head ∷ positive ∷ negative ∷ 0 ∷ plain rules
+
+-- a small plan: given atoms, the words of its tables and rules, how many rules, units and their count, edges
+abbrev tabled : ℕ → List ℕ → ℕ → List ℕ → ℕ → List ℕ → Plan
+tabled given words n units m predecessors =
     record {
       given = given;
       «given_count» = 0;
-      rules = rules;
+      rules = words;
+      «table_count» = 0;
       «rule_count» = n;
+      «use_count» = 0;
       units = units;
       «unit_count» = m;
       predecessors = predecessors;
       «edge_count» = 0;
     }
 
+abbrev giving : ℕ → List ℕ → ℕ → List ℕ → ℕ → List ℕ → Plan
+giving given rules = tabled given (replicate FIRST_RULE 0 ++ plain rules)
+
 abbrev small : List ℕ → ℕ → List ℕ → ℕ → List ℕ → Plan
 small = giving 0
 
 -- plan P and P without its edge; circuits 4, 7, 8, 9, 10 and 11; a rule in no unit; a fact in two units; a unit above a cycle;
--- a path in place of an edge; given atoms in the heads of rules 1 and 2, while rule 0 is in no unit; a given atom in a body alone
+-- a path in place of an edge; given atoms in the heads of rules 1 and 2, while rule 0 is in no unit; a given atom in a body alone;
+-- a constraint that uses a table over atom 1 of another unit, with sign 1, without and with an edge
 abbrev pub graphs : List Plan
 graphs =
     small (3 ∷ 0 ∷ 0 ∷ 4 ∷ 1 ∷ 0 ∷ []) 2 (1 ∷ 2 ∷ []) 2 (0 ∷ 1 ∷ [])
@@ -52,6 +67,8 @@ graphs =
     ∷ small (1 ∷ 0 ∷ 0 ∷ 2 ∷ 1 ∷ 0 ∷ []) 2 (1 ∷ 0 ∷ 2 ∷ []) 3 (0 ∷ 1 ∷ 2 ∷ [])
     ∷ giving 6 (1 ∷ 0 ∷ 0 ∷ 3 ∷ 0 ∷ 0 ∷ 4 ∷ 0 ∷ 0 ∷ []) 3 (6 ∷ []) 1 (0 ∷ [])
     ∷ giving 2 (1 ∷ 2 ∷ 0 ∷ []) 1 (1 ∷ []) 1 (0 ∷ [])
+    ∷ tabled 0 (2 ∷ 1 ∷ replicate 30 0 ++ (3 ∷ 0 ∷ 0 ∷ 0 ∷ 0 ∷ 4 ∷ 0 ∷ 65536 ∷ [])) 2 (1 ∷ 2 ∷ []) 2 (0 ∷ 0 ∷ [])
+    ∷ tabled 0 (2 ∷ 1 ∷ replicate 30 0 ++ (3 ∷ 0 ∷ 0 ∷ 0 ∷ 0 ∷ 4 ∷ 0 ∷ 65536 ∷ [])) 2 (1 ∷ 2 ∷ []) 2 (0 ∷ 1 ∷ [])
     ∷ []
 
 abbrev pub verdicts : List Outcome
@@ -70,12 +87,14 @@ verdicts =
     ∷ Refused (Fault.MonotonicUnseen 1)
     ∷ Refused (Fault.GivenInHead 1)
     ∷ Accepted
+    ∷ Refused (Fault.NonmonotonicUnseen 1)
+    ∷ Accepted
     ∷ []
 
 pub circuits : map (λ p. verdict (unitsOf p)) graphs ≡ verdicts
 unfolding verdict row givenInHead ruleInNoUnit headedRuleInSeveral cycle nonmonotonicUnseen monotonicUnseen
     nonmonotonicUnseenIn monotonicSeenIn seen unseenHeads twiceBelow unionIn wordBelow
-    lowestOf lowest reach reachVia through unitsOf lent has apart _∩_ _∪_ _∖_ atom below
+    lowestOf lowest reach reachVia through unitsOf lent usedInputs tableOf has apart _∩_ _∪_ _∖_ atom below
 circuits = refl
 
 -- a low unit that waits for a high one is worked after it

@@ -1,15 +1,12 @@
--- The units of a plan: rules look at their negative atoms alone, and the tables of head atoms.
+-- The units of a plan: the rest of a body depends on what it looks at alone; and the tables of head atoms.
 use mathlib.Core.Path.{_≡_, ap, _∙_}
-use mathlib.Core.Bool.{true}
 use mathlib.Core.List.{List}
 use Prim.Native.Nat.{ℕ, _<_}
 use lib.ListN.{getD}
-use Rattle.atoms.specs.Word.{Has, _∪_, apart}
+use Rattle.atoms.specs.Word.{_∪_}
 use Rattle.atoms.specs.Bounded.{unionIn}
-use Rattle.atoms.proofs.Tests.{bool-ext, decided-true}
-use Rattle.atoms.proofs.Sets.{decides-apart}
 use Rattle.atoms.proofs.Bounded.{union-in-same}
-use Rattle.answer_sets.specs.Lent.{lent, looks}
+use Rattle.answer_sets.proofs.Bodies.{rest-same}
 use Rattle.plan.specs.declared.record.Plan.{Plan}
 use Rattle.dependency_graph.specs.Units.{LooksOnly}
 use Rattle.dependency_graph.specs.Heads.{reach, own, heads, inputHeads}
@@ -19,15 +16,8 @@ use Rattle.dependency_graph.proofs.Filled.{filled-same, filled-again}
 
 module _ (p : Plan) where
   pub looks-only : LooksOnly (unitsOf p)
-  unfolding unitsOf lent
-  looks-only = record { same = λ r M N e. same (looks (p .rules) r) M N (λ a h. e a h .0) (λ a h. e a h .1) }
-    where
-      half : (w M N : ℕ) → ((a : ℕ) → Has w a → Has N a → Has M a) → apart w M ≡ true → apart w N ≡ true
-      half w M N f e =
-          decided-true (decides-apart w N) (record { none = λ a h k. decides-apart w M .yes e .none a h (f a h k) })
-
-      same : (w M N : ℕ) → ((a : ℕ) → Has w a → Has M a → Has N a) → ((a : ℕ) → Has w a → Has N a → Has M a) → apart w M ≡ apart w N
-      same w M N f g = bool-ext (apart w M) (apart w N) (half w M N g) (half w N M f)
+  unfolding unitsOf
+  looks-only = record { same = rest-same (p .rules) }
 
   -- H(u) from the tables of own head atoms and of reach
   heads-at : (owns reached : List ℕ) → ((v : ℕ) → v < p .«unit_count» → getD owns v 0 ≡ own (unitsOf p) v)

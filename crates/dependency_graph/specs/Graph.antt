@@ -11,7 +11,8 @@ pub record Share (a b : ℕ) : Type 0 where
   pub left : Has a atom
   pub right : Has b atom
 
--- "r depends nonmonotonically on s if a negative body atom of r is in the head of s"
+-- "r depends nonmonotonically on s if a negative body atom of r is in the head of s"; S-4: "A rule depends nonmonotonically on each
+-- rule heading an input atom of a table it uses, whichever the sign."
 pub record Nonmonotonic (S : Units) (r s : ℕ) : Type 0 where
   pub other : ¬ (r ≡ s)
   pub shared : Share (S .looks r) (S .program .head s)

@@ -5,7 +5,8 @@ use Prim.Native.Nat.{ℕ, _<_}
 use Rattle.atoms.specs.Word.{Has}
 use Rattle.answer_sets.specs.Program.{Program}
 
--- Rules and units by number. `looks r` is the word of the atoms that the rest of rule r's body looks at: its negative atoms.
+-- Rules and units by number. `looks r` is the word of the atoms that the rest of rule r's body looks at: its negative
+-- atoms and the inputs of the tables it uses.
 -- `given` are the atoms that a plan gives: "facts of the whole program" (02, S-1).
 pub record Units : Type 0 where
   pub program : Program

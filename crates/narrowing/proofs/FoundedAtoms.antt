@@ -14,7 +14,7 @@ use Rattle.answer_sets.proofs.Support.{least}
 use Rattle.answer_sets.proofs.Narrows.{down-narrows}
 use Rattle.narrowing.specs.Inputs.{AnswersInputs}
 use Rattle.narrowing.specs.Founded.{Closed, ClosedAll, Closes, Founded}
-use Rattle.narrowing.proofs.Supports.{negative-down}
+use Rattle.answer_sets.proofs.Bodies.{negative-down}
 use Rattle.atoms.proofs.TakenNumbers.{none-done, done-cases}
 
 module _ (rules : List ℕ) (dropped : ℕ) where

@@ -7,10 +7,12 @@ use Rattle.atoms.proofs.Sets.{subset-refl, subset-trans, has-without, without-l
 use Rattle.answer_sets.specs.Program.{Body}
 use Rattle.answer_sets.specs.AnswerSet.{Kept}
 use Rattle.answer_sets.specs.Lent.{lent, Lent}
-use Rattle.answer_sets.specs.State.{Completes, Narrows, bodyKnown}
+use Rattle.answer_sets.specs.State.{Completes, Narrows}
+use Rattle.answer_sets.specs.Known.{BodySays}
 use Rattle.answer_sets.specs.declared.state.State.{State}
+use Rattle.answer_sets.specs.declared.state.Truth.{Truth}
 use Rattle.answer_sets.specs.declared.state.Truth.the-variants.{Fails}
-use Rattle.answer_sets.proofs.HalfDecided.{known-fails}
+use Rattle.answer_sets.proofs.Parts.{known-fails, completes-known}
 use Rattle.answer_sets.proofs.Narrows.{narrows-when}
 use Rattle.narrowing.specs.Inputs.{AnswersInputs}
 use Rattle.narrowing.specs.Live.{Live}
@@ -26,16 +28,14 @@ module _ (rules : List ℕ) (s : State) where
   }
 
   -- a rule whose body is known to fail
-  pub live-without : (word r : ℕ) → bodyKnown rules r (s .up) (s .dropped) ≡ Fails → Live rules word s (word ∖ atom r)
-  live-without word r e = record {
+  pub live-without : (word r : ℕ) {t : Truth} → BodySays rules r (s .up) (s .dropped) t → t ≡ Fails → Live rules word s (word ∖ atom r)
+  live-without word r k e = record {
     numbered = record { each = λ i h. without-left word (atom r) h };
     every = λ i M h c b. has-without word (atom r) h (λ p. fails M c (subst (λ (x : ℕ). Body (lent rules) x M) (sym (atom-only r p)) b));
   }
     where
       fails : (M : ℕ) → Completes s M → ¬ Body (lent rules) r M
-      fails M c =
-          known-fails rules r (s .up) (s .dropped) M (c .has-up)
-          (record { none = λ i d. c .no-dropped .none i (without-left (s .dropped) (s .up) d) }) e
+      fails M c = known-fails rules r (s .up) (s .dropped) k M (completes-known c) e
 
   pub live-lent : {which live : ℕ} → Lent rules which → Live rules which s live → Lent rules live
   live-lent l v = record { each = λ r h. l .each r (v .numbered .each r h) }

@@ -17,6 +17,7 @@ use Rattle.answer_sets.specs.AnswerSet.{Kept, AnswerSet}
 use Rattle.answer_sets.specs.Lent.{lent, negative}
 use Rattle.answer_sets.specs.State.{Completes}
 use Rattle.answer_sets.specs.Test.{kept, satisfies}
+use Rattle.answer_sets.proofs.Bodies.{negative-down}
 use Rattle.answer_sets.specs.declared.state.State.{State}
 use Rattle.answer_sets.proofs.Judged.{decides-body, decides-satisfies, kept-has, kept-at, kept-fits}
 use Rattle.narrowing.specs.Support.{Supports, MaySupport}
@@ -104,11 +105,6 @@ module _ (P : Program) (which facts M a : ℕ) (fits : which < 2 ^ ATOMS) (answe
       go (inr e) = absurd (none-broken e)
 
 -- ---- which rules may support an atom
-
--- the negative atoms of a body that holds are not up
-pub negative-down : (rules : List ℕ) (r M : ℕ) → Body (lent rules) r M → (i : ℕ) → Has (negative rules r) i → ¬ Has M i
-unfolding lent
-negative-down rules r M b i h = decides-apart (negative rules r) M .yes (b .rest-holds) .none i h
 
 pub may-support : (rules : List ℕ) (r M a : ℕ) (s : State) → Supports (lent rules) r M a → Has M a → Completes s M
     → MaySupport rules r s a

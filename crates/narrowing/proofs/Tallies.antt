@@ -14,7 +14,8 @@ use Rattle.narrowing.specs.Inputs.{AnswersInputs}
 use Rattle.narrowing.specs.Support.{Supports, MaySupport, Tallied, HoldsSole, HoldsSoles}
 use Rattle.atoms.specs.Collected.{Collects}
 use Rattle.narrowing.specs.declared.support.Supporters.{Supporters}
-use Rattle.narrowing.proofs.Supports.{supporter, may-support, negative-down}
+use Rattle.narrowing.proofs.Supports.{supporter, may-support}
+use Rattle.answer_sets.proofs.Bodies.{negative-down}
 use Rattle.atoms.proofs.TakenNumbers.{none-done, all-done, done-cases}
 
 module _ (rules : List ℕ) (s : State) where

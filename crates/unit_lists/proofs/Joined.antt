@@ -13,10 +13,10 @@ use Rattle.atoms.proofs.Tests.{decided-true}
 use Rattle.atoms.proofs.Sets.{has-dec, has-lt, lt-of-has, has-outside, outside-lacks, subset-le, cut-right, below-lt}
 use Rattle.atoms.proofs.Bounded.{some-at, some-intro, all-in-at, all-in-intro}
 use Rattle.atoms.proofs.Rising.{members-rising}
-use Rattle.answer_sets.specs.Lent.{lent}
+use Rattle.answer_sets.specs.Lent.{lent, ruleAt}
 use Rattle.answer_sets.specs.State.{Completes}
 use Rattle.answer_sets.proofs.Judged.{decides-answer-set}
-use Rattle.plan.specs.Limits.{MAX_RULES, MAX_UNITS, RULE_WORDS, LIST_WORDS}
+use Rattle.plan.specs.Limits.{MAX_RULES, MAX_UNITS, LIST_WORDS}
 use Rattle.dependency_graph.specs.Units.{Units, Edge}
 use Rattle.dependency_graph.specs.Graph.{Passes}
 use Rattle.dependency_graph.specs.Heads.{reach, heads, inputHeads}
@@ -61,7 +61,7 @@ pub record Listable (T : Units) (u : ℕ) (rules heads′ table counts : List �
   pub passes : Passes T
   pub program-is : T .program ≡ lent rules
   pub rules-most : T .rules ≤ MAX_RULES
-  pub rules-there : RULE_WORDS * T .rules ≤ length rules
+  pub rules-there : ruleAt (T .rules) ≤ length rules
   pub heads-there : MAX_UNITS ≤ length heads′
   pub named : (v : ℕ) → Has (T .predecessors u) v → (v < MAX_UNITS) × Edge T u v
   pub heads-are : (v : ℕ) → Edge T u v → getD heads′ v 0 ≡ heads T v

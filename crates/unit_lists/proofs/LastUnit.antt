@@ -12,7 +12,8 @@ use Rattle.atoms.proofs.Tests.{decides-same}
 use Rattle.atoms.proofs.Sets.{ext, empty, has-none, has-left, has-right, union-cases, has-below, below-lt, cut-left}
 use Rattle.atoms.proofs.Bounded.{union-has, union-at}
 use Rattle.atoms.proofs.Rising.{members-same}
-use Rattle.plan.specs.Limits.{MAX_RULES, MAX_UNITS, RULE_WORDS}
+use Rattle.answer_sets.specs.Lent.{ruleAt}
+use Rattle.plan.specs.Limits.{MAX_RULES, MAX_UNITS}
 use Rattle.plan.specs.declared.record.Plan.{Plan}
 use Rattle.dependency_graph.specs.Units.{Units, Edge, GivenFree}
 use Rattle.dependency_graph.specs.Graph.{Passes}
@@ -102,7 +103,7 @@ module _ {p : Plan} {h : HeadAtoms} (s : Setting p h) where
     near = n;
   }
 
-  pub last-listable : {table counts : List ℕ} → RULE_WORDS * p .«rule_count» ≤ length (p .rules) → MAX_UNITS ≤ length (h .heads)
+  pub last-listable : {table counts : List ℕ} → ruleAt (p .«rule_count») ≤ length (p .rules) → MAX_UNITS ≤ length (h .heads)
       → ListsThere (unitsOf p) (λ v. v < p .«unit_count») table counts
       → Listable (withLast (unitsOf p)) (p .«unit_count») (p .rules) (h .heads) table counts
   unfolding unitsOf withLast
@@ -132,7 +133,7 @@ module _ {p : Plan} {h : HeadAtoms} (s : Setting p h) where
   }
 
   -- a unit of the plan, where its predecessors are listed
-  pub unit-listable : {table counts : List ℕ} (u : ℕ) → RULE_WORDS * p .«rule_count» ≤ length (p .rules) → MAX_UNITS ≤ length (h .heads)
+  pub unit-listable : {table counts : List ℕ} (u : ℕ) → ruleAt (p .«rule_count») ≤ length (p .rules) → MAX_UNITS ≤ length (h .heads)
       → u < p .«unit_count» → ListsThere (unitsOf p) (Edge (unitsOf p) u) table counts → Listable (unitsOf p) u (p .rules) (h .heads) table counts
   unfolding unitsOf
   unit-listable u lent long l t = record {

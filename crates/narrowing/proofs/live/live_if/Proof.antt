@@ -1,5 +1,5 @@
 -- A rule is left out where its body is known to fail.
-use mathlib.Core.Path.{sym, subst, _∙_}
+use mathlib.Core.Path.{sym, subst}
 use denote.Ref.{now}
 use Rattle.narrowing.specs.Live.{Live}
 use Rattle.narrowing.proofs.LiveRules.{live-without}
@@ -12,7 +12,7 @@ returns-2 c =
     let at = c .before .before .before .before .before .args in
     subst (Live (now (at .rules)) (at .word) (at .s)) (sym (c .drop .ensures))
     (live-without (now (at .rules)) (at .s) (at .word) (at .rule)
-    (sym (c .before .before .before .body-known .ensures) ∙ c .before .enum-told2 .given .1))
+    (c .before .before .before .body-known .ensures) (c .before .enum-told2 .given .1))
 
 pub live-if-spec : {M : Type 1} → statement M
 live-if-spec =
