@@ -10,7 +10,7 @@ use Rattle.atoms.specs.Bounded.{allBelow, someBelow, wordBelow, unionIn}
 use Rattle.atoms.specs.Collected.{lowest, lowestOf}
 use Rattle.atoms.specs.Rising.{members}
 use Rattle.atoms.specs.Lists.{padded, tabulate}
-use Rattle.answer_sets.specs.Lent.{lent}
+use Rattle.answer_sets.specs.Lent.{usesHold, usedInputs, lent}
 use Rattle.answer_sets.specs.Test.{body, satisfies, satisfiesAll, kept, keptIf, someSmaller, answerSet}
 use Rattle.reading.specs.Words.{number, wordAt}
 use Rattle.plan.specs.Record.{emptyPlan, withRule, withUnit, withEdge}
@@ -97,7 +97,7 @@ shown bytes =
 pub circuits : (map shown plans ≡ results) × (judged circuit-2 3 ≡ NotSettled)
 unfolding judged shown answer tableOutcome reading walk commandAt ofKind kindOf carrying late emptyRule contradictory absentRule badEdge emptyPlan withRule
     withUnit withEdge number wordAt unlessRefused workFrom noCounts tableWith countsWith listAt runs padded tabulate lastList unitList inList isInput
-    members allBelow someBelow wordBelow unionIn twiceBelow heads inputHeads own reach reachVia through withLast unitsOf lent answerSet someSmaller
+    members allBelow someBelow wordBelow unionIn twiceBelow heads inputHeads own reach reachVia through withLast unitsOf lent usesHold usedInputs answerSet someSmaller
     satisfiesAll satisfies body kept keptIf has subset apart _∩_ _∪_ _∖_ atom below verdict row givenInHead ruleInNoUnit headedRuleInSeveral cycle
     nonmonotonicUnseen monotonicUnseen nonmonotonicUnseenIn monotonicSeenIn seen unseenHeads lowestOf lowest workingOrder orderFrom nextUnit ready
 circuits = (refl, refl)
