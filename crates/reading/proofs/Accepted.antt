@@ -1,9 +1,8 @@
 -- Whenever reading accepts bytes they are the layout of lists within the limits, and the record is theirs.
 -- What each command keeps: the bytes read so far are the commands of lists within the limits, and the record is theirs.
 use mathlib.Core.Path.{_≡_, refl, ap, sym, _∙_, subst}
-use mathlib.Core.List.{List, [], _∷_, _++_, flatMap, List·Memᴰ, List·Memᴰ·not-nil, List·Memᴰ·cases-cons}
+use mathlib.Core.List.{List, _∷_, _++_, flatMap}
 use mathlib.Core.Bool.{Bool, true, false, true≢false}
-use mathlib.Core.Logic.{_⊎_, inl, inr}
 use Prim.Native.Nat.{ℕ, _+_, _*_, _^_, _≤_, _<_}
 use native.Mathlib.Omega.{arith}
 use lib.ListN.{length, drop, getD}
@@ -22,7 +21,7 @@ use Rattle.reading.proofs.Limits.{record-fits}
 use Rattle.reading.proofs.Predecessors.{pair, has-member}
 use Rattle.reading.proofs.Elements.{Element, nothing, with, elementAt, operandsOf, written-again, Sized, Held, held-none, few-edges}
 use Rattle.reading.proofs.Elements.{Fits, commands-with, commands-longer, record-none, more}
-use Rattle.reading.proofs.Snoc.{all-snoc, all-member, empty}
+use Rattle.reading.proofs.Lists.{all-snoc, all-member, empty}
 use Rattle.plan.specs.declared.record.Plan.{Plan}
 use Rattle.plan.specs.declared.fault.Outcome.{Outcome}
 use Rattle.plan.specs.declared.fault.Outcome.the-variants.{Accepted, Refused}

@@ -18,7 +18,7 @@ use Rattle.reading.proofs.CommandKinds.{kind-of-byte}
 use Rattle.reading.proofs.Commands.{known-command}
 use Rattle.reading.proofs.Walk.{walk-ended}
 use Rattle.reading.proofs.Elements.{with, Few, few-within, Held, few-edges}
-use Rattle.reading.proofs.Snoc.{length-snoc, all-snoc, distinct-snoc}
+use Rattle.reading.proofs.Lists.{length-snoc, all-snoc, distinct-snoc}
 use Rattle.reading.proofs.Rows.{decides-bad}
 use Rattle.reading.proofs.RoundTrip.{commands-read}
 use Rattle.plan.specs.declared.fault.Fault.{Fault}

@@ -6,7 +6,7 @@ use mathlib.Core.Bool.{true, false, true≢false}
 use Prim.Native.Nat.{ℕ, _+_, _*_, _^_, _≤_, _<_}
 use native.Mathlib.Omega.{arith}
 use lib.Count.{ones}
-use lib.ListN.{length, take, drop, getD, set, length-append, take-append-drop}
+use lib.ListN.{length, take, drop, getD, length-append, take-append-drop}
 use lib.Seq.{drop-drop}
 use borrow.Author.Tests.{leb-false, lt-leb, le-ltb, ne-eqb, not-false}
 use Rattle.atoms.specs.Lists.{padded, tabulate}
@@ -15,7 +15,7 @@ use Rattle.atoms.specs.Word.{Has, has, Apart}
 use Rattle.atoms.proofs.Lists.{padded-snoc, getD-tabulate}
 use Rattle.atoms.proofs.Sets.{decides-has, decides-apart}
 use Rattle.atoms.proofs.Tests.{decided-true, decided-false, not-both, decides-and, decides-not, decides-equal}
-use Rattle.plan.specs.Limits.{MAX_TABLES, MAX_RULES, MAX_USES, MAX_UNITS, MAX_EDGES, MAX_INPUTS, CONTACT_WORDS}
+use Rattle.plan.specs.Limits.{MAX_TABLES, MAX_RULES, MAX_USES, MAX_UNITS, MAX_EDGES, MAX_INPUTS}
 use Rattle.plan.specs.Record.{usesAt, emptyPlan, withGiven, withTable, withRule, withUse, withUnit, withEdge}
 use Rattle.reading.specs.Words.{WORD_BYTES, WORD_VALUES, wordAt}
 use Rattle.reading.specs.Commands.{Kind, given, table, rule, usage, unit, edge, end, byteOf, operandBytes, carrying, operandRows}
@@ -32,7 +32,7 @@ use Rattle.reading.proofs.Commands.{Passed, InPlace, table-room, rule-r
 use Rattle.reading.proofs.Pigeonhole.{edges-at-most}
 use Rattle.reading.proofs.Predecessors.{has-member, member-has, rows-snoc}
 use Rattle.reading.proofs.Program.{tableWords, table-words-long, tables-snoc, rules-snoc, bitOf, uses-word, use-has, has-use, uses-snoc}
-use Rattle.reading.proofs.Snoc.{length-snoc, all-snoc, distinct-snoc, flat-snoc, empty}
+use Rattle.reading.proofs.Lists.{length-snoc, all-snoc, distinct-snoc, flat-snoc, empty}
 use Rattle.plan.specs.declared.record.Plan.{Plan}
 
 abbrev pub Element : Kind → Type 0

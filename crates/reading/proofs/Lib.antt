@@ -1,5 +1,5 @@
 pub mod Numbers
-pub mod Units
+pub mod HighBits
 pub mod Tables
 pub mod Edges
 pub mod Uses
@@ -8,7 +8,7 @@ pub mod Commands
 pub mod Walk
 pub mod Limits
 pub mod Groups
-pub mod Snoc
+pub mod Lists
 pub mod KeyedWords
 pub mod Predecessors
 pub mod Program

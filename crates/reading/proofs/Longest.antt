@@ -14,7 +14,7 @@ use Rattle.reading.specs.Reading.{commandBytes, LONGEST_PLAN}
 use Rattle.reading.specs.Layout.{givenBytes, tableBytes, ruleBytes, useBytes, unitBytes, edgeBytes, TableUse, Contents, commands, layout, All}
 use Rattle.reading.specs.Layout.{GoodTable, GoodRule, GoodUse, Within}
 use Rattle.reading.proofs.Elements.{operands-long}
-use Rattle.reading.proofs.Snoc.{listBelow, below-long, below-all, below-distinct}
+use Rattle.reading.proofs.Lists.{listBelow, below-long, below-all, below-distinct}
 use Rattle.reading.proofs.Pigeonhole.{edgesBelow, edges-long, edges-good, edges-distinct}
 
 -- elements of k bytes each

@@ -1,8 +1,8 @@
 -- At most MAX_EDGES edges join MAX_UNITS units: each takes a number below MAX_EDGES of its own. And so many do: each number has its edge.
-use mathlib.Core.Path.{_≡_, refl, ap, sym, _∙_, subst}
-use mathlib.Core.List.{List, [], _∷_, List·Memᴰ, List·Memᴰ·head, List·Memᴰ·tail, List·Memᴰ·not-nil, List·Memᴰ·cases-cons}
+use mathlib.Core.Path.{_≡_, ap, sym, _∙_, subst}
+use mathlib.Core.List.{List, [], _∷_, List·Memᴰ, List·Memᴰ·head, List·Memᴰ·tail}
 use mathlib.Core.Logic.{_⊎_, inl, inr}
-use Prim.Native.Nat.{ℕ, zero, suc, min, _+_, _*_, _-_, _/_, _%_, _≤_, _<_}
+use Prim.Native.Nat.{ℕ, min, _+_, _*_, _-_, _/_, _%_, _≤_, _<_}
 use native.Mathlib.Omega.{arith}
 use native.Mathlib.Decide.{decLt}
 use lib.Count.{ones, ones-le}
@@ -13,7 +13,7 @@ use Rattle.atoms.proofs.Counts.{count-lt}
 use Rattle.plan.specs.Limits.{MAX_UNITS, MAX_EDGES}
 use Rattle.reading.specs.Layout.{UnitPair, All, Distinct, GoodEdge}
 use Rattle.reading.proofs.Predecessors.{pair-is}
-use Rattle.reading.proofs.Snoc.{listBelow, below-long, below-all, below-distinct}
+use Rattle.reading.proofs.Lists.{listBelow, below-long, below-all, below-distinct}
 
 -- a number for each other unit of u: the v below it, then those above
 abbrev OTHERS : ℕ

@@ -1,5 +1,5 @@
 -- The rows of predecessors, from the list of edges: v is in the row of u exactly if the edge (u,v) is in the list.
-use mathlib.Core.Path.{_≡_, ap, sym, _∙_, subst}
+use mathlib.Core.Path.{_≡_, ap, _∙_, subst}
 use mathlib.Core.List.{List, _∷_, [], _++_, List·Memᴰ}
 use Prim.Native.Nat.{ℕ, _<_}
 use lib.ListN.{getD, set}

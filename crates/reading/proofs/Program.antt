@@ -11,8 +11,8 @@ use Rattle.atoms.proofs.Lists.{padded-long, padded-at, padded-snoc}
 use Rattle.plan.specs.Limits.{MAX_TABLES, MAX_RULES, CONTACT_WORDS, FIRST_RULE, RULE_WORDS, USES}
 use Rattle.plan.specs.Record.{wantedBit, usesAt}
 use Rattle.reading.specs.Layout.{TableWords, RuleWords, TableUse, twoWords, wordOf, usesOf, ruleWords, All}
-use Rattle.reading.proofs.KeyedWords.{Entry, has-entry, entry-has, word-same, word-other}
-use Rattle.reading.proofs.Snoc.{length-snoc, all-member, flat-snoc}
+use Rattle.reading.proofs.KeyedWords.{has-entry, entry-has, word-same, word-other}
+use Rattle.reading.proofs.Lists.{length-snoc, all-member, flat-snoc}
 
 -- ---- a list in two parts
 

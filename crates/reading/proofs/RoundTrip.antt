@@ -22,7 +22,7 @@ use Rattle.reading.proofs.CommandKinds.{kind-of-byte}
 use Rattle.reading.proofs.Walk.{walk-on, walk-ended}
 use Rattle.reading.proofs.Elements.{Element, nothing, with, operandsOf, operands-long, elementAt, read-again, Sized, Fits, right-passed}
 use Rattle.reading.proofs.Elements.{record-none, record-with}
-use Rattle.reading.proofs.Snoc.{length-snoc, all-snoc}
+use Rattle.reading.proofs.Lists.{length-snoc, all-snoc}
 use Rattle.plan.specs.declared.record.Plan.{Plan}
 
 -- a command that no row stops is what it carries

@@ -13,11 +13,11 @@ use lib.ListN.{length, drop, getD}
 use lib.Dec.{eqb, ltb, leb}
 use borrow.Author.Tests.{eqb-true, eqb-false, leb-true, leb-false, ltb-true, ltb-false}
 use Rattle.atoms.specs.Bounded.{Decides}
-use Rattle.atoms.specs.Word.{Has, Apart, _∩_, _∖_, below}
+use Rattle.atoms.specs.Word.{Has, Apart, _∩_, below}
 use Rattle.atoms.specs.Lists.{tabulate}
 use Rattle.atoms.proofs.Tests.{decides-iff, decides-or, decides-equal}
-use Rattle.atoms.proofs.Sets.{decides-has, has-lt, has-cut, cut-left, cut-right, has-without, has-below, has-none}
-use Rattle.atoms.proofs.Sets.{without-left, without-right, below-lt, lt-of-has, some-atom}
+use Rattle.atoms.proofs.Sets.{decides-has, has-lt, has-cut, cut-left, cut-right, has-none}
+use Rattle.atoms.proofs.Sets.{some-atom}
 use Rattle.plan.specs.Limits.{MAX_UNITS}
 use Rattle.plan.specs.Record.{usesAt}
 use Rattle.plan.specs.Faults.{number, spot, TableRow, FirstFit}
@@ -25,14 +25,14 @@ use Rattle.reading.specs.Words.{WORD_BYTES, wordAt}
 use Rattle.reading.specs.Commands.{Kind, given, table, rule, usage, unit, edge, end, byteOf, kindOf, operandBytes, orderOf, earliestBehind}
 use Rattle.reading.specs.Commands.{carrying, kinds, count, countBehind, late, full}
 use Rattle.reading.specs.Commands.{emptyRule, contradictory, badTable, badUse, absentRule, badEdge, Row, operandRows, rows, firstFit, ofKind, commandAt}
-use Rattle.reading.specs.Layout.{TableWords, RuleWords, TableUse, UnitPair, Contents, usesOf, predecessorsOf, recordOf, IsByte, All}
+use Rattle.reading.specs.Layout.{RuleWords, TableUse, UnitPair, Contents, predecessorsOf, recordOf, IsByte, All}
 use Rattle.reading.specs.Refusals.{Begins, countOf, Full, UnknownByte, OutOfGroupOrder, OneTooMany, CutShort, before-end, inside-operands}
 use Rattle.reading.specs.Refusals.{NoTable, WrongTable, NoNewUse, no-such-rule, no-such-table, another-sign, again, WrongUse}
 use Rattle.reading.specs.Refusals.{ZeroRule, ContradictoryRule, NamesAbsentRule, NoNewEdge, no-such-u, no-such-v, to-itself, repeated}
 use Rattle.reading.specs.Refusals.{WrongEdge, BytesAfterEnd}
 use Rattle.reading.specs.Refusals.{row, readingPlace}
 use Rattle.reading.proofs.Numbers.{word-fits}
-use Rattle.reading.proofs.Units.{atom-from}
+use Rattle.reading.proofs.HighBits.{atom-from}
 use Rattle.reading.proofs.CommandKinds.{kind-of-byte, kind-byte, byte-own, each-kind, Later, later-there, none-behind}
 use Rattle.reading.proofs.Commands.{Passed, none-fits, known-command, unknown-command, not-faulty}
 use Rattle.reading.proofs.Predecessors.{has-member, member-has}

@@ -1,5 +1,5 @@
 -- TABLE words: how many rows a table has, and which tables are bad.
-use mathlib.Core.Path.{_≡_, refl, sym, ap, _∙_}
+use mathlib.Core.Path.{_≡_, refl, ap, _∙_}
 use mathlib.Core.Bool.{Bool, true, false, true≢false}
 use Prim.Native.Nat.{ℕ, _*_, _%_, _^_, _≤_, _<_}
 use native.Mathlib.Omega.{arith}
@@ -16,7 +16,7 @@ use Rattle.plan.specs.Limits.{MAX_INPUTS}
 use Rattle.reading.specs.Commands.{badTable}
 use Rattle.reading.specs.Layout.{TableWords}
 use Rattle.reading.specs.Refusals.{NoTable, seven-inputs, no-such-row}
-use Rattle.reading.proofs.Units.{absent-above-below, atom-from}
+use Rattle.reading.proofs.HighBits.{absent-above-below, atom-from}
 
 -- n inputs, as the code counts them
 module _ (inputs truth n : ℕ) (counted : n ≡ ones inputs) where

@@ -1,6 +1,5 @@
 -- `is_bad_use` meets its contract, test by test; a repeat is the use's bit in the word of its rule.
 use borrow.Author.Tests.{le-leb, lt-leb, lt-ltb, le-ltb}
-use native.Mathlib.Omega.{arith}
 use Rattle.reading.proofs.Edges.{has-by-subset}
 use Rattle.reading.specs.Commands.{badUse}
 use borrow.Author.Needs.{needs}
