@@ -1,14 +1,27 @@
 // The single-position questions of document 01's small circuits, and some that a wrong program gets wrong, one line each.
 use libc::STDOUT_FILENO;
+use plan::FIRST_RULE;
 use plan::RULE_WORDS;
+use plan::USES;
 
 // Every rule number; those with no rule behind them are ignored.
 const EVERY: u64 = 0xffff_ffff_ffff_ffff;
 
+// Where the words of the first four rules start: head, positive body, negative body, uses.
+const RULE_0: usize = FIRST_RULE;
+
+const RULE_1: usize = RULE_0 + RULE_WORDS;
+
+const RULE_2: usize = RULE_1 + RULE_WORDS;
+
+const RULE_3: usize = RULE_2 + RULE_WORDS;
+
+const RULE_4: usize = RULE_3 + RULE_WORDS;
+
 // The atoms of the chain and the words of its rules.
 const CHAIN_ATOMS: usize = 60;
 
-const CHAIN_WORDS: usize = RULE_WORDS * CHAIN_ATOMS;
+const CHAIN_WORDS: usize = FIRST_RULE + RULE_WORDS * CHAIN_ATOMS;
 
 // Writes whether the position is an answer set of the rules that the words are.
 fn ask(name: &[u8], rules: &[u64], position: u64) {
@@ -34,7 +47,8 @@ fn ask_smaller(name: &[u8], rules: &[u64], n: usize, kept: u64, facts: u64, posi
 
 // Circuit 2: fact 0 or 1. Atom 2 is in no head.
 fn circuit_2() {
-    let rules: [u64; 3] = [0x3, 0, 0];
+    let mut rules = [0u64; RULE_1];
+    rules[RULE_0] = 0x3;
     ask(b"circuit 2", &rules, 1);
     ask(b"circuit 2", &rules, 2);
     ask(b"circuit 2", &rules, 3);
@@ -44,21 +58,29 @@ fn circuit_2() {
 
 // Circuit 3: 0 if 0.
 fn circuit_3() {
-    let rules: [u64; 3] = [0x1, 0x1, 0];
+    let mut rules = [0u64; RULE_1];
+    rules[RULE_0] = 0x1;
+    rules[RULE_0 + 1] = 0x1;
     ask(b"circuit 3", &rules, 0);
     ask(b"circuit 3", &rules, 1);
 }
 
 // Circuit 4: 0 if not 0.
 fn circuit_4() {
-    let rules: [u64; 3] = [0x1, 0, 0x1];
+    let mut rules = [0u64; RULE_1];
+    rules[RULE_0] = 0x1;
+    rules[RULE_0 + 2] = 0x1;
     ask(b"circuit 4", &rules, 0);
     ask(b"circuit 4", &rules, 1);
 }
 
 // Circuit 5: 0 if not 1; 1 if not 0.
 fn circuit_5() {
-    let rules: [u64; 6] = [0x1, 0, 0x2, 0x2, 0, 0x1];
+    let mut rules = [0u64; RULE_2];
+    rules[RULE_0] = 0x1;
+    rules[RULE_0 + 2] = 0x2;
+    rules[RULE_1] = 0x2;
+    rules[RULE_1 + 2] = 0x1;
     ask(b"circuit 5", &rules, 0);
     ask(b"circuit 5", &rules, 1);
     ask(b"circuit 5", &rules, 2);
@@ -67,7 +89,12 @@ fn circuit_5() {
 
 // Circuit 6: fact 0 or 1; 0 if 1; 1 if 0.
 fn circuit_6() {
-    let rules: [u64; 9] = [0x3, 0, 0, 0x1, 0x2, 0, 0x2, 0x1, 0];
+    let mut rules = [0u64; RULE_3];
+    rules[RULE_0] = 0x3;
+    rules[RULE_1] = 0x1;
+    rules[RULE_1 + 1] = 0x2;
+    rules[RULE_2] = 0x2;
+    rules[RULE_2 + 1] = 0x1;
     ask(b"circuit 6", &rules, 0);
     ask(b"circuit 6", &rules, 1);
     ask(b"circuit 6", &rules, 2);
@@ -76,7 +103,14 @@ fn circuit_6() {
 
 // Circuit 7, its rules as one set: fact 0 or 1; 2 if 0; 3 if 0; 4 if 2 and 3.
 fn circuit_7() {
-    let rules: [u64; 12] = [0x3, 0, 0, 0x4, 0x1, 0, 0x8, 0x1, 0, 0x10, 0xc, 0];
+    let mut rules = [0u64; RULE_4];
+    rules[RULE_0] = 0x3;
+    rules[RULE_1] = 0x4;
+    rules[RULE_1 + 1] = 0x1;
+    rules[RULE_2] = 0x8;
+    rules[RULE_2 + 1] = 0x1;
+    rules[RULE_3] = 0x10;
+    rules[RULE_3 + 1] = 0xc;
     ask(b"circuit 7", &rules, 0x02);
     ask(b"circuit 7", &rules, 0x1d);
     ask(b"circuit 7", &rules, 0x1f);
@@ -85,20 +119,28 @@ fn circuit_7() {
 
 // Circuit 9, its rules as one set: fact 0; fact 1; never both.
 fn circuit_9() {
-    let rules: [u64; 9] = [0x1, 0, 0, 0x2, 0, 0, 0, 0x3, 0];
+    let mut rules = [0u64; RULE_3];
+    rules[RULE_0] = 0x1;
+    rules[RULE_1] = 0x2;
+    rules[RULE_2 + 1] = 0x3;
     ask(b"circuit 9", &rules, 3);
 }
 
 // Two relays that hold each other up: 0 if 1; 1 if 0.
 fn pair() {
-    let rules: [u64; 6] = [0x1, 0x2, 0, 0x2, 0x1, 0];
+    let mut rules = [0u64; RULE_2];
+    rules[RULE_0] = 0x1;
+    rules[RULE_0 + 1] = 0x2;
+    rules[RULE_1] = 0x2;
+    rules[RULE_1 + 1] = 0x1;
     ask(b"pair", &rules, 3);
     ask(b"pair", &rules, 0);
 }
 
 // The highest atom as a fact.
 fn top_atom() {
-    let rules: [u64; 3] = [0x8000_0000_0000_0000, 0, 0];
+    let mut rules = [0u64; RULE_1];
+    rules[RULE_0] = 0x8000_0000_0000_0000;
     ask(b"top atom", &rules, 0x8000_0000_0000_0000);
     ask(b"top atom", &rules, 0);
 }
@@ -106,12 +148,12 @@ fn top_atom() {
 // Sixty rules: atom 0 if the atoms of `first`, a fact where there are none; each further atom if the one below it.
 fn chain(first: u64) -> [u64; CHAIN_WORDS] {
     let mut rules = [0u64; CHAIN_WORDS];
-    rules[0] = 0x1;
-    rules[1] = first;
+    rules[FIRST_RULE] = 0x1;
+    rules[FIRST_RULE + 1] = first;
     let mut atom = 1;
     while atom < CHAIN_ATOMS {
-        rules[RULE_WORDS * atom] = atoms::single(atom);
-        rules[RULE_WORDS * atom + 1] = atoms::single(atom - 1);
+        rules[FIRST_RULE + RULE_WORDS * atom] = atoms::single(atom);
+        rules[FIRST_RULE + RULE_WORDS * atom + 1] = atoms::single(atom - 1);
         atom += 1;
     }
     rules
@@ -132,9 +174,44 @@ fn sixty_atoms_in_a_ring() {
     ask(b"ring of 60", &rules, 0);
 }
 
+// Atom 0 by a table over itself: one that is true where 0 is up gives no reason for 0, one that is always true does. Judged with the
+// body erased, or with the use at the position alone, both would.
+fn own_table() {
+    let mut rules = [0u64; RULE_1];
+    rules[RULE_0] = 0x1;
+    rules[0] = 0x1;
+    rules[1] = 0x2;
+    rules[RULE_0 + USES] = 0x1;
+    ask(b"0 if its table says that 0 is up", &rules, 0);
+    ask(b"0 if its table says that 0 is up", &rules, 1);
+    rules[1] = 0x3;
+    ask(b"0 if its table says yes", &rules, 0);
+    ask(b"0 if its table says yes", &rules, 1);
+}
+
+// Fact 0 or 1; 2 if the table over 0 and 1 is true: of the lowest atom bit 0 of the row tells. Then with the table false.
+fn rows_of_a_table() {
+    let mut rules = [0u64; RULE_2];
+    rules[RULE_0] = 0x3;
+    rules[RULE_1] = 0x4;
+    rules[0] = 0x3;
+    rules[1] = 0x2;
+    rules[RULE_1 + USES] = 0x1;
+    ask(b"2 where 0 alone is up", &rules, 0x5);
+    ask(b"2 where 0 alone is up", &rules, 0x2);
+    ask(b"2 where 0 alone is up", &rules, 0x6);
+    rules[RULE_1 + USES] = 0x1_0000;
+    ask(b"2 where not 0 alone is up", &rules, 0x5);
+    ask(b"2 where not 0 alone is up", &rules, 0x1);
+    ask(b"2 where not 0 alone is up", &rules, 0x6);
+}
+
 // Fact 0; 1 if 0: numbers with no rule behind them are ignored, and so are rules from n on.
 fn subsets_by_rule_number() {
-    let rules: [u64; 6] = [0x1, 0, 0, 0x2, 0x1, 0];
+    let mut rules = [0u64; RULE_2];
+    rules[RULE_0] = 0x1;
+    rules[RULE_1] = 0x2;
+    rules[RULE_1 + 1] = 0x1;
     ask_smaller(b"both rules", &rules, 2, 0x3, 0, 0x3);
     ask_smaller(
         b"both rules, and numbers with no rule",
@@ -160,7 +237,9 @@ fn subsets_by_rule_number() {
 
 // Facts that are not all in the position give no, whatever the rules; facts that are all of it do too.
 fn subsets_with_facts() {
-    let rules: [u64; 3] = [0x2, 0x1, 0];
+    let mut rules = [0u64; RULE_1];
+    rules[RULE_0] = 0x2;
+    rules[RULE_0 + 1] = 0x1;
     ask_smaller(b"facts in the position", &rules, 1, 0x1, 0x4, 0x7);
     ask_smaller(b"a fact that forces the rest", &rules, 1, 0x1, 0x1, 0x3);
     ask_smaller(b"facts that are the position", &rules, 1, 0x1, 0x7, 0x7);
@@ -170,7 +249,9 @@ fn subsets_with_facts() {
 
 // The empty position has no proper subset.
 fn subsets_of_the_empty_position() {
-    let rules: [u64; 3] = [0x1, 0x1, 0];
+    let mut rules = [0u64; RULE_1];
+    rules[RULE_0] = 0x1;
+    rules[RULE_0 + 1] = 0x1;
     ask_smaller(b"empty position", &rules, 1, 0x1, 0, 0);
     ask_smaller(b"empty position, no rules", &rules, 0, 0, 0, 0);
     ask_smaller(b"empty position, a fact", &rules, 1, 0x1, 0x1, 0);
@@ -226,6 +307,8 @@ fn main() {
     circuit_9();
     pair();
     top_atom();
+    own_table();
+    rows_of_a_table();
     sixty_atoms_from_a_fact();
     sixty_atoms_in_a_ring();
     subsets_by_rule_number();
