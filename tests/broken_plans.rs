@@ -69,7 +69,10 @@ pub fn given_in_heads(random: &mut Random) -> Vec<u8> {
 /// Tables that look at atoms which some unit of the rule does not see, while other conditions may be broken too.
 pub fn unseen_inputs(random: &mut Random) -> Vec<u8> {
     let mut draft = if random.chance(50) { tables_draft(random) } else { sound_draft(random) };
-    for _ in 0..random.between(1, 2) {
+    if random.chance(25) {
+        split_use(random, &mut draft);
+    }
+    for _ in 0..random.between(0, 2) {
         let words = any_table(random, draft.head_atoms());
         let (table, rule) = (draft.add_table(words), random.below(draft.rules.len()));
         draft.add_use(rule, table, random.below(2));
@@ -139,6 +142,20 @@ fn split_constraint(random: &mut Random, draft: &mut Draft) {
     }
     draft.add_edge(watch_left, left);
     draft.add_edge(watch_right, right);
+}
+
+/// A constraint whose table looks at one unit, in two units of which one sees it.
+fn split_use(random: &mut Random, draft: &mut Draft) {
+    let seen = random.below(draft.units.len());
+    let own = draft.own_atoms(seen);
+    let words = any_table(random, own);
+    let (watch, blind) = (draft.new_unit(), draft.new_unit());
+    let (table, constraint) = (draft.add_table(words), draft.rules.len());
+    draft.add_rule_with(watch, [0, random.atoms_of(own, 1), 0], table, random.below(2));
+    if draft.rules.len() > constraint {
+        draft.units[blind] |= 1 << constraint;
+    }
+    draft.add_edge(watch, seen);
 }
 
 /// Empty units with any edges: cycles, units above cycles, all 240 edges.
@@ -288,7 +305,9 @@ fn faulty_use(random: &mut Random, draft: &Draft, groups: &Groups) -> (usize, us
     let beyond = random.pick(&[0, 0, 1, 63, 191]);
     let in_order = (groups.uses, groups.units);
     let [old_rule, old_table, old_sign] = draft.uses.last().unwrap_or(&[0, 0, 0]).map(|number| number as u8);
-    match random.below(10) {
+    match random.below(12) {
+        10 => ((groups.rules + 1).min(groups.uses), groups.uses, encode::use_of(0, table, 1 - old_sign)),
+        11 => (in_order.0, in_order.1, encode::use_of(rule, table, 2 + sign)),
         0 => (in_order.0, in_order.1, encode::use_of(rules.saturating_add(beyond), table, sign)),
         1 => (in_order.0, in_order.1, encode::use_of(rule, tables.saturating_add(beyond), sign)),
         2 => (in_order.0, in_order.1, encode::use_of(rule, table, random.pick(&[2, 3, 128, 255]))),

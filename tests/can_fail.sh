@@ -25,7 +25,7 @@ with_mistake() {
         echo "the lister has no line for the mistake: $1" >&2
         exit 2
     fi
-    cp tests/stand_in.rs "$work/stand_in.rs"
+    cp tests/stand_in.rs tests/packed.rs "$work/"
     printf '%s\n' "$wrong" >"$work/lister.rs"
     tried=$((tried + 1))
     if output=$(compare_with "$work/stand_in.rs"); then
@@ -100,7 +100,7 @@ with_mistake "use: inputs make a monotonic dependence" \
 # Reading
 with_mistake "TABLE: seven inputs are taken" 'MAX_INPUTS: usize = 6' 'MAX_INPUTS: usize = 7'
 with_mistake "TABLE: six inputs are refused" 'MAX_INPUTS: usize = 6' 'MAX_INPUTS: usize = 5'
-with_mistake "TABLE: truth bits past the inputs are taken" '(rows..64).any(' '(64..64).any('
+with_mistake "TABLE: truth bits past the inputs are taken" '(rows..64).any(' '(rows.max(64)..64).any('
 with_mistake "TABLE: the first truth bit past the inputs is taken" '(rows..64).any(' '(rows + 1..64).any('
 with_mistake "TABLE: the 17th is taken" 'MAX_TABLES: usize = 16' 'MAX_TABLES: usize = 17'
 with_mistake "TABLE: the 16th is refused" 'MAX_TABLES: usize = 16' 'MAX_TABLES: usize = 15'
