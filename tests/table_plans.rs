@@ -104,9 +104,9 @@ fn add_rule_for_a_use(random: &mut Random, draft: &mut Draft) {
 
 /// A table for this rule: now and then over its own head, or with an atom that no head has.
 fn table_for(random: &mut Random, draft: &mut Draft, rule: usize) -> usize {
-    let mut pool = draft.atoms_in_reach(rule);
+    let mut pool = draft.atoms_in_reach(rule) | random.atoms_of(draft.given.unwrap_or(0), 2);
     if random.chance(25) {
-        pool |= draft.given.unwrap_or(0) | random.atoms_of(!draft.head_atoms(), 1);
+        pool |= random.atoms_of(!draft.head_atoms(), 1);
     }
     if random.chance(30) {
         // Few atoms, so that the head is likely among the inputs.

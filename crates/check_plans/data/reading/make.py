@@ -13,8 +13,16 @@ def given(atoms=0):
     return b"\x04" + word(atoms)
 
 
+def table(inputs=0, truth=0):
+    return b"\x05" + word(inputs) + word(truth)
+
+
 def rule(head=0, positive=0, negative=0):
     return b"\x01" + word(head) + word(positive) + word(negative)
+
+
+def use(rule, table, sign=0):
+    return bytes([6, rule, table, sign])
 
 
 def unit(rules=0):
@@ -32,12 +40,24 @@ P_RULES = rule(head=3) + rule(head=4, positive=1)
 PLAN_P = P_RULES + unit(1) + unit(2) + edge(1, 0) + END
 EDGES = b"".join(edge(u, v) for u in range(16) for v in range(16) if u != v)
 ALL_UNITS = unit() * 16
+XOR = table(0x3, 0b0110)
+XOR_AND_FACT = XOR + FACT
+ALL_TABLES = table(0, 1) * 16
+ALL_RULES = b"".join(rule(1 << i) for i in range(64))
+ALL_USES = b"".join(use(i, j) for i in range(64) for j in range(4))
+LONGEST = given() + ALL_TABLES + ALL_RULES + ALL_USES + unit(2**64 - 1) + unit() * 15 + EDGES
 
 PLANS = {
     "rule-in-no-unit": rule(head=3) + END,
     "given": given(2) + FACT + END,
     "given-of-no-atoms": given() + END,
-    "longest": given() + b"".join(rule(1 << i) for i in range(64)) + unit(2**64 - 1) + unit() * 15 + EDGES + END,
+    "table-must-be-true": XOR + rule(head=4) + use(0, 0) + END,
+    "table-must-be-false": XOR + rule(head=4) + use(0, 0, 1) + END,
+    "tables-without-inputs": table(0, 1) + table(0, 0) + rule(1) + rule(2) + rule(4) + use(0, 0) + use(1, 0, 1) + use(2, 1, 1) + END,
+    "table-of-six-inputs": table(0x3f, 1 << 63) + rule(head=64) + use(0, 0, 1) + END,
+    "both-signs-of-a-table": XOR_AND_FACT + use(0, 0) + use(0, 0, 1) + END,
+    "tables-unused-and-equal": XOR + XOR_AND_FACT + END,
+    "longest": LONGEST + END,
 
     "no-end": FACT,
     "rule-without-operands": b"\x01",
@@ -45,6 +65,9 @@ PLANS = {
     "unit-cut-short": FACT + unit(1)[:-1],
     "given-cut-short": given(1)[:-1],
     "edge-cut-short": TWO_UNITS + edge(1, 0)[:-1],
+    "table-cut-short": XOR[:-1],
+    "use-cut-short": XOR_AND_FACT + use(0, 0)[:-1],
+    "use-without-operands": XOR_AND_FACT + b"\x06",
 
     "unknown-byte": b"\xff" + END,
     "unknown-byte-behind-unit": FACT + unit(1) + b"\x07",
@@ -64,6 +87,17 @@ PLANS = {
     "65th-rule-behind-unit": FACT * 64 + unit(1) + FACT + END,
     "17th-unit-behind-edge": ALL_UNITS + edge(0, 1) + unit() + END,
 
+    "given-behind-table": XOR + given(4) + FACT + END,
+    "table-behind-rule": XOR_AND_FACT + XOR + END,
+    "table-behind-rule-cut-short": FACT + b"\x05",
+    "table-behind-use": XOR_AND_FACT + use(0, 0) + XOR + END,
+    "rule-behind-use": XOR_AND_FACT + use(0, 0) + FACT + END,
+    "use-behind-unit": XOR_AND_FACT + unit(1) + use(0, 0) + END,
+    "use-behind-unit-cut-short": XOR_AND_FACT + unit(1) + b"\x06",
+    "use-behind-edge": XOR_AND_FACT + TWO_UNITS + edge(1, 0) + use(0, 0) + END,
+    "17th-table-behind-rule": ALL_TABLES + FACT + XOR + END,
+    "257th-use-behind-unit": ALL_TABLES + ALL_RULES + ALL_USES + unit() + use(0, 15) + END,
+
     "65th-rule": FACT * 65 + END,
     "65th-rule-cut-short": FACT * 64 + b"\x01",
     "65th-rule-of-zeros": FACT * 64 + rule() + END,
@@ -71,15 +105,41 @@ PLANS = {
     "17th-unit-cut-short": ALL_UNITS + b"\x02",
     "17th-unit-of-an-absent-rule": ALL_UNITS + unit(1) + END,
 
+    "17th-table": ALL_TABLES + XOR + END,
+    "17th-table-cut-short": ALL_TABLES + b"\x05",
+    "17th-table-of-seven-inputs": ALL_TABLES + table(0x7f) + END,
+    "257th-use": ALL_TABLES + ALL_RULES + ALL_USES + use(0, 15) + END,
+    "257th-use-cut-short": ALL_TABLES + ALL_RULES + ALL_USES + b"\x06",
+    "257th-use-repeated": ALL_TABLES + ALL_RULES + ALL_USES + use(0, 0) + END,
+
     "rule-of-zeros": rule() + END,
     "second-rule-of-zeros": FACT + rule() + END,
     "rule-of-zeros-cut-short": rule()[:-1],
+    "rule-of-zeros-with-a-use": XOR + rule() + use(0, 0) + END,
 
     "contradictory-rule": rule(head=1, positive=6, negative=4) + unit(1) + END,
     "contradictory-constraint": FACT + rule(positive=1 << 63, negative=1 << 63) + END,
     "contradictory-rule-cut-short": rule(head=1, positive=2, negative=2)[:-1],
     "contradictory-rule-behind-unit": FACT + unit(1) + rule(head=1, positive=2, negative=2) + END,
     "atom-in-head-and-body": rule(head=3, positive=1, negative=2) + END,
+
+    "table-of-seven-inputs": table(0x7f) + END,
+    "table-of-64-inputs": XOR + table(2**64 - 1, 2**64 - 1) + END,
+    "table-of-seven-inputs-cut-short": table(0x7f)[:-1],
+    "table-of-seven-inputs-behind-rule": FACT + table(0x7f) + END,
+    "truth-bit-1-without-inputs": table(0, 2) + END,
+    "truth-bit-2-of-one-input": XOR + table(1 << 63, 4) + END,
+    "truth-bit-63-of-five-inputs": table(0x1f, 1 << 63) + END,
+
+    "use-of-an-absent-rule": XOR_AND_FACT + use(1, 0) + END,
+    "use-of-rule-64-of-64": ALL_TABLES + ALL_RULES + use(64, 0) + END,
+    "use-of-an-absent-table": XOR_AND_FACT + use(0, 1) + END,
+    "use-without-rules": XOR + use(0, 0) + FACT + END,
+    "use-without-tables": FACT + use(0, 0) + END,
+    "use-with-sign-2": XOR_AND_FACT + use(0, 0, 2) + END,
+    "use-repeated": XOR_AND_FACT + use(0, 0, 1) + use(0, 0) + use(0, 0, 1) + END,
+    "use-of-an-absent-rule-cut-short": XOR_AND_FACT + use(1, 0)[:-1],
+    "use-of-an-absent-rule-behind-unit": XOR_AND_FACT + unit(1) + use(1, 0) + END,
 
     "unit-of-an-absent-rule": FACT + unit(2) + END,
     "unit-of-rule-63-of-63": FACT * 63 + unit(1 << 63) + END,
@@ -93,16 +153,20 @@ PLANS = {
     "edge-turned": TWO_UNITS + edge(1, 0) + edge(0, 1) + END,
     "edge-without-units": edge(0, 1) + END,
     "241st-edge": ALL_UNITS + EDGES + edge(0, 1) + END,
+    "241st-edge-of-the-longest": LONGEST + edge(0, 1) + END,
     "241st-edge-cut-short": ALL_UNITS + EDGES + b"\x03",
 
     "two-ends": END + END,
     "plan-p-and-two-bytes": PLAN_P + b"\x07\x07",
     "rule-behind-end": END + FACT,
     "given-behind-end": END + given(1),
+    "table-behind-end": END + XOR,
+    "use-behind-end": END + use(0, 0),
     "unknown-byte-behind-end": END + b"\xff",
 
     "5000-ends": END * 5000,
     "200-rules": FACT * 200,
+    "300-tables": table() * 300,
 }
 
 for name, plan in PLANS.items():
