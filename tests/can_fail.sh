@@ -106,7 +106,10 @@ with_mistake "TABLE: the 17th is taken" 'MAX_TABLES: usize = 16' 'MAX_TABLES: us
 with_mistake "TABLE: the 16th is refused" 'MAX_TABLES: usize = 16' 'MAX_TABLES: usize = 15'
 with_mistake "TABLE: may stand behind RULEs" 'if kind < group ||' 'if kind < group && !(kind == Kind::Table && group == Kind::Rule) ||'
 with_mistake "TABLE: GIVEN may stand behind it" 'if kind < group ||' 'if kind < group && !(kind == Kind::Given && group == Kind::Table) ||'
-with_mistake "TABLE: 18 before 2" 'if next > bytes.len() {' 'if next > bytes.len() && kind == Kind::Table && bytes.len() > offset + 8 && word(&bytes[offset + 1..offset + 9]).count_ones() > 6 {
+with_mistake "TABLE: 18 before 2" \
+    'if next > bytes.len() {' \
+    'let has_inputs = kind == Kind::Table && bytes.len() > offset + 8;
+        if has_inputs && word(&bytes[offset + 1..offset + 9]).count_ones() > 6 {
             return refuse(18, offset);
         }
         if next > bytes.len() {'
