@@ -306,16 +306,16 @@ fn faulty_use(random: &mut Random, draft: &Draft, groups: &Groups) -> (usize, us
     let in_order = (groups.uses, groups.units);
     let [old_rule, old_table, old_sign] = draft.uses.last().unwrap_or(&[0, 0, 0]).map(|number| number as u8);
     match random.below(12) {
-        10 => ((groups.rules + 1).min(groups.uses), groups.uses, encode::use_of(0, table, 1 - old_sign)),
-        11 => (in_order.0, in_order.1, encode::use_of(rule, table, 2 + sign)),
         0 => (in_order.0, in_order.1, encode::use_of(rules.saturating_add(beyond), table, sign)),
         1 => (in_order.0, in_order.1, encode::use_of(rule, tables.saturating_add(beyond), sign)),
-        2 => (in_order.0, in_order.1, encode::use_of(rule, table, random.pick(&[2, 3, 128, 255]))),
-        3 => (in_order.0, in_order.1, encode::use_of(table, rule, sign)),
+        2 | 3 => (in_order.0, in_order.1, encode::use_of(rule, table, random.pick(&[2, 2, 3, 128, 255]))),
         4 | 5 => (in_order.0, in_order.1, encode::use_of(old_rule, old_table, old_sign)),
         6 => (in_order.0, in_order.1, encode::use_of(old_rule, old_table, 1 - old_sign)),
         7 => (0, groups.rules, encode::use_of(rule, table, sign)),
         8 => (groups.units + 1, groups.end, encode::use_of(rule, table, sign)),
+        // Between RULEs, of a rule that is there: what follows is late.
+        9 => ((groups.rules + 1).min(groups.uses), groups.uses, encode::use_of(0, table, sign)),
+        10 => (in_order.0, in_order.1, encode::use_of(table, rule, sign)),
         _ => (0, groups.end, encode::use_of(rule, table, sign)),
     }
 }
@@ -346,13 +346,13 @@ fn any_command(random: &mut Random) -> Vec<u8> {
     let mut small = || random.word() & random.word() & 7;
     let (head, positive, negative) = (small(), small(), small());
     match random.below(50) {
-        40..=44 => encode::table(head, positive),
-        45..=49 => encode::use_of(random.byte() % 4, random.byte() % 3, random.byte() % 3),
         0..=19 => encode::rule(head, positive, negative),
         20..=29 => encode::unit(head),
         30..=35 => encode::edge(random.byte() % 4, random.byte() % 4),
         36 | 37 => encode::given(head << 2),
         38 => encode::end(),
+        39..=43 => encode::table(head, positive),
+        44..=48 => encode::use_of(random.byte() % 4, random.byte() % 3, random.byte() % 3),
         _ => vec![random.byte()],
     }
 }
@@ -369,17 +369,17 @@ pub fn one_too_many(random: &mut Random) -> Vec<u8> {
         0 => (groups.uses, groups.uses, encode::rule(1, 2, 4)),
         1 => (groups.uses, groups.uses, encode::rule(0, 0, 0)),
         2 => (groups.uses + 1, groups.end, encode::rule(1, 0, any % 2)),
-        9 => (groups.rules, groups.rules, encode::table(1, 2)),
-        10 => (groups.rules, groups.rules, encode::table(any, any)),
-        11 => (groups.rules + 1, groups.end, encode::table(0, any % 4)),
-        12 => (groups.units, groups.units, encode::use_of(63, 15, 1)),
-        13 => (groups.units, groups.units, encode::use_of(any as u8, 0, 0)),
-        14 => (groups.units + 1, groups.end, encode::use_of(63, 15, any as u8 % 3)),
         3 => (groups.edges, groups.edges, encode::unit(any)),
         4 => (groups.edges, groups.edges, encode::unit(0)),
         5 => (groups.edges + 1, groups.end, encode::unit(any)),
         6 => (groups.end, groups.end, encode::edge(any as u8 % 18, any as u8 / 18)),
         7 => (0, groups.end, encode::given(any)),
+        8 => (groups.rules, groups.rules, encode::table(1, 2)),
+        9 => (groups.rules, groups.rules, encode::table(any, any)),
+        10 => (groups.rules + 1, groups.end, encode::table(0, any % 4)),
+        11 => (groups.units, groups.units, encode::use_of(63, 15, 1)),
+        12 => (groups.units, groups.units, encode::use_of(any as u8, 0, 0)),
+        13 => (groups.units + 1, groups.end, encode::use_of(63, 15, any as u8 % 3)),
         _ => (groups.end, groups.end, vec![any as u8]),
     };
     let place = random.between(first, last);
@@ -437,10 +437,10 @@ pub fn long_input(random: &mut Random) -> Vec<u8> {
         0 => random_bytes(random),
         1 => full_draft(64, 16, 240).bytes(),
         2 => encode::rule(1, 0, 0).repeat(random.between(1, 200)),
-        5 => encode::table(0, 1).repeat(random.between(1, 300)),
-        6 => [encode::table(0, 1), encode::rule(1, 0, 0), encode::use_of(0, 0, 0).repeat(1000)].concat(),
-        7 => longest_draft().bytes(),
-        3 => [encode::unit(0).repeat(16), encode::edge(0, 1)].concat(),
+        3 => encode::table(0, 1).repeat(random.between(1, 300)),
+        4 => [encode::table(0, 1), encode::rule(1, 0, 0), encode::use_of(0, 0, 0).repeat(1000)].concat(),
+        5 => longest_draft().bytes(),
+        6 => [encode::unit(0).repeat(16), encode::edge(0, 1)].concat(),
         _ => sound_draft(random).bytes(),
     };
     let length = random.between(4090, 6000).max(bytes.len());
