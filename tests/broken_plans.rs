@@ -10,7 +10,7 @@ type Commands = Vec<Vec<u8>>;
 
 /// A small valid plan to spoil.
 fn sound_draft(random: &mut Random) -> Draft {
-    match random.below(8) {
+    match random.below(6) {
         0 => valid_plans::gadgets(random),
         1 => valid_plans::diamond(random),
         2 => valid_plans::given_atoms(random),
@@ -42,7 +42,7 @@ pub fn broken_graph(random: &mut Random) -> Vec<u8> {
 fn break_graph(random: &mut Random, draft: &mut Draft) {
     let rule = random.below(draft.rules.len());
     let (unit, other) = (random.below(draft.units.len()), random.below(draft.units.len()));
-    match random.below(16) {
+    match random.below(17) {
         0 => draft.units.iter_mut().for_each(|word| *word &= !(1 << rule)),
         1 if !draft.rules.is_empty() => draft.units[unit] |= 1 << rule,
         2 => draft.add_edge(unit, other),
@@ -50,6 +50,7 @@ fn break_graph(random: &mut Random, draft: &mut Draft) {
         6..=8 => add_stray_rule(random, draft, unit),
         9 => add_cycle(random, draft),
         10..=12 => repeat_rule(draft, rule, unit),
+        13 if !draft.rules.is_empty() => lose_and_repeat(random, draft),
         _ => split_constraint(random, draft),
     }
 }
@@ -84,6 +85,14 @@ pub fn unseen_inputs(random: &mut Random) -> Vec<u8> {
         break_graph(random, &mut draft);
     }
     draft.bytes()
+}
+
+/// One rule in no unit, and another in one unit more.
+fn lose_and_repeat(random: &mut Random, draft: &mut Draft) {
+    let (lost, repeated) = (random.below(draft.rules.len()), random.below(draft.rules.len()));
+    let unit = random.below(draft.units.len());
+    draft.units[unit] |= 1 << repeated;
+    draft.units.iter_mut().for_each(|word| *word &= !(1 << lost));
 }
 
 fn drop_edges(random: &mut Random, draft: &mut Draft) {
@@ -193,7 +202,10 @@ impl Groups {
 
 /// A valid plan with one to three reading faults, sometimes cut short at one.
 pub fn broken_reading(random: &mut Random) -> Vec<u8> {
-    let draft = if random.chance(30) { large_draft(random) } else { sound_draft(random) };
+    let mut draft = if random.chance(30) { large_draft(random) } else { sound_draft(random) };
+    if random.chance(30) {
+        draft.given.get_or_insert(0);
+    }
     let groups = Groups::of(&draft);
     let mut commands = draft.commands();
     for _ in 0..random.pick(&[1, 1, 1, 2, 3]) {
@@ -234,7 +246,7 @@ fn break_reading(random: &mut Random, draft: &Draft, groups: &Groups, commands: 
     let (units, rules) = (draft.units.len() as u8, draft.rules.len());
     let edge = (random.byte() % 20, random.byte() % 20);
     let any_word = random.word() >> random.below(64);
-    let (first, last, command) = match random.below(19) {
+    let (first, last, command) = match random.below(20) {
         0 => (0, groups.end, vec![random.byte()]),
         1 => (groups.rules, groups.uses, encode::rule(0, 0, 0)),
         2 => (groups.units, groups.edges, encode::unit(any_word)),
@@ -253,6 +265,7 @@ fn break_reading(random: &mut Random, draft: &Draft, groups: &Groups, commands: 
         15 => (groups.rules, groups.uses, encode::rule(any_word, 1 << 63, 1 << 63)),
         16 => (groups.rules, groups.uses, encode::rule(0, any_word | 1, any_word | 3)),
         17 => (groups.rules, groups.end, encode::rule(any_word, any_word, any_word)),
+        18 => (groups.tables, groups.tables, encode::given(any_word)),
         _ => (groups.end + 1, groups.end + 1, vec![random.pick(&[0, 1, 2, 3, 4, 5, 6, 9]); random.between(1, 30)]),
     };
     let place = random.between(first, last).min(commands.len());

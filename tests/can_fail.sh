@@ -6,7 +6,7 @@ cd "$(dirname "$0")/.."
 . tests/build.sh
 need_rustc
 
-count=${1:-2000} seed=${2:-1} named=${3:-}
+count=${1:-3000} seed=${2:-1} named=${3:-}
 work=target/tests/faulty
 unnoticed=0 tried=0
 

@@ -58,7 +58,7 @@ static FAMILIES: &[Family] = &[
     family("given atoms in heads", 30, Draw::Broken(broken::given_in_heads)),
     family("table inputs unseen", 60, Draw::Broken(broken::unseen_inputs)),
     family("any edges", 20, Draw::Broken(broken::any_edges)),
-    family("broken reading", 90, Draw::Broken(broken::broken_reading)),
+    family("broken reading", 120, Draw::Broken(broken::broken_reading)),
     family("broken tables and uses", 120, Draw::Broken(broken::broken_tables)),
     family("any commands", 30, Draw::Broken(broken::any_commands)),
     family("one too many", 60, Draw::Broken(broken::one_too_many)),
