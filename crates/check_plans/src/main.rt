@@ -9,6 +9,8 @@ use sheets::show;
 
 // Every sample plan.
 fn show_sheets() {
+    show(b"bad-table.plan");
+    show(b"bad-use.plan");
     show(b"circuit-01-end-only.plan");
     show(b"circuit-01-no-bytes.plan");
     show(b"circuit-02-choice.plan");
@@ -37,6 +39,11 @@ fn show_sheets() {
     show(b"several-negative-unseen.plan");
     show(b"several-on-cycles.plan");
     show(b"several-positive-unseen.plan");
+    show(b"several-table-inputs-unseen.plan");
+    show(b"table-holds-itself.plan");
+    show(b"table-in-inner-unit.plan");
+    show(b"table-not-as-rules.plan");
+    show(b"tables-in-two-units.plan");
 }
 
 // Single positions of some of them. Units, edges and the graph play no part in the answer.
@@ -57,6 +64,11 @@ fn judge_positions() {
     ask(b"circuit-10-unseen-negation.plan", 1);
     ask(b"circuit-10-unseen-negation.plan", 2);
     ask(b"circuit-11-cycle.plan", 0);
+    ask(b"several-table-inputs-unseen.plan", 0x5);
+    ask(b"table-holds-itself.plan", 0x5);
+    ask(b"table-holds-itself.plan", 0x1);
+    ask(b"table-not-as-rules.plan", 0x3);
+    ask(b"table-not-as-rules.plan", 0);
 }
 
 // Plans that read: a rule that is in no unit is judged all the same, a GIVEN stands first, then TABLEs, and the longest plan has all 64 rules as facts.
