@@ -1,5 +1,5 @@
 -- What is known of a body at a half-decided position, part by part.
-use mathlib.Core.Path.{_≡_, refl, sym, ap, subst}
+use mathlib.Core.Path.{_≡_, refl, sym, ap, subst, _∙_}
 use mathlib.Core.Bool.{Bool, true, not}
 use mathlib.Core.Logic.{_↔_, _⊎_, inl, inr}
 use mathlib.Core.List.{List}
@@ -16,12 +16,13 @@ use Rattle.contact_tables.specs.Rows.{Completion, Reached}
 use Rattle.answer_sets.specs.Program.{Body}
 use Rattle.answer_sets.specs.Lent.{lent, negative, uses, USE_BITS}
 use Rattle.answer_sets.specs.State.{Completes}
-use Rattle.answer_sets.specs.Known.{halfDecided, Says, Part, positive-word, negative-word, table-use, PartHolds, PartsSay, BodySays}
+use Rattle.answer_sets.specs.Known.{halfDecided, Says, Part, positive-word, negative-word, table-use, PartHolds, PartsSay, BodySays, WordsSay}
 use Rattle.answer_sets.specs.Known.{InBody, has-positive, has-negative, has-use, both, WordSays, RowsSay, IsUse, is-use}
+use Rattle.answer_sets.specs.Known.{IsWord, is-positive, is-negative}
 use Rattle.answer_sets.specs.declared.state.State.{State}
 use Rattle.answer_sets.specs.declared.state.Truth.{Truth}
 use Rattle.answer_sets.specs.declared.state.Truth.the-variants.{Holds, Fails}
-use Rattle.answer_sets.proofs.Truths.{holds-not-fails, both-holds, both-fails}
+use Rattle.answer_sets.proofs.Truths.{holds-not-fails, both-holds, both-fails, both-with-holds}
 use Rattle.answer_sets.proofs.Bodies.{body-parts, parts-body}
 
 -- ---- parts together
@@ -40,6 +41,13 @@ module _ {rules : List ℕ} {r : ℕ} {s : State} where
       λ e. (p, refl, k .fails .0 e),
       λ f. k .fails .1 (λ N c h. f .2 N c (subst (λ (x : Part). PartHolds rules r x N) (f .1) h)),
     );
+  }
+
+  -- some parts that fail are enough
+  pub parts-fail : {A C : Part → Type 0} → PartsSay rules r A s Fails → ((p : Part) → A p → C p) → PartsSay rules r C s Fails
+  parts-fail x left = record {
+    holds = (λ e. absurd (holds-not-fails (sym e)), λ f. absurd (holds-not-fails (sym (x .holds .1 (λ p a. f p (left p a))))));
+    fails = (λ e. let f = x .fails .0 refl in (f .0, left (f .0) (f .1), f .2), λ f. refl);
   }
 
   -- parts of two kinds
@@ -71,65 +79,70 @@ module _ {rules : List ℕ} {r : ℕ} {s : State} where
 pub up-apart : (up dropped : ℕ) {down : ℕ} → down ≡ dropped ∖ up → Apart up down
 up-apart up dropped e = rw e (record { none = λ i u d. without-right dropped up d u })
 
-pub down-apart : (up dropped : ℕ) {down : ℕ} → down ≡ dropped ∖ up → Apart down up
-down-apart up dropped e = rw e (record { none = λ i d u. without-right dropped up d u })
+pub apart-sym : {a b : ℕ} → Apart a b → Apart b a
+apart-sym n = record { none = λ i p q. n .none i q p }
 
-module _ (up dropped : ℕ) where
+module _ {up down : ℕ} (free : Apart up down) where
   -- what is up is a completion
-  pub up-completes : Completes (halfDecided up dropped) up
-  up-completes = record { has-up = subset-refl; no-dropped = record { none = λ i d u. without-right dropped up d u } }
+  pub up-completes : Completes (record { up = up; dropped = down }) up
+  up-completes = record { has-up = subset-refl; no-dropped = apart-sym free }
 
   -- and so is it with atoms of which none is dropped
-  more-completes : (w : ℕ) → Apart w (dropped ∖ up) → Completes (halfDecided up dropped) (up ∪ w)
+  more-completes : (w : ℕ) → Apart w down → Completes (record { up = up; dropped = down }) (up ∪ w)
   more-completes w a = record {
     has-up = record { each = λ i h. has-left up w h };
     no-dropped = record { none = λ i d h. go i d (union-cases up w h) };
   }
     where
-      go : (i : ℕ) → Has (dropped ∖ up) i → Has up i ⊎ Has w i → ⊥
-      go i d (inl u) = without-right dropped up d u
+      go : (i : ℕ) → Has down i → Has up i ⊎ Has w i → ⊥
+      go i d (inl u) = free .none i u d
       go i d (inr k) = a .none i k d
 
-  pub positive-says : {word read down : ℕ} {t : Truth} → down ≡ dropped ∖ up → read ≡ word → WordSays read up down t
-      → Says (λ N. word ⊆ N) (halfDecided up dropped) t
-  positive-says {word} {read} {down} {t} d e k = go (rw (d, e) at k)
+  pub positive-says : {word : ℕ} {t : Truth} → WordSays word up down t → Says (λ N. word ⊆ N) (record { up = up; dropped = down }) t
+  positive-says {word} w = record {
+    holds = (λ f N c. subset-trans (w .holds .0 f) (c .has-up), λ f. w .holds .1 (f up up-completes));
+    fails = (
+      λ f N c h. w .fails .0 f (record { none = λ i p q. c .no-dropped .none i q (h .each i p) }),
+      λ f. w .fails .1 (λ a. f (up ∪ word) (more-completes word a) (record { each = λ i h. has-right up word h })),
+    );
+  }
+
+  pub negative-says : {word : ℕ} {t : Truth} → WordSays word down up t → Says (λ N. Apart word N) (record { up = up; dropped = down }) t
+  negative-says {word} w = record {
+    holds = (
+      λ f N c. record { none = λ i p q. c .no-dropped .none i (w .holds .0 f .each i p) q },
+      λ f. w .holds .1 (record { each = λ i h. found f i h (has-dec down i) }),
+    );
+    fails = (
+      λ f N c h. w .fails .0 f (record { none = λ i p q. h .none i p (c .has-up .each i q) }),
+      λ f. w .fails .1 (f up up-completes),
+    );
+  }
     where
-      go : WordSays word up (dropped ∖ up) t → Says (λ N. word ⊆ N) (halfDecided up dropped) t
-      go w = record {
-        holds = (λ f N c. subset-trans (w .holds .0 f) (c .has-up), λ f. w .holds .1 (f up up-completes));
-        fails = (
-          λ f N c h. w .fails .0 f (record { none = λ i p q. c .no-dropped .none i q (h .each i p) }),
-          λ f. w .fails .1 (λ a. f (up ∪ word) (more-completes word a) (record { each = λ i h. has-right up word h })),
-        );
-      }
+      found : ((N : ℕ) → Completes (record { up = up; dropped = down }) N → Apart word N) → (i : ℕ) → Has word i → Dec (Has down i) → Has down i
+      found f i h (yes p) = p
+      found f i h (no n) =
+          absurd
+          (f (up ∪ atom i)
+          (more-completes (atom i) (record { none = λ j p q. n (subst (λ (x : ℕ). Has down x) (sym (atom-only i p)) q) }))
+          .none i h (has-right up (atom i) (has-atom i)))
 
-  pub negative-says : {word read down : ℕ} {t : Truth} → down ≡ dropped ∖ up → read ≡ word → WordSays read down up t
-      → Says (λ N. Apart word N) (halfDecided up dropped) t
-  negative-says {word} {read} {down} {t} d e k = go (rw (d, e) at k)
+  pub words-say : {rules : List ℕ} {r p n : ℕ} {positive negative′ t : Truth} → p ≡ lent rules .positive r → n ≡ negative rules r
+      → WordSays p up down positive → WordSays n down up negative′ → t ≡ both positive negative′ → WordsSay rules r up down t
+  words-say e f a b g =
+      parts-both (parts-one positive-word (positive-says (rw e at a))) (parts-one negative-word (negative-says (rw f at b))) split old new g
     where
-      all-down : ((N : ℕ) → Completes (halfDecided up dropped) N → Apart word N) → word ⊆ (dropped ∖ up)
-      all-down f = record { each = λ i h. found i h (has-dec (dropped ∖ up) i) }
-        where
-          found : (i : ℕ) → Has word i → Dec (Has (dropped ∖ up) i) → Has (dropped ∖ up) i
-          found i h (yes p) = p
-          found i h (no n) =
-              absurd
-              (f (up ∪ atom i)
-              (more-completes (atom i) (record { none = λ j p q. n (subst (λ (x : ℕ). Has (dropped ∖ up) x) (sym (atom-only i p)) q) }))
-              .none i h (has-right up (atom i) (has-atom i)))
+      split : (q : Part) → IsWord q → (positive-word ≡ q) ⊎ (negative-word ≡ q)
+      split _ is-positive = inl refl
+      split _ is-negative = inr refl
 
-      go : WordSays word (dropped ∖ up) up t → Says (λ N. Apart word N) (halfDecided up dropped) t
-      go w = record {
-        holds = (
-          λ f N c. record { none = λ i p q. c .no-dropped .none i (w .holds .0 f .each i p) q },
-          λ f. w .holds .1 (all-down f),
-        );
-        fails = (
-          λ f N c h. w .fails .0 f (record { none = λ i p q. h .none i p (c .has-up .each i q) }),
-          λ f. w .fails .1 (f up up-completes),
-        );
-      }
+      old : (q : Part) → positive-word ≡ q → IsWord q
+      old q e = subst IsWord e is-positive
 
+      new : (q : Part) → negative-word ≡ q → IsWord q
+      new q e = subst IsWord e is-negative
+
+module _ (up dropped : ℕ) where
   -- ---- a table
 
   pub rows-some : {inputs rows : ℕ} → Collects (Reached inputs up dropped) rows → ¬ (rows ≡ 0)
@@ -139,7 +152,7 @@ module _ (up dropped : ℕ) where
       (c .all (row inputs up)
       (record {
         position = up;
-        completes = record { has-up = up-completes .has-up; no-dropped = up-completes .no-dropped };
+        completes = record { has-up = subset-refl; no-dropped = record { none = λ i d u. without-right dropped up d u } };
         is = refl;
       })))
 
@@ -236,24 +249,38 @@ module _ {rules : List ℕ} {r : ℕ} {s : State} where
 
 -- ---- the whole body
 
-module _ {rules : List ℕ} {r : ℕ} (up dropped : ℕ) {positive negative words tables t : Truth} where
-  pub body-says : Says (PartHolds rules r positive-word) (halfDecided up dropped) positive
-      → Says (PartHolds rules r negative-word) (halfDecided up dropped) negative → words ≡ both positive negative
-      → PartsSay rules r (IsUse rules r) (halfDecided up dropped) tables → t ≡ both words tables → BodySays rules r up dropped t
-  body-says p n e u f =
-      parts-both (parts-both (parts-one positive-word p) (parts-one negative-word n) (λ q k. k) (λ q k. inl k) (λ q k. inr k) e) u split old new f
-    where
-      split : (q : Part) → InBody rules r q → ((positive-word ≡ q) ⊎ (negative-word ≡ q)) ⊎ IsUse rules r q
-      split _ has-positive = inl (inl refl)
-      split _ has-negative = inl (inr refl)
-      split _ (has-use i l h) = inr (is-use i l h)
+module _ {rules : List ℕ} {r : ℕ} where
+  word-in : (q : Part) → IsWord q → InBody rules r q
+  word-in _ is-positive = has-positive
+  word-in _ is-negative = has-negative
 
-      old : (q : Part) → (positive-word ≡ q) ⊎ (negative-word ≡ q) → InBody rules r q
-      old q (inl e) = subst (λ (x : Part). InBody rules r x) e has-positive
-      old q (inr e) = subst (λ (x : Part). InBody rules r x) e has-negative
+  use-in : (q : Part) → IsUse rules r q → InBody rules r q
+  use-in _ (is-use i l h) = has-use i l h
 
-      new : (q : Part) → IsUse rules r q → InBody rules r q
-      new _ (is-use i l h) = has-use i l h
+  in-split : (q : Part) → InBody rules r q → IsWord q ⊎ IsUse rules r q
+  in-split _ has-positive = inl is-positive
+  in-split _ has-negative = inl is-negative
+  in-split _ (has-use i l h) = inr (is-use i l h)
+
+  module _ (up dropped : ℕ) {down : ℕ} {words : Truth} (e : down ≡ dropped ∖ up) (k : WordsSay rules r up down words) where
+    words-told : PartsSay rules r IsWord (halfDecided up dropped) words
+    words-told = rw e at k
+
+    -- without uses the words are the body
+    pub body-of-words : {u : ℕ} → u ≡ uses rules r → u ≡ 0 → BodySays rules r up dropped words
+    body-of-words f z = parts-both words-told (parts-none none) in-split word-in (λ q u. absurd (none q u)) (both-with-holds words)
+      where
+        none : (q : Part) → ¬ IsUse rules r q
+        none _ (is-use i l h) = has-none (rw (sym f ∙ z) at h)
+
+    -- words that fail are enough
+    pub body-fails : words ≡ Fails → BodySays rules r up dropped Fails
+    body-fails f = parts-fail (rw f at words-told) word-in
+
+    -- and otherwise the uses are asked
+    pub body-says : {tables a t : Truth} → words ≡ a → PartsSay rules r (IsUse rules r) (halfDecided up dropped) tables → t ≡ both a tables
+        → BodySays rules r up dropped t
+    body-says f u g = parts-both (rw f at words-told) u in-split word-in use-in g
 
 -- ---- what the answers mean
 

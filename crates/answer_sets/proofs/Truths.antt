@@ -32,6 +32,11 @@ both-holds Open Fails = (λ e. absurd (holds-not-fails (sym e)), λ p. absurd (o
 both-holds Open Holds = (λ e. absurd (open-not-holds e), λ p. absurd (open-not-holds (p .0)))
 both-holds Open Open = (λ e. absurd (open-not-holds e), λ p. absurd (open-not-holds (p .0)))
 
+pub both-with-holds : (a : Truth) → a ≡ both a Holds
+both-with-holds Fails = refl
+both-with-holds Holds = refl
+both-with-holds Open = refl
+
 either : {A B C : Type 0} → (A → C) → (B → C) → A ⊎ B → C
 either f g (inl a) = f a
 either f g (inr b) = g b
@@ -106,28 +111,28 @@ module _ {word wanted barred : ℕ} {a : Bool} (free : Apart wanted barred) (ea 
       fails = (λ e. absurd (open-not-fails e), λ n. absurd (n (unmet ta)));
     }
 
-module _ {rows word : ℕ} {a : Bool} (some : ¬ (rows ≡ 0)) (ea : a ≡ subset rows word) where
+module _ {rows word : ℕ} {a : Bool} (some : ¬ (rows ≡ 0)) (ea : a ≡ apart rows word) where
   -- where there is a row, the word cannot have all and none
   not-none : rows ⊆ word → ¬ Apart rows word
   not-none f n = let i = some-atom rows some in n .none (i .0) (i .1) (f .each (i .0) (i .1))
 
-  pub rows-hold : a ≡ true → RowsSay rows word Holds
-  rows-hold t =
-      let f = decides-subset rows word .yes (sym ea ∙ t) in
-      record { holds = (λ e. f, λ g. refl); fails = (λ e. absurd (holds-not-fails e), λ n. absurd (not-none f n)) }
+  pub rows-fail : a ≡ true → RowsSay rows word Fails
+  rows-fail t =
+      let n = decides-apart rows word .yes (sym ea ∙ t) in
+      record { holds = (λ e. absurd (holds-not-fails (sym e)), λ f. absurd (not-none f n)); fails = (λ e. n, λ m. refl) }
 
-  module _ {b : Bool} (ta : a ≡ false) (eb : b ≡ apart rows word) where
-    not-all : ¬ (rows ⊆ word)
-    not-all = decides-subset rows word .no (sym ea ∙ ta)
+  module _ {b : Bool} (ta : a ≡ false) (eb : b ≡ subset rows word) where
+    not-apart : ¬ Apart rows word
+    not-apart = decides-apart rows word .no (sym ea ∙ ta)
 
-    pub rows-fail : b ≡ true → RowsSay rows word Fails
-    rows-fail t = record {
-      holds = (λ e. absurd (holds-not-fails (sym e)), λ f. absurd (not-all f));
-      fails = (λ e. decides-apart rows word .yes (sym eb ∙ t), λ n. refl);
+    pub rows-hold : b ≡ true → RowsSay rows word Holds
+    rows-hold t = record {
+      holds = (λ e. decides-subset rows word .yes (sym eb ∙ t), λ f. refl);
+      fails = (λ e. absurd (holds-not-fails e), λ n. absurd (not-apart n));
     }
 
     pub rows-open : b ≡ false → RowsSay rows word Open
     rows-open t = record {
-      holds = (λ e. absurd (open-not-holds e), λ f. absurd (not-all f));
-      fails = (λ e. absurd (open-not-fails e), λ n. absurd (decides-apart rows word .no (sym eb ∙ t) n));
+      holds = (λ e. absurd (open-not-holds e), λ f. absurd (decides-subset rows word .no (sym eb ∙ t) f));
+      fails = (λ e. absurd (open-not-fails e), λ n. absurd (not-apart n));
     }

@@ -2,10 +2,11 @@
 use crate::known::body_known;
 use crate::known::undecided;
 use crate::rule::head;
-use crate::rule::looks;
+use crate::rule::negative_body;
 use crate::rule::positive_body;
 use crate::state::State;
 use crate::state::Truth;
+use crate::uses::used_inputs;
 ghost use mathlib.Core.Path.{_≡_};
 ghost use Rattle.answer_sets.specs.Program.{Satisfies, SatisfiesAll};
 ghost use Rattle.answer_sets.specs.Lent.{lent, IsLent, Lent};
@@ -84,8 +85,12 @@ fn denied(rules: &[u64], rule: usize, s: State) -> State
     if !atoms::is_subset(head(rules, rule), s.dropped) {
         return s;
     }
-    let body = atoms::union(positive_body(rules, rule), looks(rules, rule));
-    let left = atoms::cut(undecided(s.up, s.dropped), body);
+    let open = undecided(s.up, s.dropped);
+    let words = atoms::union(positive_body(rules, rule), negative_body(rules, rule));
+    if !atoms::at_most_one(atoms::cut(open, words)) {
+        return s;
+    }
+    let left = atoms::cut(open, atoms::union(words, used_inputs(rules, rule)));
     if atoms::at_most_one(left) {
         return decided_by(rules, rule, left, s);
     }

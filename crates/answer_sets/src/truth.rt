@@ -49,11 +49,11 @@ pub fn rows_known(rows: u64, word: u64) -> Truth
     requires { ⌜ (rows ≡ 0 → ⊥) ⌝ }
     ensures { λ r. ⌜ RowsSay rows word r ⌝ }
 {
-    if atoms::is_subset(rows, word) {
-        return Truth::Holds;
-    }
     if atoms::are_apart(rows, word) {
         return Truth::Fails;
+    }
+    if atoms::is_subset(rows, word) {
+        return Truth::Holds;
     }
     Truth::Open
 }

@@ -1,28 +1,45 @@
--- The two words and the uses, put together.
-use Rattle.answer_sets.proofs.Parts.{positive-says, negative-says, up-apart, down-apart, body-says}
+-- The words alone where there are no uses, the words that fail, or the words and the uses together.
+use mathlib.Core.Path.{refl}
+use Rattle.answer_sets.proofs.Parts.{up-apart, body-of-words, body-fails, body-says}
 use borrow.Author.Needs.{needs}
 use Rattle.answer_sets.proofs.known.body_known.Statement.{statement}
 use Rattle.answer_sets.proofs.known.body_known.Tie as tie
 
 returns : tie.Need-returns
 returns c =
-    let negative = c .before .before .before in
-    let positive = negative .before .before in
-    let down = positive .before .before in
-    body-says _ _ (positive-says _ _ (down .without .ensures) (positive .before .positive-body .ensures) (positive .word-known .ensures))
-    (negative-says _ _ (down .without .ensures) (negative .before .negative-body .ensures) (negative .word-known2 .ensures))
-    (c .before .before .both .ensures) (c .before .uses-known .ensures) (c .both2 .ensures)
+    let words = c .before .before in
+    body-of-words _ _ (words .before .without .ensures) (words .words-known .ensures) (c .before .uses .ensures) (c .if1 .taken)
+
+returns-2 : tie.Need-returns-2
+returns-2 c =
+    let words = c .before .before .before .before in
+    body-fails _ _ (words .before .without .ensures) (words .words-known .ensures) (c .enum-told .given .1)
+
+returns-3 : tie.Need-returns-3
+returns-3 c =
+    let words = c .before .before .before .before .before in
+    body-says _ _ (words .before .without .ensures) (words .words-known .ensures) (c .before .enum-told2 .given .1) (c .uses-known .ensures) refl
+
+returns-4 : tie.Need-returns-4
+returns-4 c =
+    let words = c .before .before .before .before .before .before in
+    body-says _ _ (words .before .without .ensures) (words .words-known .ensures) (c .before .before .enum-told3 .given .1)
+    (c .before .uses-known2 .ensures) (c .both .ensures)
 
 pub body-known-spec : {M : Type 1} → statement M
 body-known-spec =
     tie.close
     (tie.spec
     (λ c κs. search needs)
+    (λ c κs. (c .before .before .pre, up-apart _ _ (c .without .ensures)))
     (λ c κs. search needs)
-    (λ c κs. up-apart _ _ (c .before .without .ensures))
+    returns
+    (λ c. search needs)
+    (λ c. search needs)
     (λ c κs. search needs)
-    (λ c κs. down-apart _ _ (c .before .before .before .without .ensures))
+    (λ c. search needs)
     (λ c κs. search needs)
     (λ c κs. search needs)
-    (λ c κs. search needs)
-    returns)
+    returns-2
+    returns-3
+    returns-4)
