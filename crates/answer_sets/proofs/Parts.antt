@@ -262,25 +262,27 @@ module _ {rules : List ℕ} {r : ℕ} where
   in-split _ has-negative = inl is-negative
   in-split _ (has-use i l h) = inr (is-use i l h)
 
-  module _ (up dropped : ℕ) {down : ℕ} {words : Truth} (e : down ≡ dropped ∖ up) (k : WordsSay rules r up down words) where
-    words-told : PartsSay rules r IsWord (halfDecided up dropped) words
-    words-told = rw e at k
+  -- what the words say, with what is dropped and not up
+  pub words-told : (up dropped : ℕ) {down : ℕ} {words : Truth} → down ≡ dropped ∖ up → WordsSay rules r up down words
+      → PartsSay rules r IsWord (halfDecided up dropped) words
+  words-told up dropped e k = rw e at k
 
+  module _ (up dropped : ℕ) {words : Truth} (k : PartsSay rules r IsWord (halfDecided up dropped) words) where
     -- without uses the words are the body
     pub body-of-words : {u : ℕ} → u ≡ uses rules r → u ≡ 0 → BodySays rules r up dropped words
-    body-of-words f z = parts-both words-told (parts-none none) in-split word-in (λ q u. absurd (none q u)) (both-with-holds words)
+    body-of-words f z = parts-both k (parts-none none) in-split word-in (λ q u. absurd (none q u)) (both-with-holds words)
       where
         none : (q : Part) → ¬ IsUse rules r q
         none _ (is-use i l h) = has-none (rw (sym f ∙ z) at h)
 
     -- words that fail are enough
     pub body-fails : words ≡ Fails → BodySays rules r up dropped Fails
-    body-fails f = parts-fail (rw f at words-told) word-in
+    body-fails f = parts-fail (rw f at k) word-in
 
     -- and otherwise the uses are asked
     pub body-says : {tables a t : Truth} → words ≡ a → PartsSay rules r (IsUse rules r) (halfDecided up dropped) tables → t ≡ both a tables
         → BodySays rules r up dropped t
-    body-says f u g = parts-both (rw f at words-told) u in-split word-in use-in g
+    body-says f u g = parts-both (rw f at k) u in-split word-in use-in g
 
 -- ---- what the answers mean
 

@@ -5,7 +5,7 @@ use crate::state::Truth;
 use crate::truth::both;
 use crate::truth::word_known;
 use crate::uses::uses;
-use crate::uses::uses_known;
+use crate::uses::with_uses;
 ghost use mathlib.Core.Path.{_≡_};
 ghost use Rattle.atoms.specs.Word.{Apart};
 ghost use Rattle.answer_sets.specs.Lent.{IsLent};
@@ -13,7 +13,7 @@ ghost use Rattle.answer_sets.specs.Known.{BodySays, WordsSay};
 ghost use Rattle.answer_sets.specs.State.{undecided as undecidedOf};
 
 // What is known of the two words of a body; `down` are the atoms that are dropped and not up.
-fn words_known(rules: &[u64], rule: usize, up: u64, down: u64) -> Truth
+pub fn words_known(rules: &[u64], rule: usize, up: u64, down: u64) -> Truth
     requires { ⌜ IsLent (now rules) rule × Apart up down ⌝ }
     ensures { λ r. ⌜ WordsSay (now (rules .entry)) rule up down r ⌝ }
 {
@@ -23,7 +23,6 @@ fn words_known(rules: &[u64], rule: usize, up: u64, down: u64) -> Truth
 }
 
 // Whether the body holds, fails or is open: each word and each use of a table by what it is in every completion.
-// The uses are asked only where the words do not fail.
 pub fn body_known(rules: &[u64], rule: usize, up: u64, dropped: u64) -> Truth
     requires { ⌜ IsLent (now rules) rule ⌝ }
     ensures { λ r. ⌜ BodySays (now (rules .entry)) rule up dropped r ⌝ }
@@ -32,11 +31,7 @@ pub fn body_known(rules: &[u64], rule: usize, up: u64, dropped: u64) -> Truth
     if uses(rules, rule) == 0 {
         return words;
     }
-    match words {
-        Truth::Fails => Truth::Fails,
-        Truth::Holds => uses_known(rules, rule, up, dropped),
-        Truth::Open => both(Truth::Open, uses_known(rules, rule, up, dropped)),
-    }
+    with_uses(rules, rule, up, dropped, words)
 }
 
 // The atoms that are neither up nor dropped.

@@ -1,12 +1,14 @@
 // The rule pass: what every position that satisfies the rules must have or lack, told from what is known of it.
 use crate::known::body_known;
 use crate::known::undecided;
+use crate::known::words_known;
 use crate::rule::head;
 use crate::rule::negative_body;
 use crate::rule::positive_body;
 use crate::state::State;
 use crate::state::Truth;
 use crate::uses::used_inputs;
+use crate::uses::with_uses;
 ghost use mathlib.Core.Path.{_≡_};
 ghost use Rattle.answer_sets.specs.Program.{Satisfies, SatisfiesAll};
 ghost use Rattle.answer_sets.specs.Lent.{lent, IsLent, Lent};
@@ -41,12 +43,13 @@ fn forced(word: u64, s: State) -> State
     s
 }
 
-// Whether the body is known to hold.
+// Whether the body is known to hold. Asked seldom, so the quick way of `body_known` round the uses is not taken.
 fn is_held(rules: &[u64], rule: usize, up: u64, dropped: u64) -> bool
     requires { ⌜ IsLent (now rules) rule ⌝ }
     ensures { λ r. ⌜ Held (now (rules .entry)) rule up dropped r ⌝ }
 {
-    let truth = body_known(rules, rule, up, dropped);
+    let words = words_known(rules, rule, up, atoms::without(dropped, up));
+    let truth = with_uses(rules, rule, up, dropped, words);
     match truth {
         Truth::Holds => true,
         Truth::Fails => false,

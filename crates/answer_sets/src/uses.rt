@@ -14,7 +14,7 @@ ghost use Prim.Native.Nat.{_<_, _≤_};
 ghost use lib.ListN.{length};
 ghost use Rattle.plan.specs.Limits.{FIRST_RULE as Limits·FIRST_RULE, MAX_TABLES as Limits·MAX_TABLES};
 ghost use Rattle.answer_sets.specs.Lent.{IsLent, USE_BITS as Lent·USE_BITS, uses, tableOf, inputs, truth, useHolds, usesHold, usedInputs};
-ghost use Rattle.answer_sets.specs.Known.{Says, PartsSay, IsUse, halfDecided};
+ghost use Rattle.answer_sets.specs.Known.{Says, PartsSay, IsUse, IsWord, BodySays, halfDecided};
 
 // A bit for each table that must be true, and one for each that must be false.
 const USE_BITS: usize = 2 * MAX_TABLES;
@@ -108,7 +108,7 @@ fn use_known(rules: &[u64], i: usize, up: u64, dropped: u64) -> Truth
 }
 
 // What is known of all uses of the rule.
-pub fn uses_known(rules: &[u64], rule: usize, up: u64, dropped: u64) -> Truth
+fn uses_known(rules: &[u64], rule: usize, up: u64, dropped: u64) -> Truth
     requires { ⌜ IsLent (now rules) rule ⌝ }
     ensures { λ r. ⌜ PartsSay (now (rules .entry)) rule (IsUse (now (rules .entry)) rule) (halfDecided up dropped) r ⌝ }
 {
@@ -120,4 +120,16 @@ pub fn uses_known(rules: &[u64], rule: usize, up: u64, dropped: u64) -> Truth
         rest = atoms::drop(rest, i);
     }
     known
+}
+
+// What is known of the body, from what is known of its words: the uses are asked only where the words do not fail.
+pub fn with_uses(rules: &[u64], rule: usize, up: u64, dropped: u64, words: Truth) -> Truth
+    requires { ⌜ IsLent (now rules) rule × PartsSay (now rules) rule IsWord (halfDecided up dropped) words ⌝ }
+    ensures { λ r. ⌜ BodySays (now (rules .entry)) rule up dropped r ⌝ }
+{
+    match words {
+        Truth::Fails => Truth::Fails,
+        Truth::Holds => uses_known(rules, rule, up, dropped),
+        Truth::Open => both(Truth::Open, uses_known(rules, rule, up, dropped)),
+    }
 }
