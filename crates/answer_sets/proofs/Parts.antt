@@ -17,23 +17,17 @@ use Rattle.answer_sets.specs.Program.{Body}
 use Rattle.answer_sets.specs.Lent.{lent, negative, uses, USE_BITS}
 use Rattle.answer_sets.specs.State.{Completes}
 use Rattle.answer_sets.specs.Known.{halfDecided, Says, Part, positive-word, negative-word, table-use, PartHolds, PartsSay, BodySays, WordsSay}
-use Rattle.answer_sets.specs.Known.{InBody, has-positive, has-negative, has-use, both, WordSays, RowsSay, IsUse, is-use}
+use Rattle.answer_sets.specs.Known.{InBody, has-positive, has-negative, has-use, both, WordSays, RowsSay}
 use Rattle.answer_sets.specs.Known.{IsWord, is-positive, is-negative}
 use Rattle.answer_sets.specs.declared.state.State.{State}
 use Rattle.answer_sets.specs.declared.state.Truth.{Truth}
 use Rattle.answer_sets.specs.declared.state.Truth.the-variants.{Holds, Fails}
-use Rattle.answer_sets.proofs.Truths.{holds-not-fails, both-holds, both-fails, both-with-holds}
+use Rattle.answer_sets.proofs.Truths.{holds-not-fails, both-holds, both-fails}
 use Rattle.answer_sets.proofs.Bodies.{body-parts, parts-body}
 
 -- ---- parts together
 
 module _ {rules : List ℕ} {r : ℕ} {s : State} where
-  pub parts-none : {A : Part → Type 0} → ((p : Part) → ¬ A p) → PartsSay rules r A s Holds
-  parts-none n = record {
-    holds = (λ e p a. absurd (n p a), λ f. refl);
-    fails = (λ e. absurd (holds-not-fails e), λ f. absurd (n (f .0) (f .1)));
-  }
-
   pub parts-one : (p : Part) {t : Truth} → Says (PartHolds rules r p) s t → PartsSay rules r (λ q. p ≡ q) s t
   parts-one p k = record {
     holds = (λ e q g N c. subst (λ (x : Part). PartHolds rules r x N) g (k .holds .0 e N c), λ f. k .holds .1 (f p refl));
@@ -188,23 +182,48 @@ module _ (up dropped : ℕ) where
       back : (N : ℕ) → Completion up dropped N → Completes (halfDecided up dropped) N
       back N d = record { has-up = d .has-up; no-dropped = d .no-dropped }
 
--- ---- the uses of a rule, one by one
+-- ---- the whole body: its words, and its uses one by one
 
--- part p is a use of rule r that is no longer to be done
-pub data DoneUse (rules : List ℕ) (r rest : ℕ) : Part → Type 0 where
-  done-use : (i : ℕ) → i < USE_BITS → Has (uses rules r) i → ¬ Has rest i → DoneUse rules r rest (table-use i)
+-- part p is a word of rule r's body, or a use that is no longer to be done
+pub data Done (rules : List ℕ) (r rest : ℕ) : Part → Type 0 where
+  done-positive : Done rules r rest positive-word
+  done-negative : Done rules r rest negative-word
+  done-use : (i : ℕ) → i < USE_BITS → Has (uses rules r) i → ¬ Has rest i → Done rules r rest (table-use i)
 
--- what is known of the uses that are done
+-- what is known of the parts that are done
 pub record UsesDone (rules : List ℕ) (r : ℕ) (s : State) (known : Truth) (rest : ℕ) : Type 0 where
   pub within : rest ⊆ (uses rules r ∩ below USE_BITS)
-  pub says : PartsSay rules r (DoneUse rules r rest) s known
+  pub says : PartsSay rules r (Done rules r rest) s known
+
+done-in : {rules : List ℕ} {r rest : ℕ} (q : Part) → Done rules r rest q → InBody rules r q
+done-in _ done-positive = has-positive
+done-in _ done-negative = has-negative
+done-in _ (done-use i l h n) = has-use i l h
 
 module _ {rules : List ℕ} {r : ℕ} {s : State} where
-  pub uses-start : {word first rest : ℕ} → word ≡ uses rules r → first ≡ below USE_BITS → rest ≡ word ∩ first → UsesDone rules r s Holds rest
-  uses-start {word} {first} {rest} e f g = rw (g, f, e) (record { within = subset-refl; says = parts-none none })
+  -- parts in other words
+  parts-same : {A C : Part → Type 0} {t : Truth} → PartsSay rules r A s t → ((p : Part) → A p → C p) → ((p : Part) → C p → A p)
+      → PartsSay rules r C s t
+  parts-same x there back = record {
+    holds = (λ e p c. x .holds .0 e p (back p c), λ f. x .holds .1 (λ p a. f p (there p a)));
+    fails = (
+      λ e. let f = x .fails .0 e in (f .0, there (f .0) (f .1), f .2),
+      λ f. x .fails .1 (f .0, back (f .0) (f .1), f .2),
+    );
+  }
+
+  pub uses-start : {words : Truth} {word first rest : ℕ} → PartsSay rules r IsWord s words → word ≡ uses rules r → first ≡ below USE_BITS
+      → rest ≡ word ∩ first → UsesDone rules r s words rest
+  uses-start k e f g = rw (g, f, e) (record { within = subset-refl; says = parts-same k there back })
     where
-      none : (p : Part) → ¬ DoneUse rules r (uses rules r ∩ below USE_BITS) p
-      none _ (done-use i l h n) = n (has-cut (uses rules r) (below USE_BITS) h (has-below USE_BITS i l))
+      there : (p : Part) → IsWord p → Done rules r (uses rules r ∩ below USE_BITS) p
+      there _ is-positive = done-positive
+      there _ is-negative = done-negative
+
+      back : (p : Part) → Done rules r (uses rules r ∩ below USE_BITS) p → IsWord p
+      back _ done-positive = is-positive
+      back _ done-negative = is-negative
+      back _ (done-use i l h n) = absurd (n (has-cut (uses rules r) (below USE_BITS) h (has-below USE_BITS i l)))
 
   pub uses-lt : {known : Truth} {rest i : ℕ} → UsesDone rules r s known rest → Lowest rest i → i < USE_BITS
   uses-lt u low = below-lt USE_BITS (cut-right (uses rules r) (below USE_BITS) (u .within .each _ (low .here)))
@@ -216,73 +235,55 @@ module _ {rules : List ℕ} {r : ℕ} {s : State} where
     says = parts-both (u .says) (parts-one (table-use i) k) split old new f;
   }
     where
-      split : (p : Part) → DoneUse rules r rest′ p → DoneUse rules r rest p ⊎ (table-use i ≡ p)
+      split : (p : Part) → Done rules r rest′ p → Done rules r rest p ⊎ (table-use i ≡ p)
+      split _ done-positive = inl done-positive
+      split _ done-negative = inl done-negative
       split _ (done-use j l h n) = go (ℕ-discrete i j)
         where
-          go : Dec (i ≡ j) → DoneUse rules r rest (table-use j) ⊎ (table-use i ≡ table-use j)
+          go : Dec (i ≡ j) → Done rules r rest (table-use j) ⊎ (table-use i ≡ table-use j)
           go (yes q) = inr (ap table-use q)
           go (no m) = inl (done-use j l h (λ q. n (rw e (has-without rest (atom i) q (λ a. m (atom-only i a))))))
 
-      old : (p : Part) → DoneUse rules r rest p → DoneUse rules r rest′ p
+      old : (p : Part) → Done rules r rest p → Done rules r rest′ p
+      old _ done-positive = done-positive
+      old _ done-negative = done-negative
       old _ (done-use j l h n) = done-use j l h (λ q. n (without-left rest (atom i) (rw e at q)))
 
-      new : (p : Part) → table-use i ≡ p → DoneUse rules r rest′ p
+      new : (p : Part) → table-use i ≡ p → Done rules r rest′ p
       new p q =
-          subst (λ (x : Part). DoneUse rules r rest′ x) q
+          subst (λ (x : Part). Done rules r rest′ x) q
           (done-use i (uses-lt u low) (cut-left (uses rules r) (below USE_BITS) (u .within .each i (low .here)))
           (λ m. without-right rest (atom i) (rw e at m) (has-atom i)))
 
-  pub uses-end : {known : Truth} {rest : ℕ} → UsesDone rules r s known rest → rest ≡ 0 → PartsSay rules r (IsUse rules r) s known
-  uses-end {rest = rest} u e = record {
-    holds = (λ f p k. u .says .holds .0 f p (there p k), λ f. u .says .holds .1 (λ p k. f p (back p k)));
-    fails = (
-      λ f. let g = u .says .fails .0 f in (g .0, back (g .0) (g .1), g .2),
-      λ f. u .says .fails .1 (f .0, there (f .0) (f .1), f .2),
-    );
-  }
+  -- a part that fails is enough
+  pub uses-fail : {known : Truth} {rest : ℕ} → UsesDone rules r s known rest → known ≡ Fails → PartsSay rules r (InBody rules r) s Fails
+  uses-fail u e = parts-fail (rw e at (u .says)) done-in
+
+  pub uses-end : {known : Truth} {rest : ℕ} → UsesDone rules r s known rest → rest ≡ 0 → PartsSay rules r (InBody rules r) s known
+  uses-end {rest = rest} u e = parts-same (u .says) done-in back
     where
-      there : (p : Part) → IsUse rules r p → DoneUse rules r rest p
-      there _ (is-use i l h) = done-use i l h (λ q. has-none (rw e at q))
+      back : (p : Part) → InBody rules r p → Done rules r rest p
+      back _ has-positive = done-positive
+      back _ has-negative = done-negative
+      back _ (has-use i l h) = done-use i l h (λ q. has-none (rw e at q))
 
-      back : (p : Part) → DoneUse rules r rest p → IsUse rules r p
-      back _ (done-use i l h n) = is-use i l h
+  -- without uses the words are the body
+  pub body-of-words : {words : Truth} {u : ℕ} → PartsSay rules r IsWord s words → u ≡ uses rules r → u ≡ 0 → PartsSay rules r (InBody rules r) s words
+  body-of-words k f z = parts-same k there back
+    where
+      there : (p : Part) → IsWord p → InBody rules r p
+      there _ is-positive = has-positive
+      there _ is-negative = has-negative
 
--- ---- the whole body
+      back : (p : Part) → InBody rules r p → IsWord p
+      back _ has-positive = is-positive
+      back _ has-negative = is-negative
+      back _ (has-use i l h) = absurd (has-none (rw (sym f ∙ z) at h))
 
-module _ {rules : List ℕ} {r : ℕ} where
-  word-in : (q : Part) → IsWord q → InBody rules r q
-  word-in _ is-positive = has-positive
-  word-in _ is-negative = has-negative
-
-  use-in : (q : Part) → IsUse rules r q → InBody rules r q
-  use-in _ (is-use i l h) = has-use i l h
-
-  in-split : (q : Part) → InBody rules r q → IsWord q ⊎ IsUse rules r q
-  in-split _ has-positive = inl is-positive
-  in-split _ has-negative = inl is-negative
-  in-split _ (has-use i l h) = inr (is-use i l h)
-
-  -- what the words say, with what is dropped and not up
-  pub words-told : (up dropped : ℕ) {down : ℕ} {words : Truth} → down ≡ dropped ∖ up → WordsSay rules r up down words
-      → PartsSay rules r IsWord (halfDecided up dropped) words
-  words-told up dropped e k = rw e at k
-
-  module _ (up dropped : ℕ) {words : Truth} (k : PartsSay rules r IsWord (halfDecided up dropped) words) where
-    -- without uses the words are the body
-    pub body-of-words : {u : ℕ} → u ≡ uses rules r → u ≡ 0 → BodySays rules r up dropped words
-    body-of-words f z = parts-both k (parts-none none) in-split word-in (λ q u. absurd (none q u)) (both-with-holds words)
-      where
-        none : (q : Part) → ¬ IsUse rules r q
-        none _ (is-use i l h) = has-none (rw (sym f ∙ z) at h)
-
-    -- words that fail are enough
-    pub body-fails : words ≡ Fails → BodySays rules r up dropped Fails
-    body-fails f = parts-fail (rw f at k) word-in
-
-    -- and otherwise the uses are asked
-    pub body-says : {tables a t : Truth} → words ≡ a → PartsSay rules r (IsUse rules r) (halfDecided up dropped) tables → t ≡ both a tables
-        → BodySays rules r up dropped t
-    body-says f u g = parts-both (rw f at k) u in-split word-in use-in g
+-- what the words say, with what is dropped and not up
+pub words-told : {rules : List ℕ} {r : ℕ} (up dropped : ℕ) {down : ℕ} {words : Truth} → down ≡ dropped ∖ up → WordsSay rules r up down words
+    → PartsSay rules r IsWord (halfDecided up dropped) words
+words-told up dropped e k = rw e at k
 
 -- ---- what the answers mean
 

@@ -32,11 +32,6 @@ both-holds Open Fails = (λ e. absurd (holds-not-fails (sym e)), λ p. absurd (o
 both-holds Open Holds = (λ e. absurd (open-not-holds e), λ p. absurd (open-not-holds (p .0)))
 both-holds Open Open = (λ e. absurd (open-not-holds e), λ p. absurd (open-not-holds (p .0)))
 
-pub both-with-holds : (a : Truth) → a ≡ both a Holds
-both-with-holds Fails = refl
-both-with-holds Holds = refl
-both-with-holds Open = refl
-
 either : {A B C : Type 0} → (A → C) → (B → C) → A ⊎ B → C
 either f g (inl a) = f a
 either f g (inr b) = g b

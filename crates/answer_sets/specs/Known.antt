@@ -70,10 +70,6 @@ pub record RowsSay (rows word : ℕ) (t : Truth) : Type 0 where
   pub holds : (t ≡ Holds) ↔ (rows ⊆ word)
   pub fails : (t ≡ Fails) ↔ Apart rows word
 
--- Inner: part p is a use of rule r
-pub data IsUse (rules : List ℕ) (r : ℕ) : Part → Type 0 where
-  is-use : (i : ℕ) → i < USE_BITS → Has (uses rules r) i → IsUse rules r (table-use i)
-
 -- Inner: part p is a word of the body
 pub data IsWord : Part → Type 0 where
   is-positive : IsWord positive-word

@@ -7,7 +7,7 @@ use Rattle.answer_sets.proofs.known.body_known.Tie as tie
 returns : tie.Need-returns
 returns c =
     let words = c .before .before in
-    body-of-words _ _ (words-told _ _ (words .before .without .ensures) (words .words-known .ensures)) (c .before .uses .ensures) (c .if1 .taken)
+    body-of-words (words-told _ _ (words .before .without .ensures) (words .words-known .ensures)) (c .before .uses .ensures) (c .if1 .taken)
 
 with-uses-requires : tie.Need-with-uses-requires
 with-uses-requires c κs =
