@@ -7,7 +7,9 @@ use crate::rule::negative_body;
 use crate::rule::positive_body;
 use crate::state::State;
 use crate::state::Truth;
+use crate::truth::is_success;
 use crate::uses::used_inputs;
+use crate::uses::uses;
 use crate::uses::with_uses;
 ghost use mathlib.Core.Path.{_≡_};
 ghost use Rattle.answer_sets.specs.Program.{Satisfies, SatisfiesAll};
@@ -43,18 +45,16 @@ fn forced(word: u64, s: State) -> State
     s
 }
 
-// Whether the body is known to hold. Asked seldom, so the quick way of `body_known` round the uses is not taken.
+// Whether the body is known to hold.
 fn is_held(rules: &[u64], rule: usize, up: u64, dropped: u64) -> bool
     requires { ⌜ IsLent (now rules) rule ⌝ }
     ensures { λ r. ⌜ Held (now (rules .entry)) rule up dropped r ⌝ }
 {
     let words = words_known(rules, rule, up, atoms::without(dropped, up));
-    let truth = with_uses(rules, rule, up, dropped, words);
-    match truth {
-        Truth::Holds => true,
-        Truth::Fails => false,
-        Truth::Open => false,
+    if uses(rules, rule) == 0 {
+        return is_success(words);
     }
+    is_success(with_uses(rules, rule, up, dropped, words))
 }
 
 // The state in which the body does not hold by its last open atom: where it would with the atom up, the atom is dropped,

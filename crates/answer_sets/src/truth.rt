@@ -3,7 +3,7 @@ use crate::state::Truth;
 ghost use mathlib.Core.Path.{_≡_};
 ghost use mathlib.Core.Bool.{true};
 ghost use mathlib.Core.Logic.{_↔_};
-ghost use Rattle.answer_sets.specs.declared.state.Truth.the-variants.{Fails};
+ghost use Rattle.answer_sets.specs.declared.state.Truth.the-variants.{Holds, Fails};
 ghost use Rattle.atoms.specs.Word.{Apart};
 ghost use Rattle.answer_sets.specs.Known.{both as bothOf, opposite as oppositeOf, WordSays, RowsSay};
 
@@ -40,6 +40,17 @@ pub fn is_failure(t: Truth) -> bool
     match t {
         Truth::Fails => true,
         Truth::Holds => false,
+        Truth::Open => false,
+    }
+}
+
+// Whether the test is known to hold.
+pub fn is_success(t: Truth) -> bool
+    ensures { λ r. ⌜ (r ≡ true) ↔ (t ≡ Holds) ⌝ }
+{
+    match t {
+        Truth::Holds => true,
+        Truth::Fails => false,
         Truth::Open => false,
     }
 }
