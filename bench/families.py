@@ -10,14 +10,17 @@ import struct
 import sys
 
 MAX_ATOMS = 64
+MAX_TABLES = 16
 MAX_RULES = 64
+MAX_USES = 256
 MAX_UNITS = 16
 
 
 class Plan:
-    """Rules as (head, positive, negative, unit), atoms numbered as they are asked for."""
+    """Rules as (head, positive, negative, uses, unit), a use as (table, must it be true), atoms numbered as they are asked for."""
 
     def __init__(self):
+        self.tables = []
         self.rules = []
         self.atoms = 0
         self.units = 1
@@ -29,9 +32,18 @@ class Plan:
     def next_unit(self):
         self.units += 1
 
-    def rule(self, head=(), positive=(), negative=()):
-        """Adds a rule to the newest unit."""
-        self.rules.append((tuple(head), tuple(positive), tuple(negative), self.units - 1))
+    def table(self, inputs, answer):
+        """A new table; `answer` is told for each input, the lowest atom first, whether it is up."""
+        rows = list(itertools.product([False, True], repeat=len(inputs)))
+        # The lowest input is the lowest bit of a row's number, so it turns fastest.
+        truth = [bool(answer(row[::-1])) for row in rows]
+        self.tables.append((tuple(sorted(inputs)), truth))
+        return len(self.tables) - 1
+
+    def rule(self, head=(), positive=(), negative=(), uses=()):
+        """Adds a rule to the newest unit. No relay that a used table looks at may depend on the rule's head: only then do the
+        table's rows, written out for clingo, say the same."""
+        self.rules.append((tuple(head), tuple(positive), tuple(negative), tuple(uses), self.units - 1))
 
     def choice(self):
         """One of two new relays by a disjunction."""
@@ -47,37 +59,62 @@ class Plan:
         return a, b
 
     def fits(self):
-        return self.atoms <= MAX_ATOMS and len(self.rules) <= MAX_RULES and self.units <= MAX_UNITS
+        uses = sum(len(rule[3]) for rule in self.rules)
+        return (
+            self.atoms <= MAX_ATOMS
+            and len(self.tables) <= MAX_TABLES
+            and len(self.rules) <= MAX_RULES
+            and uses <= MAX_USES
+            and self.units <= MAX_UNITS
+        )
 
     def edges(self):
         """Every edge that a dependence between rules of two units asks for."""
-        owner = {atom: unit for head, _, _, unit in self.rules for atom in head}
+        owner = {atom: unit for head, _, _, _, unit in self.rules for atom in head}
         needed = set()
-        for head, positive, negative, unit in self.rules:
-            for atom in head + positive + negative:
+        for head, positive, negative, uses, unit in self.rules:
+            inputs = tuple(atom for table, _ in uses for atom in self.tables[table][0])
+            for atom in head + positive + negative + inputs:
                 if owner.get(atom, unit) != unit:
                     needed.add((unit, owner[atom]))
         return sorted(needed)
 
     def plan_bytes(self):
         commands = []
-        for head, positive, negative, _ in self.rules:
+        for inputs, truth in self.tables:
+            commands.append(struct.pack("<BQQ", 5, word(inputs), word(row for row, answer in enumerate(truth) if answer)))
+        for head, positive, negative, _, _ in self.rules:
             commands.append(struct.pack("<BQQQ", 1, word(head), word(positive), word(negative)))
+        for i, rule in enumerate(self.rules):
+            commands += [bytes([6, i, table, 0 if wanted else 1]) for table, wanted in rule[3]]
         for unit in range(self.units):
-            commands.append(struct.pack("<BQ", 2, word(i for i, rule in enumerate(self.rules) if rule[3] == unit)))
+            commands.append(struct.pack("<BQ", 2, word(i for i, rule in enumerate(self.rules) if rule[4] == unit)))
         commands += [bytes([3, u, v]) for u, v in self.edges()]
         return b"".join(commands) + b"\0"
 
     def clingo_text(self):
-        return "".join(clingo_rule(*rule[:3]) + "\n" for rule in self.rules)
+        lines = []
+        for number, (inputs, truth) in enumerate(self.tables):
+            lines += [clingo_row(number, inputs, row) for row, answer in enumerate(truth) if answer]
+        lines += [clingo_rule(*rule[:4]) for rule in self.rules]
+        if self.tables:
+            lines += ["#show a%d/0." % atom for atom in range(self.atoms)]
+        return "".join(line + "\n" for line in lines)
 
 
 def word(bits):
     return sum(1 << bit for bit in set(bits))
 
 
-def clingo_rule(head, positive, negative):
+def clingo_row(table, inputs, row):
+    """The table is true where its inputs are as in this row."""
+    literals = ["a%d" % atom if row >> k & 1 else "not a%d" % atom for k, atom in enumerate(inputs)]
+    return "t%d" % table + (" :- " + ", ".join(literals) if literals else "") + "."
+
+
+def clingo_rule(head, positive, negative, uses):
     body = ["a%d" % atom for atom in positive] + ["not a%d" % atom for atom in negative]
+    body += ["t%d" % table if wanted else "not t%d" % table for table, wanted in uses]
     return "; ".join("a%d" % atom for atom in head) + (" :- " + ", ".join(body) if body else "") + "."
 
 
@@ -262,6 +299,59 @@ def full_tracks(size):
     return plan
 
 
+def parity(size):
+    """Six keys, and `size` relays in units of their own, each up where an odd number of the six before it is."""
+    plan = Plan()
+    relays = [plan.choice()[0] for _ in range(6)]
+    for _ in range(size):
+        if plan.units < MAX_UNITS:
+            plan.next_unit()
+        odd = plan.table(relays[-6:], lambda ups: sum(ups) % 2)
+        relays.append(plan.atom())
+        plan.rule([relays[-1]], uses=[(odd, True)])
+    return plan
+
+
+def parity_cut(size):
+    """`size` + 4 keys in one unit; of `size` windows of six keys each must have an even number up: 16 positions or a few more."""
+    plan = Plan()
+    keys = [plan.even_loop()[0] for _ in range(size + 4)]
+    for i in range(size):
+        odd = plan.table([keys[(i + j) % len(keys)] for j in range(6)], lambda ups: sum(ups) % 2)
+        relay = plan.atom()
+        plan.rule([relay], uses=[(odd, True)])
+        plan.rule((), [relay])
+    return plan
+
+
+def majority(size):
+    """Eight keys and `size` voters, each up where three of five earlier relays are or more; the last voter must be up."""
+    plan = Plan()
+    relays = [plan.choice()[0] for _ in range(8)]
+    plan.next_unit()
+    for i in range(size):
+        seen = [relays[place % len(relays)] for place in (i, i + 1, i + 3, i + 4, i + 6)]
+        most = plan.table(seen, lambda ups: sum(ups) >= 3)
+        relays.append(plan.atom())
+        plan.rule([relays[-1]], uses=[(most, True)])
+    plan.rule((), (), [relays[-1]])
+    return plan
+
+
+def decoder(size):
+    """`size` address keys and up to sixteen outputs with a table each: output j is up at address j, and its idle contact elsewhere."""
+    plan = Plan()
+    keys = [plan.choice()[0] for _ in range(size)]
+    for j in range(min(1 << size, MAX_TABLES)):
+        if j % 2 == 0 and plan.units < MAX_UNITS:
+            plan.next_unit()
+        address = plan.table(keys, lambda ups: all(up == bool(j >> k & 1) for k, up in enumerate(ups)))
+        output, idle = plan.atom(), plan.atom()
+        plan.rule([output], uses=[(address, True)])
+        plan.rule([idle], uses=[(address, False)])
+    return plan
+
+
 FAMILIES = {
     latches: range(2, 19, 4),
     mutual_exclusion: range(4, 41, 9),
@@ -277,6 +367,10 @@ FAMILIES = {
     holding_loops: range(4, 33, 7),
     pigeonholes: range(2, 5),
     full_tracks: range(2, 8),
+    parity: range(2, 17, 3),
+    parity_cut: range(2, 15, 3),
+    majority: range(2, 17, 3),
+    decoder: range(1, 7),
 }
 
 

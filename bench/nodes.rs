@@ -3,7 +3,8 @@
 //!
 //! The proved program does not count. The model runs the same passes in the same order and decides the same
 //! atoms. It prints its counts and then what the first line of the sheet says, so that whoever reads the
-//! count can see that both found the same. It is for plans that `settle` works: nothing is checked here.
+//! count can see that both found the same. It is for plans that `settle` works: nothing is checked here. Given atoms and
+//! tables are not modelled: of a plan with any it says nothing.
 
 use std::io::Read;
 
@@ -19,6 +20,9 @@ fn main() {
     let mut bytes = Vec::new();
     std::io::stdin().read_to_end(&mut bytes).expect("standard input cannot be read");
     let plan = lister::read(&bytes).expect("the plan is refused");
+    if plan.given_atoms() != 0 || !plan.uses.is_empty() {
+        return;
+    }
     let mut counts = Counts::default();
     let found = work(&plan, &mut counts).map_or_else(|unit| format!("refused 15 at {}", unit), |found| found.to_string());
     if std::env::args().nth(1).as_deref() == Some("subset-tests") {
@@ -81,7 +85,7 @@ fn work(plan: &Plan, counts: &mut Counts) -> Result<usize, usize> {
     let mut done: Vec<Option<Done>> = (0..count).map(|_| None).collect();
     let is_ready = |done: &[Option<Done>], unit: usize| done[unit].is_none() && before(unit).all(|v| done[v].is_some());
     while let Some(u) = (0..count).find(|&u| is_ready(&done, u)) {
-        let rules = (0..plan.rules.len()).filter(|&rule| plan.units[u] >> rule & 1 == 1).map(|rule| plan.rules[rule]);
+        let rules = (0..plan.rules.len()).filter(|&rule| plan.units[u] >> rule & 1 == 1).map(|rule| plan.rules[rule].clone());
         let unit = Unit::new(rules.collect(), before(u).flat_map(|v| &done[v]).collect());
         let (heads, list) = (unit.heads(), list(&unit, counts).ok_or(u)?);
         done[u] = Some(Done { heads, list });
@@ -147,7 +151,7 @@ fn belongs(unit: &Unit, position: u64, counts: &mut Counts) -> bool {
 
 fn is_settled(rules: &[Rule], facts: u64, position: u64, counts: &mut Counts) -> bool {
     let holds = |rule: &&Rule| rule.positive & !position == 0 && rule.negative & position == 0;
-    let kept: Vec<Rule> = rules.iter().filter(holds).copied().collect();
+    let kept: Vec<Rule> = rules.iter().filter(holds).cloned().collect();
     if kept.iter().any(|rule| rule.head & position == 0) {
         return false;
     }

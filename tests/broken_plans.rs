@@ -3,17 +3,28 @@
 use crate::draft::Draft;
 use crate::encode;
 use crate::random::Random;
+use crate::table_plans::{self, any_table};
 use crate::valid_plans;
 
 type Commands = Vec<Vec<u8>>;
 
 /// A small valid plan to spoil.
 fn sound_draft(random: &mut Random) -> Draft {
-    match random.below(5) {
+    match random.below(6) {
         0 => valid_plans::gadgets(random),
         1 => valid_plans::diamond(random),
         2 => valid_plans::given_atoms(random),
+        3 => tables_draft(random),
         _ => valid_plans::layered(random),
+    }
+}
+
+/// The same with tables.
+fn tables_draft(random: &mut Random) -> Draft {
+    match random.below(3) {
+        0 => table_plans::table_circuits(random),
+        1 => table_plans::banks_in_layers(random),
+        _ => table_plans::tables_anywhere(random),
     }
 }
 
@@ -31,7 +42,7 @@ pub fn broken_graph(random: &mut Random) -> Vec<u8> {
 fn break_graph(random: &mut Random, draft: &mut Draft) {
     let rule = random.below(draft.rules.len());
     let (unit, other) = (random.below(draft.units.len()), random.below(draft.units.len()));
-    match random.below(16) {
+    match random.below(17) {
         0 => draft.units.iter_mut().for_each(|word| *word &= !(1 << rule)),
         1 if !draft.rules.is_empty() => draft.units[unit] |= 1 << rule,
         2 => draft.add_edge(unit, other),
@@ -39,6 +50,7 @@ fn break_graph(random: &mut Random, draft: &mut Draft) {
         6..=8 => add_stray_rule(random, draft, unit),
         9 => add_cycle(random, draft),
         10..=12 => repeat_rule(draft, rule, unit),
+        13 if !draft.rules.is_empty() => lose_and_repeat(random, draft),
         _ => split_constraint(random, draft),
     }
 }
@@ -53,6 +65,34 @@ pub fn given_in_heads(random: &mut Random) -> Vec<u8> {
     let most = random.pick(&[1, 1, 2, 12]);
     draft.given = Some(draft.given.unwrap_or(0) | random.atoms_of(heads, most));
     draft.bytes()
+}
+
+/// Tables that look at atoms which some unit of the rule does not see, while other conditions may be broken too.
+pub fn unseen_inputs(random: &mut Random) -> Vec<u8> {
+    let mut draft = if random.chance(50) { tables_draft(random) } else { sound_draft(random) };
+    if random.chance(25) {
+        split_use(random, &mut draft);
+    }
+    for _ in 0..random.between(0, 2) {
+        let words = any_table(random, draft.head_atoms());
+        let (table, rule) = (draft.add_table(words), random.below(draft.rules.len()));
+        draft.add_use(rule, table, random.below(2));
+    }
+    if random.chance(40) {
+        drop_edges(random, &mut draft);
+    }
+    if random.chance(20) {
+        break_graph(random, &mut draft);
+    }
+    draft.bytes()
+}
+
+/// One rule in no unit, and another in one unit more.
+fn lose_and_repeat(random: &mut Random, draft: &mut Draft) {
+    let (lost, repeated) = (random.below(draft.rules.len()), random.below(draft.rules.len()));
+    let unit = random.below(draft.units.len());
+    draft.units[unit] |= 1 << repeated;
+    draft.units.iter_mut().for_each(|word| *word &= !(1 << lost));
 }
 
 fn drop_edges(random: &mut Random, draft: &mut Draft) {
@@ -88,10 +128,13 @@ fn add_cycle(random: &mut Random, draft: &mut Draft) {
     }
 }
 
-/// The same rule once more, perhaps in another unit.
+/// The same rule with its uses once more, perhaps in another unit.
 fn repeat_rule(draft: &mut Draft, rule: usize, unit: usize) {
     if let Some(&words) = draft.rules.get(rule) {
+        let copy = draft.rules.len();
         draft.add_rule(unit, words);
+        let uses: Vec<_> = draft.uses.iter().copied().filter(|numbers| numbers[0] == rule).collect();
+        uses.iter().for_each(|&[_, table, sign]| draft.add_use(copy, table, sign));
     }
 }
 
@@ -110,6 +153,20 @@ fn split_constraint(random: &mut Random, draft: &mut Draft) {
     draft.add_edge(watch_right, right);
 }
 
+/// A constraint whose table looks at one unit, in two units of which one sees it.
+fn split_use(random: &mut Random, draft: &mut Draft) {
+    let seen = random.below(draft.units.len());
+    let own = draft.own_atoms(seen);
+    let words = any_table(random, own);
+    let (watch, blind) = (draft.new_unit(), draft.new_unit());
+    let (table, constraint) = (draft.add_table(words), draft.rules.len());
+    draft.add_rule_with(watch, [0, random.atoms_of(own, 1), 0], table, random.below(2));
+    if draft.rules.len() > constraint {
+        draft.units[blind] |= 1 << constraint;
+    }
+    draft.add_edge(watch, seen);
+}
+
 /// Empty units with any edges: cycles, units above cycles, all 240 edges.
 pub fn any_edges(random: &mut Random) -> Vec<u8> {
     let count = random.between(2, 16);
@@ -122,9 +179,11 @@ pub fn any_edges(random: &mut Random) -> Vec<u8> {
 
 // ---- Reading faults --------------------------------------------------------------------------
 
-/// The places of the first RULE, the first UNIT, the first EDGE and END among the commands.
+/// The places of the first TABLE, RULE, USE, UNIT and EDGE and of END among the commands.
 struct Groups {
+    tables: usize,
     rules: usize,
+    uses: usize,
     units: usize,
     edges: usize,
     end: usize,
@@ -132,16 +191,21 @@ struct Groups {
 
 impl Groups {
     fn of(draft: &Draft) -> Groups {
-        let rules = usize::from(draft.given.is_some());
-        let units = rules + draft.rules.len();
+        let tables = usize::from(draft.given.is_some());
+        let rules = tables + draft.tables.len();
+        let uses = rules + draft.rules.len();
+        let units = uses + draft.uses.len();
         let edges = units + draft.units.len();
-        Groups { rules, units, edges, end: edges + draft.edges.len() }
+        Groups { tables, rules, uses, units, edges, end: edges + draft.edges.len() }
     }
 }
 
 /// A valid plan with one to three reading faults, sometimes cut short at one.
 pub fn broken_reading(random: &mut Random) -> Vec<u8> {
-    let draft = if random.chance(30) { large_draft(random) } else { sound_draft(random) };
+    let mut draft = if random.chance(30) { large_draft(random) } else { sound_draft(random) };
+    if random.chance(30) {
+        draft.given.get_or_insert(0);
+    }
     let groups = Groups::of(&draft);
     let mut commands = draft.commands();
     for _ in 0..random.pick(&[1, 1, 1, 2, 3]) {
@@ -153,9 +217,19 @@ pub fn broken_reading(random: &mut Random) -> Vec<u8> {
     commands.concat()
 }
 
-/// A plan with about as many rules, units and edges as a plan may have.
+/// A plan with about as many rules, units and edges as a plan may have, and perhaps as many tables and uses.
 fn large_draft(random: &mut Random) -> Draft {
-    full_draft(random.between(62, 64), random.between(14, 16), random.pick(&[0, 3, 239, 240]))
+    let mut draft = full_draft(random.between(62, 64), random.between(14, 16), random.pick(&[0, 3, 239, 240]));
+    fill_tables(&mut draft, random.pick(&[0, 1, 15, 16]), random.pick(&[0, 3, 255, 256]));
+    draft
+}
+
+/// So many tables and uses, as far as they are different.
+fn fill_tables(draft: &mut Draft, tables: usize, uses: usize) {
+    draft.tables = (0..tables).map(|table| [8, table as u64 % 4]).collect();
+    let signs = (0..2).flat_map(|sign| (0..tables).map(move |table| (table, sign)));
+    let all = signs.flat_map(|(table, sign)| (0..draft.rules.len()).map(move |rule| [rule, table, sign]));
+    draft.uses = all.take(uses).collect();
 }
 
 /// So many equal rules in unit 0, units and edges.
@@ -172,30 +246,91 @@ fn break_reading(random: &mut Random, draft: &Draft, groups: &Groups, commands: 
     let (units, rules) = (draft.units.len() as u8, draft.rules.len());
     let edge = (random.byte() % 20, random.byte() % 20);
     let any_word = random.word() >> random.below(64);
-    let (first, last, command) = match random.below(19) {
+    let (first, last, command) = match random.below(20) {
         0 => (0, groups.end, vec![random.byte()]),
-        1 => (groups.rules, groups.units, encode::rule(0, 0, 0)),
+        1 => (groups.rules, groups.uses, encode::rule(0, 0, 0)),
         2 => (groups.units, groups.edges, encode::unit(any_word)),
         3 => (groups.units, groups.edges, encode::unit(1u64.checked_shl(rules as u32).unwrap_or(0))),
         4 => (groups.edges, groups.end, encode::edge(edge.0, edge.1)),
         5 => (groups.edges, groups.end, encode::edge(units, 0)),
         6 => (groups.edges, groups.end, encode::edge(0, units)),
         7 => (groups.edges, groups.end, encode::edge(edge.0 % units.max(1), edge.0 % units.max(1))),
-        8 => (groups.units, groups.end, encode::rule(any_word, 0, 0)),
+        8 => (groups.uses, groups.end, encode::rule(any_word, 0, 0)),
         9 => (groups.edges, groups.end, encode::unit(0)),
         10 => (0, groups.end, commands[random.below(commands.len())].clone()),
-        11 => (0, groups.units, encode::rule(any_word, any_word, any_word)),
+        11 => (0, groups.uses, encode::rule(any_word, any_word, any_word)),
         12 => (0, groups.end, encode::given(any_word)),
         13 => (0, groups.rules, encode::given(any_word)),
         14 => (groups.rules, groups.units, encode::given(any_word)),
-        15 => (groups.rules, groups.units, encode::rule(any_word, 1 << 63, 1 << 63)),
-        16 => (groups.rules, groups.units, encode::rule(0, any_word | 1, any_word | 3)),
+        15 => (groups.rules, groups.uses, encode::rule(any_word, 1 << 63, 1 << 63)),
+        16 => (groups.rules, groups.uses, encode::rule(0, any_word | 1, any_word | 3)),
         17 => (groups.rules, groups.end, encode::rule(any_word, any_word, any_word)),
-        _ => (groups.end + 1, groups.end + 1, vec![random.pick(&[0, 1, 2, 3, 4, 9]); random.between(1, 30)]),
+        18 => (groups.tables, groups.tables, encode::given(any_word)),
+        _ => (groups.end + 1, groups.end + 1, vec![random.pick(&[0, 1, 2, 3, 4, 5, 6, 9]); random.between(1, 30)]),
     };
     let place = random.between(first, last).min(commands.len());
     commands.insert(place, command);
     place
+}
+
+/// A plan with tables and one to three faulty TABLEs or USEs, sometimes cut short at one.
+pub fn broken_tables(random: &mut Random) -> Vec<u8> {
+    let draft = if random.chance(20) { large_draft(random) } else { tables_draft(random) };
+    let groups = Groups::of(&draft);
+    let mut commands = draft.commands();
+    for _ in 0..random.pick(&[1, 1, 1, 2, 3]) {
+        let (first, last, command) = match random.chance(50) {
+            true => faulty_table(random, &groups),
+            false => faulty_use(random, &draft, &groups),
+        };
+        let place = random.between(first, last);
+        commands.insert(place, command);
+        if random.chance(20) {
+            return cut_inside(random, &commands, place);
+        }
+    }
+    commands.concat()
+}
+
+/// The first and the last place for a TABLE with a fault, and its bytes.
+fn faulty_table(random: &mut Random, groups: &Groups) -> (usize, usize, Vec<u8>) {
+    let any_word = random.word() >> random.below(64);
+    let inputs = random.atoms_of(!0, 5);
+    let seven = random.permutation(64)[..random.pick(&[7, 7, 8, 64])].iter().fold(0, |atoms, atom| atoms | 1 << atom);
+    let first_past = 1u64 << (1u32 << inputs.count_ones());
+    let in_order = (groups.tables, groups.rules);
+    match random.below(8) {
+        0 => (in_order.0, in_order.1, encode::table(seven, 0)),
+        1 => (in_order.0, in_order.1, encode::table(seven, any_word)),
+        2 => (in_order.0, in_order.1, encode::table(inputs, first_past)),
+        3 => (in_order.0, in_order.1, encode::table(inputs, any_word)),
+        4 => (in_order.0, in_order.1, encode::table(0, random.pick(&[0, 1, 2, 3, 1 << 63]))),
+        5 => (0, groups.tables, encode::table(inputs, 1)),
+        6 => (groups.uses, groups.end, encode::table(inputs, 1)),
+        _ => (0, groups.end, encode::table(inputs, any_word & 1)),
+    }
+}
+
+/// The first and the last place for a USE with a fault, and its bytes.
+fn faulty_use(random: &mut Random, draft: &Draft, groups: &Groups) -> (usize, usize, Vec<u8>) {
+    let (rules, tables) = (draft.rules.len() as u8, draft.tables.len() as u8);
+    let (rule, table, sign) = (random.byte() % rules.max(1), random.byte() % tables.max(1), random.byte() % 2);
+    let beyond = random.pick(&[0, 0, 1, 63, 191]);
+    let in_order = (groups.uses, groups.units);
+    let [old_rule, old_table, old_sign] = draft.uses.last().unwrap_or(&[0, 0, 0]).map(|number| number as u8);
+    match random.below(12) {
+        0 => (in_order.0, in_order.1, encode::use_of(rules.saturating_add(beyond), table, sign)),
+        1 => (in_order.0, in_order.1, encode::use_of(rule, tables.saturating_add(beyond), sign)),
+        2 | 3 => (in_order.0, in_order.1, encode::use_of(rule, table, random.pick(&[2, 2, 3, 128, 255]))),
+        4 | 5 => (in_order.0, in_order.1, encode::use_of(old_rule, old_table, old_sign)),
+        6 => (in_order.0, in_order.1, encode::use_of(old_rule, old_table, 1 - old_sign)),
+        7 => (0, groups.rules, encode::use_of(rule, table, sign)),
+        8 => (groups.units + 1, groups.end, encode::use_of(rule, table, sign)),
+        // Between RULEs, of a rule that is there: what follows is late.
+        9 => ((groups.rules + 1).min(groups.uses), groups.uses, encode::use_of(0, table, sign)),
+        10 => (in_order.0, in_order.1, encode::use_of(table, rule, sign)),
+        _ => (0, groups.end, encode::use_of(rule, table, sign)),
+    }
 }
 
 /// The bytes up to somewhere inside the command at this place.
@@ -211,21 +346,26 @@ pub fn any_commands(random: &mut Random) -> Vec<u8> {
     let count = random.between(1, 12);
     let mut commands: Commands = (0..count).map(|_| any_command(random)).collect();
     if random.chance(60) {
-        commands.sort_by_key(|command| (command[0] != encode::GIVEN, command[0]));
+        commands.sort_by_key(|command| (GROUP_ORDER.iter().position(|&byte| byte == command[0]), command[0]));
         commands.push(encode::end());
     }
     commands.concat()
 }
 
+/// The commands' bytes in the order of their groups; END may stand anywhere.
+const GROUP_ORDER: [u8; 6] = [encode::GIVEN, encode::TABLE, encode::RULE, encode::USE, encode::UNIT, encode::EDGE];
+
 fn any_command(random: &mut Random) -> Vec<u8> {
     let mut small = || random.word() & random.word() & 7;
     let (head, positive, negative) = (small(), small(), small());
-    match random.below(40) {
+    match random.below(50) {
         0..=19 => encode::rule(head, positive, negative),
         20..=29 => encode::unit(head),
         30..=35 => encode::edge(random.byte() % 4, random.byte() % 4),
         36 | 37 => encode::given(head << 2),
         38 => encode::end(),
+        39..=43 => encode::table(head, positive),
+        44..=48 => encode::use_of(random.byte() % 4, random.byte() % 3, random.byte() % 3),
         _ => vec![random.byte()],
     }
 }
@@ -234,18 +374,25 @@ fn any_command(random: &mut Random) -> Vec<u8> {
 pub fn one_too_many(random: &mut Random) -> Vec<u8> {
     let mut draft = full_draft(random.pick(&[60, 64]), 16, 240);
     draft.given = random.pick(&[None, Some(0), Some(4)]);
+    fill_tables(&mut draft, 16, 256);
     let groups = Groups::of(&draft);
     let mut commands = draft.commands();
     let any = random.word();
-    let (first, last, command) = match random.below(9) {
-        0 => (groups.units, groups.units, encode::rule(1, 2, 4)),
-        1 => (groups.units, groups.units, encode::rule(0, 0, 0)),
-        2 => (groups.units + 1, groups.end, encode::rule(1, 0, any % 2)),
+    let (first, last, command) = match random.below(15) {
+        0 => (groups.uses, groups.uses, encode::rule(1, 2, 4)),
+        1 => (groups.uses, groups.uses, encode::rule(0, 0, 0)),
+        2 => (groups.uses + 1, groups.end, encode::rule(1, 0, any % 2)),
         3 => (groups.edges, groups.edges, encode::unit(any)),
         4 => (groups.edges, groups.edges, encode::unit(0)),
         5 => (groups.edges + 1, groups.end, encode::unit(any)),
         6 => (groups.end, groups.end, encode::edge(any as u8 % 18, any as u8 / 18)),
         7 => (0, groups.end, encode::given(any)),
+        8 => (groups.rules, groups.rules, encode::table(1, 2)),
+        9 => (groups.rules, groups.rules, encode::table(any, any)),
+        10 => (groups.rules + 1, groups.end, encode::table(0, any % 4)),
+        11 => (groups.units, groups.units, encode::use_of(63, 15, 1)),
+        12 => (groups.units, groups.units, encode::use_of(any as u8, 0, 0)),
+        13 => (groups.units + 1, groups.end, encode::use_of(63, 15, any as u8 % 3)),
         _ => (groups.end, groups.end, vec![any as u8]),
     };
     let place = random.between(first, last);
@@ -273,8 +420,8 @@ fn damage(random: &mut Random, bytes: &mut Vec<u8>) {
         0 | 1 if !bytes.is_empty() => bytes[place] ^= 1 << random.below(8),
         2 if !bytes.is_empty() => bytes[place] = random.byte(),
         3 => bytes.truncate(place),
-        4 => bytes.insert(place, random.pick(&[0, 1, 2, 3, 4, 255])),
-        _ => bytes.push(random.pick(&[0, 1, 2, 3, 4, 255])),
+        4 => bytes.insert(place, random.pick(&[0, 1, 2, 3, 4, 5, 6, 255])),
+        _ => bytes.push(random.pick(&[0, 1, 2, 3, 4, 5, 6, 255])),
     }
 }
 
@@ -282,20 +429,31 @@ fn damage(random: &mut Random, bytes: &mut Vec<u8>) {
 pub fn random_bytes(random: &mut Random) -> Vec<u8> {
     let length = random.between(0, 300);
     let commands_only = random.chance(50);
-    (0..length).map(|_| if commands_only { random.byte() % 5 } else { random.byte() }).collect()
+    (0..length).map(|_| if commands_only { random.byte() % 7 } else { random.byte() }).collect()
 }
 
 pub fn no_bytes(_: &mut Random) -> Vec<u8> {
     Vec::new()
 }
 
+/// A longest plan: every command as often as it may stand.
+fn longest_draft() -> Draft {
+    let mut draft = full_draft(64, 16, 240);
+    draft.given = Some(4);
+    fill_tables(&mut draft, 16, 256);
+    draft
+}
+
 /// More bytes than `settle` keeps.
 pub fn long_input(random: &mut Random) -> Vec<u8> {
-    let mut bytes = match random.below(5) {
+    let mut bytes = match random.below(8) {
         0 => random_bytes(random),
         1 => full_draft(64, 16, 240).bytes(),
         2 => encode::rule(1, 0, 0).repeat(random.between(1, 200)),
-        3 => [encode::unit(0).repeat(16), encode::edge(0, 1)].concat(),
+        3 => encode::table(0, 1).repeat(random.between(1, 300)),
+        4 => [encode::table(0, 1), encode::rule(1, 0, 0), encode::use_of(0, 0, 0).repeat(1000)].concat(),
+        5 => longest_draft().bytes(),
+        6 => [encode::unit(0).repeat(16), encode::edge(0, 1)].concat(),
         _ => sound_draft(random).bytes(),
     };
     let length = random.between(4090, 6000).max(bytes.len());

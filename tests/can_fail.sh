@@ -1,12 +1,12 @@
 #!/bin/bash
-# tests/can_fail.sh [count] [seed]: shows that the comparison notices mistakes. The lister stands in
-# for the library, first as it is, then in copies with one deliberate mistake each.
+# tests/can_fail.sh [count] [seed] [part of a name]: shows that the comparison notices mistakes. The lister stands in
+# for the library, first as it is, then in copies with one deliberate mistake each: all of them, or those that are named so.
 set -e
 cd "$(dirname "$0")/.."
 . tests/build.sh
 need_rustc
 
-count=${1:-2000} seed=${2:-1}
+count=${1:-3000} seed=${2:-1} named=${3:-}
 work=target/tests/faulty
 unnoticed=0 tried=0
 
@@ -18,13 +18,14 @@ compare_with() {
 # with_mistake NAME RIGHT WRONG: a copy of the lister with WRONG in place of RIGHT must be noticed.
 with_mistake() {
     local right wrong output
+    [[ $1 == *"$named"* ]] || return 0
     right=$(<tests/lister.rs)
     wrong=${right/"$2"/"$3"}
     if [ "$wrong" = "$right" ]; then
         echo "the lister has no line for the mistake: $1" >&2
         exit 2
     fi
-    cp tests/stand_in.rs "$work/stand_in.rs"
+    cp tests/stand_in.rs tests/packed.rs "$work/"
     printf '%s\n' "$wrong" >"$work/lister.rs"
     tried=$((tried + 1))
     if output=$(compare_with "$work/stand_in.rs"); then
@@ -49,7 +50,7 @@ with_mistake "minimality by dropping one atom only" \
 with_mistake "any satisfying set of one atom is taken" \
     '!proper_subsets(position & !facts).any(' 'position.count_ones() == 1 || !proper_subsets(position & !facts).any('
 with_mistake "the subset test uses all rules instead of the kept ones" \
-    'rules.iter().filter(is_kept).copied()' 'rules.iter().copied()'
+    'rules.iter().filter(is_kept).collect()' 'rules.iter().collect()'
 with_mistake "atoms in no head are not looked at" \
     'Ok(is_subset(position, head_atoms(&plan.rules) | given) && is_answer_set(&plan.rules, given, position))' \
     'Ok(is_answer_set(&plan.rules, given, position & (head_atoms(&plan.rules) | given)))'
@@ -63,7 +64,73 @@ with_mistake "a single position is refused for its graph" \
     check_graph(&plan)?;
     Ok('
 
+# Contact tables
+with_mistake "table: the k-th highest input" 'self.inputs[k]' 'self.inputs[self.inputs.len() - 1 - k]'
+with_mistake "table: one without inputs is never true" 'has(self.truth, row)' '!self.inputs.is_empty() && has(self.truth, row)'
+with_mistake "use: the sign is ignored" 'self.table.answer(position) == self.wanted' 'self.table.answer(position)'
+with_mistake "use: must be true and must be false are exchanged" 'wanted: sign == 0' 'wanted: sign == 1'
+with_mistake "use: judged at the position while the subset is tested" \
+    'let reduct: Vec<&Rule> = rules.iter().filter(is_kept).collect();' \
+    'let erased: Vec<Rule> = rules.iter().filter(is_kept).map(|rule| Rule { uses: Vec::new(), ..rule.clone() }).collect();
+    let reduct: Vec<&Rule> = erased.iter().collect();'
+with_mistake "use: as its rows written out as rules" \
+    'let reduct: Vec<&Rule> = rules.iter().filter(is_kept).collect();' \
+    'let row = |rule: &Rule| Rule { positive: rule.positive | rule.table_inputs() & position, uses: Vec::new(), ..rule.clone() };
+    let written: Vec<Rule> = rules.iter().filter(is_kept).map(row).collect();
+    let reduct: Vec<&Rule> = written.iter().collect();'
+with_mistake "use: none is looked at" ' && self.uses_hold(position)' ''
+with_mistake "use: one that holds is enough" 'self.uses.iter().all(' 'self.uses.is_empty() || self.uses.iter().any('
+with_mistake "use: the first of a rule only" 'self.uses.iter().all(' 'self.uses.iter().take(1).all('
+with_mistake "use: not looked at in a constraint" 'self.uses.iter().all(' 'self.head == 0 || self.uses.iter().all('
+with_mistake "use: not looked at in units that depend on others" \
+    '.map(|rule| self.rules[rule].clone()).collect()' \
+    '.map(|rule| match self.predecessors(unit).is_empty() {
+            true => self.rules[rule].clone(),
+            false => Rule { uses: Vec::new(), ..self.rules[rule].clone() },
+        }).collect()'
+with_mistake "use: inputs make no dependence" '(r.negative | r.table_inputs()) & s.head' 'r.negative & s.head'
+with_mistake "use: inputs make a dependence only if it must be true" \
+    'self.uses.iter().fold(' 'self.uses.iter().filter(|used| used.wanted).fold('
+with_mistake "use: inputs make a monotonic dependence" \
+    'self.units_of(r).iter().all(|&unit| needed.iter().all(|&s| self.sees(unit, s)))' \
+    'self.units_of(r).iter().all(|&unit| {
+            needed.iter().all(|&s| self.rules[r].negative & self.rules[s].head == 0 || self.sees(unit, s))
+        }) && self.units_of(r).iter().any(|&unit| needed.iter().all(|&s| self.sees(unit, s)))'
+
 # Reading
+with_mistake "TABLE: seven inputs are taken" 'MAX_INPUTS: usize = 6' 'MAX_INPUTS: usize = 7'
+with_mistake "TABLE: six inputs are refused" 'MAX_INPUTS: usize = 6' 'MAX_INPUTS: usize = 5'
+with_mistake "TABLE: truth bits past the inputs are taken" '(rows..64).any(' '(rows.max(64)..64).any('
+with_mistake "TABLE: the first truth bit past the inputs is taken" '(rows..64).any(' '(rows + 1..64).any('
+with_mistake "TABLE: the 17th is taken" 'MAX_TABLES: usize = 16' 'MAX_TABLES: usize = 17'
+with_mistake "TABLE: the 16th is refused" 'MAX_TABLES: usize = 16' 'MAX_TABLES: usize = 15'
+with_mistake "TABLE: may stand behind RULEs" 'if kind < group ||' 'if kind < group && !(kind == Kind::Table && group == Kind::Rule) ||'
+with_mistake "TABLE: GIVEN may stand behind it" 'if kind < group ||' 'if kind < group && !(kind == Kind::Given && group == Kind::Table) ||'
+with_mistake "TABLE: 18 before 2" \
+    'if next > bytes.len() {' \
+    'let has_inputs = kind == Kind::Table && bytes.len() > offset + 8;
+        if has_inputs && word(&bytes[offset + 1..offset + 9]).count_ones() > 6 {
+            return refuse(18, offset);
+        }
+        if next > bytes.len() {'
+with_mistake "USE: of an absent rule is passed over" \
+    'if is_absent ||' 'if rule as usize >= self.rules.len() {
+            return None;
+        }
+        if is_absent ||'
+with_mistake "USE: of an absent table is passed over" \
+    'if is_absent ||' 'if table as usize >= self.tables.len() {
+            return None;
+        }
+        if is_absent ||'
+with_mistake "USE: any other sign counts as must be false" '|| sign > 1' ''
+with_mistake "USE: a repeat is taken" '|| self.uses.contains(&[rule, table, sign])' ''
+with_mistake "USE: the other sign is a repeat" \
+    'self.uses.contains(&[rule, table, sign])' 'self.uses.iter().any(|other| other[..2] == [rule, table])'
+with_mistake "USE: the 257th is taken" 'MAX_USES: usize = 256' 'MAX_USES: usize = 257'
+with_mistake "USE: the 256th is refused" 'MAX_USES: usize = 256' 'MAX_USES: usize = 255'
+with_mistake "USE: may stand behind UNITs" 'if kind < group ||' 'if kind < group && !(kind == Kind::Use && group == Kind::Unit) ||'
+with_mistake "USE: may stand between RULEs" 'if kind < group ||' 'if kind < group && !(kind == Kind::Rule && group == Kind::Use) ||'
 with_mistake "row 5 after row 2" \
     'if plan.has_all(kind) {' 'if plan.has_all(kind) && offset + kind.operand_bytes() < bytes.len() {'
 with_mistake "row 5 before row 4" 'if kind < group ||' 'if kind < group && !plan.has_all(kind) ||'

@@ -14,6 +14,8 @@ mod questions;
 mod random;
 mod readings;
 mod samples;
+mod table_plans;
+mod table_tally;
 mod tally;
 mod text;
 mod valid_plans;
@@ -73,6 +75,7 @@ fn is_small(plan: &Plan) -> bool {
 /// Everything the library says of one plan, or the first difference.
 fn compare(case: &Case, random: &mut Random, tally: &mut Tally) -> Result<(), String> {
     let outcome = lister::list(&case.plan, TABLE_WORDS);
+    tally.tables.note(&case.plan, &outcome);
     compare_table(case, &outcome, tally)?;
     compare_sheet(&case.plan, &lister::sheet(&outcome))?;
     check_lister(&case.plan, &outcome, tally)?;

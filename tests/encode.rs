@@ -1,7 +1,9 @@
 //! The bytes of each command of a plan.
 
 pub const GIVEN: u8 = 0x04;
+pub const TABLE: u8 = 0x05;
 pub const RULE: u8 = 0x01;
+pub const USE: u8 = 0x06;
 pub const UNIT: u8 = 0x02;
 pub const EDGE: u8 = 0x03;
 pub const END: u8 = 0x00;
@@ -10,8 +12,17 @@ pub fn given(atoms: u64) -> Vec<u8> {
     command(GIVEN, &[atoms])
 }
 
+pub fn table(inputs: u64, truth: u64) -> Vec<u8> {
+    command(TABLE, &[inputs, truth])
+}
+
 pub fn rule(head: u64, positive: u64, negative: u64) -> Vec<u8> {
     command(RULE, &[head, positive, negative])
+}
+
+/// The sign is 0 for must be true and 1 for must be false.
+pub fn use_of(rule: u8, table: u8, sign: u8) -> Vec<u8> {
+    vec![USE, rule, table, sign]
 }
 
 pub fn unit(rules: u64) -> Vec<u8> {

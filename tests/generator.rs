@@ -4,6 +4,7 @@ use crate::broken_plans as broken;
 use crate::draft::Draft;
 use crate::lister::TABLE_WORDS;
 use crate::random::Random;
+use crate::table_plans as tables;
 use crate::valid_plans as valid;
 
 /// One plan to compare, with the length of the table that is lent for it.
@@ -24,7 +25,7 @@ enum Draw {
 
 struct Family {
     name: &'static str,
-    /// How many in a thousand plans are of this family.
+    /// How often plans are of this family, in proportion to the other shares.
     share: usize,
     draw: Draw,
 }
@@ -42,6 +43,11 @@ static FAMILIES: &[Family] = &[
     family("full size", 10, Draw::Valid(valid::full_size)),
     family("given atoms", 70, Draw::Valid(valid::given_atoms)),
     family("given atoms, many in heads", 10, Draw::ManyAtoms(valid::given_among_many)),
+    family("tables put into other plans", 110, Draw::Valid(tables::tables_anywhere)),
+    family("small circuits with tables", 90, Draw::Valid(tables::table_circuits)),
+    family("banks of tables in layers", 50, Draw::Valid(tables::banks_in_layers)),
+    family("sixteen tables, up to 256 uses", 10, Draw::Valid(tables::full_tables)),
+    family("tables, 248 to 264 positions", 12, Draw::ManyAtoms(tables::tables_near_limit)),
     family("255 to 258 positions", 12, Draw::ManyAtoms(valid::near_limit)),
     family("256 positions", 8, Draw::ManyAtoms(valid::exactly_256)),
     family("pairs in units", 15, Draw::ManyAtoms(valid::pairs_in_units)),
@@ -50,10 +56,12 @@ static FAMILIES: &[Family] = &[
     family("sixteen units, many atoms", 20, Draw::ManyAtoms(valid::tall)),
     family("broken graph", 130, Draw::Broken(broken::broken_graph)),
     family("given atoms in heads", 30, Draw::Broken(broken::given_in_heads)),
+    family("table inputs unseen", 60, Draw::Broken(broken::unseen_inputs)),
     family("any edges", 20, Draw::Broken(broken::any_edges)),
-    family("broken reading", 90, Draw::Broken(broken::broken_reading)),
+    family("broken reading", 120, Draw::Broken(broken::broken_reading)),
+    family("broken tables and uses", 120, Draw::Broken(broken::broken_tables)),
     family("any commands", 30, Draw::Broken(broken::any_commands)),
-    family("one too many", 40, Draw::Broken(broken::one_too_many)),
+    family("one too many", 60, Draw::Broken(broken::one_too_many)),
     family("damaged bytes", 70, Draw::Broken(broken::damaged)),
     family("random bytes", 16, Draw::Broken(broken::random_bytes)),
     family("no bytes", 2, Draw::Broken(broken::no_bytes)),

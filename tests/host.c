@@ -49,6 +49,75 @@ static const uint8_t *unseen_plan(void)
     return plan;
 }
 
+/* Relay 0 or 1, with relay 2 up where the table finds one of the two up alone, and relay 3 where it finds otherwise; then the wrong
+ * bytes of a plan with tables. The offsets are those of the TABLE, of its truth word and of the two USEs. */
+#define TABLE_OFFSET 0u
+#define TRUTH_OFFSET 9u
+#define USE_OFFSET 92u
+#define SECOND_USE_OFFSET 96u
+
+static const uint8_t plan_tables[] = {
+    0x05, 0x03, 0, 0, 0, 0, 0, 0, 0, 0x06, 0, 0, 0, 0, 0, 0, 0,                      /* TABLE */
+    0x01, 0x03, 0, 0, 0, 0, 0, 0, 0, 0, 0, 0, 0, 0, 0, 0, 0, 0, 0, 0, 0, 0, 0, 0, 0, /* RULE */
+    0x01, 0x04, 0, 0, 0, 0, 0, 0, 0, 0, 0, 0, 0, 0, 0, 0, 0, 0, 0, 0, 0, 0, 0, 0, 0, /* RULE */
+    0x01, 0x08, 0, 0, 0, 0, 0, 0, 0, 0, 0, 0, 0, 0, 0, 0, 0, 0, 0, 0, 0, 0, 0, 0, 0, /* RULE */
+    0x06, 1, 0, 0,                                                                   /* USE, must be true */
+    0x06, 2, 0, 1,                                                                   /* USE, must be false */
+    0x02, 0x01, 0, 0, 0, 0, 0, 0, 0,                                                 /* UNIT */
+    0x02, 0x06, 0, 0, 0, 0, 0, 0, 0,                                                 /* UNIT */
+    0x03, 1, 0,                                                                      /* EDGE */
+    0x00                                                                             /* END */
+};
+
+static const uint64_t settled_tables[] = {0x5, 0x6};
+
+/* The plan with tables with one byte changed. */
+static const uint8_t *changed_tables(size_t offset, uint8_t byte)
+{
+    static uint8_t plan[sizeof plan_tables];
+    memcpy(plan, plan_tables, sizeof plan_tables);
+    plan[offset] = byte;
+    return plan;
+}
+
+/* A plan with tables through every function that takes a plan. */
+static void check_tables(void)
+{
+    static const char sheet_tables[] = "positions 2\n0000000000000005\n0000000000000006\n";
+    static const char sheet_bad_use[] = "refused 19 at 96\n";
+    static uint64_t table[LUCARNECRESS_TABLE_WORDS];
+    uint64_t counts[LUCARNECRESS_COUNTS];
+    uint8_t sheet[LUCARNECRESS_SHEET_BYTES];
+    const uint8_t *bad_table = changed_tables(TRUTH_OFFSET, 0x10);
+    memset(table, 0xa5, sizeof table);
+    same("tables, list, truth bit past the rows", refusal(LUCARNECRESS_BAD_TABLE, TABLE_OFFSET),
+         lucarnecress_list(bad_table, sizeof plan_tables, table, LUCARNECRESS_TABLE_WORDS, counts, LUCARNECRESS_COUNTS));
+    same("tables, list, refused table", 0xa5a5a5a5a5a5a5a5u, table[0]);
+    same("tables, judge, truth bit past the rows", refusal(LUCARNECRESS_BAD_TABLE, TABLE_OFFSET),
+         lucarnecress_judge(bad_table, sizeof plan_tables, settled_tables[0]));
+    same("tables, list, absent rule", refusal(LUCARNECRESS_BAD_USE, USE_OFFSET),
+         lucarnecress_list(changed_tables(USE_OFFSET + 1, 3), sizeof plan_tables, table, LUCARNECRESS_TABLE_WORDS, counts,
+                           LUCARNECRESS_COUNTS));
+    same("tables, list, refused count", 0, counts[LUCARNECRESS_LAST_COUNT]);
+    same("tables, list, refused table again", 0xa5a5a5a5a5a5a5a5u, table[LUCARNECRESS_LAST_LIST]);
+    same("tables, list", 0,
+         lucarnecress_list(plan_tables, sizeof plan_tables, table, LUCARNECRESS_TABLE_WORDS, counts, LUCARNECRESS_COUNTS));
+    same("tables, list, count of unit 0", 2, counts[0]);
+    same("tables, list, last count", 2, counts[LUCARNECRESS_LAST_COUNT]);
+    same("tables, list, first position", settled_tables[0], table[LUCARNECRESS_LAST_LIST]);
+    same("tables, list, second position", settled_tables[1], table[LUCARNECRESS_LAST_LIST + 1]);
+    same("tables, judge, settled", LUCARNECRESS_SETTLED, lucarnecress_judge(plan_tables, sizeof plan_tables, settled_tables[1]));
+    same("tables, judge, table not followed", LUCARNECRESS_NOT_SETTLED, lucarnecress_judge(plan_tables, sizeof plan_tables, 0x1));
+    same("tables, judge, a sign of 2", refusal(LUCARNECRESS_BAD_USE, SECOND_USE_OFFSET),
+         lucarnecress_judge(changed_tables(SECOND_USE_OFFSET + 3, 2), sizeof plan_tables, 0));
+    same("tables, sheet, length", sizeof sheet_tables - 1,
+         lucarnecress_sheet(plan_tables, sizeof plan_tables, sheet, sizeof sheet));
+    same("tables, sheet, bytes", 0, (uint64_t)(memcmp(sheet, sheet_tables, sizeof sheet_tables - 1) != 0));
+    same("tables, sheet, refused", sizeof sheet_bad_use - 1,
+         lucarnecress_sheet(changed_tables(SECOND_USE_OFFSET + 2, 1), sizeof plan_tables, sheet, sizeof sheet));
+    same("tables, sheet, refused bytes", 0, (uint64_t)(memcmp(sheet, sheet_bad_use, sizeof sheet_bad_use - 1) != 0));
+}
+
 static void check_list(void)
 {
     static uint64_t table[LUCARNECRESS_TABLE_WORDS + 1];
@@ -171,7 +240,7 @@ static void check_codes(void)
 }
 
 static void (*const checks[])(void) = {check_list,     check_judge,   check_sheet, check_count, check_common,
-                                       check_readings, check_largest, check_codes};
+                                       check_readings, check_largest, check_codes, check_tables};
 
 int main(void)
 {

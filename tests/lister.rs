@@ -4,7 +4,10 @@
 //! library. Simple and obviously right comes before fast: every set is tried, every subset of it is
 //! tried, and nothing is searched cleverly.
 
+pub const MAX_TABLES: usize = 16;
+pub const MAX_INPUTS: usize = 6;
 pub const MAX_RULES: usize = 64;
+pub const MAX_USES: usize = 256;
 pub const MAX_UNITS: usize = 16;
 pub const LIST_WORDS: usize = 256;
 pub const LAST_LIST_START: usize = MAX_UNITS * LIST_WORDS;
@@ -33,17 +36,59 @@ fn refuse<T>(number: u64, spot: usize) -> Result<T, Refusal> {
 
 // ---- Rules and positions -------------------------------------------------------------------
 
-#[derive(Clone, Copy, Debug, PartialEq, Eq)]
+/// A contact table: its input atoms, rising, and its truth word.
+#[derive(Clone, Debug, PartialEq, Eq)]
+pub struct Table {
+    pub inputs: Vec<usize>,
+    pub truth: u64,
+}
+
+impl Table {
+    /// Bit j of the truth word, where bit k of j tells whether the k-th lowest input atom is up.
+    pub fn answer(&self, position: u64) -> bool {
+        let row = (0..self.inputs.len()).filter(|&k| has(position, self.inputs[k])).fold(0, |row, k| row | 1 << k);
+        has(self.truth, row)
+    }
+
+    pub fn input_atoms(&self) -> u64 {
+        self.inputs.iter().fold(0, |atoms, &atom| atoms | 1 << atom)
+    }
+}
+
+/// A table in a rule's body, and the answer that it must give there.
+#[derive(Clone, Debug, PartialEq, Eq)]
+pub struct Use {
+    pub table: Table,
+    pub wanted: bool,
+}
+
+impl Use {
+    fn holds(&self, position: u64) -> bool {
+        self.table.answer(position) == self.wanted
+    }
+}
+
+#[derive(Clone, Debug, PartialEq, Eq)]
 pub struct Rule {
     pub head: u64,
     pub positive: u64,
     pub negative: u64,
+    pub uses: Vec<Use>,
 }
 
 impl Rule {
-    /// The position has every positive atom and no negative one.
+    /// The position has every positive atom and no negative one, and every use holds.
     fn body_holds(&self, position: u64) -> bool {
-        is_subset(self.positive, position) && self.negative & position == 0
+        is_subset(self.positive, position) && self.negative & position == 0 && self.uses_hold(position)
+    }
+
+    pub fn uses_hold(&self, position: u64) -> bool {
+        self.uses.iter().all(|used| used.holds(position))
+    }
+
+    /// The input atoms of all tables that the rule uses, whichever the sign.
+    pub fn table_inputs(&self) -> u64 {
+        self.uses.iter().fold(0, |atoms, used| atoms | used.table.input_atoms())
     }
 
     /// The body fails or the position has a head atom.
@@ -92,9 +137,9 @@ pub fn is_answer_set(rules: &[Rule], facts: u64, position: u64) -> bool {
     if !is_model(rules.iter().filter(is_kept), facts, position) {
         return false;
     }
-    let reduct: Vec<Rule> = rules.iter().filter(is_kept).copied().collect();
+    let reduct: Vec<&Rule> = rules.iter().filter(is_kept).collect();
     // A subset that lacks a fact is no model, so only subsets with all facts are tried.
-    !proper_subsets(position & !facts).any(|subset| is_model(reduct.iter(), facts, subset | facts))
+    !proper_subsets(position & !facts).any(|subset| is_model(reduct.iter().copied(), facts, subset | facts))
 }
 
 /// The set has all facts and satisfies all rules.
@@ -117,7 +162,11 @@ pub fn answer_sets(rules: &[Rule], facts: u64) -> Vec<u64> {
 pub struct Plan {
     /// The word of GIVEN, if there is one.
     pub given: Option<u64>,
+    pub tables: Vec<Table>,
+    /// Each rule with the uses of tables in its body.
     pub rules: Vec<Rule>,
+    /// The three bytes of each USE: rule, table, sign.
+    pub uses: Vec<[u8; 3]>,
     /// One word for each unit, bit i for rule i.
     pub units: Vec<u64>,
     /// (u, v): unit u depends on unit v.
@@ -128,7 +177,9 @@ pub struct Plan {
 #[derive(Clone, Copy, PartialEq, Eq, PartialOrd, Ord)]
 enum Kind {
     Given,
+    Table,
     Rule,
+    Use,
     Unit,
     Edge,
     End,
@@ -142,6 +193,8 @@ impl Kind {
             0x02 => Some(Kind::Unit),
             0x03 => Some(Kind::Edge),
             0x04 => Some(Kind::Given),
+            0x05 => Some(Kind::Table),
+            0x06 => Some(Kind::Use),
             _ => None,
         }
     }
@@ -149,7 +202,9 @@ impl Kind {
     fn operand_bytes(self) -> usize {
         match self {
             Kind::Rule => 24,
+            Kind::Table => 16,
             Kind::Given | Kind::Unit => 8,
+            Kind::Use => 3,
             Kind::Edge => 2,
             Kind::End => 0,
         }
@@ -157,7 +212,8 @@ impl Kind {
 }
 
 /// Reads a plan from the left. The rows of the reading place are tried for each command in turn,
-/// in the table's order: 3, 4, 5, 2, 6, 7, 8, 9.
+/// in the table's order: 3, 4, 5, 2, then those of the command's operands (6 and 21 of a RULE, 18 of a
+/// TABLE, 19 of a USE, 7 of a UNIT, 8 of an EDGE), then 9.
 pub fn read(bytes: &[u8]) -> Result<Plan, Refusal> {
     let mut plan = Plan::default();
     let mut group = Kind::Given;
@@ -198,7 +254,9 @@ impl Plan {
     /// Is the most of this kind already there? A second GIVEN is out of order (row 4), and a 241st EDGE is a fault by itself (row 8).
     fn has_all(&self, kind: Kind) -> bool {
         match kind {
+            Kind::Table => self.tables.len() == MAX_TABLES,
             Kind::Rule => self.rules.len() == MAX_RULES,
+            Kind::Use => self.uses.len() == MAX_USES,
             Kind::Unit => self.units.len() == MAX_UNITS,
             Kind::Given | Kind::Edge | Kind::End => false,
         }
@@ -208,7 +266,9 @@ impl Plan {
     fn take(&mut self, kind: Kind, operands: &[u8]) -> Option<u64> {
         match kind {
             Kind::Given => self.take_given(operands),
+            Kind::Table => self.take_table(operands),
             Kind::Rule => self.take_rule(operands),
+            Kind::Use => self.take_use([operands[0], operands[1], operands[2]]),
             Kind::Unit => self.take_unit(operands),
             Kind::Edge => self.take_edge(operands),
             Kind::End => None,
@@ -220,11 +280,26 @@ impl Plan {
         None
     }
 
+    fn take_table(&mut self, operands: &[u8]) -> Option<u64> {
+        let (inputs, truth) = (word(&operands[0..8]), word(&operands[8..16]));
+        let inputs: Vec<usize> = (0..64).filter(|&atom| has(inputs, atom)).collect();
+        if inputs.len() > MAX_INPUTS {
+            return Some(18);
+        }
+        let rows = 1 << inputs.len();
+        if (rows..64).any(|row| has(truth, row)) {
+            return Some(18);
+        }
+        self.tables.push(Table { inputs, truth });
+        None
+    }
+
     fn take_rule(&mut self, operands: &[u8]) -> Option<u64> {
         let rule = Rule {
             head: word(&operands[0..8]),
             positive: word(&operands[8..16]),
             negative: word(&operands[16..24]),
+            uses: Vec::new(),
         };
         if rule.head == 0 && rule.positive == 0 && rule.negative == 0 {
             return Some(6);
@@ -233,6 +308,17 @@ impl Plan {
             return Some(21);
         }
         self.rules.push(rule);
+        None
+    }
+
+    fn take_use(&mut self, [rule, table, sign]: [u8; 3]) -> Option<u64> {
+        let is_absent = rule as usize >= self.rules.len() || table as usize >= self.tables.len();
+        if is_absent || sign > 1 || self.uses.contains(&[rule, table, sign]) {
+            return Some(19);
+        }
+        self.uses.push([rule, table, sign]);
+        let used = Use { table: self.tables[table as usize].clone(), wanted: sign == 0 };
+        self.rules[rule as usize].uses.push(used);
         None
     }
 
@@ -320,7 +406,7 @@ impl Plan {
     }
 
     fn has_condition_c(&self, r: usize) -> bool {
-        let needed = self.dependences(r, |r, s| r.negative & s.head != 0);
+        let needed = self.dependences(r, |r, s| (r.negative | r.table_inputs()) & s.head != 0);
         self.units_of(r).iter().all(|&unit| needed.iter().all(|&s| self.sees(unit, s)))
     }
 
@@ -330,7 +416,7 @@ impl Plan {
     }
 
     fn unit_rules(&self, unit: usize) -> Vec<Rule> {
-        (0..self.rules.len()).filter(|&rule| self.holds(unit, rule)).map(|rule| self.rules[rule]).collect()
+        (0..self.rules.len()).filter(|&rule| self.holds(unit, rule)).map(|rule| self.rules[rule].clone()).collect()
     }
 
     /// H(u): the head atoms of a unit and of all units it reaches, and the given atoms.

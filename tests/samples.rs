@@ -27,6 +27,8 @@ macro_rules! samples {
 const NOT_BY_FORCE: [&str; 1] = ["clingo-default-misses-ten"];
 
 samples!(
+    "bad-table",
+    "bad-use",
     "circuit-01-end-only",
     "circuit-01-no-bytes",
     "circuit-02-choice",
@@ -55,6 +57,11 @@ samples!(
     "several-negative-unseen",
     "several-on-cycles",
     "several-positive-unseen",
+    "several-table-inputs-unseen",
+    "table-holds-itself",
+    "table-in-inner-unit",
+    "table-not-as-rules",
+    "tables-in-two-units",
 );
 
 /// Can the lister list the sample?

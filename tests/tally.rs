@@ -2,6 +2,7 @@
 
 use crate::generator::Case;
 use crate::lister::{Refusal, LIST_WORDS};
+use crate::table_tally::TableTally;
 use crate::Outcome;
 use std::collections::BTreeMap;
 
@@ -10,6 +11,7 @@ pub struct Tally {
     pub passed: u64,
     pub failed: u64,
     pub whole_programs: u64,
+    pub tables: TableTally,
     settled: u64,
     not_settled: u64,
     positions_refused: u64,
@@ -80,6 +82,7 @@ impl Tally {
         println!("plans of seed {}: {}", seed, listed(&self.families));
         println!("accepted: {}, of these with 256 positions: {}", self.accepted, self.full_lists);
         println!("refused, by number: {}", listed(&self.refused));
+        self.tables.print();
         println!("of each: result, table with the words behind it, counts, sheet");
         println!(
             "single positions: {} settled, {} not settled, {} refused",
@@ -92,7 +95,7 @@ impl Tally {
     }
 }
 
-fn listed<Name: std::fmt::Display>(counts: &BTreeMap<Name, u64>) -> String {
+pub fn listed<Name: std::fmt::Display>(counts: &BTreeMap<Name, u64>) -> String {
     counts.iter().map(|(name, count)| format!("{}: {}", name, count)).collect::<Vec<_>>().join(", ")
 }
 

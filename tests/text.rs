@@ -1,7 +1,9 @@
 //! Plans as readable text, one command per line, and back.
 //!
 //!     given 5 6                    (atoms)
+//!     table in=0,1,2 truth=96      (input atoms; truth word in hexadecimal; each part may be left out)
 //!     rule head=0,1 pos=2 neg=3    (each part may be left out)
+//!     use 1 0 true                 (rule, table; or false, or another sign byte as a number)
 //!     unit 0 1                     (rule numbers)
 //!     edge 1 0
 //!     end
@@ -30,13 +32,34 @@ fn line_to_bytes(line: &str) -> Option<Vec<u8>> {
     let operands: Vec<&str> = parts.collect();
     match name {
         "given" => Some(encode::given(set(operands.iter().copied())?)),
+        "table" => table_to_bytes(&operands),
         "rule" => rule_to_bytes(&operands),
+        "use" if operands.len() == 3 => {
+            let sign = SIGNS.iter().position(|&word| word == operands[2]).map(|sign| sign as u8);
+            let sign = sign.or_else(|| operands[2].parse().ok())?;
+            Some(encode::use_of(operands[0].parse().ok()?, operands[1].parse().ok()?, sign))
+        }
         "unit" => Some(encode::unit(set(operands.iter().copied())?)),
         "edge" if operands.len() == 2 => Some(encode::edge(operands[0].parse().ok()?, operands[1].parse().ok()?)),
         "end" if operands.is_empty() => Some(encode::end()),
         "bytes" => operands.iter().map(|byte| u8::from_str_radix(byte, 16).ok()).collect(),
         _ => None,
     }
+}
+
+/// The words for the sign bytes 0 and 1.
+const SIGNS: [&str; 2] = ["true", "false"];
+
+fn table_to_bytes(parts: &[&str]) -> Option<Vec<u8>> {
+    let (mut inputs, mut truth) = (0, 0);
+    for part in parts {
+        match part.split_once('=')? {
+            ("in", atoms) => inputs = set(atoms.split(','))?,
+            ("truth", word) => truth = u64::from_str_radix(word, 16).ok()?,
+            _ => return None,
+        }
+    }
+    Some(encode::table(inputs, truth))
 }
 
 fn rule_to_bytes(parts: &[&str]) -> Option<Vec<u8>> {
@@ -75,11 +98,21 @@ fn command_to_line(bytes: &[u8]) -> Option<(String, usize)> {
     let word = |place: usize| Some(u64::from_le_bytes(bytes.get(1 + 8 * place..9 + 8 * place)?.try_into().ok()?));
     match *bytes.first()? {
         encode::GIVEN => Some((format!("given {}", numbers(word(0)?, " ")).trim_end().to_string(), 9)),
+        encode::TABLE => {
+            let (inputs, truth) = (word(0)?, word(1)?);
+            let inputs = if inputs == 0 { String::new() } else { format!(" in={}", numbers(inputs, ",")) };
+            Some((format!("table{} truth={:x}", inputs, truth), 17))
+        }
         encode::RULE => {
             let parts = [("head", word(0)?), ("pos", word(1)?), ("neg", word(2)?)];
             let written = parts.iter().filter(|(_, word)| *word != 0);
             let parts: String = written.map(|(name, word)| format!(" {}={}", name, numbers(*word, ","))).collect();
             Some((format!("rule{}", parts), 25))
+        }
+        encode::USE => {
+            let sign = *bytes.get(3)?;
+            let sign = SIGNS.get(sign as usize).map_or(sign.to_string(), |word| word.to_string());
+            Some((format!("use {} {} {}", bytes[1], bytes[2], sign), 4))
         }
         encode::UNIT => Some((format!("unit {}", numbers(word(0)?, " ")).trim_end().to_string(), 9)),
         encode::EDGE => Some((format!("edge {} {}", bytes.get(1)?, bytes.get(2)?), 3)),

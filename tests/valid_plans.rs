@@ -4,14 +4,14 @@ use crate::draft::{Draft, Words};
 use crate::random::Random;
 
 /// Most atoms in heads of a plan whose answer sets are found by trying every set.
-const FEW_ATOMS: usize = 12;
+pub const FEW_ATOMS: usize = 12;
 
-fn bit(atom: usize) -> u64 {
+pub fn bit(atom: usize) -> u64 {
     1 << atom
 }
 
 /// Some distinct atoms anywhere in 0 to 63, the two ends more often than others.
-fn some_atoms(random: &mut Random, count: usize) -> Vec<u64> {
+pub fn some_atoms(random: &mut Random, count: usize) -> Vec<u64> {
     let mut numbers = random.permutation(64);
     for end in [0, 63] {
         if random.chance(30) {
@@ -273,7 +273,7 @@ fn add_choice(random: &mut Random, draft: &mut Draft, unit: usize, [a, b]: [u64;
 }
 
 /// The two relays that stand for bit i of a counted number being 1 or 0.
-fn one(i: usize) -> u64 {
+pub fn one(i: usize) -> u64 {
     bit(2 * i)
 }
 
@@ -282,7 +282,7 @@ fn zero(i: usize) -> u64 {
 }
 
 /// Choices number `first` to `last`, all in one unit.
-fn add_choices(random: &mut Random, draft: &mut Draft, unit: usize, first: usize, last: usize) {
+pub fn add_choices(random: &mut Random, draft: &mut Draft, unit: usize, first: usize, last: usize) {
     (first..=last).for_each(|i| add_choice(random, draft, unit, [one(i), zero(i)]));
 }
 

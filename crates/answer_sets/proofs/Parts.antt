@@ -1,5 +1,5 @@
 -- What is known of a body at a half-decided position, part by part.
-use mathlib.Core.Path.{_≡_, refl, sym, ap, subst}
+use mathlib.Core.Path.{_≡_, refl, sym, ap, subst, _∙_}
 use mathlib.Core.Bool.{Bool, true, not}
 use mathlib.Core.Logic.{_↔_, _⊎_, inl, inr}
 use mathlib.Core.List.{List}
@@ -16,8 +16,9 @@ use Rattle.contact_tables.specs.Rows.{Completion, Reached}
 use Rattle.answer_sets.specs.Program.{Body}
 use Rattle.answer_sets.specs.Lent.{lent, negative, uses, USE_BITS}
 use Rattle.answer_sets.specs.State.{Completes}
-use Rattle.answer_sets.specs.Known.{halfDecided, Says, Part, positive-word, negative-word, table-use, PartHolds, PartsSay, BodySays}
-use Rattle.answer_sets.specs.Known.{InBody, has-positive, has-negative, has-use, both, WordSays, RowsSay, IsUse, is-use}
+use Rattle.answer_sets.specs.Known.{halfDecided, Says, Part, positive-word, negative-word, table-use, PartHolds, PartsSay, BodySays, WordsSay}
+use Rattle.answer_sets.specs.Known.{InBody, has-positive, has-negative, has-use, both, WordSays, RowsSay}
+use Rattle.answer_sets.specs.Known.{IsWord, is-positive, is-negative}
 use Rattle.answer_sets.specs.declared.state.State.{State}
 use Rattle.answer_sets.specs.declared.state.Truth.{Truth}
 use Rattle.answer_sets.specs.declared.state.Truth.the-variants.{Holds, Fails}
@@ -27,12 +28,6 @@ use Rattle.answer_sets.proofs.Bodies.{body-parts, parts-body}
 -- ---- parts together
 
 module _ {rules : List ℕ} {r : ℕ} {s : State} where
-  pub parts-none : {A : Part → Type 0} → ((p : Part) → ¬ A p) → PartsSay rules r A s Holds
-  parts-none n = record {
-    holds = (λ e p a. absurd (n p a), λ f. refl);
-    fails = (λ e. absurd (holds-not-fails e), λ f. absurd (n (f .0) (f .1)));
-  }
-
   pub parts-one : (p : Part) {t : Truth} → Says (PartHolds rules r p) s t → PartsSay rules r (λ q. p ≡ q) s t
   parts-one p k = record {
     holds = (λ e q g N c. subst (λ (x : Part). PartHolds rules r x N) g (k .holds .0 e N c), λ f. k .holds .1 (f p refl));
@@ -40,6 +35,13 @@ module _ {rules : List ℕ} {r : ℕ} {s : State} where
       λ e. (p, refl, k .fails .0 e),
       λ f. k .fails .1 (λ N c h. f .2 N c (subst (λ (x : Part). PartHolds rules r x N) (f .1) h)),
     );
+  }
+
+  -- some parts that fail are enough
+  pub parts-fail : {A C : Part → Type 0} → PartsSay rules r A s Fails → ((p : Part) → A p → C p) → PartsSay rules r C s Fails
+  parts-fail x left = record {
+    holds = (λ e. absurd (holds-not-fails (sym e)), λ f. absurd (holds-not-fails (sym (x .holds .1 (λ p a. f p (left p a))))));
+    fails = (λ e. let f = x .fails .0 refl in (f .0, left (f .0) (f .1), f .2), λ f. refl);
   }
 
   -- parts of two kinds
@@ -71,65 +73,70 @@ module _ {rules : List ℕ} {r : ℕ} {s : State} where
 pub up-apart : (up dropped : ℕ) {down : ℕ} → down ≡ dropped ∖ up → Apart up down
 up-apart up dropped e = rw e (record { none = λ i u d. without-right dropped up d u })
 
-pub down-apart : (up dropped : ℕ) {down : ℕ} → down ≡ dropped ∖ up → Apart down up
-down-apart up dropped e = rw e (record { none = λ i d u. without-right dropped up d u })
+pub apart-sym : {a b : ℕ} → Apart a b → Apart b a
+apart-sym n = record { none = λ i p q. n .none i q p }
 
-module _ (up dropped : ℕ) where
+module _ {up down : ℕ} (free : Apart up down) where
   -- what is up is a completion
-  pub up-completes : Completes (halfDecided up dropped) up
-  up-completes = record { has-up = subset-refl; no-dropped = record { none = λ i d u. without-right dropped up d u } }
+  pub up-completes : Completes (record { up = up; dropped = down }) up
+  up-completes = record { has-up = subset-refl; no-dropped = apart-sym free }
 
   -- and so is it with atoms of which none is dropped
-  more-completes : (w : ℕ) → Apart w (dropped ∖ up) → Completes (halfDecided up dropped) (up ∪ w)
+  more-completes : (w : ℕ) → Apart w down → Completes (record { up = up; dropped = down }) (up ∪ w)
   more-completes w a = record {
     has-up = record { each = λ i h. has-left up w h };
     no-dropped = record { none = λ i d h. go i d (union-cases up w h) };
   }
     where
-      go : (i : ℕ) → Has (dropped ∖ up) i → Has up i ⊎ Has w i → ⊥
-      go i d (inl u) = without-right dropped up d u
+      go : (i : ℕ) → Has down i → Has up i ⊎ Has w i → ⊥
+      go i d (inl u) = free .none i u d
       go i d (inr k) = a .none i k d
 
-  pub positive-says : {word read down : ℕ} {t : Truth} → down ≡ dropped ∖ up → read ≡ word → WordSays read up down t
-      → Says (λ N. word ⊆ N) (halfDecided up dropped) t
-  positive-says {word} {read} {down} {t} d e k = go (rw (d, e) at k)
+  pub positive-says : {word : ℕ} {t : Truth} → WordSays word up down t → Says (λ N. word ⊆ N) (record { up = up; dropped = down }) t
+  positive-says {word} w = record {
+    holds = (λ f N c. subset-trans (w .holds .0 f) (c .has-up), λ f. w .holds .1 (f up up-completes));
+    fails = (
+      λ f N c h. w .fails .0 f (record { none = λ i p q. c .no-dropped .none i q (h .each i p) }),
+      λ f. w .fails .1 (λ a. f (up ∪ word) (more-completes word a) (record { each = λ i h. has-right up word h })),
+    );
+  }
+
+  pub negative-says : {word : ℕ} {t : Truth} → WordSays word down up t → Says (λ N. Apart word N) (record { up = up; dropped = down }) t
+  negative-says {word} w = record {
+    holds = (
+      λ f N c. record { none = λ i p q. c .no-dropped .none i (w .holds .0 f .each i p) q },
+      λ f. w .holds .1 (record { each = λ i h. found f i h (has-dec down i) }),
+    );
+    fails = (
+      λ f N c h. w .fails .0 f (record { none = λ i p q. h .none i p (c .has-up .each i q) }),
+      λ f. w .fails .1 (f up up-completes),
+    );
+  }
     where
-      go : WordSays word up (dropped ∖ up) t → Says (λ N. word ⊆ N) (halfDecided up dropped) t
-      go w = record {
-        holds = (λ f N c. subset-trans (w .holds .0 f) (c .has-up), λ f. w .holds .1 (f up up-completes));
-        fails = (
-          λ f N c h. w .fails .0 f (record { none = λ i p q. c .no-dropped .none i q (h .each i p) }),
-          λ f. w .fails .1 (λ a. f (up ∪ word) (more-completes word a) (record { each = λ i h. has-right up word h })),
-        );
-      }
+      found : ((N : ℕ) → Completes (record { up = up; dropped = down }) N → Apart word N) → (i : ℕ) → Has word i → Dec (Has down i) → Has down i
+      found f i h (yes p) = p
+      found f i h (no n) =
+          absurd
+          (f (up ∪ atom i)
+          (more-completes (atom i) (record { none = λ j p q. n (subst (λ (x : ℕ). Has down x) (sym (atom-only i p)) q) }))
+          .none i h (has-right up (atom i) (has-atom i)))
 
-  pub negative-says : {word read down : ℕ} {t : Truth} → down ≡ dropped ∖ up → read ≡ word → WordSays read down up t
-      → Says (λ N. Apart word N) (halfDecided up dropped) t
-  negative-says {word} {read} {down} {t} d e k = go (rw (d, e) at k)
+  pub words-say : {rules : List ℕ} {r p n : ℕ} {positive negative′ t : Truth} → p ≡ lent rules .positive r → n ≡ negative rules r
+      → WordSays p up down positive → WordSays n down up negative′ → t ≡ both positive negative′ → WordsSay rules r up down t
+  words-say e f a b g =
+      parts-both (parts-one positive-word (positive-says (rw e at a))) (parts-one negative-word (negative-says (rw f at b))) split old new g
     where
-      all-down : ((N : ℕ) → Completes (halfDecided up dropped) N → Apart word N) → word ⊆ (dropped ∖ up)
-      all-down f = record { each = λ i h. found i h (has-dec (dropped ∖ up) i) }
-        where
-          found : (i : ℕ) → Has word i → Dec (Has (dropped ∖ up) i) → Has (dropped ∖ up) i
-          found i h (yes p) = p
-          found i h (no n) =
-              absurd
-              (f (up ∪ atom i)
-              (more-completes (atom i) (record { none = λ j p q. n (subst (λ (x : ℕ). Has (dropped ∖ up) x) (sym (atom-only i p)) q) }))
-              .none i h (has-right up (atom i) (has-atom i)))
+      split : (q : Part) → IsWord q → (positive-word ≡ q) ⊎ (negative-word ≡ q)
+      split _ is-positive = inl refl
+      split _ is-negative = inr refl
 
-      go : WordSays word (dropped ∖ up) up t → Says (λ N. Apart word N) (halfDecided up dropped) t
-      go w = record {
-        holds = (
-          λ f N c. record { none = λ i p q. c .no-dropped .none i (w .holds .0 f .each i p) q },
-          λ f. w .holds .1 (all-down f),
-        );
-        fails = (
-          λ f N c h. w .fails .0 f (record { none = λ i p q. h .none i p (c .has-up .each i q) }),
-          λ f. w .fails .1 (f up up-completes),
-        );
-      }
+      old : (q : Part) → positive-word ≡ q → IsWord q
+      old q e = subst IsWord e is-positive
 
+      new : (q : Part) → negative-word ≡ q → IsWord q
+      new q e = subst IsWord e is-negative
+
+module _ (up dropped : ℕ) where
   -- ---- a table
 
   pub rows-some : {inputs rows : ℕ} → Collects (Reached inputs up dropped) rows → ¬ (rows ≡ 0)
@@ -139,7 +146,7 @@ module _ (up dropped : ℕ) where
       (c .all (row inputs up)
       (record {
         position = up;
-        completes = record { has-up = up-completes .has-up; no-dropped = up-completes .no-dropped };
+        completes = record { has-up = subset-refl; no-dropped = record { none = λ i d u. without-right dropped up d u } };
         is = refl;
       })))
 
@@ -175,23 +182,48 @@ module _ (up dropped : ℕ) where
       back : (N : ℕ) → Completion up dropped N → Completes (halfDecided up dropped) N
       back N d = record { has-up = d .has-up; no-dropped = d .no-dropped }
 
--- ---- the uses of a rule, one by one
+-- ---- the whole body: its words, and its uses one by one
 
--- part p is a use of rule r that is no longer to be done
-pub data DoneUse (rules : List ℕ) (r rest : ℕ) : Part → Type 0 where
-  done-use : (i : ℕ) → i < USE_BITS → Has (uses rules r) i → ¬ Has rest i → DoneUse rules r rest (table-use i)
+-- part p is a word of rule r's body, or a use that is no longer to be done
+pub data Done (rules : List ℕ) (r rest : ℕ) : Part → Type 0 where
+  done-positive : Done rules r rest positive-word
+  done-negative : Done rules r rest negative-word
+  done-use : (i : ℕ) → i < USE_BITS → Has (uses rules r) i → ¬ Has rest i → Done rules r rest (table-use i)
 
--- what is known of the uses that are done
+-- what is known of the parts that are done
 pub record UsesDone (rules : List ℕ) (r : ℕ) (s : State) (known : Truth) (rest : ℕ) : Type 0 where
   pub within : rest ⊆ (uses rules r ∩ below USE_BITS)
-  pub says : PartsSay rules r (DoneUse rules r rest) s known
+  pub says : PartsSay rules r (Done rules r rest) s known
+
+done-in : {rules : List ℕ} {r rest : ℕ} (q : Part) → Done rules r rest q → InBody rules r q
+done-in _ done-positive = has-positive
+done-in _ done-negative = has-negative
+done-in _ (done-use i l h n) = has-use i l h
 
 module _ {rules : List ℕ} {r : ℕ} {s : State} where
-  pub uses-start : {word first rest : ℕ} → word ≡ uses rules r → first ≡ below USE_BITS → rest ≡ word ∩ first → UsesDone rules r s Holds rest
-  uses-start {word} {first} {rest} e f g = rw (g, f, e) (record { within = subset-refl; says = parts-none none })
+  -- parts in other words
+  parts-same : {A C : Part → Type 0} {t : Truth} → PartsSay rules r A s t → ((p : Part) → A p → C p) → ((p : Part) → C p → A p)
+      → PartsSay rules r C s t
+  parts-same x there back = record {
+    holds = (λ e p c. x .holds .0 e p (back p c), λ f. x .holds .1 (λ p a. f p (there p a)));
+    fails = (
+      λ e. let f = x .fails .0 e in (f .0, there (f .0) (f .1), f .2),
+      λ f. x .fails .1 (f .0, back (f .0) (f .1), f .2),
+    );
+  }
+
+  pub uses-start : {words : Truth} {word first rest : ℕ} → PartsSay rules r IsWord s words → word ≡ uses rules r → first ≡ below USE_BITS
+      → rest ≡ word ∩ first → UsesDone rules r s words rest
+  uses-start k e f g = rw (g, f, e) (record { within = subset-refl; says = parts-same k there back })
     where
-      none : (p : Part) → ¬ DoneUse rules r (uses rules r ∩ below USE_BITS) p
-      none _ (done-use i l h n) = n (has-cut (uses rules r) (below USE_BITS) h (has-below USE_BITS i l))
+      there : (p : Part) → IsWord p → Done rules r (uses rules r ∩ below USE_BITS) p
+      there _ is-positive = done-positive
+      there _ is-negative = done-negative
+
+      back : (p : Part) → Done rules r (uses rules r ∩ below USE_BITS) p → IsWord p
+      back _ done-positive = is-positive
+      back _ done-negative = is-negative
+      back _ (done-use i l h n) = absurd (n (has-cut (uses rules r) (below USE_BITS) h (has-below USE_BITS i l)))
 
   pub uses-lt : {known : Truth} {rest i : ℕ} → UsesDone rules r s known rest → Lowest rest i → i < USE_BITS
   uses-lt u low = below-lt USE_BITS (cut-right (uses rules r) (below USE_BITS) (u .within .each _ (low .here)))
@@ -203,57 +235,55 @@ module _ {rules : List ℕ} {r : ℕ} {s : State} where
     says = parts-both (u .says) (parts-one (table-use i) k) split old new f;
   }
     where
-      split : (p : Part) → DoneUse rules r rest′ p → DoneUse rules r rest p ⊎ (table-use i ≡ p)
+      split : (p : Part) → Done rules r rest′ p → Done rules r rest p ⊎ (table-use i ≡ p)
+      split _ done-positive = inl done-positive
+      split _ done-negative = inl done-negative
       split _ (done-use j l h n) = go (ℕ-discrete i j)
         where
-          go : Dec (i ≡ j) → DoneUse rules r rest (table-use j) ⊎ (table-use i ≡ table-use j)
+          go : Dec (i ≡ j) → Done rules r rest (table-use j) ⊎ (table-use i ≡ table-use j)
           go (yes q) = inr (ap table-use q)
           go (no m) = inl (done-use j l h (λ q. n (rw e (has-without rest (atom i) q (λ a. m (atom-only i a))))))
 
-      old : (p : Part) → DoneUse rules r rest p → DoneUse rules r rest′ p
+      old : (p : Part) → Done rules r rest p → Done rules r rest′ p
+      old _ done-positive = done-positive
+      old _ done-negative = done-negative
       old _ (done-use j l h n) = done-use j l h (λ q. n (without-left rest (atom i) (rw e at q)))
 
-      new : (p : Part) → table-use i ≡ p → DoneUse rules r rest′ p
+      new : (p : Part) → table-use i ≡ p → Done rules r rest′ p
       new p q =
-          subst (λ (x : Part). DoneUse rules r rest′ x) q
+          subst (λ (x : Part). Done rules r rest′ x) q
           (done-use i (uses-lt u low) (cut-left (uses rules r) (below USE_BITS) (u .within .each i (low .here)))
           (λ m. without-right rest (atom i) (rw e at m) (has-atom i)))
 
-  pub uses-end : {known : Truth} {rest : ℕ} → UsesDone rules r s known rest → rest ≡ 0 → PartsSay rules r (IsUse rules r) s known
-  uses-end {rest = rest} u e = record {
-    holds = (λ f p k. u .says .holds .0 f p (there p k), λ f. u .says .holds .1 (λ p k. f p (back p k)));
-    fails = (
-      λ f. let g = u .says .fails .0 f in (g .0, back (g .0) (g .1), g .2),
-      λ f. u .says .fails .1 (f .0, there (f .0) (f .1), f .2),
-    );
-  }
+  -- a part that fails is enough
+  pub uses-fail : {known : Truth} {rest : ℕ} → UsesDone rules r s known rest → known ≡ Fails → PartsSay rules r (InBody rules r) s Fails
+  uses-fail u e = parts-fail (rw e at (u .says)) done-in
+
+  pub uses-end : {known : Truth} {rest : ℕ} → UsesDone rules r s known rest → rest ≡ 0 → PartsSay rules r (InBody rules r) s known
+  uses-end {rest = rest} u e = parts-same (u .says) done-in back
     where
-      there : (p : Part) → IsUse rules r p → DoneUse rules r rest p
-      there _ (is-use i l h) = done-use i l h (λ q. has-none (rw e at q))
+      back : (p : Part) → InBody rules r p → Done rules r rest p
+      back _ has-positive = done-positive
+      back _ has-negative = done-negative
+      back _ (has-use i l h) = done-use i l h (λ q. has-none (rw e at q))
 
-      back : (p : Part) → DoneUse rules r rest p → IsUse rules r p
-      back _ (done-use i l h n) = is-use i l h
-
--- ---- the whole body
-
-module _ {rules : List ℕ} {r : ℕ} (up dropped : ℕ) {positive negative words tables t : Truth} where
-  pub body-says : Says (PartHolds rules r positive-word) (halfDecided up dropped) positive
-      → Says (PartHolds rules r negative-word) (halfDecided up dropped) negative → words ≡ both positive negative
-      → PartsSay rules r (IsUse rules r) (halfDecided up dropped) tables → t ≡ both words tables → BodySays rules r up dropped t
-  body-says p n e u f =
-      parts-both (parts-both (parts-one positive-word p) (parts-one negative-word n) (λ q k. k) (λ q k. inl k) (λ q k. inr k) e) u split old new f
+  -- without uses the words are the body
+  pub body-of-words : {words : Truth} {u : ℕ} → PartsSay rules r IsWord s words → u ≡ uses rules r → u ≡ 0 → PartsSay rules r (InBody rules r) s words
+  body-of-words k f z = parts-same k there back
     where
-      split : (q : Part) → InBody rules r q → ((positive-word ≡ q) ⊎ (negative-word ≡ q)) ⊎ IsUse rules r q
-      split _ has-positive = inl (inl refl)
-      split _ has-negative = inl (inr refl)
-      split _ (has-use i l h) = inr (is-use i l h)
+      there : (p : Part) → IsWord p → InBody rules r p
+      there _ is-positive = has-positive
+      there _ is-negative = has-negative
 
-      old : (q : Part) → (positive-word ≡ q) ⊎ (negative-word ≡ q) → InBody rules r q
-      old q (inl e) = subst (λ (x : Part). InBody rules r x) e has-positive
-      old q (inr e) = subst (λ (x : Part). InBody rules r x) e has-negative
+      back : (p : Part) → InBody rules r p → IsWord p
+      back _ has-positive = is-positive
+      back _ has-negative = is-negative
+      back _ (has-use i l h) = absurd (has-none (rw (sym f ∙ z) at h))
 
-      new : (q : Part) → IsUse rules r q → InBody rules r q
-      new _ (is-use i l h) = has-use i l h
+-- what the words say, with what is dropped and not up
+pub words-told : {rules : List ℕ} {r : ℕ} (up dropped : ℕ) {down : ℕ} {words : Truth} → down ≡ dropped ∖ up → WordsSay rules r up down words
+    → PartsSay rules r IsWord (halfDecided up dropped) words
+words-told up dropped e k = rw e at k
 
 -- ---- what the answers mean
 

@@ -70,6 +70,11 @@ pub record RowsSay (rows word : ℕ) (t : Truth) : Type 0 where
   pub holds : (t ≡ Holds) ↔ (rows ⊆ word)
   pub fails : (t ≡ Fails) ↔ Apart rows word
 
--- Inner: part p is a use of rule r
-pub data IsUse (rules : List ℕ) (r : ℕ) : Part → Type 0 where
-  is-use : (i : ℕ) → i < USE_BITS → Has (uses rules r) i → IsUse rules r (table-use i)
+-- Inner: part p is a word of the body
+pub data IsWord : Part → Type 0 where
+  is-positive : IsWord positive-word
+  is-negative : IsWord negative-word
+
+-- Inner: what the words of rule r's body say, where the atoms of `down` are dropped
+abbrev pub WordsSay : List ℕ → ℕ → ℕ → ℕ → Truth → Type 0
+WordsSay rules r up down t = PartsSay rules r IsWord (record { up = up; dropped = down }) t

@@ -1,11 +1,16 @@
 // The rule pass: what every position that satisfies the rules must have or lack, told from what is known of it.
 use crate::known::body_known;
 use crate::known::undecided;
+use crate::known::words_known;
 use crate::rule::head;
-use crate::rule::looks;
+use crate::rule::negative_body;
 use crate::rule::positive_body;
 use crate::state::State;
 use crate::state::Truth;
+use crate::truth::is_success;
+use crate::uses::used_inputs;
+use crate::uses::uses;
+use crate::uses::with_uses;
 ghost use mathlib.Core.Path.{_≡_};
 ghost use Rattle.answer_sets.specs.Program.{Satisfies, SatisfiesAll};
 ghost use Rattle.answer_sets.specs.Lent.{lent, IsLent, Lent};
@@ -45,12 +50,11 @@ fn is_held(rules: &[u64], rule: usize, up: u64, dropped: u64) -> bool
     requires { ⌜ IsLent (now rules) rule ⌝ }
     ensures { λ r. ⌜ Held (now (rules .entry)) rule up dropped r ⌝ }
 {
-    let truth = body_known(rules, rule, up, dropped);
-    match truth {
-        Truth::Holds => true,
-        Truth::Fails => false,
-        Truth::Open => false,
+    let words = words_known(rules, rule, up, atoms::without(dropped, up));
+    if uses(rules, rule) == 0 {
+        return is_success(words);
     }
+    is_success(with_uses(rules, rule, up, dropped, words))
 }
 
 // The state in which the body does not hold by its last open atom: where it would with the atom up, the atom is dropped,
@@ -84,8 +88,12 @@ fn denied(rules: &[u64], rule: usize, s: State) -> State
     if !atoms::is_subset(head(rules, rule), s.dropped) {
         return s;
     }
-    let body = atoms::union(positive_body(rules, rule), looks(rules, rule));
-    let left = atoms::cut(undecided(s.up, s.dropped), body);
+    let open = undecided(s.up, s.dropped);
+    let words = atoms::union(positive_body(rules, rule), negative_body(rules, rule));
+    if !atoms::at_most_one(atoms::cut(open, words)) {
+        return s;
+    }
+    let left = atoms::cut(open, atoms::union(words, used_inputs(rules, rule)));
     if atoms::at_most_one(left) {
         return decided_by(rules, rule, left, s);
     }

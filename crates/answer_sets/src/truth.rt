@@ -1,6 +1,9 @@
 // What is known of a test at a half-decided position, put together from what is known of its parts.
 use crate::state::Truth;
 ghost use mathlib.Core.Path.{_≡_};
+ghost use mathlib.Core.Bool.{true};
+ghost use mathlib.Core.Logic.{_↔_};
+ghost use Rattle.answer_sets.specs.declared.state.Truth.the-variants.{Holds, Fails};
 ghost use Rattle.atoms.specs.Word.{Apart};
 ghost use Rattle.answer_sets.specs.Known.{both as bothOf, opposite as oppositeOf, WordSays, RowsSay};
 
@@ -27,6 +30,28 @@ pub fn opposite(t: Truth) -> Truth
         Truth::Holds => Truth::Fails,
         Truth::Fails => Truth::Holds,
         Truth::Open => Truth::Open,
+    }
+}
+
+// Whether the test is known to fail.
+pub fn is_failure(t: Truth) -> bool
+    ensures { λ r. ⌜ (r ≡ true) ↔ (t ≡ Fails) ⌝ }
+{
+    match t {
+        Truth::Fails => true,
+        Truth::Holds => false,
+        Truth::Open => false,
+    }
+}
+
+// Whether the test is known to hold.
+pub fn is_success(t: Truth) -> bool
+    ensures { λ r. ⌜ (r ≡ true) ↔ (t ≡ Holds) ⌝ }
+{
+    match t {
+        Truth::Holds => true,
+        Truth::Fails => false,
+        Truth::Open => false,
     }
 }
 

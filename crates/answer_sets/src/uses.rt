@@ -1,6 +1,7 @@
 // The uses that a rule makes of contact tables: what they ask of a position, and what is known of them at a half-decided one.
 use crate::state::Truth;
 use crate::truth::both;
+use crate::truth::is_failure;
 use crate::truth::opposite;
 use crate::truth::rows_known;
 use plan::CONTACT_WORDS;
@@ -14,7 +15,7 @@ ghost use Prim.Native.Nat.{_<_, _≤_};
 ghost use lib.ListN.{length};
 ghost use Rattle.plan.specs.Limits.{FIRST_RULE as Limits·FIRST_RULE, MAX_TABLES as Limits·MAX_TABLES};
 ghost use Rattle.answer_sets.specs.Lent.{IsLent, USE_BITS as Lent·USE_BITS, uses, tableOf, inputs, truth, useHolds, usesHold, usedInputs};
-ghost use Rattle.answer_sets.specs.Known.{Says, PartsSay, IsUse, halfDecided};
+ghost use Rattle.answer_sets.specs.Known.{Says, PartsSay, IsWord, BodySays, halfDecided};
 
 // A bit for each table that must be true, and one for each that must be false.
 const USE_BITS: usize = 2 * MAX_TABLES;
@@ -107,14 +108,17 @@ fn use_known(rules: &[u64], i: usize, up: u64, dropped: u64) -> Truth
     if i < MAX_TABLES { said } else { opposite(said) }
 }
 
-// What is known of all uses of the rule.
-pub fn uses_known(rules: &[u64], rule: usize, up: u64, dropped: u64) -> Truth
-    requires { ⌜ IsLent (now rules) rule ⌝ }
-    ensures { λ r. ⌜ PartsSay (now (rules .entry)) rule (IsUse (now (rules .entry)) rule) (halfDecided up dropped) r ⌝ }
+// What is known of the body, from what is known of its words; no use is asked where something failed already.
+pub fn with_uses(rules: &[u64], rule: usize, up: u64, dropped: u64, words: Truth) -> Truth
+    requires { ⌜ IsLent (now rules) rule × PartsSay (now rules) rule IsWord (halfDecided up dropped) words ⌝ }
+    ensures { λ r. ⌜ BodySays (now (rules .entry)) rule up dropped r ⌝ }
 {
-    let mut known = Truth::Holds;
+    let mut known = words;
     let mut rest = atoms::cut(uses(rules, rule), atoms::first(USE_BITS));
     while rest != 0 {
+        if is_failure(known) {
+            return Truth::Fails;
+        }
         let i = atoms::lowest(rest);
         known = both(known, use_known(rules, i, up, dropped));
         rest = atoms::drop(rest, i);

@@ -15,7 +15,7 @@ fn write_number(label: &[u8], number: u64) {
     io::print_decimal(STDOUT_FILENO, number);
 }
 
-// Writes the word of GIVEN, if there is one, and how many rules, units and edges the plan has, if it reads.
+// Writes the word of GIVEN and how many tables and uses there are, if any, and how many rules, units and edges, if the plan reads.
 fn write_counts(plan: &[u8]) {
     let reading = reading::read_plan(plan);
     let outcome = reading.outcome;
@@ -26,7 +26,13 @@ fn write_counts(plan: &[u8]) {
     if 0 < read.given_count {
         write_number(b" given ", read.given);
     }
+    if 0 < read.table_count {
+        write_number(b" tables ", read.table_count as u64);
+    }
     write_number(b" rules ", read.rule_count as u64);
+    if 0 < read.use_count {
+        write_number(b" uses ", read.use_count as u64);
+    }
     write_number(b" units ", read.unit_count as u64);
     write_number(b" edges ", read.edge_count as u64);
 }

@@ -9,6 +9,8 @@ use sheets::show;
 
 // Every sample plan.
 fn show_sheets() {
+    show(b"bad-table.plan");
+    show(b"bad-use.plan");
     show(b"circuit-01-end-only.plan");
     show(b"circuit-01-no-bytes.plan");
     show(b"circuit-02-choice.plan");
@@ -37,6 +39,11 @@ fn show_sheets() {
     show(b"several-negative-unseen.plan");
     show(b"several-on-cycles.plan");
     show(b"several-positive-unseen.plan");
+    show(b"several-table-inputs-unseen.plan");
+    show(b"table-holds-itself.plan");
+    show(b"table-in-inner-unit.plan");
+    show(b"table-not-as-rules.plan");
+    show(b"tables-in-two-units.plan");
 }
 
 // Single positions of some of them. Units, edges and the graph play no part in the answer.
@@ -57,13 +64,25 @@ fn judge_positions() {
     ask(b"circuit-10-unseen-negation.plan", 1);
     ask(b"circuit-10-unseen-negation.plan", 2);
     ask(b"circuit-11-cycle.plan", 0);
+    ask(b"several-table-inputs-unseen.plan", 0x5);
+    ask(b"table-holds-itself.plan", 0x5);
+    ask(b"table-holds-itself.plan", 0x1);
+    ask(b"table-not-as-rules.plan", 0x3);
+    ask(b"table-not-as-rules.plan", 0);
 }
 
-// Plans that read: a rule that is in no unit is judged all the same, a GIVEN stands first, and the longest plan has all 64 rules as facts.
+// Plans that read: a rule that is in no unit is judged all the same, a GIVEN stands first, then TABLEs, and the longest plan has all 64 rules as facts.
 fn whole_plans() {
     ask(b"reading/rule-in-no-unit.plan", 1);
     ask(b"reading/given.plan", 0);
     ask(b"reading/given-of-no-atoms.plan", 0);
+    ask(b"reading/table-used.plan", 3);
+    ask(b"reading/table-used.plan", 1);
+    ask(b"reading/table-unused.plan", 1);
+    ask(b"reading/table-of-no-inputs.plan", 0);
+    ask(b"reading/table-of-six-inputs.plan", 0);
+    ask(b"reading/row-31-of-five-inputs.plan", 0);
+    ask(b"reading/use-of-the-other-sign.plan", 1);
     ask(b"reading/longest.plan", 0xffff_ffff_ffff_ffff);
     ask(b"reading/longest.plan", 0x7fff_ffff_ffff_ffff);
 }
@@ -75,6 +94,8 @@ fn cut_short() {
     ask(b"reading/second-rule-cut-short.plan", 0);
     ask(b"reading/unit-cut-short.plan", 0);
     ask(b"reading/given-cut-short.plan", 0);
+    ask(b"reading/table-cut-short.plan", 0);
+    ask(b"reading/use-cut-short.plan", 0);
     ask(b"reading/edge-cut-short.plan", 0);
 }
 
@@ -96,6 +117,19 @@ fn misplaced_given() {
     ask(b"reading/second-given-behind-rule.plan", 0);
 }
 
+// Fault 4: a late TABLE or USE, and what comes too late behind them.
+fn misplaced_table() {
+    ask(b"reading/given-behind-table.plan", 0);
+    ask(b"reading/table-behind-rule.plan", 0);
+    ask(b"reading/table-behind-rule-cut-short.plan", 0);
+    ask(b"reading/table-behind-use.plan", 0);
+    ask(b"reading/17th-table-behind-rule.plan", 0);
+    ask(b"reading/rule-behind-use.plan", 0);
+    ask(b"reading/use-behind-unit.plan", 0);
+    ask(b"reading/use-behind-edge-cut-short.plan", 0);
+    ask(b"reading/257th-use-behind-unit.plan", 0);
+}
+
 // Fault 4: another command out of group order.
 fn out_of_order() {
     ask(b"reading/rule-behind-unit.plan", 0);
@@ -106,11 +140,17 @@ fn out_of_order() {
     ask(b"reading/17th-unit-behind-edge.plan", 0);
 }
 
-// Fault 5: 65th RULE, 17th UNIT.
+// Fault 5: 65th RULE, 17th TABLE, 257th USE, 17th UNIT.
 fn too_many() {
     ask(b"reading/65th-rule.plan", 0);
     ask(b"reading/65th-rule-cut-short.plan", 0);
     ask(b"reading/65th-rule-of-zeros.plan", 0);
+    ask(b"reading/17th-table.plan", 0);
+    ask(b"reading/17th-table-cut-short.plan", 0);
+    ask(b"reading/17th-table-of-seven-inputs.plan", 0);
+    ask(b"reading/257th-use.plan", 0);
+    ask(b"reading/257th-use-cut-short.plan", 0);
+    ask(b"reading/257th-use-repeated.plan", 0);
     ask(b"reading/17th-unit.plan", 0);
     ask(b"reading/17th-unit-cut-short.plan", 0);
     ask(b"reading/17th-unit-of-an-absent-rule.plan", 0);
@@ -121,6 +161,7 @@ fn empty_rule() {
     ask(b"reading/rule-of-zeros.plan", 0);
     ask(b"reading/second-rule-of-zeros.plan", 0);
     ask(b"reading/rule-of-zeros-cut-short.plan", 0);
+    ask(b"reading/rule-of-zeros-with-a-use.plan", 0);
 }
 
 // Fault 21: positive and negative words share an atom.
@@ -130,6 +171,27 @@ fn contradictory_body() {
     ask(b"reading/contradictory-rule-cut-short.plan", 0);
     ask(b"reading/contradictory-rule-behind-unit.plan", 0);
     ask(b"reading/atom-in-head-and-body.plan", 0);
+}
+
+// Fault 18: TABLE with seven or more inputs, or a truth bit behind its last row.
+fn bad_table() {
+    ask(b"reading/table-of-seven-inputs.plan", 0);
+    ask(b"reading/table-of-64-inputs.plan", 0);
+    ask(b"reading/table-row-too-many.plan", 0);
+    ask(b"reading/row-1-of-no-inputs.plan", 0);
+    ask(b"reading/row-32-of-five-inputs.plan", 0);
+    ask(b"reading/table-of-seven-inputs-cut-short.plan", 0);
+}
+
+// Fault 19: USE of an absent rule or table, another sign, or a repeat.
+fn bad_use() {
+    ask(b"reading/use-of-an-absent-rule.plan", 0);
+    ask(b"reading/use-of-an-absent-table.plan", 0);
+    ask(b"reading/use-of-table-16.plan", 0);
+    ask(b"reading/use-without-tables.plan", 0);
+    ask(b"reading/use-of-sign-2.plan", 0);
+    ask(b"reading/use-repeated.plan", 0);
+    ask(b"reading/use-of-an-absent-rule-cut-short.plan", 0);
 }
 
 // Fault 7: UNIT names a rule that isn't there.
@@ -175,10 +237,13 @@ fn main() {
     cut_short();
     unknown();
     misplaced_given();
+    misplaced_table();
     out_of_order();
     too_many();
     empty_rule();
     contradictory_body();
+    bad_table();
+    bad_use();
     absent_rule();
     bad_edge();
     behind_end();

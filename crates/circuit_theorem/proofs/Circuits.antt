@@ -1,8 +1,9 @@
 -- Circuits 2 to 11 of document 01 and plan P, from their bytes: the definitions give the outcomes and the last lists that the
--- paper has.
+-- paper has. And plan P with a contact table (02, S-4) in place of the second rule's positive body.
 use Prim.Native.Nat.{ℕ}
 use mathlib.Core.Path.{_≡_, refl}
 use mathlib.Core.List.{List, [], _∷_, _++_, map}
+use lib.Count.{ones}
 use lib.ListN.{take, drop, getD, replicate}
 use Rattle.plan.specs.Limits.{LAST_LIST, LAST_COUNT, TABLE_WORDS}
 use Rattle.atoms.specs.Word.{has, subset, apart, _∩_, _∪_, _∖_, atom, below}
@@ -10,11 +11,12 @@ use Rattle.atoms.specs.Bounded.{allBelow, someBelow, wordBelow, unionIn}
 use Rattle.atoms.specs.Collected.{lowest, lowestOf}
 use Rattle.atoms.specs.Rising.{members}
 use Rattle.atoms.specs.Lists.{padded, tabulate}
-use Rattle.answer_sets.specs.Lent.{lent}
+use Rattle.contact_tables.specs.Table.{place, row as tableRow, answer as said}
+use Rattle.answer_sets.specs.Lent.{tableOf, asks, useHolds, usesHold, usedInputs, lent}
 use Rattle.answer_sets.specs.Test.{body, satisfies, satisfiesAll, kept, keptIf, someSmaller, answerSet}
 use Rattle.reading.specs.Words.{number, wordAt}
-use Rattle.plan.specs.Record.{emptyPlan, withRule, withUnit, withEdge}
-use Rattle.reading.specs.Commands.{kindOf, carrying, late, emptyRule, contradictory, absentRule, badEdge, ofKind, commandAt}
+use Rattle.plan.specs.Record.{emptyPlan, withTable, withRule, withUse, withUnit, withEdge}
+use Rattle.reading.specs.Commands.{kindOf, carrying, late, emptyRule, contradictory, badTable, badUse, absentRule, badEdge, ofKind, commandAt}
 use Rattle.reading.specs.Reading.{walk, reading}
 use Rattle.plan.specs.declared.fault.Fault.the-variants.{Cycle, NonmonotonicUnseen, MonotonicUnseen}
 use Rattle.plan.specs.declared.fault.Outcome.{Outcome}
@@ -39,6 +41,12 @@ word n = n ∷ 0 ∷ 0 ∷ 0 ∷ 0 ∷ 0 ∷ 0 ∷ 0 ∷ []
 abbrev rule : ℕ → ℕ → ℕ → List ℕ
 rule h p n = 1 ∷ word h ++ (word p ++ word n)
 
+abbrev table : ℕ → ℕ → List ℕ
+table inputs truth = 5 ∷ word inputs ++ word truth
+
+abbrev wants : ℕ → ℕ → ℕ → List ℕ
+wants r t sign = 6 ∷ r ∷ t ∷ sign ∷ []
+
 abbrev unit : ℕ → List ℕ
 unit r = 2 ∷ word r
 
@@ -55,7 +63,7 @@ diamond = edge 1 0 ++ (edge 2 0 ++ (edge 3 1 ++ (edge 3 2 ++ end)))
 abbrev pub circuit-2 : List ℕ
 circuit-2 = rule 3 0 0 ++ (unit 1 ++ end)
 
--- circuits 2 to 11, plan P, and P without its EDGE
+-- circuits 2 to 11, plan P, and P without its EDGE; P with a table that is true where atom 0 is up, with either sign, and without its EDGE
 abbrev pub plans : List (List ℕ)
 plans =
     circuit-2
@@ -70,6 +78,9 @@ plans =
     ∷ (unit 0 ++ (unit 0 ++ (edge 0 1 ++ (edge 1 0 ++ end))))
     ∷ (rule 3 0 0 ++ (rule 4 1 0 ++ (unit 1 ++ (unit 2 ++ (edge 1 0 ++ end)))))
     ∷ (rule 3 0 0 ++ (rule 4 1 0 ++ (unit 1 ++ (unit 2 ++ end))))
+    ∷ (table 1 2 ++ (rule 3 0 0 ++ (rule 4 0 0 ++ (wants 1 0 0 ++ (unit 1 ++ (unit 2 ++ (edge 1 0 ++ end)))))))
+    ∷ (table 1 2 ++ (rule 3 0 0 ++ (rule 4 0 0 ++ (wants 1 0 1 ++ (unit 1 ++ (unit 2 ++ (edge 1 0 ++ end)))))))
+    ∷ (table 1 2 ++ (rule 3 0 0 ++ (rule 4 0 0 ++ (wants 1 0 0 ++ (unit 1 ++ (unit 2 ++ end))))))
     ∷ []
 
 abbrev pub results : List (Outcome × List ℕ)
@@ -86,6 +97,9 @@ results =
     ∷ (Refused (Cycle 0), [])
     ∷ (Accepted, 2 ∷ 5 ∷ [])
     ∷ (Refused (MonotonicUnseen 1), [])
+    ∷ (Accepted, 2 ∷ 5 ∷ [])
+    ∷ (Accepted, 1 ∷ 6 ∷ [])
+    ∷ (Refused (NonmonotonicUnseen 1), [])
     ∷ []
 
 -- what `answer` gives for the bytes and a table of zeros: its outcome, and "the words from 4,096 on, as many as the last count says"
@@ -95,9 +109,10 @@ shown bytes =
 
 -- the results of all of them; and of circuit 2: "Position 3 isn't settled."
 pub circuits : (map shown plans ≡ results) × (judged circuit-2 3 ≡ NotSettled)
-unfolding judged shown answer tableOutcome reading walk commandAt ofKind kindOf carrying late emptyRule contradictory absentRule badEdge emptyPlan withRule
-    withUnit withEdge number wordAt unlessRefused workFrom noCounts tableWith countsWith listAt runs padded tabulate lastList unitList inList isInput
-    members allBelow someBelow wordBelow unionIn twiceBelow heads inputHeads own reach reachVia through withLast unitsOf lent answerSet someSmaller
-    satisfiesAll satisfies body kept keptIf has subset apart _∩_ _∪_ _∖_ atom below verdict row givenInHead ruleInNoUnit headedRuleInSeveral cycle
-    nonmonotonicUnseen monotonicUnseen nonmonotonicUnseenIn monotonicSeenIn seen unseenHeads lowestOf lowest workingOrder orderFrom nextUnit ready
+unfolding judged shown answer tableOutcome reading walk commandAt ofKind kindOf carrying late emptyRule contradictory absentRule badEdge badTable
+    badUse emptyPlan withTable withRule withUse withUnit withEdge number wordAt unlessRefused workFrom noCounts tableWith countsWith listAt runs
+    padded tabulate lastList unitList inList isInput members allBelow someBelow wordBelow unionIn twiceBelow heads inputHeads own reach reachVia
+    through withLast unitsOf lent usesHold useHolds tableOf asks usedInputs said tableRow place ones answerSet someSmaller satisfiesAll satisfies body
+    kept keptIf has subset apart _∩_ _∪_ _∖_ atom below verdict row givenInHead ruleInNoUnit headedRuleInSeveral cycle nonmonotonicUnseen
+    monotonicUnseen nonmonotonicUnseenIn monotonicSeenIn seen unseenHeads lowestOf lowest workingOrder orderFrom nextUnit ready
 circuits = (refl, refl)

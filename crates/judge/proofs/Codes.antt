@@ -14,7 +14,7 @@ use Rattle.judge.specs.Answers.{judged, code}
 use Rattle.judge.proofs.Settled.{judged-refused}
 use Rattle.judge.proofs.Spots.{spot-within}
 
--- "every reading fault .. shows within 2,467", and 9 more with a GIVEN
+-- "every reading fault .. shows within 2,467", and 1,305 more with GIVEN, TABLEs and USEs
 pub spot-at-most : (bytes : List ℕ) (f : Fault) → reading bytes .outcome ≡ RefusedWith f → spot f ≤ DECIDING_BYTES
 spot-at-most bytes f e =
     let same : reading (take DECIDING_BYTES bytes) ≡ reading bytes = reading-prefix DECIDING_BYTES bytes (omega arith) in

@@ -5,8 +5,9 @@ use Rattle.atoms.specs.Word.{_∪_, atom}
 use Rattle.plan.specs.Limits.{MAX_TABLES, MAX_RULES, MAX_UNITS, CONTACT_WORDS, RULE_WORDS, FIRST_RULE, USES, PROGRAM_WORDS}
 use Rattle.plan.specs.declared.record.Plan.{Plan}
 
--- no more rules and units than there may be
+-- no more contact tables, rules and units than there may be
 pub record Fitting (p : Plan) : Type 0 where
+  pub tables-fit : p .«table_count» ≤ MAX_TABLES
   pub rules-fit : p .«rule_count» ≤ MAX_RULES
   pub units-fit : p .«unit_count» ≤ MAX_UNITS
 

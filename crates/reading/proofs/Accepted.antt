@@ -1,9 +1,8 @@
 -- Whenever reading accepts bytes they are the layout of lists within the limits, and the record is theirs.
 -- What each command keeps: the bytes read so far are the commands of lists within the limits, and the record is theirs.
 use mathlib.Core.Path.{_≡_, refl, ap, sym, _∙_, subst}
-use mathlib.Core.List.{List, [], _∷_, _++_, flatMap, List·Memᴰ, List·Memᴰ·not-nil, List·Memᴰ·cases-cons}
+use mathlib.Core.List.{List, _∷_, _++_, flatMap}
 use mathlib.Core.Bool.{Bool, true, false, true≢false}
-use mathlib.Core.Logic.{_⊎_, inl, inr}
 use Prim.Native.Nat.{ℕ, _+_, _*_, _^_, _≤_, _<_}
 use native.Mathlib.Omega.{arith}
 use lib.ListN.{length, drop, getD}
@@ -12,16 +11,17 @@ use Rattle.atoms.proofs.Lists.{getD-tabulate}
 use Rattle.plan.specs.Limits.{MAX_UNITS}
 use Rattle.plan.specs.Record.{emptyPlan}
 use Rattle.reading.specs.Words.{WORD_BYTES, WORD_VALUES}
-use Rattle.reading.specs.Commands.{Kind, given, rule, unit, edge, end, byteOf, operandBytes}
+use Rattle.reading.specs.Commands.{Kind, given, table, rule, usage, unit, edge, end, byteOf, operandBytes}
 use Rattle.reading.specs.Reading.{reading, commandBytes}
-use Rattle.reading.specs.Layout.{Contents, endBytes, commands, predecessorsOf, recordOf, IsByte, All, GoodRule, Within, IsPlan}
+use Rattle.reading.specs.Layout.{Contents, endBytes, commands, predecessorsOf, recordOf, IsByte, All, GoodTable, GoodRule, Within, IsPlan}
 use Rattle.reading.proofs.Numbers.{all-drop, word-fits}
 use Rattle.reading.proofs.Commands.{Leads}
 use Rattle.reading.proofs.Walk.{walk-keeps}
 use Rattle.reading.proofs.Limits.{record-fits}
 use Rattle.reading.proofs.Predecessors.{pair, has-member}
 use Rattle.reading.proofs.Elements.{Element, nothing, with, elementAt, operandsOf, written-again, Sized, Held, held-none, few-edges}
-use Rattle.reading.proofs.Elements.{Fits, all-snoc, empty, commands-with, commands-longer, record-none, more}
+use Rattle.reading.proofs.Elements.{Fits, commands-with, commands-longer, record-none, more}
+use Rattle.reading.proofs.Lists.{all-snoc, all-member, empty}
 use Rattle.plan.specs.declared.record.Plan.{Plan}
 use Rattle.plan.specs.declared.fault.Outcome.{Outcome}
 use Rattle.plan.specs.declared.fault.Outcome.the-variants.{Accepted, Refused}
@@ -30,14 +30,17 @@ use Rattle.plan.specs.declared.fault.Outcome.the-variants.{Accepted, Refused}
 
 sized : (k : Kind) (s : List ℕ) → operandBytes k ≤ length s → All IsByte s → Sized k (elementAt k s)
 sized given s long b = word-fits s 0 (omega arith) b
+sized table s long b = (word-fits s 0 (omega arith) b, word-fits s WORD_BYTES (omega arith) b)
 sized rule s long b = (word-fits s 0 (omega arith) b, (word-fits s WORD_BYTES (omega arith) b, word-fits s (2 * WORD_BYTES) (omega arith) b))
 sized unit s long b = word-fits s 0 (omega arith) b
+sized usage s long b = tt
 sized edge s long b = tt
 sized end s long b = tt
 
 -- what is asked of the elements beyond what `Held` has
 pub record Good (c : Contents) : Type 0 where
   pub good-given : All (λ word. word < WORD_VALUES) (c .given)
+  pub good-tables : All GoodTable (c .tables)
   pub good-rules : All GoodRule (c .rules)
   pub good-units : All (λ word. word < 2 ^ length (c .rules)) (c .units)
 
@@ -46,6 +49,15 @@ unfolding recordOf
 good-with c given w z f g =
     record {
       good-given = all-snoc (λ y. y < WORD_VALUES) (c .given) w (g .good-given) z;
+      good-tables = g .good-tables;
+      good-rules = g .good-rules;
+      good-units = g .good-units;
+    }
+good-with c table t z f g =
+    let good : GoodTable t = record { inputs-fit = z .0; truth-fits = z .1; few-inputs = f .right .0; rows-there = f .right .1 } in
+    record {
+      good-given = g .good-given;
+      good-tables = all-snoc GoodTable (c .tables) t (g .good-tables) good;
       good-rules = g .good-rules;
       good-units = g .good-units;
     }
@@ -53,16 +65,21 @@ good-with c rule r z f g =
     let good : GoodRule r = record { head-fits = z .0; positive-fits = z .1 .0; negative-fits = z .1 .1; some-word = f .right .0; none-shared = f .right .1 } in
     record {
       good-given = g .good-given;
+      good-tables = g .good-tables;
       good-rules = all-snoc GoodRule (c .rules) r (g .good-rules) good;
       good-units = rw (empty (c .units) (omega (arith, f .in-place .on-time))) tt;
     }
+good-with c usage x z f g =
+    record { good-given = g .good-given; good-tables = g .good-tables; good-rules = g .good-rules; good-units = g .good-units }
 good-with c unit w z f g =
     record {
       good-given = g .good-given;
+      good-tables = g .good-tables;
       good-rules = g .good-rules;
       good-units = all-snoc (λ y. y < 2 ^ length (c .rules)) (c .units) w (g .good-units) (f .right);
     }
-good-with c edge e z f g = record { good-given = g .good-given; good-rules = g .good-rules; good-units = g .good-units }
+good-with c edge e z f g =
+    record { good-given = g .good-given; good-tables = g .good-tables; good-rules = g .good-rules; good-units = g .good-units }
 good-with c end x z f g = g
 
 -- ---- reading on
@@ -108,7 +125,7 @@ module _ (whole : List ℕ) where
       record {
         contents = nothing;
         held = held-none;
-        good = record { good-given = tt; good-rules = tt; good-units = tt };
+        good = record { good-given = tt; good-tables = tt; good-rules = tt; good-units = tt };
         record-is = sym record-none;
         bytes-are = refl;
         placed = refl;
@@ -120,11 +137,16 @@ module _ (whole : List ℕ) where
       let h = r .held in
       record {
         one-given = h .few .few-given;
+        most-tables = h .few .few-tables;
         most-rules = h .few .few-rules;
+        most-uses = h .few .few-uses;
         most-units = h .few .few-units;
         most-edges = few-edges (r .contents) h;
         good-given = r .good .good-given;
+        good-tables = r .good .good-tables;
         good-rules = r .good .good-rules;
+        good-uses = h .few .good-uses;
+        no-use-again = h .no-use-again;
         good-units = r .good .good-units;
         good-edges = h .good-edges;
         no-repeat = h .no-repeat;
@@ -151,14 +173,6 @@ accepted-is-plan bytes small =
     (λ p at s f r e o. absurd (true≢false (sym (ap isAccepted o)))) emptyPlan 0 bytes (read-start bytes small)
 
 -- ---- the edges of an accepted plan
-
-all-member : {A : Type 0} (P : A → Type 0) (xs : List A) (e : A) → All P xs → List·Memᴰ e xs → P e
-all-member P [] e a m = absurd (List·Memᴰ·not-nil m)
-all-member P (x ∷ xs) e a m = go (List·Memᴰ·cases-cons m) (all-member P xs e (a .1))
-  where
-    go : (e ≡ x) ⊎ List·Memᴰ e xs → (List·Memᴰ e xs → P e) → P e
-    go (inl q) rec = subst P (sym q) (a .0)
-    go (inr k) rec = rec k
 
 -- it names no predecessor that is not there
 pub predecessors-there : (bytes : List ℕ) → All IsByte bytes → reading bytes .outcome ≡ Accepted → (u v : ℕ)

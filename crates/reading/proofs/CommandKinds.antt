@@ -10,8 +10,8 @@ use native.Mathlib.Decide.{decLt}
 use lib.Dec.{eqb, ltb, leb}
 use borrow.Author.Tests.{leb-true, eqb-true, ne-eqb, ltb-true, ltb-false, lt-ltb, le-ltb}
 use Rattle.atoms.proofs.Tests.{bool-ext, and-true}
-use Rattle.reading.specs.Commands.{Kind, given, rule, unit, edge, end, byteOf, kindAmong, kinds, kindOf, orderOf, earliestBehind, count}
-use Rattle.reading.specs.Commands.{countBehind, late}
+use Rattle.reading.specs.Commands.{Kind, given, table, rule, usage, unit, edge, end, byteOf, kindAmong, kinds, kindOf, orderOf}
+use Rattle.reading.specs.Commands.{earliestBehind, count, countBehind, late}
 use Rattle.plan.specs.declared.record.Plan.{Plan}
 
 -- ---- bytes
@@ -19,7 +19,9 @@ use Rattle.plan.specs.declared.record.Plan.{Plan}
 pub kind-of-byte : (k : Kind) → kindOf (byteOf k) ≡ some k
 unfolding kindOf
 kind-of-byte given = refl
+kind-of-byte table = refl
 kind-of-byte rule = refl
+kind-of-byte usage = refl
 kind-of-byte unit = refl
 kind-of-byte edge = refl
 kind-of-byte end = refl

@@ -11,10 +11,10 @@ use lib.ListN.{length, take, drop, getD, length-drop, drop-of-length-le}
 use lib.Seq.{take-all, drop-cons}
 use lib.Dec.{eqb}
 use borrow.Author.Tests.{eqb-true, ltb-false, leb-false, le-ltb, not-false}
-use Rattle.plan.specs.Limits.{MAX_RULES, MAX_UNITS}
+use Rattle.plan.specs.Limits.{MAX_TABLES, MAX_RULES, MAX_USES, MAX_UNITS}
 use Rattle.plan.specs.Record.{emptyPlan}
-use Rattle.reading.specs.Commands.{Kind, given, rule, unit, edge, end, byteOf, kinds, kindOf, operandBytes, orderOf, carrying, countBehind, late, full}
-use Rattle.reading.specs.Commands.{Row, kindRows, operandRows, rows, firstFit, ofKind, commandAt}
+use Rattle.reading.specs.Commands.{Kind, given, table, rule, usage, unit, edge, end, byteOf, kinds, kindOf, operandBytes, orderOf, carrying}
+use Rattle.reading.specs.Commands.{countBehind, late, full, Row, kindRows, operandRows, rows, firstFit, ofKind, commandAt}
 use Rattle.reading.proofs.CommandKinds.{kind-of-byte, kind-byte, byte-own, no-kind}
 use Rattle.reading.specs.Reading.{Step, onward, ended, stepOf, accepted, refused}
 use Rattle.reading.specs.Progress.{kindOfStep}
@@ -65,8 +65,14 @@ pub record InPlace (p : Plan) (k : Kind) : Type 0 where
   pub room : full p k ≡ false
 
 -- what the limits of column "most" leave
+pub table-room : {p : Plan} → InPlace p table → p .«table_count» < MAX_TABLES
+table-room {p} i = leb-false MAX_TABLES (p .«table_count») (i .room)
+
 pub rule-room : {p : Plan} → InPlace p rule → p .«rule_count» < MAX_RULES
 rule-room {p} i = leb-false MAX_RULES (p .«rule_count») (i .room)
+
+pub use-room : {p : Plan} → InPlace p usage → p .«use_count» < MAX_USES
+use-room {p} i = leb-false MAX_USES (p .«use_count») (i .room)
 
 pub unit-room : {p : Plan} → InPlace p unit → p .«unit_count» < MAX_UNITS
 unit-room {p} i = leb-false MAX_UNITS (p .«unit_count») (i .room)
@@ -147,7 +153,9 @@ step-is : (p : Plan) (k : Kind) (operands : List ℕ)
     → stepOf p (carrying k operands) ≡ stepWhen (adds k) (onward k (grown p k operands)) (ended (accepted p))
 unfolding carrying
 step-is p given operands = refl
+step-is p table operands = refl
 step-is p rule operands = refl
+step-is p usage operands = refl
 step-is p unit operands = refl
 step-is p edge operands = refl
 step-is p end operands = refl

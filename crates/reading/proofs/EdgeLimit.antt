@@ -17,7 +17,8 @@ use Rattle.reading.specs.Refusals.{NoNewEdge, no-such-u, no-such-v, to-i
 use Rattle.reading.proofs.CommandKinds.{kind-of-byte}
 use Rattle.reading.proofs.Commands.{known-command}
 use Rattle.reading.proofs.Walk.{walk-ended}
-use Rattle.reading.proofs.Elements.{Few, Held, few-edges, length-snoc, all-snoc, distinct-snoc}
+use Rattle.reading.proofs.Elements.{with, Few, few-within, Held, few-edges}
+use Rattle.reading.proofs.Lists.{length-snoc, all-snoc, distinct-snoc}
 use Rattle.reading.proofs.Rows.{decides-bad}
 use Rattle.reading.proofs.RoundTrip.{commands-read}
 use Rattle.plan.specs.declared.fault.Fault.{Fault}
@@ -28,7 +29,7 @@ use Rattle.reading.specs.declared.command.Command.the-variants.{Fault as
 
 module _ (c : Contents) (w : Within c) (all : length (c .edges) ≡ MAX_EDGES) where
   few : Few c
-  few = record { few-given = w .one-given; few-rules = w .most-rules; few-units = w .most-units }
+  few = few-within w
 
   -- one edge more would be one too many
   no-new-edge : (e : UnitPair) → NoNewEdge c e
@@ -47,12 +48,21 @@ module _ (c : Contents) (w : Within c) (all : length (c .edges) ≡ MAX_EDGES) w
           }
 
       more : ¬ NoNewEdge c e → Contents
-      more new = record { given = c .given; rules = c .rules; units = c .units; edges = c .edges ++ (e ∷ []) }
+      more new = with c edge e
 
       held : (new : ¬ NoNewEdge c e) → Held (more new)
       held new =
           record {
-            few = record { few-given = w .one-given; few-rules = w .most-rules; few-units = w .most-units };
+            few =
+                record {
+                  few-given = w .one-given;
+                  few-tables = w .most-tables;
+                  few-rules = w .most-rules;
+                  few-uses = w .most-uses;
+                  few-units = w .most-units;
+                  good-uses = w .good-uses;
+                };
+            no-use-again = w .no-use-again;
             good-edges = all-snoc (GoodEdge (length (c .units))) (c .edges) e (w .good-edges) (good new);
             no-repeat = distinct-snoc (c .edges) e (w .no-repeat) (λ m. new (repeated m));
           }

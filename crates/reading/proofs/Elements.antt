@@ -1,52 +1,60 @@
 -- One command more, of any kind: its operands as an element of the plan's lists, when it fits behind them, and what it adds to their bytes
 -- and to their record.
 use mathlib.Core.Path.{_≡_, refl, ap, sym, _∙_}
-use mathlib.Core.List.{List, [], _∷_, _++_, append-assoc, append-nil, flatMap, List·Memᴰ, List·Memᴰ·head, List·Memᴰ·tail}
-use mathlib.Core.List.{List·Memᴰ·not-nil, List·Memᴰ·append-cases, List·Memᴰ·eq-of-singleton}
-use mathlib.Core.Logic.{_⊎_, inl, inr}
+use mathlib.Core.List.{List, [], _∷_, _++_, append-assoc, append-nil, flatMap, List·Memᴰ}
 use mathlib.Core.Bool.{true, false, true≢false}
 use Prim.Native.Nat.{ℕ, _+_, _*_, _^_, _≤_, _<_}
 use native.Mathlib.Omega.{arith}
-use lib.ListN.{length, take, drop, getD, set, length-append, take-append-drop}
+use lib.Count.{ones}
+use lib.ListN.{length, take, drop, getD, length-append, take-append-drop}
 use lib.Seq.{drop-drop}
-use borrow.Author.Tests.{leb-false, lt-leb, ne-eqb, not-false}
+use borrow.Author.Tests.{leb-false, lt-leb, le-ltb, ne-eqb, not-false}
 use Rattle.atoms.specs.Lists.{padded, tabulate}
 use Rattle.atoms.specs.Bounded.{Decides}
-use Rattle.atoms.specs.Word.{has, Apart}
+use Rattle.atoms.specs.Word.{Has, has, Apart}
 use Rattle.atoms.proofs.Lists.{padded-snoc, getD-tabulate}
 use Rattle.atoms.proofs.Sets.{decides-has, decides-apart}
 use Rattle.atoms.proofs.Tests.{decided-true, decided-false, not-both, decides-and, decides-not, decides-equal}
-use Rattle.plan.specs.Limits.{MAX_RULES, MAX_UNITS, MAX_EDGES, RULE_WORDS}
-use Rattle.plan.specs.Record.{emptyPlan, withGiven, withRule, withUnit, withEdge}
+use Rattle.plan.specs.Limits.{MAX_TABLES, MAX_RULES, MAX_USES, MAX_UNITS, MAX_EDGES, MAX_INPUTS}
+use Rattle.plan.specs.Record.{usesAt, emptyPlan, withGiven, withTable, withRule, withUse, withUnit, withEdge}
 use Rattle.reading.specs.Words.{WORD_BYTES, WORD_VALUES, wordAt}
-use Rattle.reading.specs.Commands.{Kind, given, rule, unit, edge, end, byteOf, operandBytes, carrying, operandRows}
-use Rattle.reading.specs.Commands.{emptyRule, contradictory, absentRule, badEdge}
-use Rattle.reading.specs.Layout.{RuleWords, UnitPair, Contents, wordBytes, givenBytes, ruleBytes, unitBytes, edgeBytes, threeWords, commands}
-use Rattle.reading.specs.Layout.{predecessorsOf, recordOf, IsByte, All, Distinct, GoodEdge}
+use Rattle.reading.specs.Commands.{Kind, given, table, rule, usage, unit, edge, end, byteOf, operandBytes, carrying, operandRows}
+use Rattle.reading.specs.Commands.{emptyRule, contradictory, badUse, absentRule, badEdge}
+use Rattle.reading.specs.Layout.{TableWords, RuleWords, TableUse, UnitPair, Contents, wordBytes, givenBytes, tableBytes, ruleBytes, useBytes}
+use Rattle.reading.specs.Layout.{unitBytes, edgeBytes, commands, wordOf, usesOf, ruleWords, predecessorsOf, recordOf, IsByte, All, Distinct}
+use Rattle.reading.specs.Layout.{GoodUse, GoodEdge, Within}
 use Rattle.reading.specs.Reading.{commandBytes}
 use Rattle.reading.proofs.Numbers.{length-bytes, word-behind, word-bytes}
 use Rattle.reading.proofs.Edges.{not-bad-edge}
-use Rattle.reading.proofs.Commands.{Passed, InPlace, rule-room, unit-room, adds, grown, Leads}
+use Rattle.reading.proofs.Uses.{not-bad-use}
+use Rattle.reading.proofs.Tables.{decides-bad-table, right-table, no-wrong-table}
+use Rattle.reading.proofs.Commands.{Passed, InPlace, table-room, rule-room, use-room, unit-room, adds, grown, Leads}
 use Rattle.reading.proofs.Pigeonhole.{edges-at-most}
 use Rattle.reading.proofs.Predecessors.{has-member, member-has, rows-snoc}
+use Rattle.reading.proofs.Program.{tableWords, table-words-long, tables-snoc, rules-snoc, bitOf, uses-word, use-has, has-use, uses-snoc}
+use Rattle.reading.proofs.Lists.{length-snoc, all-snoc, distinct-snoc, flat-snoc, empty}
 use Rattle.plan.specs.declared.record.Plan.{Plan}
 
 abbrev pub Element : Kind → Type 0
 Element given = ℕ
+Element table = TableWords
 Element rule = RuleWords
+Element usage = TableUse
 Element unit = ℕ
 Element edge = UnitPair
 Element end = Unit {0}
 
 abbrev pub nothing : Contents
-nothing = record { given = []; rules = []; units = []; edges = [] }
+nothing = record { given = []; tables = []; rules = []; uses = []; units = []; edges = [] }
 
 -- the lists with one element more
 abbrev pub with : Contents → (k : Kind) → Element k → Contents
-with c given w = record { given = c .given ++ (w ∷ []); rules = c .rules; units = c .units; edges = c .edges }
-with c rule r = record { given = c .given; rules = c .rules ++ (r ∷ []); units = c .units; edges = c .edges }
-with c unit w = record { given = c .given; rules = c .rules; units = c .units ++ (w ∷ []); edges = c .edges }
-with c edge e = record { given = c .given; rules = c .rules; units = c .units; edges = c .edges ++ (e ∷ []) }
+with c given w = record { given = c .given ++ (w ∷ []); tables = c .tables; rules = c .rules; uses = c .uses; units = c .units; edges = c .edges }
+with c table t = record { given = c .given; tables = c .tables ++ (t ∷ []); rules = c .rules; uses = c .uses; units = c .units; edges = c .edges }
+with c rule r = record { given = c .given; tables = c .tables; rules = c .rules ++ (r ∷ []); uses = c .uses; units = c .units; edges = c .edges }
+with c usage x = record { given = c .given; tables = c .tables; rules = c .rules; uses = c .uses ++ (x ∷ []); units = c .units; edges = c .edges }
+with c unit w = record { given = c .given; tables = c .tables; rules = c .rules; uses = c .uses; units = c .units ++ (w ∷ []); edges = c .edges }
+with c edge e = record { given = c .given; tables = c .tables; rules = c .rules; uses = c .uses; units = c .units; edges = c .edges ++ (e ∷ []) }
 with c end x = c
 
 -- ---- operands
@@ -54,7 +62,9 @@ with c end x = c
 -- the bytes of an element
 abbrev pub operandsOf : (k : Kind) → Element k → List ℕ
 operandsOf given w = wordBytes w
+operandsOf table t = wordBytes (t .inputs) ++ wordBytes (t .truth)
 operandsOf rule r = wordBytes (r .head) ++ (wordBytes (r .positive) ++ wordBytes (r .negative))
+operandsOf usage x = x .rule ∷ x .table ∷ x .sign ∷ []
 operandsOf unit w = wordBytes w
 operandsOf edge e = e .u ∷ e .v ∷ []
 operandsOf end x = []
@@ -62,7 +72,9 @@ operandsOf end x = []
 -- the element that the bytes spell
 abbrev pub elementAt : (k : Kind) → List ℕ → Element k
 elementAt given s = wordAt 0 s
+elementAt table s = record { inputs = wordAt 0 s; truth = wordAt WORD_BYTES s }
 elementAt rule s = record { head = wordAt 0 s; positive = wordAt WORD_BYTES s; negative = wordAt (2 * WORD_BYTES) s }
+elementAt usage s = record { rule = getD s 0 0; table = getD s 1 0; sign = getD s 2 0 }
 elementAt unit s = wordAt 0 s
 elementAt edge s = record { u = getD s 0 0; v = getD s 1 0 }
 elementAt end s = tt
@@ -72,29 +84,40 @@ word-long w = length-bytes WORD_BYTES w
 
 pub operands-long : (k : Kind) (x : Element k) → length (operandsOf k x) ≡ operandBytes k
 operands-long given w = word-long w
+operands-long table t = simp (length-append, length-bytes WORD_BYTES (t .inputs), length-bytes WORD_BYTES (t .truth))
 operands-long rule r =
     simp (length-append, length-bytes WORD_BYTES (r .head), length-bytes WORD_BYTES (r .positive), length-bytes WORD_BYTES (r .negative))
+operands-long usage x = refl
 operands-long unit w = word-long w
 operands-long edge e = refl
 operands-long end x = refl
 
-word-more : (s : List ℕ) (n : ℕ) → take WORD_BYTES (drop n s) ++ drop (n + WORD_BYTES) s ≡ drop n s
-word-more s n = ap (λ (t : List ℕ). take WORD_BYTES (drop n s) ++ t) (sym (drop-drop WORD_BYTES n s)) ∙ take-append-drop WORD_BYTES (drop n s)
+-- the word's bytes at n
+abbrev wordPart : List ℕ → ℕ → List ℕ
+wordPart s n = take WORD_BYTES (drop n s)
+
+word-more : (s : List ℕ) (n : ℕ) → wordPart s n ++ drop (n + WORD_BYTES) s ≡ drop n s
+word-more s n = ap (λ (t : List ℕ). wordPart s n ++ t) (sym (drop-drop WORD_BYTES n s)) ∙ take-append-drop WORD_BYTES (drop n s)
 
 -- bytes, read and written again
 pub written-again : (k : Kind) (s : List ℕ) → operandBytes k ≤ length s → All IsByte s → operandsOf k (elementAt k s) ++ drop (operandBytes k) s ≡ s
 written-again given s long b = rw (word-bytes s 0 (omega arith) b) (word-more s 0)
+written-again table s long b =
+    rw (word-bytes s 0 (omega arith) b, word-bytes s WORD_BYTES (omega arith) b)
+    (append-assoc (wordPart s 0) (wordPart s WORD_BYTES) (drop (operandBytes table) s)
+    ∙ ap (λ (t : List ℕ). wordPart s 0 ++ t) (word-more s WORD_BYTES) ∙ word-more s 0)
 written-again rule s long b =
     rw (word-bytes s 0 (omega arith) b, word-bytes s WORD_BYTES (omega arith) b, word-bytes s (2 * WORD_BYTES) (omega arith) b)
-    (regroup (word 0) (word WORD_BYTES) (word (2 * WORD_BYTES)) (drop (operandBytes rule) s)
-    ∙ ap (λ (t : List ℕ). word 0 ++ (word WORD_BYTES ++ t)) (word-more s (2 * WORD_BYTES))
-    ∙ ap (λ (t : List ℕ). word 0 ++ t) (word-more s WORD_BYTES) ∙ word-more s 0)
+    (regroup (wordPart s 0) (wordPart s WORD_BYTES) (wordPart s (2 * WORD_BYTES)) (drop (operandBytes rule) s)
+    ∙ ap (λ (t : List ℕ). wordPart s 0 ++ (wordPart s WORD_BYTES ++ t)) (word-more s (2 * WORD_BYTES))
+    ∙ ap (λ (t : List ℕ). wordPart s 0 ++ t) (word-more s WORD_BYTES) ∙ word-more s 0)
   where
-    word : ℕ → List ℕ
-    word n = take WORD_BYTES (drop n s)
-
     regroup : (x y z rest : List ℕ) → (x ++ (y ++ z)) ++ rest ≡ x ++ (y ++ (z ++ rest))
     regroup x y z rest = simp append-assoc
+written-again usage [] long b = absurd (omega arith)
+written-again usage (x ∷ []) long b = absurd (omega arith)
+written-again usage (x ∷ y ∷ []) long b = absurd (omega arith)
+written-again usage (x ∷ y ∷ z ∷ s) long b = refl
 written-again unit s long b = rw (word-bytes s 0 (omega arith) b) (word-more s 0)
 written-again edge [] long b = absurd (omega arith)
 written-again edge (x ∷ []) long b = absurd (omega arith)
@@ -106,15 +129,19 @@ written-again end s long b = refl
 -- words of 64 bits
 abbrev pub Sized : (k : Kind) → Element k → Type 0
 Sized given w = w < WORD_VALUES
+Sized table t = (t .inputs < WORD_VALUES) × (t .truth < WORD_VALUES)
 Sized rule r = (r .head < WORD_VALUES) × ((r .positive < WORD_VALUES) × (r .negative < WORD_VALUES))
+Sized usage x = Unit {0}
 Sized unit w = w < WORD_VALUES
 Sized edge e = Unit {0}
 Sized end x = Unit {0}
 
--- rows 6, 21, 7 and 8
+-- rows 18, 6, 21, 19, 7 and 8
 abbrev pub Right : Contents → (k : Kind) → Element k → Type 0
 Right c given w = Unit {0}
+Right c table t = (ones (t .inputs) ≤ MAX_INPUTS) × ((j : ℕ) → Has (t .truth) j → j < 2 ^ ones (t .inputs))
 Right c rule r = (¬ ((r .head ≡ 0) × ((r .positive ≡ 0) × (r .negative ≡ 0)))) × Apart (r .positive) (r .negative)
+Right c usage x = GoodUse (length (c .rules)) (length (c .tables)) x × ¬ List·Memᴰ x (c .uses)
 Right c unit w = w < 2 ^ length (c .rules)
 Right c edge e = GoodEdge (length (c .units)) e × ¬ List·Memᴰ e (c .edges)
 Right c end x = Unit {0}
@@ -122,11 +149,26 @@ Right c end x = Unit {0}
 -- what holds of the lists of every record that is read
 pub record Few (c : Contents) : Type 0 where
   pub few-given : length (c .given) ≤ 1
+  pub few-tables : length (c .tables) ≤ MAX_TABLES
   pub few-rules : length (c .rules) ≤ MAX_RULES
+  pub few-uses : length (c .uses) ≤ MAX_USES
   pub few-units : length (c .units) ≤ MAX_UNITS
+  pub good-uses : All (GoodUse (length (c .rules)) (length (c .tables))) (c .uses)
+
+pub few-within : {c : Contents} → Within c → Few c
+few-within w =
+    record {
+      few-given = w .one-given;
+      few-tables = w .most-tables;
+      few-rules = w .most-rules;
+      few-uses = w .most-uses;
+      few-units = w .most-units;
+      good-uses = w .good-uses;
+    }
 
 pub record Held (c : Contents) : Type 0 where
   pub few : Few c
+  pub no-use-again : Distinct (c .uses)
   pub good-edges : All (GoodEdge (length (c .units))) (c .edges)
   pub no-repeat : Distinct (c .edges)
 
@@ -138,6 +180,12 @@ pub record Fits (c : Contents) (k : Kind) (x : Element k) : Type 0 where
 -- an element, written and read again
 pub read-again : (k : Kind) (x : Element k) (rest : List ℕ) → Sized k x → elementAt k (operandsOf k x ++ rest) ≡ x
 read-again given w rest g = word-behind [] 0 w rest refl g
+read-again table t rest g =
+    let n = wordBytes (t .inputs) in
+    let first : wordAt 0 ((n ++ wordBytes (t .truth)) ++ rest) ≡ t .inputs = rw append-assoc (word-behind [] 0 (t .inputs) _ refl (g .0)) in
+    let second : wordAt WORD_BYTES ((n ++ wordBytes (t .truth)) ++ rest) ≡ t .truth =
+    rw append-assoc (word-behind n WORD_BYTES (t .truth) rest (word-long (t .inputs)) (g .1)) in
+    λ i. record { inputs = first i; truth = second i }
 read-again rule r rest g =
     let h = wordBytes (r .head) in
     let p = wordBytes (r .positive) in
@@ -149,6 +197,7 @@ read-again rule r rest g =
     let third : wordAt (2 * WORD_BYTES) ((h ++ (p ++ n)) ++ rest) ≡ r .negative =
     rw (← append-assoc h p n, append-assoc (h ++ p) n rest) (word-behind (h ++ p) (2 * WORD_BYTES) (r .negative) rest two (g .1 .1)) in
     λ i. record { head = first i; positive = second i; negative = third i }
+read-again usage x rest g = refl
 read-again unit w rest g = word-behind [] 0 w rest refl g
 read-again edge e rest g = refl
 read-again end x rest g = refl
@@ -169,12 +218,32 @@ module _ (c : Contents) (few : Few c) where
   pub row-is : (u : ℕ) → u < length (c .units) → getD (tabulate MAX_UNITS (predecessorsOf (c .edges))) u 0 ≡ predecessorsOf (c .edges) u
   row-is u l = getD-tabulate MAX_UNITS (predecessorsOf (c .edges)) u (omega (arith, few .few-units))
 
+  -- the word of a rule's uses, and the use that a bit stands for
+  pub uses-are : (r : ℕ) → r < length (c .rules) → getD (recordOf c .rules) (usesAt r) 0 ≡ usesOf (c .uses) r
+  unfolding recordOf
+  uses-are r l = uses-word (c .uses) (tableWords (c .tables)) (c .rules) r (table-words-long (c .tables) (few .few-tables)) (few .few-rules) l
+
+  pub bit-of-use : (x : TableUse) → x .table < length (c .tables) → Has (usesOf (c .uses) (x .rule)) (bitOf x) → List·Memᴰ x (c .uses)
+  bit-of-use x l h = has-use (c .uses) x (below (c .uses) (few .good-uses)) (omega (arith, few .few-tables)) h
+    where
+      below : (uses : List TableUse) → All (GoodUse (length (c .rules)) (length (c .tables))) uses → All (λ y. y .table < MAX_TABLES) uses
+      below [] a = tt
+      below (y ∷ uses) a = (omega (arith, a .0 .table-there, few .few-tables), below uses (a .1))
+
 module _ (c : Contents) (at : ℕ) (s : List ℕ) (few : Few c) where
   -- no row of its operands stops an element exactly if it is right
   pub passed-right : (k : Kind) → Passed (operandRows (recordOf c) at k s) → Right c k (elementAt k s)
   unfolding recordOf absentRule
   passed-right given h = tt
+  passed-right table h = right-table (elementAt table s) (decides-bad-table (elementAt table s) .no (h .0))
   passed-right rule h = (λ z. decides-empty _ _ _ .no (h .0) ((z .0, z .1 .0), z .1 .1), none-shared _ _ (h .1 .0))
+  passed-right usage h =
+      let x : TableUse = elementAt usage s in
+      let new = not-bad-use (recordOf c) (x .rule) (x .table) (x .sign) (h .0) in
+      let absent : has (usesOf (c .uses) (x .rule)) (bitOf x) ≡ false = rw (uses-are c few (x .rule) (new .rule-there)) at (new .fresh) in (
+        record { rule-there = new .rule-there; table-there = new .table-there; zero-or-one = new .zero-or-one },
+        λ m. not-both (decided-true (decides-has _ _) (use-has (c .uses) x m)) absent,
+      )
   passed-right unit h = leb-false _ _ (h .0)
   passed-right edge h =
       let e : UnitPair = elementAt edge s in
@@ -186,12 +255,27 @@ module _ (c : Contents) (at : ℕ) (s : List ℕ) (few : Few c) where
   passed-right end h = tt
 
   pub right-passed : (k : Kind) → adds k ≡ true → Right c k (elementAt k s) → Passed (operandRows (recordOf c) at k s)
-  unfolding recordOf absentRule badEdge
+  unfolding recordOf badUse absentRule badEdge
   right-passed given a g = tt
+  right-passed table a g = (decided-false (decides-bad-table (elementAt table s)) (no-wrong-table (elementAt table s) (g .0) (g .1)), tt)
   right-passed rule a g = (
     decided-false (decides-empty _ _ _) (λ z. g .0 (z .0 .0, (z .0 .1, z .1))),
     (decided-false (decides-contradictory _ _) (λ n. n (g .1)), tt),
   )
+  right-passed usage a g =
+      let x : TableUse = elementAt usage s in
+      let t = g .0 in
+      let absent : has (usesOf (c .uses) (x .rule)) (bitOf x) ≡ false =
+      decided-false (decides-has _ _) (λ h. g .1 (bit-of-use c few x (t .table-there) h)) in (
+        simp (
+          lt-leb _ _ (t .rule-there),
+          lt-leb _ _ (t .table-there),
+          le-ltb _ _ (t .zero-or-one),
+          uses-are c few (x .rule) (t .rule-there),
+          absent,
+        ),
+        tt,
+      )
   right-passed unit a g = (lt-leb _ _ g, tt)
   right-passed edge a g =
       let e : UnitPair = elementAt edge s in
@@ -202,51 +286,100 @@ module _ (c : Contents) (at : ℕ) (s : List ℕ) (few : Few c) where
 
 -- ---- the lists, one element more
 
-pub length-snoc : {A : Type 0} (xs : List A) (x : A) → length (xs ++ (x ∷ [])) ≡ length xs + 1
-length-snoc xs x = length-append xs (x ∷ [])
-
-pub all-snoc : {A : Type 0} (P : A → Type 0) (xs : List A) (x : A) → All P xs → P x → All P (xs ++ (x ∷ []))
-all-snoc P [] x a p = (p, tt)
-all-snoc P (y ∷ xs) x a p = (a .0, all-snoc P xs x (a .1) p)
-
-pub distinct-snoc : {A : Type 0} (xs : List A) (x : A) → Distinct xs → ¬ List·Memᴰ x xs → Distinct (xs ++ (x ∷ []))
-distinct-snoc [] x d n = (λ m. List·Memᴰ·not-nil m, tt)
-distinct-snoc (y ∷ xs) x d n = (λ m. go (List·Memᴰ·append-cases xs m), distinct-snoc xs x (d .1) (λ m. n (List·Memᴰ·tail m)))
-  where
-    go : List·Memᴰ y xs ⊎ List·Memᴰ y (x ∷ []) → ⊥
-    go (inl old) = d .0 old
-    go (inr m) = n (List·Memᴰ·head (sym (List·Memᴰ·eq-of-singleton m)))
-
-pub empty : {A : Type 0} (l : List A) → length l ≤ 0 → l ≡ []
-empty [] h = refl
-empty (x ∷ l) h = absurd (omega arith)
-
 held-with : (c : Contents) (k : Kind) (x : Element k) → Held c → Fits c k x → Held (with c k x)
 unfolding recordOf
 held-with c given w h f =
     let more : length (c .given ++ (w ∷ [])) ≤ 1 = omega (arith, length-snoc (c .given) w, f .in-place .on-time) in
     record {
-      few = record { few-given = more; few-rules = f .few .few-rules; few-units = f .few .few-units };
+      few =
+          record {
+            few-given = more;
+            few-tables = f .few .few-tables;
+            few-rules = f .few .few-rules;
+            few-uses = f .few .few-uses;
+            few-units = f .few .few-units;
+            good-uses = f .few .good-uses;
+          };
+      no-use-again = h .no-use-again;
+      good-edges = h .good-edges;
+      no-repeat = h .no-repeat;
+    }
+held-with c table t h f =
+    let more : length (c .tables ++ (t ∷ [])) ≤ MAX_TABLES = omega (arith, length-snoc (c .tables) t, table-room (f .in-place)) in
+    record {
+      few =
+          record {
+            few-given = f .few .few-given;
+            few-tables = more;
+            few-rules = f .few .few-rules;
+            few-uses = f .few .few-uses;
+            few-units = f .few .few-units;
+            good-uses = rw (empty (c .uses) (omega (arith, f .in-place .on-time))) tt;
+          };
+      no-use-again = h .no-use-again;
       good-edges = h .good-edges;
       no-repeat = h .no-repeat;
     }
 held-with c rule r h f =
     let more : length (c .rules ++ (r ∷ [])) ≤ MAX_RULES = omega (arith, length-snoc (c .rules) r, rule-room (f .in-place)) in
     record {
-      few = record { few-given = f .few .few-given; few-rules = more; few-units = f .few .few-units };
+      few =
+          record {
+            few-given = f .few .few-given;
+            few-tables = f .few .few-tables;
+            few-rules = more;
+            few-uses = f .few .few-uses;
+            few-units = f .few .few-units;
+            good-uses = rw (empty (c .uses) (omega (arith, f .in-place .on-time))) tt;
+          };
+      no-use-again = h .no-use-again;
+      good-edges = h .good-edges;
+      no-repeat = h .no-repeat;
+    }
+held-with c usage x h f =
+    let more : length (c .uses ++ (x ∷ [])) ≤ MAX_USES = omega (arith, length-snoc (c .uses) x, use-room (f .in-place)) in
+    record {
+      few =
+          record {
+            few-given = f .few .few-given;
+            few-tables = f .few .few-tables;
+            few-rules = f .few .few-rules;
+            few-uses = more;
+            few-units = f .few .few-units;
+            good-uses = all-snoc (GoodUse (length (c .rules)) (length (c .tables))) (c .uses) x (f .few .good-uses) (f .right .0);
+          };
+      no-use-again = distinct-snoc (c .uses) x (h .no-use-again) (f .right .1);
       good-edges = h .good-edges;
       no-repeat = h .no-repeat;
     }
 held-with c unit w h f =
     let more : length (c .units ++ (w ∷ [])) ≤ MAX_UNITS = omega (arith, length-snoc (c .units) w, unit-room (f .in-place)) in
     record {
-      few = record { few-given = f .few .few-given; few-rules = f .few .few-rules; few-units = more };
+      few =
+          record {
+            few-given = f .few .few-given;
+            few-tables = f .few .few-tables;
+            few-rules = f .few .few-rules;
+            few-uses = f .few .few-uses;
+            few-units = more;
+            good-uses = f .few .good-uses;
+          };
+      no-use-again = h .no-use-again;
       good-edges = rw (empty (c .edges) (omega (arith, f .in-place .on-time))) tt;
       no-repeat = h .no-repeat;
     }
 held-with c edge e h f =
     record {
-      few = record { few-given = f .few .few-given; few-rules = f .few .few-rules; few-units = f .few .few-units };
+      few =
+          record {
+            few-given = f .few .few-given;
+            few-tables = f .few .few-tables;
+            few-rules = f .few .few-rules;
+            few-uses = f .few .few-uses;
+            few-units = f .few .few-units;
+            good-uses = f .few .good-uses;
+          };
+      no-use-again = h .no-use-again;
       good-edges = all-snoc (GoodEdge (length (c .units))) (c .edges) e (h .good-edges) (f .right .0);
       no-repeat = distinct-snoc (c .edges) e (h .no-repeat) (f .right .1);
     }
@@ -254,7 +387,20 @@ held-with c end x h f = h
 
 pub held-none : Held nothing
 held-none =
-    record { few = record { few-given = omega arith; few-rules = omega arith; few-units = omega arith }; good-edges = tt; no-repeat = tt }
+    record {
+      few =
+          record {
+            few-given = omega arith;
+            few-tables = omega arith;
+            few-rules = omega arith;
+            few-uses = omega arith;
+            few-units = omega arith;
+            good-uses = tt;
+          };
+      no-use-again = tt;
+      good-edges = tt;
+      no-repeat = tt;
+    }
 
 pub few-edges : (c : Contents) → Held c → length (c .edges) ≤ MAX_EDGES
 few-edges c h = edges-at-most (c .edges) (below (c .edges) (h .good-edges)) (h .no-repeat)
@@ -268,21 +414,37 @@ few-edges c h = edges-at-most (c .edges) (below (c .edges) (h .good-edges)) (h .
 
 -- ---- the bytes
 
-flat-snoc : {A : Type 0} (f : A → List ℕ) (xs : List A) (x : A) → flatMap f (xs ++ (x ∷ [])) ≡ flatMap f xs ++ f x
-unfolding flatMap
-flat-snoc f [] x = append-nil (f x)
-flat-snoc f (y ∷ xs) x = ap (λ (l : List ℕ). f y ++ l) (flat-snoc f xs x) ∙ sym (append-assoc (f y) (flatMap f xs) (f x))
-
 pub commands-with : (c : Contents) (k : Kind) (x : Element k) (t : List ℕ) → adds k ≡ true → InPlace (recordOf c) k
     → commands (with c k x) ++ t ≡ commands c ++ (byteOf k ∷ (operandsOf k x ++ t))
 unfolding commands recordOf flatMap
 commands-with c given w t a h =
     let behind = h .on-time in
-    rw (empty (c .rules) (omega arith), empty (c .units) (omega arith), empty (c .edges) (omega arith), flat-snoc givenBytes (c .given) w)
+    rw (
+      empty (c .tables) (omega arith),
+      empty (c .rules) (omega arith),
+      empty (c .uses) (omega arith),
+      empty (c .units) (omega arith),
+      empty (c .edges) (omega arith),
+      flat-snoc givenBytes (c .given) w,
+    )
+    (simp (append-nil, append-assoc))
+commands-with c table x t a h =
+    let behind = h .on-time in
+    rw (
+      empty (c .rules) (omega arith),
+      empty (c .uses) (omega arith),
+      empty (c .units) (omega arith),
+      empty (c .edges) (omega arith),
+      flat-snoc tableBytes (c .tables) x,
+    )
     (simp (append-nil, append-assoc))
 commands-with c rule r t a h =
     let behind = h .on-time in
-    rw (empty (c .units) (omega arith), empty (c .edges) (omega arith), flat-snoc ruleBytes (c .rules) r) (simp (append-nil, append-assoc))
+    rw (empty (c .uses) (omega arith), empty (c .units) (omega arith), empty (c .edges) (omega arith), flat-snoc ruleBytes (c .rules) r)
+    (simp (append-nil, append-assoc))
+commands-with c usage x t a h =
+    let behind = h .on-time in
+    rw (empty (c .units) (omega arith), empty (c .edges) (omega arith), flat-snoc useBytes (c .uses) x) (simp (append-nil, append-assoc))
 commands-with c unit w t a h = rw (empty (c .edges) (omega (arith, h .on-time)), flat-snoc unitBytes (c .units) w) (simp (append-nil, append-assoc))
 commands-with c edge e t a h = rw (flat-snoc edgeBytes (c .edges) e) (simp append-assoc)
 commands-with c end x t a h = absurd (true≢false (sym a))
@@ -295,42 +457,20 @@ commands-longer c k x a h =
 -- ---- the record
 
 pub record-none : recordOf nothing ≡ emptyPlan
-unfolding recordOf emptyPlan padded tabulate predecessorsOf flatMap
+unfolding recordOf emptyPlan padded tabulate predecessorsOf wordOf ruleWords flatMap
 record-none = refl
 
-words-long : (rules : List RuleWords) → length (flatMap threeWords rules) ≡ RULE_WORDS * length rules
-unfolding flatMap
-words-long [] = refl
-words-long (r ∷ rules) = let e = words-long rules in omega arith
-
-rules-snoc : (rules : List RuleWords) (r : RuleWords) (size : ℕ) → RULE_WORDS * length rules + 2 < size
-    → set (set (set (padded size (flatMap threeWords rules)) (RULE_WORDS * length rules) (r .head)) (RULE_WORDS * length rules + 1) (r .positive))
-    (RULE_WORDS * length rules + 2)
-    (r .negative)
-    ≡ padded size (flatMap threeWords (rules ++ (r ∷ [])))
-rules-snoc rules r size l =
-    let w = flatMap threeWords rules in
-    let n : ℕ = RULE_WORDS * length rules in
-    let one = length-snoc w (r .head) in
-    let two = length-snoc (w ++ (r .head ∷ [])) (r .positive) in
-    let long = words-long rules in
-    rw (
-      padded-snoc size w n (r .head) long (omega arith),
-      padded-snoc size (w ++ (r .head ∷ [])) (n + 1) (r .positive) (omega arith) (omega arith),
-      padded-snoc size ((w ++ (r .head ∷ [])) ++ (r .positive ∷ [])) (n + 2) (r .negative) (omega arith) (omega arith),
-      flat-snoc threeWords rules r,
-    )
-    (ap (padded size) (simp append-assoc))
-
-same-plan : {p q : Plan} → p .given ≡ q .given → p .«given_count» ≡ q .«given_count» → p .rules ≡ q .rules
-    → p .«rule_count» ≡ q .«rule_count» → p .units ≡ q .units → p .«unit_count» ≡ q .«unit_count» → p .predecessors ≡ q .predecessors
-    → p .«edge_count» ≡ q .«edge_count» → p ≡ q
-same-plan g n a b c d e f =
+same-plan : {p q : Plan} → p .given ≡ q .given → p .«given_count» ≡ q .«given_count» → p .rules ≡ q .rules → p .«table_count» ≡ q .«table_count»
+    → p .«rule_count» ≡ q .«rule_count» → p .«use_count» ≡ q .«use_count» → p .units ≡ q .units → p .«unit_count» ≡ q .«unit_count»
+    → p .predecessors ≡ q .predecessors → p .«edge_count» ≡ q .«edge_count» → p ≡ q
+same-plan g n a t b u c d e f =
     λ i. record {
       given = g i;
       «given_count» = n i;
       rules = a i;
+      «table_count» = t i;
       «rule_count» = b i;
+      «use_count» = u i;
       units = c i;
       «unit_count» = d i;
       predecessors = e i;
@@ -339,22 +479,33 @@ same-plan g n a b c d e f =
 
 -- the record of the lists with one element more
 pub record-with : (c : Contents) (k : Kind) (s : List ℕ) → Fits c k (elementAt k s) → grown (recordOf c) k s ≡ recordOf (with c k (elementAt k s))
-unfolding recordOf withGiven withRule withUnit withEdge carrying
+unfolding recordOf withGiven withTable withRule withUse withUnit withEdge carrying
 record-with c given s f =
     let first = empty (c .given) (omega (arith, f .in-place .on-time)) in
-    same-plan (rw first) (rw first) refl refl refl refl refl refl
+    same-plan (rw first) (rw first) refl refl refl refl refl refl refl refl
+record-with c table s f =
+    let t : TableWords = elementAt table s in
+    let e = tables-snoc (c .tables) t _ (table-room (f .in-place)) in
+    same-plan refl refl e (sym (length-snoc (c .tables) t)) refl refl refl refl refl refl
 record-with c rule s f =
     let r : RuleWords = elementAt rule s in
-    let e = rules-snoc (c .rules) r (RULE_WORDS * MAX_RULES) (omega (arith, rule-room (f .in-place))) in
-    same-plan refl refl e (sym (length-snoc (c .rules) r)) refl refl refl refl
+    let whole = table-words-long (c .tables) (f .few .few-tables) in
+    let unused = empty (c .uses) (omega (arith, f .in-place .on-time)) in
+    let e = rules-snoc (tableWords (c .tables)) (c .uses) (c .rules) r whole (rule-room (f .in-place)) unused in
+    same-plan refl refl e refl (sym (length-snoc (c .rules) r)) refl refl refl refl refl
+record-with c usage s f =
+    let x : TableUse = elementAt usage s in
+    let whole = table-words-long (c .tables) (f .few .few-tables) in
+    let e = uses-snoc (c .uses) x (tableWords (c .tables)) (c .rules) whole (f .few .few-rules) (f .right .0 .rule-there) in
+    same-plan refl refl e refl refl (sym (length-snoc (c .uses) x)) refl refl refl refl
 record-with c unit s f =
     let w : ℕ = elementAt unit s in
     let e = padded-snoc MAX_UNITS (c .units) (length (c .units)) w refl (unit-room (f .in-place)) in
-    same-plan refl refl refl refl e (sym (length-snoc (c .units) w)) refl refl
+    same-plan refl refl refl refl refl refl e (sym (length-snoc (c .units) w)) refl refl
 record-with c edge s f =
     let x : UnitPair = elementAt edge s in
     let e = rows-snoc (c .edges) x (omega (arith, f .right .0 .from-there, f .few .few-units)) in
-    same-plan refl refl refl refl refl refl e (sym (length-snoc (c .edges) x))
+    same-plan refl refl refl refl refl refl refl refl e (sym (length-snoc (c .edges) x))
 record-with c end s f = refl
 
 -- one command more, behind the record of the lists

@@ -13,13 +13,14 @@ use types.Run.{OneOf, miss}
 use denote.Enum.Declared.{tagOf}
 use Rattle.reading.proofs.command.Command.{the-type}
 use Rattle.plan.specs.Record.{Fitting, emptyPlan}
-use Rattle.reading.specs.Commands.{Kind, given, edge, end, orderOf, earliestBehind, count, commandAt, carrying}
+use Rattle.reading.specs.Commands.{Kind, given, usage, edge, end, orderOf, earliestBehind, count, commandAt, carrying}
 use Rattle.reading.specs.Reading.{onward, stepOf, walk, reading, accepted, refused, commandBytes}
 use Rattle.reading.specs.Progress.{placeAt, kindOfStep, Reached}
 use Rattle.reading.proofs.Commands.{InPlace, Unstopped, Front, unstopped, stopped, front}
 use Rattle.reading.proofs.Commands.{planOf, adds, goesOn, step-kind, step-adds, Leads}
 use Rattle.reading.proofs.CommandKinds.{each-kind, order-end, none-behind}
 use Rattle.reading.proofs.Edges.{NewEdge, not-bad-edge}
+use Rattle.reading.proofs.Uses.{NewUse, not-bad-use}
 use Rattle.reading.proofs.Limits.{empty-fits, leads-grown}
 use Rattle.reading.proofs.Walk.{walk-on, walk-ended}
 use Rattle.plan.specs.declared.record.Plan.{Plan}
@@ -28,7 +29,7 @@ use Rattle.plan.specs.declared.fault.Outcome.the-variants.{Refused}
 use Rattle.reading.specs.declared.reader.Progress.{Progress}
 use Rattle.reading.specs.declared.reader.Reading.{Reading}
 use Rattle.reading.specs.declared.command.Command.{Command}
-use Rattle.reading.specs.declared.command.Command.the-variants.{Given, Rule, Unit as UnitOf, Edge, End, Fault as Faulty}
+use Rattle.reading.specs.declared.command.Command.the-variants.{Given, Table, Rule, Use, Unit as UnitOf, Edge, End, Fault as Faulty}
 
 -- ---- the order of kinds
 
@@ -104,6 +105,16 @@ edge-there p at s u v l e =
     let is-v : getD (l .operands) 1 0 ≡ v = cc in
     rw (is-u, is-v) at (not-bad-edge p (getD (l .operands) 0 0) (getD (l .operands) 1 0) (l .right .0))
 
+-- a USE that no row stops is new
+pub use-there : (p : Plan) (at : ℕ) (s : List ℕ) (r t sign : ℕ) → Unstopped usage p at s → commandAt p at s ≡ Use r t sign → NewUse p r t sign
+unfolding carrying
+use-there p at s r t sign l e =
+    let same : Use (getD (l .operands) 0 0) (getD (l .operands) 1 0) (getD (l .operands) 2 0) ≡ Use r t sign = sym (l .command) ∙ e in
+    let is-r : getD (l .operands) 0 0 ≡ r = cc in
+    let is-t : getD (l .operands) 1 0 ≡ t = cc in
+    let is-sign : getD (l .operands) 2 0 ≡ sign = cc in
+    rw (is-r, is-t, is-sign) at (not-bad-use p (getD (l .operands) 0 0) (getD (l .operands) 1 0) (getD (l .operands) 2 0) (l .right .0))
+
 abbrev pub Turn : {k : Kind} {bytes : List ℕ} {r : Progress} → Reached k bytes r → Type 0
 Turn {k} {bytes} {r} R = (q : Plan) × Taken k bytes r q
 
@@ -144,7 +155,9 @@ FAULT = suc (orderOf end)
 
 tag-order : (p : Plan) (x : Command) → orderOf (kindOfStep (stepOf p x)) ≡ min (orderOf end) (tagOf the-type x)
 tag-order p (Given word) = refl
+tag-order p (Table inputs truth) = refl
 tag-order p (Rule head positive negative) = refl
+tag-order p (Use r t sign) = refl
 tag-order p (UnitOf word) = refl
 tag-order p (Edge u v) = refl
 tag-order p End = refl
@@ -152,7 +165,7 @@ tag-order p (Faulty f) = refl
 
 -- all tags but one: what is known of a command that is none of that kind
 abbrev tagsBut : ℕ → List ℕ
-tagsBut t = but (0 ∷ 1 ∷ 2 ∷ 3 ∷ 4 ∷ 5 ∷ [])
+tagsBut t = but (0 ∷ 1 ∷ 2 ∷ 3 ∷ 4 ∷ 5 ∷ 6 ∷ 7 ∷ [])
   where
     but : List ℕ → List ℕ
     but [] = []
@@ -178,7 +191,9 @@ passed-by k next bytes r R o n =
 module _ (bytes : List ℕ) (r : Progress) (R : Reached end bytes r) where
   at-end : (x : Command) → OneOf (tagsBut FAULT) (tagOf the-type x) → orderOf end ≤ orderOf (kindOfStep (stepOf (r .plan) x)) → x ≡ End
   at-end (Given word) o h = absurd (omega arith)
+  at-end (Table inputs truth) o h = absurd (omega arith)
   at-end (Rule head positive negative) o h = absurd (omega arith)
+  at-end (Use r t sign) o h = absurd (omega arith)
   at-end (UnitOf word) o h = absurd (omega arith)
   at-end (Edge u v) o h = absurd (omega arith)
   at-end End o h = refl

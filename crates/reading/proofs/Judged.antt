@@ -14,7 +14,7 @@ use Rattle.reading.specs.Layout.{Contents, commands, layout, recordOf, I
 use Rattle.reading.specs.Refusals.{readingPlace, Stopped, ReadingJudged}
 use Rattle.reading.proofs.Numbers.{all-drop}
 use Rattle.reading.proofs.Walk.{walk-ended, walk-keeps}
-use Rattle.reading.proofs.Elements.{Few}
+use Rattle.reading.proofs.Elements.{Few, few-within}
 use Rattle.reading.proofs.Accepted.{Read, read-start, read-on, read-within, accepted-is-plan}
 use Rattle.reading.proofs.RoundTrip.{commands-read, layout-is-read}
 use Rattle.reading.proofs.Rows.{fault-is-first, first-is-fault}
@@ -63,7 +63,7 @@ stopped-refused bytes small n s h =
     let c = h .contents in
     let w = h .within in
     let at : ℕ = length (commands c) in
-    let few : Few c = record { few-given = w .one-given; few-rules = w .most-rules; few-units = w .most-units } in
+    let few : Few c = few-within w in
     let rest-small : All IsByte (h .rest) =
     subst (All IsByte) (drop-at (commands c) (h .rest) at refl) (all-drop IsByte at (commands c ++ h .rest) (subst (All IsByte) (h .split) small)) in
     let found = first-is-fault c few at (h .rest) rest-small n s (h .first) in

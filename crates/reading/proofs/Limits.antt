@@ -1,22 +1,27 @@
 -- What holds of the record of every reading, accepted or not.
-use mathlib.Core.Path.{_≡_, sym, subst}
+use mathlib.Core.Path.{_≡_, refl, sym, subst}
 use mathlib.Core.Bool.{true, true≢false}
 use mathlib.Core.List.{List, [], _∷_}
 use Prim.Native.Nat.{ℕ, suc, _≤_, _<_}
 use native.Mathlib.Omega.{arith}
 use lib.ListN.{getD}
-use Rattle.plan.specs.Record.{Fitting, emptyPlan, withGiven, withRule, withUnit, withEdge}
+use Rattle.plan.specs.Record.{Fitting, emptyPlan, withGiven, withTable, withRule, withUse, withUnit, withEdge}
 use Rattle.reading.specs.Words.{BYTE_VALUES}
-use Rattle.reading.specs.Commands.{Kind, given, rule, unit, edge, end, carrying, count}
+use Rattle.reading.specs.Commands.{Kind, given, table, rule, usage, unit, edge, end, carrying, count}
 use Rattle.reading.specs.Reading.{reading}
 use Rattle.reading.specs.Layout.{IsByte, All}
-use Rattle.reading.proofs.Commands.{rule-room, unit-room, Unstopped, adds, grown, Leads}
+use Rattle.reading.proofs.Commands.{table-room, rule-room, unit-room, Unstopped, adds, grown, Leads}
 use Rattle.reading.proofs.Walk.{walk-keeps}
 use Rattle.plan.specs.declared.record.Plan.{Plan}
 
 pub empty-fits : Fitting emptyPlan
 unfolding emptyPlan
-empty-fits = record { rules-fit = omega arith; units-fit = omega arith }
+empty-fits = record { tables-fit = omega arith; rules-fit = omega arith; units-fit = omega arith }
+
+fits-still : {p q : Plan} → q .«table_count» ≡ p .«table_count» → q .«rule_count» ≡ p .«rule_count» → q .«unit_count» ≡ p .«unit_count»
+    → Fitting p → Fitting q
+fits-still t r u f =
+    record { tables-fit = omega (arith, f .tables-fit); rules-fit = omega (arith, f .rules-fit); units-fit = omega (arith, f .units-fit) }
 
 -- one command more is counted, is at most one EDGE more, and the record still fits
 pub record Grown (p q : Plan) (k : Kind) : Type 0 where
@@ -25,23 +30,37 @@ pub record Grown (p q : Plan) (k : Kind) : Type 0 where
   pub few-edges : q .«edge_count» ≤ suc (p .«edge_count»)
 
 grown-so : (p : Plan) (at : ℕ) (s : List ℕ) (k : Kind) → adds k ≡ true → (u : Unstopped k p at s) → Grown p (grown p k (u .operands)) k
-unfolding withGiven withRule withUnit withEdge carrying
-grown-so p at s given a u =
-    record { fitting = λ f. record { rules-fit = f .rules-fit; units-fit = f .units-fit }; some = omega arith; few-edges = omega arith }
+unfolding withGiven withTable withRule withUse withUnit withEdge carrying
+grown-so p at s given a u = record { fitting = fits-still refl refl refl; some = omega arith; few-edges = omega arith }
+grown-so p at s table a u =
+    let room = table-room (u .in-place) in
+    record {
+      fitting = λ f. record { tables-fit = omega arith; rules-fit = f .rules-fit; units-fit = f .units-fit };
+      some = omega arith;
+      few-edges = omega arith;
+    }
 grown-so p at s rule a u =
     let room = rule-room (u .in-place) in
-    record { fitting = λ f. record { rules-fit = omega arith; units-fit = f .units-fit }; some = omega arith; few-edges = omega arith }
+    record {
+      fitting = λ f. record { tables-fit = f .tables-fit; rules-fit = omega arith; units-fit = f .units-fit };
+      some = omega arith;
+      few-edges = omega arith;
+    }
+grown-so p at s usage a u = record { fitting = fits-still refl refl refl; some = omega arith; few-edges = omega arith }
 grown-so p at s unit a u =
     let room = unit-room (u .in-place) in
-    record { fitting = λ f. record { rules-fit = f .rules-fit; units-fit = omega arith }; some = omega arith; few-edges = omega arith }
-grown-so p at s edge a u =
-    record { fitting = λ f. record { rules-fit = f .rules-fit; units-fit = f .units-fit }; some = omega arith; few-edges = omega arith }
+    record {
+      fitting = λ f. record { tables-fit = f .tables-fit; rules-fit = f .rules-fit; units-fit = omega arith };
+      some = omega arith;
+      few-edges = omega arith;
+    }
+grown-so p at s edge a u = record { fitting = fits-still refl refl refl; some = omega arith; few-edges = omega arith }
 grown-so p at s end a u = absurd (true≢false (sym a))
 
 pub leads-grown : (p q : Plan) (at : ℕ) (s : List ℕ) (k : Kind) → Leads k p at s q → Grown p q k
 leads-grown p q at s k l = subst (λ (z : Plan). Grown p z k) (l .is) (grown-so p at s k (l .more) (l .read))
 
--- no record has more rules or units than there may be
+-- no record has more tables, rules or units than there may be
 pub record-fits : (bytes : List ℕ) → Fitting (reading bytes .plan)
 unfolding reading
 record-fits bytes =

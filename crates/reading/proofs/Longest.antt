@@ -1,16 +1,20 @@
--- "The longest plan has 2,465 bytes", and 9 more with a GIVEN: no layout within the limits is longer, and one has as many.
+-- "The longest plan has 2,465 bytes", 9 more with a GIVEN, and 1,296 more with all TABLEs and USEs: no layout within the limits is longer,
+-- and one has as many.
 use mathlib.Core.Path.{_≡_, refl, ap, _∙_}
 use mathlib.Core.List.{List, [], _∷_, flatMap}
-use Prim.Native.Nat.{ℕ, zero, suc, _+_, _*_, _^_, _≤_, _<_}
+use Prim.Native.Nat.{ℕ, zero, suc, _+_, _*_, _/_, _%_, _^_, _≤_, _<_}
 use native.Mathlib.Omega.{arith}
 use native.Mathlib.Nat.{mul-suc}
+use lib.Count.{ones-le}
 use lib.ListN.{length, replicate, length-append}
 use Rattle.atoms.proofs.Sets.{has-none}
-use Rattle.plan.specs.Limits.{MAX_RULES, MAX_UNITS, MAX_EDGES}
-use Rattle.reading.specs.Commands.{given, rule, unit, edge}
+use Rattle.plan.specs.Limits.{MAX_TABLES, MAX_RULES, MAX_USES, MAX_UNITS, MAX_EDGES}
+use Rattle.reading.specs.Commands.{given, table, rule, usage, unit, edge}
 use Rattle.reading.specs.Reading.{commandBytes, LONGEST_PLAN}
-use Rattle.reading.specs.Layout.{givenBytes, ruleBytes, unitBytes, edgeBytes, Contents, commands, layout, All, GoodRule, Within}
+use Rattle.reading.specs.Layout.{givenBytes, tableBytes, ruleBytes, useBytes, unitBytes, edgeBytes, TableUse, Contents, commands, layout, All}
+use Rattle.reading.specs.Layout.{GoodTable, GoodRule, GoodUse, Within}
 use Rattle.reading.proofs.Elements.{operands-long}
+use Rattle.reading.proofs.Lists.{listBelow, below-long, below-all, below-distinct}
 use Rattle.reading.proofs.Pigeonhole.{edgesBelow, edges-long, edges-good, edges-distinct}
 
 -- elements of k bytes each
@@ -23,7 +27,9 @@ elements-long f k e (x ∷ xs) =
 
 pub commands-long : (c : Contents)
     → length (commands c)
-    ≡ commandBytes given * length (c .given) + commandBytes rule * length (c .rules) + commandBytes unit * length (c .units)
+    ≡ commandBytes given * length (c .given) + commandBytes table * length (c .tables) + commandBytes rule * length (c .rules)
+    + commandBytes usage * length (c .uses)
+    + commandBytes unit * length (c .units)
     + commandBytes edge * length (c .edges)
 unfolding commands
 commands-long c =
@@ -31,13 +37,17 @@ commands-long c =
     (omega (
       arith,
       elements-long givenBytes (commandBytes given) (λ g. ap suc (operands-long given g)) (c .given),
+      elements-long tableBytes (commandBytes table) (λ t. ap suc (operands-long table t)) (c .tables),
       elements-long ruleBytes (commandBytes rule) (λ r. ap suc (operands-long rule r)) (c .rules),
+      elements-long useBytes (commandBytes usage) (λ x. refl) (c .uses),
       elements-long unitBytes (commandBytes unit) (λ u. ap suc (operands-long unit u)) (c .units),
       elements-long edgeBytes (commandBytes edge) (λ e. refl) (c .edges),
     ))
 
 pub layout-at-most : (c : Contents) → Within c → length (layout c) ≤ LONGEST_PLAN
-layout-at-most c w = simp length-append (omega (arith, commands-long c, w .one-given, w .most-rules, w .most-units, w .most-edges))
+layout-at-most c w =
+    simp length-append
+    (omega (arith, commands-long c, w .one-given, w .most-tables, w .most-rules, w .most-uses, w .most-units, w .most-edges))
 
 -- ---- one that is so long
 
@@ -45,12 +55,29 @@ all-replicate : {A : Type 0} (P : A → Type 0) (n : ℕ) (x : A) → P x → Al
 all-replicate P zero x h = tt
 all-replicate P (suc n) x h = (h, all-replicate P n x h)
 
--- a GIVEN, and as many rules, units and edges as there may be
+-- the uses of all tables with either sign, rule by rule
+abbrev useAt : ℕ → TableUse
+useAt i = record { rule = i / MAX_TABLES / 2; table = i % MAX_TABLES; sign = i / MAX_TABLES % 2 }
+
+use-good : (i : ℕ) → i < MAX_USES → GoodUse MAX_RULES MAX_TABLES (useAt i)
+use-good i l = record { rule-there = omega arith; table-there = omega arith; zero-or-one = omega arith }
+
+use-own : (i j : ℕ) → useAt i ≡ useAt j → i ≡ j
+use-own i j e =
+    let high = halves (i / MAX_TABLES) (j / MAX_TABLES) (ap (λ (x : TableUse). x .rule) e) (ap (λ (x : TableUse). x .sign) e) in
+    omega (arith, ap (λ (x : TableUse). x .table) e)
+  where
+    halves : (m n : ℕ) → m / 2 ≡ n / 2 → m % 2 ≡ n % 2 → m ≡ n
+    halves m n p q = omega arith
+
+-- a GIVEN, and as many tables, rules, uses, units and edges as there may be
 longest : Contents
 longest =
     record {
       given = 0 ∷ [];
+      tables = replicate MAX_TABLES (record { inputs = 0; truth = 0 });
       rules = replicate MAX_RULES (record { head = 1; positive = 0; negative = 0 });
+      uses = listBelow useAt MAX_USES;
       units = replicate {A = ℕ} MAX_UNITS 0;
       edges = edgesBelow MAX_EDGES;
     }
@@ -60,10 +87,19 @@ unfolding longest
 longest-within =
     record {
       one-given = omega arith;
+      most-tables = omega arith;
       most-rules = omega arith;
+      most-uses = omega (arith, below-long useAt MAX_USES);
       most-units = omega arith;
       most-edges = omega (arith, edges-long MAX_EDGES);
       good-given = (omega arith, tt);
+      good-tables = all-replicate GoodTable MAX_TABLES _
+          (record {
+            inputs-fit = omega arith;
+            truth-fits = omega arith;
+            few-inputs = omega (arith, ones-le 0 0 (omega arith));
+            rows-there = λ j p. absurd (has-none p);
+          });
       good-rules = all-replicate GoodRule MAX_RULES _
           (record {
             head-fits = omega arith;
@@ -72,6 +108,8 @@ longest-within =
             some-word = λ z. omega (arith, z .0);
             none-shared = record { none = λ i p. absurd (has-none p) };
           });
+      good-uses = below-all useAt (GoodUse MAX_RULES MAX_TABLES) MAX_USES use-good;
+      no-use-again = below-distinct useAt use-own MAX_USES;
       good-units = all-replicate (λ word. word < 2 ^ MAX_RULES) MAX_UNITS 0 (omega arith);
       good-edges = edges-good MAX_EDGES (omega arith);
       no-repeat = edges-distinct MAX_EDGES;
@@ -80,7 +118,7 @@ longest-within =
 pub longest-there : (c : Contents) × Within c × (length (layout c) ≡ LONGEST_PLAN)
 unfolding longest
 longest-there =
-    (longest, longest-within, simp length-append (omega (arith, commands-long longest, edges-long MAX_EDGES)))
+    (longest, longest-within, simp length-append (omega (arith, commands-long longest, below-long useAt MAX_USES, edges-long MAX_EDGES)))
 
-pub longest-bytes : LONGEST_PLAN ≡ 2474
+pub longest-bytes : LONGEST_PLAN ≡ 3770
 longest-bytes = refl

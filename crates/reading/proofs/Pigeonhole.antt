@@ -1,8 +1,8 @@
 -- At most MAX_EDGES edges join MAX_UNITS units: each takes a number below MAX_EDGES of its own. And so many do: each number has its edge.
-use mathlib.Core.Path.{_≡_, refl, ap, sym, _∙_, subst}
-use mathlib.Core.List.{List, [], _∷_, List·Memᴰ, List·Memᴰ·head, List·Memᴰ·tail, List·Memᴰ·not-nil, List·Memᴰ·cases-cons}
+use mathlib.Core.Path.{_≡_, ap, sym, _∙_, subst}
+use mathlib.Core.List.{List, [], _∷_, List·Memᴰ, List·Memᴰ·head, List·Memᴰ·tail}
 use mathlib.Core.Logic.{_⊎_, inl, inr}
-use Prim.Native.Nat.{ℕ, zero, suc, min, _+_, _*_, _-_, _/_, _%_, _≤_, _<_}
+use Prim.Native.Nat.{ℕ, min, _+_, _*_, _-_, _/_, _%_, _≤_, _<_}
 use native.Mathlib.Omega.{arith}
 use native.Mathlib.Decide.{decLt}
 use lib.Count.{ones, ones-le}
@@ -13,6 +13,7 @@ use Rattle.atoms.proofs.Counts.{count-lt}
 use Rattle.plan.specs.Limits.{MAX_UNITS, MAX_EDGES}
 use Rattle.reading.specs.Layout.{UnitPair, All, Distinct, GoodEdge}
 use Rattle.reading.proofs.Predecessors.{pair-is}
+use Rattle.reading.proofs.Lists.{listBelow, below-long, below-all, below-distinct}
 
 -- a number for each other unit of u: the v below it, then those above
 abbrev OTHERS : ℕ
@@ -107,29 +108,16 @@ edge-own : (i j : ℕ) → edgeAt i ≡ edgeAt j → i ≡ j
 edge-own i j e = omega (arith, ap (λ (x : UnitPair). x .u) e, ap (λ (x : UnitPair). x .v) e)
 
 pub edgesBelow : ℕ → List UnitPair
-edgesBelow zero = []
-edgesBelow (suc n) = edgeAt n ∷ edgesBelow n
+edgesBelow n = listBelow edgeAt n
 
 pub edges-long : (n : ℕ) → length (edgesBelow n) ≡ n
 unfolding edgesBelow
-edges-long zero = refl
-edges-long (suc n) = ap suc (edges-long n)
+edges-long n = below-long edgeAt n
 
 pub edges-good : (n : ℕ) → n ≤ MAX_EDGES → All (GoodEdge MAX_UNITS) (edgesBelow n)
 unfolding edgesBelow
-edges-good zero l = tt
-edges-good (suc n) l = (edge-good n (omega arith), edges-good n (omega arith))
-
-edge-below : (n i : ℕ) → n ≤ i → ¬ List·Memᴰ (edgeAt i) (edgesBelow n)
-unfolding edgesBelow
-edge-below zero i l m = List·Memᴰ·not-nil m
-edge-below (suc n) i l m = go (List·Memᴰ·cases-cons m) (edge-below n i (omega arith))
-  where
-    go : (edgeAt i ≡ edgeAt n) ⊎ List·Memᴰ (edgeAt i) (edgesBelow n) → ¬ List·Memᴰ (edgeAt i) (edgesBelow n) → ⊥
-    go (inl e) rec = omega (arith, edge-own i n e)
-    go (inr k) rec = rec k
+edges-good n l = below-all edgeAt (GoodEdge MAX_UNITS) n (λ i k. edge-good i (omega arith))
 
 pub edges-distinct : (n : ℕ) → Distinct (edgesBelow n)
 unfolding edgesBelow
-edges-distinct zero = tt
-edges-distinct (suc n) = (edge-below n n (omega arith), edges-distinct n)
+edges-distinct n = below-distinct edgeAt edge-own n

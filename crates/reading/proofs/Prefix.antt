@@ -1,4 +1,4 @@
--- The first DECIDING_BYTES bytes decide what reading gives. The place of a command follows from how many rules, units and edges the record
+-- The first DECIDING_BYTES bytes decide what reading gives. The place of a command follows from how many commands of each kind the record
 -- has, so every command that is read ends in time; and a command shows its fault within three bytes more. So each command is the same with
 -- what lies behind cut off.
 use mathlib.Core.Path.{_≡_, refl, ap, sym, _∙_, subst}
@@ -14,11 +14,12 @@ use lib.Seq.{take-nil, take-take, getD-take}
 use borrow.Author.Tests.{lt-ltb, le-ltb}
 use Rattle.plan.specs.Record.{emptyPlan}
 use Rattle.reading.specs.Words.{WORD_BYTES, number, wordAt}
-use Rattle.reading.specs.Commands.{Kind, given, rule, unit, edge, end, kindOf, operandBytes, carrying, Row, kindRows, operandRows}
-use Rattle.reading.specs.Commands.{firstFit, ofKind, commandAt}
+use Rattle.reading.specs.Commands.{Kind, given, table, rule, usage, unit, edge, end, kindOf, operandBytes, carrying, Row, kindRows}
+use Rattle.reading.specs.Commands.{operandRows, firstFit, ofKind, commandAt}
 use Rattle.reading.specs.Reading.{ended, stepOf, walk, reading, accepted, refused, commandBytes, DECIDING_BYTES}
 use Rattle.reading.specs.Layout.{Contents, commands, recordOf}
-use Rattle.reading.proofs.Commands.{Passed, InPlace, rule-room, unit-room, passed-in-place, known-command, unknown-command, Leads, leads-step}
+use Rattle.reading.proofs.Commands.{Passed, InPlace, table-room, rule-room, use-room, unit-room, passed-in-place, known-command}
+use Rattle.reading.proofs.Commands.{unknown-command, Leads, leads-step}
 use Rattle.reading.proofs.Elements.{nothing, with, commands-longer, Held, held-none, few-edges, record-none, more}
 use Rattle.reading.proofs.Longest.{commands-long}
 use Rattle.reading.proofs.RoundTrip.{end-step}
@@ -78,7 +79,9 @@ module _ (p : Plan) (at m : ℕ) (s : List ℕ) where
       → firstFit (operandRows p at k (take m s)) (carrying k (take m s)) ≡ firstFit (operandRows p at k s) (carrying k s)
   unfolding carrying
   operands-kept given h = rw (word-kept 0 m s (omega arith))
+  operands-kept table h = rw (word-kept 0 m s (omega arith), word-kept WORD_BYTES m s (omega arith))
   operands-kept rule h = rw (word-kept 0 m s (omega arith), word-kept WORD_BYTES m s (omega arith), word-kept (2 * WORD_BYTES) m s (omega arith))
+  operands-kept usage h = rw (getD-take m s 0 0 (omega arith), getD-take m s 1 0 (omega arith), getD-take m s 2 0 (omega arith))
   operands-kept unit h = rw (word-kept 0 m s (omega arith))
   operands-kept edge h = rw (getD-take m s 0 0 (omega arith), getD-take m s 1 0 (omega arith))
   operands-kept end h = rw (some-kept m s h)
@@ -105,14 +108,23 @@ record Cut (n : ℕ) (result : Reading) (p : Plan) (at : ℕ) (s : List ℕ) : T
   same : walk p at 0 (take (n - at) s) ≡ result
 
 module _ (n : ℕ) (long : DECIDING_BYTES ≤ n) where
+  -- behind all commands there may be, a third byte is kept
+  all-there : (c : Contents) → Held c → length (commands c) + suc (looksAt edge) ≤ n
+  all-there c h =
+      let f = h .few in
+      omega (arith, commands-long c, f .few-given, f .few-tables, f .few-rules, f .few-uses, f .few-units, few-edges c h)
+
   -- what a command that is in place looks at is kept
   near : (c : Contents) → Held c → (k : Kind) → InPlace (recordOf c) k → length (commands c) + suc (looksAt k) ≤ n
   unfolding recordOf
   near c h given i = omega (arith, commands-long c, i .on-time)
-  near c h rule i = omega (arith, commands-long c, i .on-time, rule-room i, h .few .few-given)
-  near c h unit i = omega (arith, commands-long c, i .on-time, unit-room i, h .few .few-given, h .few .few-rules)
-  near c h edge i = omega (arith, commands-long c, h .few .few-given, h .few .few-rules, h .few .few-units, few-edges c h)
-  near c h end i = omega (arith, commands-long c, h .few .few-given, h .few .few-rules, h .few .few-units, few-edges c h)
+  near c h table i = omega (arith, commands-long c, i .on-time, table-room i, h .few .few-given)
+  near c h rule i = omega (arith, commands-long c, i .on-time, rule-room i, h .few .few-given, h .few .few-tables)
+  near c h usage i = omega (arith, commands-long c, i .on-time, use-room i, h .few .few-given, h .few .few-tables, h .few .few-rules)
+  near c h unit i =
+      omega (arith, commands-long c, i .on-time, unit-room i, h .few .few-given, h .few .few-tables, h .few .few-rules, h .few .few-uses)
+  near c h edge i = all-there c h
+  near c h end i = omega (arith, all-there c h)
 
   module _ (result : Reading) (p : Plan) (at : ℕ) (s : List ℕ) (cut : Cut n result p at s) where
     near-by : (k : Kind) → InPlace p k → at + suc (looksAt k) ≤ n

@@ -11,17 +11,18 @@ use lib.ListN.{length, length-append}
 use lib.Pow.{pow-mono}
 use lib.Seq.{drop-at}
 use borrow.Author.Tests.{le-ltb, lt-leb}
-use Rattle.plan.specs.Limits.{MAX_RULES, MAX_UNITS}
+use Rattle.plan.specs.Limits.{MAX_TABLES, MAX_RULES, MAX_USES, MAX_UNITS, MAX_EDGES}
 use Rattle.reading.specs.Words.{WORD_VALUES}
-use Rattle.reading.specs.Commands.{Kind, given, rule, unit, edge, end, byteOf, operandBytes, carrying, late, rows, ofKind, commandAt}
+use Rattle.reading.specs.Commands.{Kind, given, table, rule, usage, unit, edge, end, byteOf, operandBytes, carrying, late, rows, ofKind, commandAt}
 use Rattle.reading.specs.Reading.{onward, ended, stepOf, walk, reading, accepted, commandBytes}
-use Rattle.reading.specs.Layout.{RuleWords, UnitPair, Contents, givenBytes, ruleBytes, unitBytes, edgeBytes, endBytes, commands, layout, recordOf}
-use Rattle.reading.specs.Layout.{All, Distinct, GoodRule, GoodEdge, Within}
+use Rattle.reading.specs.Layout.{TableWords, RuleWords, TableUse, UnitPair, Contents, givenBytes, tableBytes, ruleBytes, useBytes, unitBytes}
+use Rattle.reading.specs.Layout.{edgeBytes, endBytes, commands, layout, recordOf, All, Distinct, GoodTable, GoodRule, GoodUse, GoodEdge, Within}
 use Rattle.reading.proofs.Commands.{Passed, none-fits, known-command, in-place-passed, adds, step-when}
 use Rattle.reading.proofs.CommandKinds.{kind-of-byte}
 use Rattle.reading.proofs.Walk.{walk-on, walk-ended}
 use Rattle.reading.proofs.Elements.{Element, nothing, with, operandsOf, operands-long, elementAt, read-again, Sized, Fits, right-passed}
-use Rattle.reading.proofs.Elements.{length-snoc, record-none, record-with}
+use Rattle.reading.proofs.Elements.{record-none, record-with}
+use Rattle.reading.proofs.Lists.{length-snoc, all-snoc}
 use Rattle.plan.specs.declared.record.Plan.{Plan}
 
 -- a command that no row stops is what it carries
@@ -106,10 +107,20 @@ few-follow most P [] done h a = tt
 few-follow most P (x ∷ xs) done h a =
     ((omega arith, a .0), few-follow most P xs (done ++ (x ∷ [])) (omega (arith, length-snoc done x)) (a .1))
 
-new-follow : {A : Type 0} (P : A → Type 0) (xs done : List A) → ((e : A) → List·Memᴰ e xs → ¬ List·Memᴰ e done) → Distinct xs → All P xs
-    → Follows (λ d e. P e × ¬ List·Memᴰ e d) done xs
-new-follow P [] done h d a = tt
-new-follow P (x ∷ xs) done h d a = ((a .0, h x (List·Memᴰ·head refl)), new-follow P xs (done ++ (x ∷ [])) apart (d .1) (a .1))
+-- x is new behind d, where each is good and there is room
+record New {A : Type 0} (most : ℕ) (P : A → Type 0) (d : List A) (x : A) : Type 0 where
+  room : length d < most
+  all-good : All P d
+  good : P x
+  new : ¬ List·Memᴰ x d
+
+new-follow : {A : Type 0} (most : ℕ) (P : A → Type 0) (xs done : List A) → length done + length xs ≤ most → All P done
+    → ((e : A) → List·Memᴰ e xs → ¬ List·Memᴰ e done) → Distinct xs → All P xs → Follows (New most P) done xs
+new-follow most P [] done l b h d a = tt
+new-follow most P (x ∷ xs) done l b h d a = (
+  record { room = omega arith; all-good = b; good = a .0; new = h x (List·Memᴰ·head refl) },
+  new-follow most P xs (done ++ (x ∷ [])) (omega (arith, length-snoc done x)) (all-snoc P done x b (a .0)) apart (d .1) (a .1),
+)
   where
     apart : (e : _) → List·Memᴰ e xs → ¬ List·Memᴰ e (done ++ (x ∷ []))
     apart e m k = go (List·Memᴰ·append-cases done k)
@@ -126,46 +137,115 @@ end-step p at = ap (stepOf p) (read-as p at end [] (refl, (refl, (refl, (refl, t
 
 module _ (c : Contents) (w : Within c) where
   given-only : List ℕ → Contents
-  given-only d = record { given = d; rules = []; units = []; edges = [] }
+  given-only d = record { given = d; tables = []; rules = []; uses = []; units = []; edges = [] }
+
+  tables-too : List TableWords → Contents
+  tables-too d = record { given = c .given; tables = d; rules = []; uses = []; units = []; edges = [] }
 
   rules-too : List RuleWords → Contents
-  rules-too d = record { given = c .given; rules = d; units = []; edges = [] }
+  rules-too d = record { given = c .given; tables = c .tables; rules = d; uses = []; units = []; edges = [] }
+
+  uses-too : List TableUse → Contents
+  uses-too d = record { given = c .given; tables = c .tables; rules = c .rules; uses = d; units = []; edges = [] }
 
   units-too : List ℕ → Contents
-  units-too d = record { given = c .given; rules = c .rules; units = d; edges = [] }
+  units-too d = record { given = c .given; tables = c .tables; rules = c .rules; uses = c .uses; units = d; edges = [] }
 
   edges-too : List UnitPair → Contents
-  edges-too d = record { given = c .given; rules = c .rules; units = c .units; edges = d }
+  edges-too d = record { given = c .given; tables = c .tables; rules = c .rules; uses = c .uses; units = c .units; edges = d }
 
   given-taken : Takes (recordOf nothing) (flatMap givenBytes (c .given)) (recordOf (given-only (c .given)))
   unfolding recordOf given-only
   given-taken =
       group-takes givenBytes (λ d. recordOf (given-only d)) (λ d x. (length d < 1) × (x < WORD_VALUES))
       (λ d x f. one-takes (given-only d) given x refl (record {
-        few = record { few-given = omega (arith, f .0); few-rules = omega arith; few-units = omega arith };
+        few =
+            record {
+              few-given = omega (arith, f .0);
+              few-tables = omega arith;
+              few-rules = omega arith;
+              few-uses = omega arith;
+              few-units = omega arith;
+              good-uses = tt;
+            };
         in-place = record { on-time = omega (arith, f .0); room = refl };
         right = tt;
       }) (f .1))
       (c .given) [] (few-follow 1 (λ x. x < WORD_VALUES) (c .given) [] (omega (arith, w .one-given)) (w .good-given))
 
-  rules-taken : Takes (recordOf (given-only (c .given))) (flatMap ruleBytes (c .rules)) (recordOf (rules-too (c .rules)))
-  unfolding recordOf given-only rules-too
+  tables-taken : Takes (recordOf (given-only (c .given))) (flatMap tableBytes (c .tables)) (recordOf (tables-too (c .tables)))
+  unfolding recordOf given-only tables-too
+  tables-taken =
+      group-takes tableBytes (λ d. recordOf (tables-too d)) (λ d x. (length d < MAX_TABLES) × GoodTable x)
+      (λ d x f. one-takes (tables-too d) table x refl (record {
+        few =
+            record {
+              few-given = w .one-given;
+              few-tables = omega (arith, f .0);
+              few-rules = omega arith;
+              few-uses = omega arith;
+              few-units = omega arith;
+              good-uses = tt;
+            };
+        in-place = record { on-time = omega arith; room = lt-leb _ _ (f .0) };
+        right = (f .1 .few-inputs, f .1 .rows-there);
+      }) (f .1 .inputs-fit, f .1 .truth-fits))
+      (c .tables) [] (few-follow MAX_TABLES GoodTable (c .tables) [] (omega (arith, w .most-tables)) (w .good-tables))
+
+  rules-taken : Takes (recordOf (tables-too (c .tables))) (flatMap ruleBytes (c .rules)) (recordOf (rules-too (c .rules)))
+  unfolding recordOf tables-too rules-too
   rules-taken =
       group-takes ruleBytes (λ d. recordOf (rules-too d)) (λ d x. (length d < MAX_RULES) × GoodRule x)
       (λ d x f. one-takes (rules-too d) rule x refl (record {
-        few = record { few-given = w .one-given; few-rules = omega (arith, f .0); few-units = omega arith };
+        few =
+            record {
+              few-given = w .one-given;
+              few-tables = w .most-tables;
+              few-rules = omega (arith, f .0);
+              few-uses = omega arith;
+              few-units = omega arith;
+              good-uses = tt;
+            };
         in-place = record { on-time = omega arith; room = lt-leb _ _ (f .0) };
         right = (f .1 .some-word, f .1 .none-shared);
       }) (f .1 .head-fits, (f .1 .positive-fits, f .1 .negative-fits)))
       (c .rules) [] (few-follow MAX_RULES GoodRule (c .rules) [] (omega (arith, w .most-rules)) (w .good-rules))
 
-  units-taken : Takes (recordOf (rules-too (c .rules))) (flatMap unitBytes (c .units)) (recordOf (units-too (c .units)))
-  unfolding recordOf rules-too units-too
+  uses-taken : Takes (recordOf (rules-too (c .rules))) (flatMap useBytes (c .uses)) (recordOf (uses-too (c .uses)))
+  unfolding recordOf rules-too uses-too
+  uses-taken =
+      let Good = GoodUse (length (c .rules)) (length (c .tables)) in
+      group-takes useBytes (λ d. recordOf (uses-too d)) (New MAX_USES Good)
+      (λ d x f. one-takes (uses-too d) usage x refl (record {
+        few =
+            record {
+              few-given = w .one-given;
+              few-tables = w .most-tables;
+              few-rules = w .most-rules;
+              few-uses = omega (arith, f .room);
+              few-units = omega arith;
+              good-uses = f .all-good;
+            };
+        in-place = record { on-time = omega arith; room = lt-leb _ _ (f .room) };
+        right = (f .good, f .new);
+      }) tt)
+      (c .uses) [] (new-follow MAX_USES Good (c .uses) [] (omega (arith, w .most-uses)) tt (λ x m k. List·Memᴰ·not-nil k) (w .no-use-again) (w .good-uses))
+
+  units-taken : Takes (recordOf (uses-too (c .uses))) (flatMap unitBytes (c .units)) (recordOf (units-too (c .units)))
+  unfolding recordOf uses-too units-too
   units-taken =
       let most : 2 ^ length (c .rules) ≤ WORD_VALUES = pow-mono (w .most-rules) in
       group-takes unitBytes (λ d. recordOf (units-too d)) (λ d x. (length d < MAX_UNITS) × (x < 2 ^ length (c .rules)))
       (λ d x f. one-takes (units-too d) unit x refl (record {
-        few = record { few-given = w .one-given; few-rules = w .most-rules; few-units = omega (arith, f .0) };
+        few =
+            record {
+              few-given = w .one-given;
+              few-tables = w .most-tables;
+              few-rules = w .most-rules;
+              few-uses = w .most-uses;
+              few-units = omega (arith, f .0);
+              good-uses = w .good-uses;
+            };
         in-place = record { on-time = omega arith; room = lt-leb _ _ (f .0) };
         right = f .1;
       }) (omega (arith, f .1)))
@@ -174,17 +254,26 @@ module _ (c : Contents) (w : Within c) where
   edges-taken : Takes (recordOf (units-too (c .units))) (flatMap edgeBytes (c .edges)) (recordOf c)
   unfolding recordOf units-too edges-too
   edges-taken =
-      group-takes edgeBytes (λ d. recordOf (edges-too d)) (λ d x. GoodEdge (length (c .units)) x × ¬ List·Memᴰ x d)
+      let Good = GoodEdge (length (c .units)) in
+      group-takes edgeBytes (λ d. recordOf (edges-too d)) (New MAX_EDGES Good)
       (λ d x f. one-takes (edges-too d) edge x refl (record {
-        few = record { few-given = w .one-given; few-rules = w .most-rules; few-units = w .most-units };
+        few =
+            record {
+              few-given = w .one-given;
+              few-tables = w .most-tables;
+              few-rules = w .most-rules;
+              few-uses = w .most-uses;
+              few-units = w .most-units;
+              good-uses = w .good-uses;
+            };
         in-place = record { on-time = omega arith; room = refl };
-        right = f;
+        right = (f .good, f .new);
       }) tt)
-      (c .edges) [] (new-follow (GoodEdge (length (c .units))) (c .edges) [] (λ x m k. List·Memᴰ·not-nil k) (w .no-repeat) (w .good-edges))
+      (c .edges) [] (new-follow MAX_EDGES Good (c .edges) [] (omega (arith, w .most-edges)) tt (λ x m k. List·Memᴰ·not-nil k) (w .no-repeat) (w .good-edges))
 
   commands-taken : Takes (recordOf nothing) (commands c) (recordOf c)
   unfolding commands
-  commands-taken = takes-both given-taken (takes-both rules-taken (takes-both units-taken edges-taken))
+  commands-taken = takes-both given-taken (takes-both tables-taken (takes-both rules-taken (takes-both uses-taken (takes-both units-taken edges-taken))))
 
   -- behind the commands of lists within the limits reading goes on with their record
   pub commands-read : (rest : List ℕ) → reading (commands c ++ rest) ≡ walk (recordOf c) (length (commands c)) 0 rest

@@ -11,29 +11,35 @@ use native.Mathlib.Decide.{decLt}
 use native.Mathlib.Numerals.{add-one}
 use lib.ListN.{length, drop, getD}
 use lib.Dec.{eqb, ltb, leb}
-use borrow.Author.Tests.{eqb-false, leb-true, leb-false, ltb-true, ltb-false}
+use borrow.Author.Tests.{eqb-true, eqb-false, leb-true, leb-false, ltb-true, ltb-false}
 use Rattle.atoms.specs.Bounded.{Decides}
-use Rattle.atoms.specs.Word.{Has, Apart, _∩_, _∖_, below}
+use Rattle.atoms.specs.Word.{Has, Apart, _∩_, below}
 use Rattle.atoms.specs.Lists.{tabulate}
 use Rattle.atoms.proofs.Tests.{decides-iff, decides-or, decides-equal}
-use Rattle.atoms.proofs.Sets.{decides-has, has-lt, has-cut, cut-left, cut-right, has-without, has-below, has-none}
-use Rattle.atoms.proofs.Sets.{without-left, without-right, below-lt, lt-of-has, some-atom}
+use Rattle.atoms.proofs.Sets.{decides-has, has-lt, has-cut, cut-left, cut-right, has-none}
+use Rattle.atoms.proofs.Sets.{some-atom}
 use Rattle.plan.specs.Limits.{MAX_UNITS}
+use Rattle.plan.specs.Record.{usesAt}
 use Rattle.plan.specs.Faults.{number, spot, TableRow, FirstFit}
 use Rattle.reading.specs.Words.{WORD_BYTES, wordAt}
-use Rattle.reading.specs.Commands.{Kind, given, rule, unit, edge, end, byteOf, kindOf, operandBytes, orderOf, earliestBehind, carrying, kinds}
-use Rattle.reading.specs.Commands.{count, countBehind, late, full}
-use Rattle.reading.specs.Commands.{emptyRule, contradictory, absentRule, badEdge, Row, operandRows, rows, firstFit, ofKind, commandAt}
-use Rattle.reading.specs.Layout.{RuleWords, UnitPair, Contents, predecessorsOf, recordOf, IsByte, All}
+use Rattle.reading.specs.Commands.{Kind, given, table, rule, usage, unit, edge, end, byteOf, kindOf, operandBytes, orderOf, earliestBehind}
+use Rattle.reading.specs.Commands.{carrying, kinds, count, countBehind, late, full}
+use Rattle.reading.specs.Commands.{emptyRule, contradictory, badTable, badUse, absentRule, badEdge, Row, operandRows, rows, firstFit, ofKind, commandAt}
+use Rattle.reading.specs.Layout.{RuleWords, TableUse, UnitPair, Contents, predecessorsOf, recordOf, IsByte, All}
 use Rattle.reading.specs.Refusals.{Begins, countOf, Full, UnknownByte, OutOfGroupOrder, OneTooMany, CutShort, before-end, inside-operands}
+use Rattle.reading.specs.Refusals.{NoTable, WrongTable, NoNewUse, no-such-rule, no-such-table, another-sign, again, WrongUse}
 use Rattle.reading.specs.Refusals.{ZeroRule, ContradictoryRule, NamesAbsentRule, NoNewEdge, no-such-u, no-such-v, to-itself, repeated}
 use Rattle.reading.specs.Refusals.{WrongEdge, BytesAfterEnd}
 use Rattle.reading.specs.Refusals.{row, readingPlace}
 use Rattle.reading.proofs.Numbers.{word-fits}
-use Rattle.reading.proofs.CommandKinds.{kind-of-byte, kind-byte, byte-own, Later, later-there, none-behind}
+use Rattle.reading.proofs.HighBits.{atom-from}
+use Rattle.reading.proofs.CommandKinds.{kind-of-byte, kind-byte, byte-own, each-kind, Later, later-there, none-behind}
 use Rattle.reading.proofs.Commands.{Passed, none-fits, known-command, unknown-command, not-faulty}
 use Rattle.reading.proofs.Predecessors.{has-member, member-has}
-use Rattle.reading.proofs.Elements.{Element, operandsOf, elementAt, written-again, read-again, Sized, Few, decides-empty, decides-contradictory, row-is}
+use Rattle.reading.proofs.Tables.{decides-bad-table}
+use Rattle.reading.proofs.Program.{bitOf, use-has}
+use Rattle.reading.proofs.Elements.{Element, operandsOf, elementAt, written-again, read-again, Sized, Few, decides-empty, decides-contradictory}
+use Rattle.reading.proofs.Elements.{row-is, uses-are, bit-of-use}
 use Rattle.plan.specs.declared.fault.Fault.{Fault}
 use Rattle.plan.specs.declared.fault.Fault.the-variants.{Truncated, UnknownCommand}
 use Rattle.reading.specs.declared.command.Command.{Command}
@@ -120,28 +126,13 @@ shared-atom a b n =
     let i = some-atom (a ∩ b) (λ e. n (record { none = λ j p q. has-none (subst (λ (x : ℕ). Has x j) e (has-cut a b p q)) })) in
     (i .0, cut-left a b (i .1), cut-right a b (i .1))
 
--- a word from 2 ^ n on has an atom from n on
-atom-from : (n w : ℕ) → 2 ^ n ≤ w → (i : ℕ) × Has w i × (n ≤ i)
-atom-from n w h =
-    let above = some-atom (w ∖ below n) (λ e. omega (arith, lt-of-has w n (λ i p. within e i p (decLt i n)))) in (
-      above .0,
-      without-left w (below n) (above .1),
-      not-below (above .0) (without-right w (below n) (above .1)) (decLt (above .0) n),
-    )
-  where
-    within : w ∖ below n ≡ 0 → (i : ℕ) → Has w i → Dec (i < n) → i < n
-    within e i p (yes l) = l
-    within e i p (no l) = absurd (has-none (subst (λ (x : ℕ). Has x i) e (has-without w (below n) p (λ b. l (below-lt n b)))))
-
-    not-below : (i : ℕ) → ¬ Has (below n) i → Dec (i < n) → n ≤ i
-    not-below i p (yes l) = absurd (p (has-below n i l))
-    not-below i p (no l) = omega arith
-
 module _ (c : Contents) (few : Few c) where
   count-of : (k : Kind) → count (recordOf c) k ≡ countOf c k
   unfolding recordOf
   count-of given = refl
+  count-of table = refl
   count-of rule = refl
+  count-of usage = refl
   count-of unit = refl
   count-of edge = refl
   count-of end = refl
@@ -149,10 +140,44 @@ module _ (c : Contents) (few : Few c) where
   decides-full : (k : Kind) → Decides (Full c k) (full (recordOf c) k)
   unfolding recordOf
   decides-full given = record { yes = λ e. true≢false (sym e); no = λ e x. x }
+  decides-full table = decides-le _ _
   decides-full rule = decides-le _ _
+  decides-full usage = decides-le _ _
   decides-full unit = decides-le _ _
   decides-full edge = record { yes = λ e. true≢false (sym e); no = λ e x. x }
   decides-full end = record { yes = λ e. true≢false (sym e); no = λ e x. x }
+
+  decides-bad-use : (x : TableUse) → Decides (NoNewUse c x) (badUse (recordOf c) (x .rule) (x .table) (x .sign))
+  unfolding recordOf badUse
+  decides-bad-use x =
+      decides-iff tested stated (decides-or (decides-or (decides-or (decides-le _ _) (decides-le _ _)) (decides-le _ _)) (decides-has _ _))
+    where
+      word : ℕ
+      word = getD (recordOf c .rules) (usesAt (x .rule)) 0
+
+      Tested : Type 0
+      Tested = (((length (c .rules) ≤ x .rule) ⊎ (length (c .tables) ≤ x .table)) ⊎ (2 ≤ x .sign)) ⊎ Has word (bitOf x)
+
+      in-word : Dec (x .rule < length (c .rules)) → Dec (x .table < length (c .tables)) → Has word (bitOf x) → NoNewUse c x
+      in-word (yes l) (yes k) h = again (bit-of-use c few x k (subst (λ (w : ℕ). Has w (bitOf x)) (uses-are c few (x .rule) l) h))
+      in-word (yes l) (no k) h = no-such-table (omega arith)
+      in-word (no l) k h = no-such-rule (omega arith)
+
+      tested : Tested → NoNewUse c x
+      tested (inl (inl (inl h))) = no-such-rule h
+      tested (inl (inl (inr h))) = no-such-table h
+      tested (inl (inr h)) = another-sign (λ e. omega arith) (λ e. omega arith)
+      tested (inr h) = in-word (decLt (x .rule) (length (c .rules))) (decLt (x .table) (length (c .tables))) h
+
+      as-word : Dec (x .rule < length (c .rules)) → List·Memᴰ x (c .uses) → Tested
+      as-word (yes l) m = inr (subst (λ (w : ℕ). Has w (bitOf x)) (sym (uses-are c few (x .rule) l)) (use-has (c .uses) x m))
+      as-word (no l) m = inl (inl (inl (omega arith)))
+
+      stated : NoNewUse c x → Tested
+      stated (no-such-rule h) = inl (inl (inl h))
+      stated (no-such-table h) = inl (inl (inr h))
+      stated (another-sign h k) = inl (inr (omega arith))
+      stated (again m) = as-word (decLt (x .rule) (length (c .rules))) m
 
   pub decides-bad : (e : UnitPair) → Decides (NoNewEdge c e) (badEdge (recordOf c) (e .u) (e .v))
   unfolding recordOf badEdge
@@ -291,6 +316,30 @@ module _ (c : Contents) (few : Few c) (operands : List ℕ) where
             let a : Apart (r .words .positive) (r .words .negative) = subst (λ (y : RuleWords). Apart (y .positive) (y .negative)) x apart in
             a .none (r .atom) (r .wanted-up) (r .wanted-dropped)
 
+    table-decided : operandBytes table ≤ length operands
+        → Decides (WrongTable (byteOf table ∷ operands)) (badTable (wordAt 0 operands) (wordAt WORD_BYTES operands))
+    table-decided long = decides-iff wrong none (decides-bad-table (elementAt table operands))
+      where
+        wrong : NoTable (elementAt table operands) → WrongTable (byteOf table ∷ operands)
+        wrong n =
+            record {
+              words = elementAt table operands;
+              more = behind table;
+              is = written table long;
+              inputs-fit = word-fits operands 0 (omega arith) small;
+              truth-fits = word-fits operands WORD_BYTES (omega arith) small;
+              wrong = n;
+            }
+
+        none : WrongTable (byteOf table ∷ operands) → NoTable (elementAt table operands)
+        none w = subst NoTable (sym (spelt table (w .words) (w .more) (w .is) (w .inputs-fit, w .truth-fits))) (w .wrong)
+
+    use-decided : operandBytes usage ≤ length operands
+        → Decides (WrongUse c (byteOf usage ∷ operands)) (badUse (recordOf c) (getD operands 0 0) (getD operands 1 0) (getD operands 2 0))
+    use-decided long =
+        decides-iff (λ w. record { three = elementAt usage operands; more = behind usage; is = written usage long; wrong = w })
+        (λ w. subst (NoNewUse c) (sym (spelt usage (w .three) (w .more) (w .is) tt)) (w .wrong)) (decides-bad-use c few (elementAt usage operands))
+
     absent-decided : operandBytes unit ≤ length operands
         → Decides (NamesAbsentRule c (byteOf unit ∷ operands)) (absentRule (recordOf c) (wordAt 0 operands))
     unfolding absentRule recordOf
@@ -344,44 +393,80 @@ module _ (c : Contents) (few : Few c) (operands : List ℕ) where
         (meets (meet refl refl (order-decided k))
         (λ e. meets (meet refl refl (many-decided k)) (λ f. meets (meet refl refl (short-decided k)) (λ g. below (ltb-false _ _ g)))))
 
-    -- the rows of another command's operands do not fit
-    past-rule : (at : ℕ) (k : Kind) → eqb (byteOf rule) (byteOf k) ≡ false → {rs : List Row} {ts : List TableRow}
-        → Agree rs ts → Agree rs (row 6 (ZeroRule (byteOf k ∷ operands)) at ∷ row 21 (ContradictoryRule (byteOf k ∷ operands)) at ∷ ts)
-    past-rule at k e a =
+    -- the rows that go by the operands of a command of kind j, at a command of kind k
+    abbrev ownRows : ℕ → Kind → Kind → List TableRow
+    ownRows at k given = []
+    ownRows at k table = row 18 (WrongTable (byteOf k ∷ operands)) at ∷ []
+    ownRows at k rule = row 6 (ZeroRule (byteOf k ∷ operands)) at ∷ row 21 (ContradictoryRule (byteOf k ∷ operands)) at ∷ []
+    ownRows at k usage = row 19 (WrongUse c (byteOf k ∷ operands)) at ∷ []
+    ownRows at k unit = row 7 (NamesAbsentRule c (byteOf k ∷ operands)) at ∷ []
+    ownRows at k edge = row 8 (WrongEdge c (byteOf k ∷ operands)) at ∷ []
+    ownRows at k end = row 9 (BytesAfterEnd (byteOf k ∷ operands)) (suc at) ∷ []
+
+    -- those of another kind do not fit
+    other-skipped : (at : ℕ) (k j : Kind) → eqb (byteOf j) (byteOf k) ≡ false → {rs : List Row} {ts : List TableRow}
+        → Agree rs ts → Agree rs (ownRows at k j ++ ts)
+    other-skipped at k given e a = a
+    other-skipped at k table e a = skips (λ (w : WrongTable (byteOf k ∷ operands)). other table k e (w .is)) a
+    other-skipped at k rule e a =
         skips (λ (z : ZeroRule (byteOf k ∷ operands)). other rule k e (z .is))
         (skips (λ (r : ContradictoryRule (byteOf k ∷ operands)). other rule k e (r .is)) a)
+    other-skipped at k usage e a = skips (λ (w : WrongUse c (byteOf k ∷ operands)). other usage k e (w .is)) a
+    other-skipped at k unit e a = skips (λ (n : NamesAbsentRule c (byteOf k ∷ operands)). other unit k e (n .is)) a
+    other-skipped at k edge e a = skips (λ (w : WrongEdge c (byteOf k ∷ operands)). other edge k e (w .is)) a
+    other-skipped at k end e a = skips (λ (b : BytesAfterEnd (byteOf k ∷ operands)). other end k e (b .is)) a
 
-    past-unit : (at : ℕ) (k : Kind) → eqb (byteOf unit) (byteOf k) ≡ false → {rs : List Row} {ts : List TableRow}
-        → Agree rs ts → Agree rs (row 7 (NamesAbsentRule c (byteOf k ∷ operands)) at ∷ ts)
-    past-unit at k e a = skips (λ (n : NamesAbsentRule c (byteOf k ∷ operands)). other unit k e (n .is)) a
+    -- those of its own kind are decided
+    own-decided : (at : ℕ) (k : Kind) → operandBytes k ≤ length operands → {ts : List TableRow}
+        → Agree [] ts → Agree (operandRows (recordOf c) at k operands) (ownRows at k k ++ ts)
+    own-decided at given long a = a
+    own-decided at table long a = meets (meet refl refl (table-decided long)) (λ e. a)
+    own-decided at rule long a =
+        meets (meet refl refl (zero-decided long)) (λ e. meets (meet refl refl (contradictory-decided long)) (λ f. a))
+    own-decided at usage long a = meets (meet refl refl (use-decided long)) (λ e. a)
+    own-decided at unit long a = meets (meet refl refl (absent-decided long)) (λ e. a)
+    own-decided at edge long a = meets (meet refl refl (edge-decided long)) (λ e. a)
+    own-decided at end long a = meets (meet refl (add-one at) end-decided) (λ e. a)
 
-    past-edge : (at : ℕ) (k : Kind) → eqb (byteOf edge) (byteOf k) ≡ false → {rs : List Row} {ts : List TableRow}
-        → Agree rs ts → Agree rs (row 8 (WrongEdge c (byteOf k ∷ operands)) at ∷ ts)
-    past-edge at k e a = skips (λ (w : WrongEdge c (byteOf k ∷ operands)). other edge k e (w .is)) a
+    -- the rows of a list of kinds, in which k stands once
+    abbrev rowsOf : ℕ → Kind → List Kind → List TableRow
+    rowsOf at k [] = []
+    rowsOf at k (j ∷ js) = ownRows at k j ++ rowsOf at k js
 
-    past-end : (at : ℕ) (k : Kind) → eqb (byteOf end) (byteOf k) ≡ false → {rs : List Row} {ts : List TableRow}
-        → Agree rs ts → Agree rs (row 9 (BytesAfterEnd (byteOf k ∷ operands)) (suc at) ∷ ts)
-    past-end at k e a = skips (λ (b : BytesAfterEnd (byteOf k ∷ operands)). other end k e (b .is)) a
+    abbrev lacks : Kind → List Kind → Bool
+    lacks k [] = true
+    lacks k (j ∷ js) = elim (eqb (byteOf j) (byteOf k)) [ true ↦ false | false ↦ lacks k js ]
+
+    abbrev once : Kind → List Kind → Bool
+    once k [] = false
+    once k (j ∷ js) = elim (eqb (byteOf j) (byteOf k)) [ true ↦ lacks k js | false ↦ once k js ]
+
+    module _ (at : ℕ) (k : Kind) (long : operandBytes k ≤ length operands) where
+      none-own : (js : List Kind) → lacks k js ≡ true → Agree [] (rowsOf at k js)
+      none-own [] h = done
+      none-own (j ∷ js) h = go (eqb (byteOf j) (byteOf k)) refl (none-own js)
+        where
+          go : (b : Bool) → eqb (byteOf j) (byteOf k) ≡ b → (lacks k js ≡ true → Agree [] (rowsOf at k js)) → Agree [] (rowsOf at k (j ∷ js))
+          go true e rec = absurd (true≢false (sym (rw (e, lacks) at h)))
+          go false e rec = other-skipped at k j e (rec (rw (e, lacks) at h))
+
+      own-once : (js : List Kind) → once k js ≡ true → Agree (operandRows (recordOf c) at k operands) (rowsOf at k js)
+      own-once [] h = absurd (true≢false (sym h))
+      own-once (j ∷ js) h = go (eqb (byteOf j) (byteOf k)) refl (own-once js)
+        where
+          go : (b : Bool) → eqb (byteOf j) (byteOf k) ≡ b → (once k js ≡ true → Agree (operandRows (recordOf c) at k operands) (rowsOf at k js))
+              → Agree (operandRows (recordOf c) at k operands) (rowsOf at k (j ∷ js))
+          go true e rec =
+              subst (λ (i : Kind). Agree (operandRows (recordOf c) at k operands) (ownRows at k i ++ rowsOf at k js))
+              (sym (byte-own j k (eqb-true _ _ e))) (own-decided at k long (none-own js (rw (e, once) at h)))
+          go false e rec = other-skipped at k j e (rec (rw (e, once) at h))
+
+    -- the kinds in the order of their rows
+    abbrev byRows : List Kind
+    byRows = rule ∷ table ∷ usage ∷ unit ∷ edge ∷ end ∷ given ∷ []
 
     agree : (at : ℕ) (k : Kind) → Agree (rows (recordOf c) at k operands) (readingPlace c at (byteOf k ∷ operands))
-    agree at given =
-        kind-rows at given
-        (λ long. past-rule at given refl (past-unit at given refl (past-edge at given refl (past-end at given refl done))))
-    agree at rule =
-        kind-rows at rule
-        (λ long. meets (meet refl refl (zero-decided long))
-        (λ e. meets (meet refl refl (contradictory-decided long))
-        (λ f. past-unit at rule refl (past-edge at rule refl (past-end at rule refl done)))))
-    agree at unit =
-        kind-rows at unit
-        (λ long. past-rule at unit refl (meets (meet refl refl (absent-decided long))
-        (λ e. past-edge at unit refl (past-end at unit refl done))))
-    agree at edge =
-        kind-rows at edge
-        (λ long. past-rule at edge refl (past-unit at edge refl (meets (meet refl refl (edge-decided long)) (λ e. past-end at edge refl done))))
-    agree at end =
-        kind-rows at end
-        (λ long. past-rule at end refl (past-unit at end refl (past-edge at end refl (meets (meet refl (add-one at) end-decided) (λ e. done)))))
+    agree at k = kind-rows at k (λ long. own-once at k long byRows (each-kind (λ j. once j byRows) refl k))
 
 -- ---- the command at the front of s
 

@@ -4,26 +4,30 @@ use mathlib.Core.List.{List, [], _∷_, _++_}
 use mathlib.Core.Bool.{Bool, true, false, not, _||_, _&&_}
 use mathlib.Core.Option.{Option, some, none}
 use Prim.Native.Nat.{ℕ, _+_, _*_, _^_}
+use lib.Count.{ones}
 use lib.ListN.{length, getD}
 use lib.Dec.{eqb, ltb, leb}
 use Rattle.atoms.specs.Word.{has, apart}
 use Rattle.reading.specs.Words.{WORD_BYTES, wordAt}
-use Rattle.plan.specs.Limits.{MAX_RULES, MAX_UNITS, RULE_WORDS}
+use Rattle.plan.specs.Limits.{MAX_TABLES, MAX_RULES, MAX_USES, MAX_UNITS, MAX_INPUTS, CONTACT_WORDS}
+use Rattle.plan.specs.Record.{wantedBit, usesAt}
 use Rattle.plan.specs.declared.record.Plan.{Plan}
 use Rattle.reading.specs.declared.command.Command.{Command}
-use Rattle.reading.specs.declared.command.Command.the-variants.{Given, Rule, Unit as UnitOf, Edge, End, Fault as Faulty}
+use Rattle.reading.specs.declared.command.Command.the-variants.{Given, Table, Rule, Use, Unit as UnitOf, Edge, End, Fault as Faulty}
 use Rattle.plan.specs.declared.fault.Fault.{Fault}
 use Rattle.plan.specs.declared.fault.Fault.the-variants.{Truncated, UnknownCommand, OutOfOrder, TooMany}
-use Rattle.plan.specs.declared.fault.Fault.the-variants.{EmptyRule, ContradictoryBody, AbsentRule, BadEdge, TrailingBytes}
+use Rattle.plan.specs.declared.fault.Fault.the-variants.{EmptyRule, ContradictoryBody, BadTable, BadUse, AbsentRule, BadEdge, TrailingBytes}
 
--- column "command", and GIVEN of document 02, S-1
+-- column "command", GIVEN of document 02, S-1, and TABLE and USE of S-4
 pub data Kind : Type 0 where
-  given rule unit edge end : Kind
+  given table rule usage unit edge end : Kind
 
 -- column "byte"
 abbrev pub byteOf : Kind → ℕ
 byteOf given = 0x04
+byteOf table = 0x05
 byteOf rule = 0x01
+byteOf usage = 0x06
 byteOf unit = 0x02
 byteOf edge = 0x03
 byteOf end = 0x00
@@ -35,39 +39,52 @@ kindAmong (kind ∷ kinds) b = elim (eqb b (byteOf kind)) [ true ↦ some kind |
 
 -- all kinds
 abbrev pub kinds : List Kind
-kinds = given ∷ rule ∷ unit ∷ edge ∷ end ∷ []
+kinds = given ∷ table ∷ rule ∷ usage ∷ unit ∷ edge ∷ end ∷ []
 
 unfoldable pub kindOf : ℕ → Option Kind
 kindOf b = kindAmong kinds b
 
+-- "head, positive, negative: three words"
+abbrev pub RULE_OPERAND_WORDS : ℕ
+RULE_OPERAND_WORDS = 3
+
 -- column "operands", in bytes
 abbrev pub operandBytes : Kind → ℕ
 operandBytes given = WORD_BYTES
-operandBytes rule = RULE_WORDS * WORD_BYTES
+operandBytes table = CONTACT_WORDS * WORD_BYTES
+operandBytes rule = RULE_OPERAND_WORDS * WORD_BYTES
+operandBytes usage = 3
 operandBytes unit = WORD_BYTES
 operandBytes edge = 2
 operandBytes end = 0
 
--- "All RULEs come first, then UNITs, then EDGEs, then END": the groups' order; GIVEN stands "before all RULEs"
+-- "All RULEs come first, then UNITs, then EDGEs, then END": the groups' order; GIVEN stands "before all RULEs", TABLEs "before RULEs, after
+-- GIVEN", USE "after RULEs, before UNITs"
 abbrev pub orderOf : Kind → ℕ
 orderOf given = 0
-orderOf rule = 1
-orderOf unit = 2
-orderOf edge = 3
-orderOf end = 4
+orderOf table = 1
+orderOf rule = 2
+orderOf usage = 3
+orderOf unit = 4
+orderOf edge = 5
+orderOf end = 6
 
 -- the earliest kind that may come behind a command of this kind: GIVEN "may stand once", a group goes on
 abbrev pub earliestBehind : Kind → Kind
-earliestBehind given = rule
+earliestBehind given = table
+earliestBehind table = table
 earliestBehind rule = rule
+earliestBehind usage = usage
 earliestBehind unit = unit
 earliestBehind edge = edge
 earliestBehind end = end
 
--- "A command is one of four kinds carrying its operands": of five, with GIVEN
+-- "A command is one of four kinds carrying its operands": of seven, with GIVEN, TABLE and USE
 unfoldable pub carrying : Kind → List ℕ → Command
 carrying given operands = Given (wordAt 0 operands)
+carrying table operands = Table (wordAt 0 operands) (wordAt WORD_BYTES operands)
 carrying rule operands = Rule (wordAt 0 operands) (wordAt WORD_BYTES operands) (wordAt (2 * WORD_BYTES) operands)
+carrying usage operands = Use (getD operands 0 0) (getD operands 1 0) (getD operands 2 0)
 carrying unit operands = UnitOf (wordAt 0 operands)
 carrying edge operands = Edge (getD operands 0 0) (getD operands 1 0)
 carrying end operands = End
@@ -75,7 +92,9 @@ carrying end operands = End
 -- how many commands of the kind are read
 abbrev pub count : Plan → Kind → ℕ
 count p given = p .«given_count»
+count p table = p .«table_count»
 count p rule = p .«rule_count»
+count p usage = p .«use_count»
 count p unit = p .«unit_count»
 count p edge = p .«edge_count»
 count p end = 0
@@ -90,10 +109,13 @@ countBehind p group (j ∷ js) =
 unfoldable pub late : Plan → ℕ → Bool
 late p group = ltb 0 (countBehind p group kinds)
 
--- column "most": "65th RULE, 17th UNIT"; a 241st EDGE names no unit, joins a unit to itself or is a repeat, so it has row 8 alone
+-- column "most": "65th RULE, 17th UNIT"; a 241st EDGE names no unit, joins a unit to itself or is a repeat, so it has row 8 alone.
+-- S-4: "At most 16 tables and 256 USEs; the 17th and the 257th are 5"
 abbrev pub full : Plan → Kind → Bool
 full p given = false
+full p table = leb MAX_TABLES (p .«table_count»)
 full p rule = leb MAX_RULES (p .«rule_count»)
+full p usage = leb MAX_USES (p .«use_count»)
 full p unit = leb MAX_UNITS (p .«unit_count»)
 full p edge = false
 full p end = false
@@ -105,6 +127,15 @@ emptyRule head positive negative = eqb head 0 && eqb positive 0 && eqb negative 
 -- S-6: "positive and negative words share an atom"
 unfoldable pub contradictory : ℕ → ℕ → Bool
 contradictory positive negative = not (apart positive negative)
+
+-- S-4: "TABLE with seven or more inputs, or a set truth bit numbered two to the power of the input count or more"
+unfoldable pub badTable : ℕ → ℕ → Bool
+badTable inputs truth = elim (ltb MAX_INPUTS (ones inputs)) [ true ↦ true | false ↦ leb (2 ^ 2 ^ ones inputs) truth ]
+
+-- S-4: "USE of an absent rule or table, another sign, or the same three bytes again"
+unfoldable pub badUse : Plan → ℕ → ℕ → ℕ → Bool
+badUse p r t sign =
+    leb (p .«rule_count») r || leb (p .«table_count») t || ltb 1 sign || has (getD (p .rules) (usesAt r) 0) (wantedBit t sign)
 
 -- "UNIT names a rule that isn't there": a bit from the count of rules on
 unfoldable pub absentRule : Plan → ℕ → Bool
@@ -126,13 +157,15 @@ row b f = record { fits = b; fault = f }
 abbrev pub kindRows : Plan → ℕ → Kind → List Row
 kindRows p at kind = row (late p (orderOf kind)) (OutOfOrder at) ∷ row (full p kind) (TooMany at) ∷ []
 
--- rows 6, 21 and 7 to 9: what the operands tell
+-- rows 6, 21, 18, 19 and 7 to 9: what the operands tell
 abbrev pub operandRows : Plan → ℕ → Kind → List ℕ → List Row
 operandRows p at given operands = []
+operandRows p at table operands = row (badTable (wordAt 0 operands) (wordAt WORD_BYTES operands)) (BadTable at) ∷ []
 operandRows p at rule operands =
     row (emptyRule (wordAt 0 operands) (wordAt WORD_BYTES operands) (wordAt (2 * WORD_BYTES) operands)) (EmptyRule at)
     ∷ row (contradictory (wordAt WORD_BYTES operands) (wordAt (2 * WORD_BYTES) operands)) (ContradictoryBody at)
     ∷ []
+operandRows p at usage operands = row (badUse p (getD operands 0 0) (getD operands 1 0) (getD operands 2 0)) (BadUse at) ∷ []
 operandRows p at unit operands = row (absentRule p (wordAt 0 operands)) (AbsentRule at) ∷ []
 operandRows p at edge operands = row (badEdge p (getD operands 0 0) (getD operands 1 0)) (BadEdge at) ∷ []
 operandRows p at end operands = row (ltb 0 (length operands)) (TrailingBytes (at + 1)) ∷ []

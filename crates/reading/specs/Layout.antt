@@ -3,19 +3,32 @@ use mathlib.Core.Path.{_≡_}
 use mathlib.Core.List.{List, [], _∷_, _++_, flatMap, List·Memᴰ}
 use mathlib.Core.Bool.{true, false}
 use Prim.Native.Nat.{ℕ, zero, suc, _*_, _/_, _%_, _^_, _≤_, _<_}
+use lib.Count.{ones}
 use lib.Dec.{eqb}
 use lib.ListN.{length, getD}
 use Rattle.atoms.specs.Lists.{padded, tabulate}
-use Rattle.atoms.specs.Word.{Apart, _∪_, atom}
+use Rattle.atoms.specs.Word.{Has, Apart, _∪_, atom}
 use Rattle.reading.specs.Words.{WORD_BYTES, BYTE_VALUES, WORD_VALUES}
-use Rattle.plan.specs.Limits.{MAX_RULES, MAX_UNITS, MAX_EDGES, RULE_WORDS}
+use Rattle.plan.specs.Limits.{MAX_TABLES, MAX_RULES, MAX_USES, MAX_UNITS, MAX_EDGES, MAX_INPUTS, FIRST_RULE, RULE_WORDS}
+use Rattle.plan.specs.Record.{wantedBit}
 use Rattle.plan.specs.declared.record.Plan.{Plan}
+
+-- S-4: a TABLE "with an input word of at most six atoms and a truth word"
+pub record TableWords : Type 0 where
+  pub inputs : ℕ
+  pub truth : ℕ
 
 -- "A rule has three sets: head, positive body, negative body"
 pub record RuleWords : Type 0 where
   pub head : ℕ
   pub positive : ℕ
   pub negative : ℕ
+
+-- S-4: USE "with three bytes: rule, table, and 0 for must be true or 1 for must be false"
+pub record TableUse : Type 0 where
+  pub rule : ℕ
+  pub table : ℕ
+  pub sign : ℕ
 
 -- "Edge (u,v)"
 pub record UnitPair : Type 0 where
@@ -35,6 +48,14 @@ wordBytes w = bytesOf WORD_BYTES w
 abbrev pub givenBytes : ℕ → List ℕ
 givenBytes word = 0x04 ∷ wordBytes word
 
+-- S-4: "TABLEs (0x05) .., each with an input word .. and a truth word"
+abbrev pub tableBytes : TableWords → List ℕ
+tableBytes t = 0x05 ∷ (wordBytes (t .inputs) ++ wordBytes (t .truth))
+
+-- S-4: "USE (0x06) .. with three bytes"
+abbrev pub useBytes : TableUse → List ℕ
+useBytes x = 0x06 ∷ x .rule ∷ x .table ∷ x .sign ∷ []
+
 -- one line of the command table each
 abbrev pub ruleBytes : RuleWords → List ℕ
 ruleBytes r = 0x01 ∷ (wordBytes (r .head) ++ (wordBytes (r .positive) ++ wordBytes (r .negative)))
@@ -51,27 +72,45 @@ endBytes = 0x00 ∷ []
 -- what a plan says: its lists
 pub record Contents : Type 0 where
   pub given : List ℕ
+  pub tables : List TableWords
   pub rules : List RuleWords
+  pub uses : List TableUse
   pub units : List ℕ
   pub edges : List UnitPair
 
--- GIVEN "before all RULEs", "All RULEs come first, then UNITs, then EDGEs": every command but END
+-- GIVEN "before all RULEs", TABLEs "before RULEs, after GIVEN", USE "after RULEs, before UNITs", "All RULEs come first, then UNITs, then
+-- EDGEs": every command but END
 unfoldable pub commands : Contents → List ℕ
 commands c =
-    flatMap givenBytes (c .given) ++ (flatMap ruleBytes (c .rules) ++ (flatMap unitBytes (c .units) ++ flatMap edgeBytes (c .edges)))
+    flatMap givenBytes (c .given)
+    ++ (flatMap tableBytes (c .tables)
+    ++ (flatMap ruleBytes (c .rules)
+    ++ (flatMap useBytes (c .uses) ++ (flatMap unitBytes (c .units) ++ flatMap edgeBytes (c .edges)))))
 
 -- "then END"
 abbrev pub layout : Contents → List ℕ
 layout c = commands c ++ endBytes
 
-abbrev pub threeWords : RuleWords → List ℕ
-threeWords r = r .head ∷ r .positive ∷ r .negative ∷ []
+abbrev pub twoWords : TableWords → List ℕ
+twoWords t = t .inputs ∷ t .truth ∷ []
+
+-- the word of key k: of each entry with this key its bit
+unfoldable pub wordOf : {A : Type 0} → (A → ℕ) → (A → ℕ) → List A → ℕ → ℕ
+wordOf key bit [] k = 0
+wordOf key bit (x ∷ xs) k = elim (eqb (key x) k) [ true ↦ wordOf key bit xs k ∪ atom (bit x) | false ↦ wordOf key bit xs k ]
+
+-- what rule r wants of contact tables: for each of its USEs the bit of the table and the sign
+unfoldable pub usesOf : List TableUse → ℕ → ℕ
+usesOf uses r = wordOf (λ x. x .rule) (λ x. wantedBit (x .table) (x .sign)) uses r
+
+-- the words of the rules from number n on, four each
+unfoldable pub ruleWords : List TableUse → ℕ → List RuleWords → List ℕ
+ruleWords uses n [] = []
+ruleWords uses n (r ∷ rules) = r .head ∷ r .positive ∷ r .negative ∷ usesOf uses n ∷ ruleWords uses (suc n) rules
 
 -- the direct predecessors of unit u
 unfoldable pub predecessorsOf : List UnitPair → ℕ → ℕ
-predecessorsOf [] u = 0
-predecessorsOf (e ∷ edges) u =
-    elim (eqb (e .u) u) [ true ↦ predecessorsOf edges u ∪ atom (e .v) | false ↦ predecessorsOf edges u ]
+predecessorsOf edges u = wordOf (λ e. e .u) (λ e. e .v) edges u
 
 -- the record of the lists
 unfoldable pub recordOf : Contents → Plan
@@ -79,8 +118,10 @@ recordOf c =
     record {
       given = getD (c .given) 0 0;
       «given_count» = length (c .given);
-      rules = padded (RULE_WORDS * MAX_RULES) (flatMap threeWords (c .rules));
+      rules = padded FIRST_RULE (flatMap twoWords (c .tables)) ++ padded (RULE_WORDS * MAX_RULES) (ruleWords (c .uses) 0 (c .rules));
+      «table_count» = length (c .tables);
       «rule_count» = length (c .rules);
+      «use_count» = length (c .uses);
       units = padded MAX_UNITS (c .units);
       «unit_count» = length (c .units);
       predecessors = tabulate MAX_UNITS (predecessorsOf (c .edges));
@@ -98,6 +139,13 @@ abbrev pub Distinct : {A : Type 0} → List A → Type 0
 Distinct [] = Unit {0}
 Distinct (x ∷ xs) = ¬ List·Memᴰ x xs × Distinct xs
 
+-- two words, at most six inputs, and no set truth bit numbered two to the power of their count or more
+pub record GoodTable (t : TableWords) : Type 0 where
+  pub inputs-fit : t .inputs < WORD_VALUES
+  pub truth-fits : t .truth < WORD_VALUES
+  pub few-inputs : ones (t .inputs) ≤ MAX_INPUTS
+  pub rows-there : (j : ℕ) → Has (t .truth) j → j < 2 ^ ones (t .inputs)
+
 -- three words, not all zero; S-6: the positive and the negative one share no atom
 pub record GoodRule (r : RuleWords) : Type 0 where
   pub head-fits : r .head < WORD_VALUES
@@ -106,20 +154,31 @@ pub record GoodRule (r : RuleWords) : Type 0 where
   pub some-word : ¬ ((r .head ≡ 0) × ((r .positive ≡ 0) × (r .negative ≡ 0)))
   pub none-shared : Apart (r .positive) (r .negative)
 
+-- a use of one of n tables by one of m rules, with sign 0 or 1
+pub record GoodUse (m n : ℕ) (x : TableUse) : Type 0 where
+  pub rule-there : x .rule < m
+  pub table-there : x .table < n
+  pub zero-or-one : x .sign ≤ 1
+
 -- an edge between two of n units
 pub record GoodEdge (n : ℕ) (e : UnitPair) : Type 0 where
   pub from-there : e .u < n
   pub to-there : e .v < n
   pub apart : ¬ (e .u ≡ e .v)
 
--- what a plan may hold: column "most", GIVEN once, and rows 6, 21, 7 and 8 of the fault table
+-- what a plan may hold: column "most", GIVEN once, and rows 6, 21, 18, 19, 7 and 8 of the fault table
 pub record Within (c : Contents) : Type 0 where
   pub one-given : length (c .given) ≤ 1
+  pub most-tables : length (c .tables) ≤ MAX_TABLES
   pub most-rules : length (c .rules) ≤ MAX_RULES
+  pub most-uses : length (c .uses) ≤ MAX_USES
   pub most-units : length (c .units) ≤ MAX_UNITS
   pub most-edges : length (c .edges) ≤ MAX_EDGES
   pub good-given : All (λ word. word < WORD_VALUES) (c .given)
+  pub good-tables : All GoodTable (c .tables)
   pub good-rules : All GoodRule (c .rules)
+  pub good-uses : All (GoodUse (length (c .rules)) (length (c .tables))) (c .uses)
+  pub no-use-again : Distinct (c .uses)
   pub good-units : All (λ word. word < 2 ^ length (c .rules)) (c .units)
   pub good-edges : All (GoodEdge (length (c .units))) (c .edges)
   pub no-repeat : Distinct (c .edges)

@@ -1,12 +1,12 @@
 -- Reading a whole plan: its record, or the first fault from the left.
 use mathlib.Core.List.{List, [], _∷_}
 use Prim.Native.Nat.{ℕ, zero, suc, _+_, _*_}
-use Rattle.plan.specs.Limits.{MAX_RULES, MAX_UNITS, MAX_EDGES}
-use Rattle.plan.specs.Record.{emptyPlan, withGiven, withRule, withUnit, withEdge}
-use Rattle.reading.specs.Commands.{Kind, given, rule, unit, edge, end, operandBytes, commandAt}
+use Rattle.plan.specs.Limits.{MAX_TABLES, MAX_RULES, MAX_USES, MAX_UNITS, MAX_EDGES}
+use Rattle.plan.specs.Record.{emptyPlan, withGiven, withTable, withRule, withUse, withUnit, withEdge}
+use Rattle.reading.specs.Commands.{Kind, given, table, rule, usage, unit, edge, end, operandBytes, commandAt}
 use Rattle.plan.specs.declared.record.Plan.{Plan}
 use Rattle.reading.specs.declared.command.Command.{Command}
-use Rattle.reading.specs.declared.command.Command.the-variants.{Given, Rule, Unit as UnitOf, Edge, End, Fault as Faulty}
+use Rattle.reading.specs.declared.command.Command.the-variants.{Given, Table, Rule, Use, Unit as UnitOf, Edge, End, Fault as Faulty}
 use Rattle.plan.specs.declared.fault.Fault.{Fault}
 use Rattle.plan.specs.declared.fault.Outcome.the-variants.{Accepted, Refused}
 use Rattle.reading.specs.declared.reader.Reading.{Reading}
@@ -29,7 +29,9 @@ pub data Step : Type 0 where
 
 abbrev pub stepOf : Plan → Command → Step
 stepOf p (Given word) = onward given (withGiven p word)
+stepOf p (Table inputs truth) = onward table (withTable p inputs truth)
 stepOf p (Rule head positive negative) = onward rule (withRule p head positive negative)
+stepOf p (Use r t sign) = onward usage (withUse p r t sign)
 stepOf p (UnitOf word) = onward unit (withUnit p word)
 stepOf p (Edge u v) = onward edge (withEdge p u v)
 stepOf p End = ended (accepted p)
@@ -49,14 +51,18 @@ walk p at zero (b ∷ rest) =
 unfoldable pub reading : List ℕ → Reading
 reading bytes = walk emptyPlan 0 0 bytes
 
--- GIVEN "may stand once", "RULE 64, UNIT 16, EDGE 240": the bytes of as many commands before END as there may be
+-- GIVEN "may stand once", "At most 16 tables and 256 USEs", "RULE 64, UNIT 16, EDGE 240": the bytes of as many commands before END as there
+-- may be
 abbrev MOST_BEFORE_END : ℕ
-MOST_BEFORE_END = commandBytes given + commandBytes rule * MAX_RULES + commandBytes unit * MAX_UNITS + commandBytes edge * MAX_EDGES
+MOST_BEFORE_END =
+    commandBytes given + commandBytes table * MAX_TABLES + commandBytes rule * MAX_RULES + commandBytes usage * MAX_USES
+    + commandBytes unit * MAX_UNITS
+    + commandBytes edge * MAX_EDGES
 
--- "The longest plan has 2,465 bytes", and 9 more with a GIVEN
+-- "The longest plan has 2,465 bytes", 9 more with a GIVEN, and 1,296 more with all TABLEs and USEs
 abbrev pub LONGEST_PLAN : ℕ
 LONGEST_PLAN = MOST_BEFORE_END + commandBytes end
 
--- "every reading fault, a 241st EDGE and bytes after END included, shows within 2,467", and 9 more with a GIVEN
+-- "every reading fault, a 241st EDGE and bytes after END included, shows within 2,467", and as many more
 abbrev pub DECIDING_BYTES : ℕ
 DECIDING_BYTES = MOST_BEFORE_END + commandBytes edge

@@ -1,16 +1,18 @@
 -- What reading accepts and refuses, said of a plan's lists and their layout alone: the reader, its record and its steps are not spoken of.
--- Document 01, "Faults, by where they are found", place "reading"; document 02, S-1.
+-- Document 01, "Faults, by where they are found", place "reading"; document 02, S-1, S-4 and S-6.
 use mathlib.Core.Path.{_≡_}
 use mathlib.Core.List.{List, [], _∷_, _++_, List·Memᴰ}
 use mathlib.Core.Logic.{_↔_}
-use Prim.Native.Nat.{ℕ, suc, _≤_, _<_}
+use Prim.Native.Nat.{ℕ, suc, _^_, _≤_, _<_}
+use lib.Count.{ones}
 use lib.ListN.{length}
 use Rattle.atoms.specs.Word.{Has}
-use Rattle.plan.specs.Limits.{MAX_RULES, MAX_UNITS}
+use Rattle.plan.specs.Limits.{MAX_TABLES, MAX_RULES, MAX_USES, MAX_UNITS, MAX_INPUTS}
 use Rattle.plan.specs.Faults.{RefusedBy, TableRow, FirstFit}
 use Rattle.reading.specs.Words.{WORD_VALUES}
-use Rattle.reading.specs.Commands.{Kind, given, rule, unit, edge, end, byteOf, operandBytes, orderOf, earliestBehind}
-use Rattle.reading.specs.Layout.{RuleWords, UnitPair, Contents, ruleBytes, unitBytes, edgeBytes, endBytes, commands, layout, Within}
+use Rattle.reading.specs.Commands.{Kind, given, table, rule, usage, unit, edge, end, byteOf, operandBytes, orderOf, earliestBehind}
+use Rattle.reading.specs.Layout.{TableWords, RuleWords, TableUse, UnitPair, Contents, tableBytes, ruleBytes, useBytes, unitBytes, edgeBytes}
+use Rattle.reading.specs.Layout.{endBytes, commands, layout, Within}
 use Rattle.plan.specs.declared.fault.Outcome.{Outcome}
 use Rattle.plan.specs.declared.fault.Outcome.the-variants.{Accepted}
 
@@ -24,7 +26,9 @@ pub record Begins (kind : Kind) (rest : List ℕ) : Type 0 where
 -- how many commands of the kind there are
 abbrev pub countOf : Contents → Kind → ℕ
 countOf c given = length (c .given)
+countOf c table = length (c .tables)
 countOf c rule = length (c .rules)
+countOf c usage = length (c .uses)
 countOf c unit = length (c .units)
 countOf c edge = length (c .edges)
 countOf c end = 0
@@ -44,10 +48,12 @@ pub record OutOfGroupOrder (c : Contents) (rest : List ℕ) : Type 0 where
   pub there : 0 < countOf c before
   pub too-late : orderOf kind < orderOf (earliestBehind before)
 
--- 5: "65th RULE, 17th UNIT"; a 241st EDGE is 8, or 2 where it is cut short
+-- 5: "65th RULE, 17th UNIT"; a 241st EDGE is 8, or 2 where it is cut short; S-4: "At most 16 tables and 256 USEs; the 17th and the 257th are 5"
 abbrev pub Full : Contents → Kind → Type 0
 Full c given = ⊥
+Full c table = MAX_TABLES ≤ length (c .tables)
 Full c rule = MAX_RULES ≤ length (c .rules)
+Full c usage = MAX_USES ≤ length (c .uses)
 Full c unit = MAX_UNITS ≤ length (c .units)
 Full c edge = ⊥
 Full c end = ⊥
@@ -78,6 +84,32 @@ pub record ContradictoryRule (rest : List ℕ) : Type 0 where
   pub atom : ℕ
   pub wanted-up : Has (words .positive) atom
   pub wanted-dropped : Has (words .negative) atom
+
+-- 18 (02, S-4): "TABLE with seven or more inputs, or a set truth bit numbered two to the power of the input count or more"
+pub data NoTable (t : TableWords) : Type 0 where
+  seven-inputs : MAX_INPUTS < ones (t .inputs) → NoTable t
+  no-such-row : (j : ℕ) → Has (t .truth) j → 2 ^ ones (t .inputs) ≤ j → NoTable t
+
+pub record WrongTable (rest : List ℕ) : Type 0 where
+  pub words : TableWords
+  pub more : List ℕ
+  pub is : rest ≡ tableBytes words ++ more
+  pub inputs-fit : words .inputs < WORD_VALUES
+  pub truth-fits : words .truth < WORD_VALUES
+  pub wrong : NoTable words
+
+-- 19 (02, S-4): "USE of an absent rule or table, another sign, or the same three bytes again"
+pub data NoNewUse (c : Contents) (x : TableUse) : Type 0 where
+  no-such-rule : length (c .rules) ≤ x .rule → NoNewUse c x
+  no-such-table : length (c .tables) ≤ x .table → NoNewUse c x
+  another-sign : ¬ (x .sign ≡ 0) → ¬ (x .sign ≡ 1) → NoNewUse c x
+  again : List·Memᴰ x (c .uses) → NoNewUse c x
+
+pub record WrongUse (c : Contents) (rest : List ℕ) : Type 0 where
+  pub three : TableUse
+  pub more : List ℕ
+  pub is : rest ≡ useBytes three ++ more
+  pub wrong : NoNewUse c three
 
 -- 7: "UNIT names a rule that isn't there"
 pub record NamesAbsentRule (c : Contents) (rest : List ℕ) : Type 0 where
@@ -122,6 +154,8 @@ readingPlace c offset rest =
     ∷ row 2 (CutShort rest) offset
     ∷ row 6 (ZeroRule rest) offset
     ∷ row 21 (ContradictoryRule rest) offset
+    ∷ row 18 (WrongTable rest) offset
+    ∷ row 19 (WrongUse c rest) offset
     ∷ row 7 (NamesAbsentRule c rest) offset
     ∷ row 8 (WrongEdge c rest) offset
     ∷ row 9 (BytesAfterEnd rest) (suc offset)

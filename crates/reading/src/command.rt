@@ -1,13 +1,22 @@
 // What one command of a plan is.
 use plan::Fault;
 
-// "A command is one of four kinds carrying its operands", of five with GIVEN, or the fault that stopped it.
+// "A command is one of four kinds carrying its operands", of seven with GIVEN, TABLE and USE, or the fault that stopped it.
 pub enum Command {
     Given(u64),
+    Table {
+        inputs: u64,
+        truth: u64,
+    },
     Rule {
         head: u64,
         positive: u64,
         negative: u64,
+    },
+    Use {
+        rule: u8,
+        table: u8,
+        sign: u8,
     },
     Unit(u64),
     Edge(u8, u8),

@@ -8,14 +8,20 @@ use crate::edge::read_edge;
 use crate::end::read_end;
 use crate::given::read_given;
 use crate::rule::read_rule;
+use crate::table::read_table;
 use crate::unit::read_unit;
+use crate::usage::read_use;
 use plan::Fault;
 use plan::Plan;
 
 // Column "byte" of the command table.
 const GIVEN: u8 = 0x04;
 
+const TABLE: u8 = 0x05;
+
 const RULE: u8 = 0x01;
+
+const USE: u8 = 0x06;
 
 const UNIT: u8 = 0x02;
 
@@ -35,7 +41,9 @@ pub fn read_command(plan: &[u8], at: usize, read: Plan) -> Command
     let operands = &plan[at + 1..];
     match code {
         GIVEN => read_given(operands, at, read),
+        TABLE => read_table(operands, at, read),
         RULE => read_rule(operands, at, read),
+        USE => read_use(operands, at, read),
         UNIT => read_unit(operands, at, read),
         EDGE => read_edge(operands, at, read),
         END => read_end(operands, at, read),

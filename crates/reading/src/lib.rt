@@ -1,4 +1,4 @@
-// Reading a plan: from its bytes to the record of its given atoms, rules, units and edges, or the first fault.
+// Reading a plan: from its bytes to the record of its given atoms, contact tables, rules, uses, units and edges, or the first fault.
 mod command;
 mod dispatch;
 mod edge;
@@ -7,7 +7,9 @@ mod given;
 mod order;
 mod reader;
 mod rule;
+mod table;
 mod unit;
+mod usage;
 mod words;
 
 pub use command::Command;

@@ -1,17 +1,21 @@
-// The order of groups: a GIVEN, then all RULEs, then UNITs, then EDGEs, then END.
+// The order of groups: a GIVEN, then TABLEs, then all RULEs, then USEs, then UNITs, then EDGEs, then END.
 ghost use mathlib.Core.Path.{_≡_};
 ghost use Rattle.reading.specs.Commands.{late};
 use plan::Plan;
 
 pub const GIVEN_GROUP: usize = 0;
 
-pub const RULE_GROUP: usize = GIVEN_GROUP + 1;
+pub const TABLE_GROUP: usize = GIVEN_GROUP + 1;
 
-pub const UNIT_GROUP: usize = RULE_GROUP + 1;
+pub const RULE_GROUP: usize = TABLE_GROUP + 1;
+
+pub const USE_GROUP: usize = RULE_GROUP + 1;
+
+pub const UNIT_GROUP: usize = USE_GROUP + 1;
 
 const EDGE_GROUP: usize = UNIT_GROUP + 1;
 
-// Whether a command is read behind which none of this group may come. GIVEN may stand once, so behind it come RULEs at the earliest.
+// Whether a command is read behind which none of this group may come. GIVEN may stand once, so behind it come TABLEs at the earliest.
 pub fn is_late(group: usize, read: Plan) -> bool
     ensures { λ r. ⌜ r ≡ late read group ⌝ }
 {
@@ -21,11 +25,17 @@ pub fn is_late(group: usize, read: Plan) -> bool
     if 0 < read.unit_count {
         return group < UNIT_GROUP;
     }
+    if 0 < read.use_count {
+        return group < USE_GROUP;
+    }
     if 0 < read.rule_count {
         return group < RULE_GROUP;
     }
+    if 0 < read.table_count {
+        return group < TABLE_GROUP;
+    }
     if 0 < read.given_count {
-        return group < RULE_GROUP;
+        return group < TABLE_GROUP;
     }
     false
 }

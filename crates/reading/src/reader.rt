@@ -1,7 +1,7 @@
-// Reading a plan from the left: a GIVEN, then RULEs, then UNITs, then EDGEs, then END. Any of these but END may be missing.
+// Reading a plan from the left: a GIVEN, then TABLEs, RULEs, USEs, UNITs, EDGEs, then END. Any of these but END may be missing.
 ghost use mathlib.Core.Path.{_≡_};
 ghost use Rattle.plan.specs.Record.{Fitting};
-ghost use Rattle.reading.specs.Commands.{rule, unit, edge, end};
+ghost use Rattle.reading.specs.Commands.{table, rule, usage, unit, edge, end};
 ghost use Rattle.reading.specs.Progress.{placeAt, Reached};
 ghost use Rattle.reading.specs.Reading.{reading};
 ghost use Rattle.reading.specs.Refusals.{ReadingJudged};
@@ -10,14 +10,18 @@ use crate::dispatch::read_command;
 use crate::edge::EDGE_BYTES;
 use crate::given::GIVEN_BYTES;
 use crate::rule::RULE_BYTES;
+use crate::table::TABLE_BYTES;
 use crate::unit::UNIT_BYTES;
+use crate::usage::USE_BYTES;
 use plan::Outcome;
 use plan::Plan;
 use plan::empty_plan;
 use plan::with_edge;
 use plan::with_given;
 use plan::with_rule;
+use plan::with_table;
 use plan::with_unit;
+use plan::with_use;
 
 // What reading gives: the outcome and the record, which is empty on a refusal.
 pub struct Reading {
@@ -47,7 +51,7 @@ fn place(bytes: &[u8], taken: Plan, at: usize) -> Progress
 
 // The place behind the GIVEN, if there is one.
 fn read_givens(bytes: &[u8]) -> Progress
-    ensures { λ r. ⌜ Reached rule (now (bytes .entry)) r ⌝ }
+    ensures { λ r. ⌜ Reached table (now (bytes .entry)) r ⌝ }
 {
     let progress = place(bytes, empty_plan(), 0);
     let command = progress.command;
@@ -59,10 +63,27 @@ fn read_givens(bytes: &[u8]) -> Progress
     place(bytes, taken, at + GIVEN_BYTES)
 }
 
+// The place behind all TABLEs.
+fn read_tables(bytes: &[u8], from: Progress) -> Progress
+    requires { ⌜ Reached table (now bytes) from ⌝ }
+    ensures { λ r. ⌜ Reached rule (now (bytes .entry)) r ⌝ }
+{
+    let mut progress = from;
+    loop {
+        let command = progress.command;
+        let Command::Table { inputs, truth } = command else {
+            return progress;
+        };
+        let taken = with_table(progress.plan, inputs, truth);
+        let at = progress.at;
+        progress = place(bytes, taken, at + TABLE_BYTES);
+    }
+}
+
 // The place behind all RULEs.
 fn read_rules(bytes: &[u8], from: Progress) -> Progress
     requires { ⌜ Reached rule (now bytes) from ⌝ }
-    ensures { λ r. ⌜ Reached unit (now (bytes .entry)) r ⌝ }
+    ensures { λ r. ⌜ Reached usage (now (bytes .entry)) r ⌝ }
 {
     let mut progress = from;
     loop {
@@ -78,6 +99,23 @@ fn read_rules(bytes: &[u8], from: Progress) -> Progress
         let taken = with_rule(progress.plan, head, positive, negative);
         let at = progress.at;
         progress = place(bytes, taken, at + RULE_BYTES);
+    }
+}
+
+// The place behind all USEs.
+fn read_uses(bytes: &[u8], from: Progress) -> Progress
+    requires { ⌜ Reached usage (now bytes) from ⌝ }
+    ensures { λ r. ⌜ Reached unit (now (bytes .entry)) r ⌝ }
+{
+    let mut progress = from;
+    loop {
+        let command = progress.command;
+        let Command::Use { rule, table, sign } = command else {
+            return progress;
+        };
+        let taken = with_use(progress.plan, rule, table, sign);
+        let at = progress.at;
+        progress = place(bytes, taken, at + USE_BYTES);
     }
 }
 
@@ -121,8 +159,10 @@ pub fn read_plan(plan: &[u8]) -> Reading
     ensures judged { λ r. ⌜ ReadingJudged (now (plan .entry)) (r .outcome) ⌝ }
 {
     let givens = read_givens(plan);
-    let rules = read_rules(plan, givens);
-    let units = read_units(plan, rules);
+    let tables = read_tables(plan, givens);
+    let rules = read_rules(plan, tables);
+    let uses = read_uses(plan, rules);
+    let units = read_units(plan, uses);
     let edges = read_edges(plan, units);
     let command = edges.command;
     let Command::Fault(fault) = command else {

@@ -9,10 +9,11 @@ use crate::words::read_word;
 use plan::Fault;
 use plan::MAX_RULES;
 use plan::Plan;
-use plan::RULE_WORDS;
 
-// Column "operands", in bytes, and with the command's byte.
-const RULE_OPERANDS: usize = RULE_WORDS * WORD_BYTES;
+// Column "operands", in words, in bytes, and with the command's byte.
+const RULE_OPERAND_WORDS: usize = 3;
+
+const RULE_OPERANDS: usize = RULE_OPERAND_WORDS * WORD_BYTES;
 
 pub const RULE_BYTES: usize = 1 + RULE_OPERANDS;
 

@@ -1,18 +1,23 @@
 -- "two accepted plans that agree there (same unit numbers, rules and edges) give it the same list": from the bytes of two plans to the words in
 -- their tables. Both lists are rising, and the splitting theory says that they have the same members.
-use mathlib.Core.Path.{_≡_, refl, sym, ap, _∙_}
+use mathlib.Core.Path.{_≡_, refl, sym, ap, ap₂, _∙_}
+use mathlib.Core.Bool.{_&&_}
 use mathlib.Core.List.{List}
 use Prim.Native.Nat.{ℕ, _+_, _*_, _≤_, _<_}
 use native.Mathlib.Omega.{arith}
 use lib.ListN.{length, getD}
+use Rattle.atoms.specs.Word.{Has, apart}
 use Rattle.atoms.specs.Lists.{padded}
+use Rattle.atoms.proofs.Tests.{bool-ext}
+use Rattle.atoms.proofs.Bounded.{all-in-at, all-in-intro}
+use Rattle.answer_sets.specs.Lent.{lent, negative, inputs, truth, uses, USE_BITS, tableOf, useHolds, usesHold}
 use Rattle.plan.specs.Limits.{MAX_UNITS, LIST_WORDS}
 use Rattle.plan.specs.declared.fault.Outcome.the-variants.{Accepted}
 use Rattle.reading.specs.Reading.{reading}
 use Rattle.reading.specs.Layout.{IsByte, All}
 use Rattle.dependency_graph.specs.Units.{Units}
 use Rattle.dependency_graph.specs.PlanUnits.{unitsOf}
-use Rattle.splitting.specs.UnitList.{Agree}
+use Rattle.splitting.specs.UnitList.{SameRule, Agree}
 use Rattle.splitting.proofs.Agreement.{agreement}
 use Rattle.unit_lists.specs.Lists.{unitList}
 use Rattle.unit_lists.specs.Table.{listAt}
@@ -57,6 +62,35 @@ same-list e x y = record {
   count = x .count-is ∙ ap length e ∙ sym (y .count-is);
   words = λ i k. x .words-are i k ∙ ap (λ (xs : List ℕ). getD (padded LIST_WORDS xs) i 0) e ∙ sym (y .words-are i k);
 }
+
+-- S-4: "Plans agree on a unit only with the same tables and uses there": rules with the same words and uses, of tables with the same words
+pub record SameWords (rules rules′ : List ℕ) (r s : ℕ) : Type 0 where
+  pub head : lent rules .head r ≡ lent rules′ .head s
+  pub positive : lent rules .positive r ≡ lent rules′ .positive s
+  pub negatives : negative rules r ≡ negative rules′ s
+  pub same-uses : uses rules r ≡ uses rules′ s
+  pub tables : (i : ℕ) → i < USE_BITS → Has (uses rules r) i
+      → (inputs rules (tableOf i) ≡ inputs rules′ (tableOf i)) × (truth rules (tableOf i) ≡ truth rules′ (tableOf i))
+
+pub same-rule : {rules rules′ : List ℕ} {r s : ℕ} → SameWords rules rules′ r s → SameRule (lent rules) (lent rules′) r s
+unfolding lent usesHold useHolds
+same-rule {rules} {rules′} {r} {s} w = record {
+  head = w .head;
+  positive = w .positive;
+  rest = λ M. ap₂ _&&_ (ap (λ (n : ℕ). apart n M) (w .negatives)) (all-same M);
+}
+  where
+    one : (M i : ℕ) → i < USE_BITS → Has (uses rules r) i → useHolds rules i M ≡ useHolds rules′ i M
+    one M i l h = let t = w .tables i l h in rw (t .0, t .1) refl
+
+    all-same : (M : ℕ) → usesHold rules r M ≡ usesHold rules′ s M
+    all-same M =
+        bool-ext (usesHold rules r M) (usesHold rules′ s M)
+        (λ e. all-in-intro USE_BITS (uses rules′ s) (λ i. useHolds rules′ i M)
+        (λ i l h. let k = rw (sym (w .same-uses)) at h in
+        sym (one M i l k) ∙ all-in-at USE_BITS (uses rules r) (λ i. useHolds rules i M) e i l k))
+        (λ e. all-in-intro USE_BITS (uses rules r) (λ i. useHolds rules i M)
+        (λ i l h. one M i l h ∙ all-in-at USE_BITS (uses rules′ s) (λ i. useHolds rules′ i M) e i l (rw (w .same-uses) at h)))
 
 pub lists-agree : (bytes bytes′ table table′ : List ℕ) → All IsByte bytes → All IsByte bytes′ → answer bytes table .outcome ≡ Accepted
     → answer bytes′ table′ .outcome ≡ Accepted → (u : ℕ) → u < unitsOf (reading bytes .plan) .units → u < unitsOf (reading bytes′ .plan) .units

@@ -1,12 +1,15 @@
 -- Demand 1, from the answer that the function hands back: where the answer comes from tells the first fault, and each first fault tells the answer.
 use mathlib.Core.Path.{_≡_, refl, sym, ap, _∙_, subst, subst₂}
+use mathlib.Core.Bool.{Bool, true, false, true≢false}
 use mathlib.Core.Logic.{_↔_, _⊎_, inl, inr}
 use mathlib.Core.List.{List, [], _∷_, _++_}
 use Prim.Native.Nat.{ℕ, _+_, _-_, _*_, _≤_, _<_}
 use native.Mathlib.Omega.{arith}
 use native.Mathlib.Decide.{decLt, ℕ-discrete}
+use lib.Dec.{eqb}
 use lib.ListN.{length, drop, getD, replicate, getD-replicate, List·getD-append, length-append, length-drop, length-replicate}
 use lib.Seq.{getD-append-add, drop-at}
+use borrow.Author.Tests.{eqb-false}
 use Rattle.atoms.specs.Lists.{padded}
 use Rattle.plan.specs.Limits.{MAX_RULES, MAX_UNITS, LIST_WORDS, TABLE_WORDS, COUNTS, LAST_COUNT}
 use Rattle.plan.specs.Faults.{RefusedBy, TableRow, FirstFit}
@@ -79,40 +82,22 @@ cleared-long table l =
 
 -- ---- the numbers of the places
 
-abbrev None15 : List TableRow → Type 0
-None15 [] = Unit {0}
-None15 (r ∷ rows) = (¬ (r .no ≡ 15)) × None15 rows
+-- no row is numbered 15
+abbrev none15 : List TableRow → Bool
+none15 [] = true
+none15 (r ∷ rows) = elim (eqb (r .no) 15) [ true ↦ false | false ↦ none15 rows ]
 
-fit-not-15 : (rows : List TableRow) (n s : ℕ) → None15 rows → FirstFit rows n s → ¬ (n ≡ 15)
-fit-not-15 (r ∷ rows) n s b (inl h) e = b .0 (sym (h .1 .0) ∙ e)
-fit-not-15 (r ∷ rows) n s b (inr h) e = fit-not-15 rows n s (b .1) (h .1) e
+fit-not-15 : (rows : List TableRow) (n s : ℕ) → none15 rows ≡ true → FirstFit rows n s → ¬ (n ≡ 15)
+fit-not-15 [] n s b f e = f
+fit-not-15 (r ∷ rows) n s b f e = go (eqb (r .no) 15) refl f (fit-not-15 rows n s)
+  where
+    go : (t : Bool) → eqb (r .no) 15 ≡ t → FirstFit (r ∷ rows) n s → (none15 rows ≡ true → FirstFit rows n s → ¬ (n ≡ 15)) → ⊥
+    go true t h rec = true≢false (sym (rw (t, none15) at b))
+    go false t (inl h) rec = eqb-false _ _ t (sym (h .1 .0) ∙ e)
+    go false t (inr h) rec = rec (rw (t, none15) at b) (h .1) e
 
--- no row of the reading place is numbered 15
 reading-number : {bytes : List ℕ} {n s : ℕ} → Stopped bytes n s → ¬ (n ≡ 15)
-reading-number {n = n} {s = s} st =
-    let numbers : None15 (readingPlace (st .contents) (length (commands (st .contents))) (st .rest)) = (
-      λ e. omega arith,
-      (
-        λ e. omega arith,
-        (
-          λ e. omega arith,
-          (
-            λ e. omega arith,
-            (
-              λ e. omega arith,
-              (
-                λ e. omega arith,
-                (
-                  λ e. omega arith,
-                  (λ e. omega arith, (λ e. omega arith, tt)),
-                ),
-              ),
-            ),
-          ),
-        ),
-      ),
-    ) in
-    fit-not-15 (readingPlace (st .contents) (length (commands (st .contents))) (st .rest)) n s numbers (st .first)
+reading-number {n = n} {s = s} st = fit-not-15 (readingPlace (st .contents) (length (commands (st .contents))) (st .rest)) n s refl (st .first)
 
 -- nor is one of the graph place
 graph-number : {S : Units} {o : Outcome} {n s : ℕ} → Right S o → RefusedBy o n s → ¬ (n ≡ 15)

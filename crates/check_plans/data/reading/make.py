@@ -13,8 +13,16 @@ def given(atoms=0):
     return b"\x04" + word(atoms)
 
 
+def table(inputs=0, truth=0):
+    return b"\x05" + word(inputs) + word(truth)
+
+
 def rule(head=0, positive=0, negative=0):
     return b"\x01" + word(head) + word(positive) + word(negative)
+
+
+def use(rule, table, sign):
+    return bytes([6, rule, table, sign])
 
 
 def unit(rules=0):
@@ -32,18 +40,31 @@ P_RULES = rule(head=3) + rule(head=4, positive=1)
 PLAN_P = P_RULES + unit(1) + unit(2) + edge(1, 0) + END
 EDGES = b"".join(edge(u, v) for u in range(16) for v in range(16) if u != v)
 ALL_UNITS = unit() * 16
+KEY = table(inputs=1, truth=2)
+KEY_AND_FACT = KEY + FACT
+ALL_TABLES = b"".join(table(truth=1 - t % 2) for t in range(16))
+ALL_USES = b"".join(use(r, t, t % 2) for r in range(16) for t in range(16))
+ALL_BUT_UNITS = ALL_TABLES + FACT * 16 + ALL_USES
 
 PLANS = {
     "rule-in-no-unit": rule(head=3) + END,
     "given": given(2) + FACT + END,
     "given-of-no-atoms": given() + END,
-    "longest": given() + b"".join(rule(1 << i) for i in range(64)) + unit(2**64 - 1) + unit() * 15 + EDGES + END,
+    "table-used": KEY_AND_FACT + rule(head=2) + use(1, 0, 0) + END,
+    "table-unused": KEY_AND_FACT + END,
+    "table-of-no-inputs": table(truth=1) + FACT + use(0, 0, 1) + END,
+    "table-of-six-inputs": table(inputs=0x3F, truth=2**64 - 1) + END,
+    "row-31-of-five-inputs": table(inputs=0x1F << 59, truth=1 << 31) + END,
+    "use-of-the-other-sign": KEY_AND_FACT + rule(head=2) + use(1, 0, 0) + use(1, 0, 1) + END,
+    "longest": given() + ALL_TABLES + b"".join(rule(1 << i) for i in range(64)) + ALL_USES + unit(2**64 - 1) + unit() * 15 + EDGES + END,
 
     "no-end": FACT,
     "rule-without-operands": b"\x01",
     "second-rule-cut-short": FACT + FACT[:-1],
     "unit-cut-short": FACT + unit(1)[:-1],
     "given-cut-short": given(1)[:-1],
+    "table-cut-short": KEY[:-1],
+    "use-cut-short": KEY_AND_FACT + use(0, 0, 0)[:-1],
     "edge-cut-short": TWO_UNITS + edge(1, 0)[:-1],
 
     "unknown-byte": b"\xff" + END,
@@ -57,6 +78,15 @@ PLANS = {
     "given-behind-unit": unit() + given(1) + END,
     "given-behind-edge": TWO_UNITS + edge(1, 0) + given(1) + END,
     "second-given-behind-rule": given(2) + FACT + given(2) + END,
+    "given-behind-table": KEY + given(2) + END,
+    "table-behind-rule": FACT + KEY + END,
+    "table-behind-rule-cut-short": FACT + b"\x05",
+    "table-behind-use": KEY_AND_FACT + use(0, 0, 0) + KEY + END,
+    "17th-table-behind-rule": ALL_TABLES + FACT + table() + END,
+    "rule-behind-use": KEY_AND_FACT + use(0, 0, 0) + FACT + END,
+    "use-behind-unit": KEY_AND_FACT + unit(1) + use(0, 0, 0) + END,
+    "use-behind-edge-cut-short": KEY_AND_FACT + TWO_UNITS + edge(1, 0) + b"\x06",
+    "257th-use-behind-unit": ALL_BUT_UNITS + unit() + use(0, 0, 1) + END,
     "rule-behind-unit": FACT + unit(1) + FACT + END,
     "rule-behind-edge": TWO_UNITS + edge(1, 0) + FACT + END,
     "unit-behind-edge": TWO_UNITS + edge(1, 0) + unit() + END,
@@ -67,6 +97,12 @@ PLANS = {
     "65th-rule": FACT * 65 + END,
     "65th-rule-cut-short": FACT * 64 + b"\x01",
     "65th-rule-of-zeros": FACT * 64 + rule() + END,
+    "17th-table": ALL_TABLES + table() + END,
+    "17th-table-cut-short": ALL_TABLES + b"\x05",
+    "17th-table-of-seven-inputs": ALL_TABLES + table(inputs=0x7F) + END,
+    "257th-use": ALL_BUT_UNITS + use(0, 0, 1) + END,
+    "257th-use-cut-short": ALL_BUT_UNITS + b"\x06",
+    "257th-use-repeated": ALL_BUT_UNITS + use(0, 0, 0) + END,
     "17th-unit": unit() * 17 + END,
     "17th-unit-cut-short": ALL_UNITS + b"\x02",
     "17th-unit-of-an-absent-rule": ALL_UNITS + unit(1) + END,
@@ -74,12 +110,28 @@ PLANS = {
     "rule-of-zeros": rule() + END,
     "second-rule-of-zeros": FACT + rule() + END,
     "rule-of-zeros-cut-short": rule()[:-1],
+    "rule-of-zeros-with-a-use": KEY + rule() + use(0, 0, 0) + END,
 
     "contradictory-rule": rule(head=1, positive=6, negative=4) + unit(1) + END,
     "contradictory-constraint": FACT + rule(positive=1 << 63, negative=1 << 63) + END,
     "contradictory-rule-cut-short": rule(head=1, positive=2, negative=2)[:-1],
     "contradictory-rule-behind-unit": FACT + unit(1) + rule(head=1, positive=2, negative=2) + END,
     "atom-in-head-and-body": rule(head=3, positive=1, negative=2) + END,
+
+    "table-of-seven-inputs": table(inputs=0x7F) + END,
+    "table-of-64-inputs": table(inputs=2**64 - 1, truth=1) + END,
+    "table-row-too-many": table(inputs=1, truth=4) + END,
+    "row-1-of-no-inputs": KEY + table(truth=2) + END,
+    "row-32-of-five-inputs": table(inputs=0x1F << 59, truth=1 << 32) + END,
+    "table-of-seven-inputs-cut-short": table(inputs=0x7F)[:-1],
+
+    "use-of-an-absent-rule": KEY_AND_FACT + use(1, 0, 0) + END,
+    "use-of-an-absent-table": KEY_AND_FACT + use(0, 1, 0) + END,
+    "use-of-table-16": ALL_TABLES + FACT + use(0, 16, 0) + END,
+    "use-without-tables": FACT + use(0, 0, 0) + END,
+    "use-of-sign-2": KEY_AND_FACT + use(0, 0, 2) + END,
+    "use-repeated": KEY_AND_FACT + use(0, 0, 1) + use(0, 0, 1) + END,
+    "use-of-an-absent-rule-cut-short": KEY_AND_FACT + use(1, 0, 0)[:-1],
 
     "unit-of-an-absent-rule": FACT + unit(2) + END,
     "unit-of-rule-63-of-63": FACT * 63 + unit(1 << 63) + END,

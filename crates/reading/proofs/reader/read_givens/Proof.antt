@@ -2,7 +2,7 @@
 use mathlib.Core.Path.{refl}
 use native.Mathlib.Omega.{arith}
 use denote.Ref.{now}
-use Rattle.reading.specs.Commands.{given, rule}
+use Rattle.reading.specs.Commands.{given, table}
 use Rattle.reading.specs.Progress.{Reached}
 use Rattle.reading.proofs.Groups.{start, Turn, taken, taken-fits, taken-there, passed-by}
 use Rattle.reading.proofs.Limits.{empty-fits}
@@ -25,7 +25,7 @@ read-givens-spec =
     (λ c κs. search needs)
     (λ c κs. rw (c .empty-plan .ensures) empty-fits)
     (λ c. search needs)
-    (λ c. passed-by given rule _ _ (first (c .before)) (c .match .keys2) refl)
+    (λ c. passed-by given table _ _ (first (c .before)) (c .match .keys2) refl)
     (λ c κs. search needs)
     (λ c. omega (arith, took (c .before .before) .1 .inside))
     (λ c κs. taken-fits (took (c .before .before) .1) _ (c .with-given .ensures))

@@ -4,7 +4,7 @@ use mathlib.Core.Path.{refl}
 use native.Mathlib.Omega.{arith}
 use Prim.Native.Nat.{_-_}
 use lib.ListN.{length}
-use Rattle.reading.specs.Commands.{rule, unit}
+use Rattle.reading.specs.Commands.{rule, usage}
 use Rattle.reading.specs.Progress.{Reached}
 use Rattle.reading.proofs.Commands.{rule-room}
 use Rattle.reading.proofs.Groups.{Turn, taken, taken-fits, taken-there, taken-less, passed-by}
@@ -19,7 +19,7 @@ abbrev μ-loop : tie.MeasureT-loop
 μ-loop bytes progress₀ progress = length bytes - progress .at
 
 returns : tie.Need-returns Inv-loop μ-loop
-returns c = passed-by rule unit _ _ (c .before .loop .inv) (c .match .keys2) refl
+returns c = passed-by rule usage _ _ (c .before .loop .inv) (c .match .keys2) refl
 
 -- the place behind the command that this turn takes
 abbrev took : (c : tie.After-command Inv-loop μ-loop) → Turn (c .before .before .loop .inv)

@@ -1,5 +1,5 @@
 -- `names_absent_rule` meets its contract: a word above the set of all rules that are there names another.
-use Rattle.reading.proofs.Units.{absent-above-below}
+use Rattle.reading.proofs.HighBits.{absent-above-below}
 use Rattle.reading.specs.Commands.{absentRule}
 use borrow.Author.Needs.{needs}
 use Rattle.reading.proofs.unit.names_absent_rule.Statement.{statement}

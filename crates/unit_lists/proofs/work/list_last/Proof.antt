@@ -4,7 +4,7 @@ use native.Mathlib.Omega.{arith}
 use borrow.Author.Needs.{needs}
 use denote.Ref.{now}
 use lib.ListN.{length}
-use Rattle.plan.specs.Limits.{MAX_UNITS, LAST_COUNT}
+use Rattle.plan.specs.Limits.{MAX_UNITS, PROGRAM_WORDS, LAST_COUNT}
 use Rattle.dependency_graph.specs.PlanUnits.{unitsOf}
 use Rattle.splitting.specs.UnitList.{withLast}
 use Rattle.unit_lists.specs.Lists.{lastList}
@@ -22,7 +22,7 @@ listable : (c : tie.After-last-unit)
 listable c =
     let at = start c .args in
     let pre = start c .pre in
-    let rules : length (at .t1 .rules) ≡ 192 = search needs in
+    let rules : length (at .t1 .rules) ≡ PROGRAM_WORDS = search needs in
     let heads : length (at .head-atoms .heads) ≡ MAX_UNITS = search needs in
     last-listable (pre .0) (omega (arith, pre .0 .workable .fits .rules-fit)) (omega arith) (pre .1)
 

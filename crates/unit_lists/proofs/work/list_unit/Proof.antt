@@ -4,7 +4,7 @@ use native.Mathlib.Omega.{arith}
 use borrow.Author.Needs.{needs}
 use denote.Ref.{now}
 use lib.ListN.{length, getD}
-use Rattle.plan.specs.Limits.{MAX_UNITS}
+use Rattle.plan.specs.Limits.{MAX_UNITS, PROGRAM_WORDS}
 use Rattle.dependency_graph.specs.PlanUnits.{unitsOf}
 use Rattle.unit_lists.proofs.Joined.{Listable, searchable, unit-stored}
 use Rattle.unit_lists.proofs.LastUnit.{unit-listable}
@@ -20,7 +20,7 @@ listable : (c : tie.After-unit-at)
 listable c =
     let at = start c .args in
     let pre = start c .pre in
-    let rules : length (at .t1 .rules) ≡ 192 = search needs in
+    let rules : length (at .t1 .rules) ≡ PROGRAM_WORDS = search needs in
     let heads : length (at .head-atoms .heads) ≡ MAX_UNITS = search needs in
     unit-listable (pre .0) (at .u) (omega (arith, pre .0 .workable .fits .rules-fit)) (omega arith) (pre .1) (pre .2)
 

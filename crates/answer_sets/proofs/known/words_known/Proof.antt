@@ -1,0 +1,23 @@
+-- The two words, put together.
+use Rattle.answer_sets.proofs.Parts.{apart-sym, words-say}
+use borrow.Author.Needs.{needs}
+use Rattle.answer_sets.proofs.known.words_known.Statement.{statement}
+use Rattle.answer_sets.proofs.known.words_known.Tie as tie
+
+returns : tie.Need-returns
+returns c =
+    let negative = c .before in
+    let positive = negative .before .before in
+    words-say (positive .before .before .before .pre .1) (positive .before .positive-body .ensures) (negative .before .negative-body .ensures)
+    (positive .word-known .ensures) (negative .word-known2 .ensures) (c .both .ensures)
+
+pub words-known-spec : {M : Type 1} → statement M
+words-known-spec =
+    tie.close
+    (tie.spec
+    (λ c κs. c .before .pre .0)
+    (λ c κs. c .before .before .pre .1)
+    (λ c κs. c .before .before .before .pre .0)
+    (λ c κs. apart-sym (c .before .before .before .before .pre .1))
+    (λ c κs. search needs)
+    returns)

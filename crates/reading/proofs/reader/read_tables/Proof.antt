@@ -1,0 +1,41 @@
+-- `read_tables` meets its contract. The invariant: reading on from the place that is reached gives what reading from the start gives.
+-- The measure is what is left of the bytes.
+use mathlib.Core.Path.{refl}
+use native.Mathlib.Omega.{arith}
+use Prim.Native.Nat.{_-_}
+use lib.ListN.{length}
+use Rattle.reading.specs.Commands.{table, rule}
+use Rattle.reading.specs.Progress.{Reached}
+use Rattle.reading.proofs.Commands.{table-room}
+use Rattle.reading.proofs.Groups.{Turn, taken, taken-fits, taken-there, taken-less, passed-by}
+use borrow.Author.Needs.{needs}
+use Rattle.reading.proofs.reader.read_tables.Statement.{statement}
+use Rattle.reading.proofs.reader.read_tables.Tie as tie
+
+abbrev Inv-loop : tie.InvT-loop
+Inv-loop bytes progress₀ progress = Reached table bytes progress
+
+abbrev μ-loop : tie.MeasureT-loop
+μ-loop bytes progress₀ progress = length bytes - progress .at
+
+returns : tie.Need-returns Inv-loop μ-loop
+returns c = passed-by table rule _ _ (c .before .loop .inv) (c .match .keys2) refl
+
+-- the place behind the command that this turn takes
+abbrev took : (c : tie.After-command Inv-loop μ-loop) → Turn (c .before .before .loop .inv)
+took c = (_, taken table _ _ _ _ (c .before .before .loop .inv) (c .command .given .1) refl)
+
+pub read-tables-spec : {M : Type 1} → statement M
+read-tables-spec =
+    tie.close
+    (tie.spec
+    Inv-loop
+    μ-loop
+    (λ c. c .before .pre)
+    (λ c. search needs)
+    returns
+    (λ c κs. table-room (took (c .before) .1 .leads .read .in-place))
+    (λ c. omega (arith, took (c .before .before) .1 .inside))
+    (λ c κs. taken-fits (took (c .before .before) .1) _ (c .with-table .ensures))
+    (λ c. taken-less (took (c .before .before .before) .1) _ (c .before .with-table .ensures) _ (c .place .ensures))
+    (λ c. taken-there (took (c .before .before .before) .1) _ (c .before .with-table .ensures) _ (c .place .ensures)))

@@ -1,0 +1,53 @@
+-- `read_uses` meets its contract. The invariant: reading on from the place that is reached gives what reading from the start gives.
+-- The measure is what is left of the bytes.
+use mathlib.Core.Path.{refl, sym, _∙_}
+use native.Mathlib.Omega.{arith}
+use Prim.Native.Nat.{_-_}
+use lib.ListN.{length}
+use Rattle.reading.specs.Commands.{usage, unit}
+use Rattle.reading.specs.Progress.{Reached}
+use Rattle.reading.proofs.Commands.{use-room}
+use Rattle.reading.proofs.Groups.{Turn, taken, taken-fits, taken-there, taken-less, passed-by, use-there}
+use borrow.Author.Needs.{needs}
+use Rattle.reading.proofs.reader.read_uses.Statement.{statement}
+use Rattle.reading.proofs.reader.read_uses.Tie as tie
+
+abbrev Inv-loop : tie.InvT-loop
+Inv-loop bytes progress₀ progress = Reached usage bytes progress
+
+abbrev μ-loop : tie.MeasureT-loop
+μ-loop bytes progress₀ progress = length bytes - progress .at
+
+returns : tie.Need-returns Inv-loop μ-loop
+returns c = passed-by usage unit _ _ (c .before .loop .inv) (c .match .keys2) refl
+
+-- the place behind the command that this turn takes
+abbrev took : (c : tie.After-command Inv-loop μ-loop) → Turn (c .before .before .loop .inv)
+took c = (_, taken usage _ _ _ _ (c .before .before .loop .inv) (c .command .given .1) refl)
+
+with-use-requires : tie.Need-with-use-requires Inv-loop μ-loop
+with-use-requires c κs =
+    let R = c .before .before .before .loop .inv in
+    let t = took (c .before) .1 in
+    let new = use-there _ _ _ _ _ _ (t .leads .read) (sym (R .command-there) ∙ c .before .command .given .1) in
+    let room = use-room (t .leads .read .in-place) in (
+      omega (arith, new .rule-there, R .fitting .rules-fit),
+      omega (arith, new .table-there, R .fitting .tables-fit),
+      omega (arith, new .zero-or-one),
+      omega arith,
+    )
+
+pub read-uses-spec : {M : Type 1} → statement M
+read-uses-spec =
+    tie.close
+    (tie.spec
+    Inv-loop
+    μ-loop
+    (λ c. c .before .pre)
+    (λ c. search needs)
+    returns
+    with-use-requires
+    (λ c. omega (arith, took (c .before .before) .1 .inside))
+    (λ c κs. taken-fits (took (c .before .before) .1) _ (c .with-use .ensures))
+    (λ c. taken-less (took (c .before .before .before) .1) _ (c .before .with-use .ensures) _ (c .place .ensures))
+    (λ c. taken-there (took (c .before .before .before) .1) _ (c .before .with-use .ensures) _ (c .place .ensures)))

@@ -1,0 +1,44 @@
+-- `is_bad_use` meets its contract, test by test; a repeat is the use's bit in the word of its rule.
+use borrow.Author.Tests.{le-leb, lt-leb, lt-ltb, le-ltb}
+use Rattle.reading.proofs.Edges.{has-by-subset}
+use Rattle.reading.specs.Commands.{badUse}
+use borrow.Author.Needs.{needs}
+use Rattle.reading.proofs.usage.is_bad_use.Statement.{statement}
+use Rattle.reading.proofs.usage.is_bad_use.Tie as tie
+
+returns : tie.Need-returns
+unfolding badUse
+returns c = simp (le-leb _ _ (c .if1 .taken))
+
+returns-2 : tie.Need-returns-2
+unfolding badUse
+returns-2 c = simp (lt-leb _ _ (c .before .before .if1 .left), le-leb _ _ (c .if2 .taken))
+
+returns-3 : tie.Need-returns-3
+unfolding badUse
+returns-3 c = simp (lt-leb _ _ (c .before .before .before .if1 .left), lt-leb _ _ (c .before .if2 .left), lt-ltb _ _ (c .if3 .taken))
+
+returns-4 : tie.Need-returns-4
+unfolding badUse
+returns-4 c =
+    let new = c .before .before .before in
+    simp (lt-leb _ _ (new .before .before .before .if1 .left), lt-leb _ _ (new .before .if2 .left), le-ltb _ _ (new .if3 .left))
+    (has-by-subset _ _ _ _ (c .before .before .single .ensures) (c .is-subset .ensures))
+
+pub is-bad-use-spec : {M : Type 1} → statement M
+is-bad-use-spec =
+    tie.close
+    (tie.spec
+    returns
+    returns-2
+    returns-3
+    (λ c. search needs)
+    (λ c. search needs)
+    (λ c κs. search needs)
+    (λ c. search needs)
+    (λ c. search needs)
+    (λ c. search needs)
+    (λ c. search needs)
+    (λ c. search needs)
+    (λ c κs. search needs)
+    returns-4)
