@@ -75,7 +75,7 @@ fn denied(rules: &[u64], rule: usize, s: State) -> State
 }
 
 // The state after one rule: where its body holds and no head atom is up, one has to go up.
-fn rule_step(rules: &[u64], rule: usize, s: State) -> State
+pub fn rule_step(rules: &[u64], rule: usize, s: State) -> State
     requires { ⌜ IsLent (now rules) rule ⌝ }
     ensures { λ t. ⌜ Narrows (Satisfies (lent (now (rules .entry))) rule) s t ⌝ }
 {

@@ -3,3 +3,7 @@ pub mod Live
 pub mod Support
 pub mod Founded
 pub mod Choice
+pub mod Marks
+pub mod Backers
+pub mod SupportStep
+pub mod FoundedStep
