@@ -6,3 +6,4 @@ pub mod MarkedTables
 pub mod BackedAtoms
 pub mod SupportSteps
 pub mod FoundedSteps
+pub mod NumberedSteps

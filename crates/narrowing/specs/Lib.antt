@@ -7,3 +7,4 @@ pub mod Marks
 pub mod Backers
 pub mod SupportStep
 pub mod FoundedStep
+pub mod Woken
