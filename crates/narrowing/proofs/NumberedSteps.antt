@@ -16,7 +16,7 @@ use Rattle.answer_sets.proofs.Narrows.{narrows-for}
 use Rattle.answer_sets.proofs.Support.{satisfied}
 use Rattle.narrowing.specs.Inputs.{AnswersInputs}
 use Rattle.narrowing.specs.Backers.{Backers}
-use Rattle.narrowing.specs.SupportStep.{Held}
+use Rattle.narrowing.specs.Support.{Held}
 use Rattle.narrowing.proofs.SupportSteps.{answers-held}
 
 module _ (rules : List ℕ) (which inputs : ℕ) {s t : State} where

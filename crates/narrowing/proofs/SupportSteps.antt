@@ -19,8 +19,7 @@ use Rattle.answer_sets.proofs.HalfDecided.{known-fails}
 use Rattle.answer_sets.proofs.Narrows.{narrows-trans, narrows-when, up-narrows, down-narrows}
 use Rattle.narrowing.specs.Inputs.{AnswersInputs}
 use Rattle.narrowing.specs.Backers.{Backs, Backers}
-use Rattle.narrowing.specs.Support.{Supports}
-use Rattle.narrowing.specs.SupportStep.{Excluded, Supporters, Held}
+use Rattle.narrowing.specs.Support.{Supports, Excluded, Supporters, Held}
 use Rattle.narrowing.proofs.Supports.{supporter, negative-down}
 
 -- ---- one rule

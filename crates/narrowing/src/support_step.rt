@@ -9,8 +9,7 @@ ghost use Prim.Native.Nat.{_<_};
 ghost use Rattle.atoms.specs.Word.{ATOMS};
 ghost use Rattle.answer_sets.specs.Lent.{lent, IsLent, Lent};
 ghost use Rattle.answer_sets.specs.State.{Narrows};
-ghost use Rattle.narrowing.specs.Support.{Supports};
-ghost use Rattle.narrowing.specs.SupportStep.{Excluded, Supporters, Held};
+ghost use Rattle.narrowing.specs.Support.{Supports, Excluded, Supporters, Held};
 
 // Whether the rule may support the atom at a completion, for all that is known.
 fn may_support(rules: &[u64], rule: usize, atom: usize, s: State) -> bool

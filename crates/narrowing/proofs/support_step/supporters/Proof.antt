@@ -1,7 +1,7 @@
 -- The loop carries that the rules left are all that may support the atom. The measure is how many are left.
 use lib.Count.{ones}
 use Rattle.atoms.proofs.Counts.{taken-less}
-use Rattle.narrowing.specs.SupportStep.{Supporters}
+use Rattle.narrowing.specs.Support.{Supporters}
 use Rattle.narrowing.proofs.SupportSteps.{supporters-all, supporters-next}
 use borrow.Author.Needs.{needs}
 use mathlib.Core.Path.{subst}
