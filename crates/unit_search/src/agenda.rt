@@ -2,8 +2,10 @@
 use crate::unit::Unit;
 use answer_sets::State;
 use answer_sets::known::undecided;
+use answer_sets::rule::head;
+use answer_sets::rule::looks;
+use answer_sets::rule::positive_body;
 use atoms::ATOMS;
-use narrowing::loops::looped_atoms;
 use narrowing::marks::mark;
 use narrowing::steps::FOUNDED;
 use narrowing::steps::SUPPORTS;
@@ -19,7 +21,7 @@ ghost use lib.ListN.{length};
 ghost use Rattle.atoms.specs.Word.{ATOMS};
 ghost use Rattle.atoms.specs.Bounded.{Decides};
 ghost use Rattle.plan.specs.Limits.{MAX_UNITS};
-ghost use Rattle.answer_sets.specs.Lent.{Lent};
+ghost use Rattle.answer_sets.specs.Lent.{IsLent, Lent};
 ghost use Rattle.unit_search.specs.Agenda.{Idle, TakenFrom, Woken, INDEX_WORDS};
 
 // Steps behind those of the supports: the lists, and the founded step.
@@ -150,36 +152,51 @@ fn note_lists(heads: &[u64], near: u64, index: &mut [u64])
     }
 }
 
-// The founded step's place where the unit's rules have a positive loop, and else none.
-fn founded_place(rules: &[u64], which: u64) -> u64
-    requires { ⌜ Lent (now rules) which ⌝ }
+// The atoms of a rule that has a looped head atom, and else none.
+fn looped_rule(rules: &[u64], rule: usize, looped: u64) -> u64
+    requires { ⌜ IsLent (now rules) rule ⌝ }
 {
-    if looped_atoms(rules, which) == 0 {
+    let head = head(rules, rule);
+    if atoms::are_apart(head, looped) {
         return 0;
     }
-    atoms::single(FOUNDED_PLACE)
+    atoms::union(
+        head,
+        atoms::union(positive_body(rules, rule), looks(rules, rule)),
+    )
 }
 
-// The index of the steps that a decided atom wakes: of the steps behind the supports each list by its own atoms, the others by every atom.
-pub fn wake_index(rules: &[u64], heads: &[u64], unit: Unit, others: u64) -> [u64; INDEX_WORDS]
+// Notes the founded step for the atoms of the rules that have a looped head atom.
+fn note_founded(rules: &[u64], which: u64, looped: u64, index: &mut [u64])
+    requires { ⌜ Lent (now rules) which × (INDEX_WORDS ≤ length (now index)) ⌝ }
+    ensures { λ _. ⌜ length (now (index .exit)) ≡ length (now (index .entry)) ⌝ }
+{
+    let founded = atoms::single(FOUNDED_PLACE);
+    let mut rest = which;
+    while rest != 0 {
+        let rule = atoms::lowest(rest);
+        mark(index, OTHERS, looped_rule(rules, rule, looped), founded);
+        rest = atoms::drop(rest, rule);
+    }
+}
+
+// The index of the steps that a decided atom wakes, in a unit whose looped atoms are these.
+pub fn wake_index(rules: &[u64], heads: &[u64], unit: Unit, looped: u64) -> [u64; INDEX_WORDS]
     requires { ⌜ Lent (now rules) (unit .rules) × (MAX_UNITS ≤ length (now heads)) × (unit .nearest < 2 ^ MAX_UNITS) ⌝ }
     ensures { λ r. ⌜ length r ≡ INDEX_WORDS ⌝ }
 {
     let mut index = [0u64; INDEX_WORDS];
     note_rules(rules, unit.rules, &mut index);
     note_lists(heads, unit.nearest, &mut index);
-    let founded = atoms::without(others, unit.nearest);
-    mark(&mut index, OTHERS, atoms::first(ATOMS), founded);
+    note_founded(rules, unit.rules, looped, &mut index);
     index
 }
 
-// The agenda of all steps.
-pub fn every_step(rules: &[u64], unit: Unit) -> Agenda
-    requires { ⌜ Lent (now rules) (unit .rules) ⌝ }
-{
+// The agenda of all steps; without looped atoms the founded step has nothing to say beyond the supports.
+pub fn every_step(unit: Unit, looped: u64) -> Agenda {
     Agenda {
         rules: unit.rules,
         supports: atoms::outside(unit.inputs),
-        others: atoms::union(unit.nearest, founded_place(rules, unit.rules)),
+        others: atoms::union(unit.nearest, atoms::single_if(looped != 0, FOUNDED_PLACE)),
     }
 }

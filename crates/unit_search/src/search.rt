@@ -14,6 +14,7 @@ use answer_sets::is_answer_set;
 use answer_sets::known::undecided;
 use narrowing::backers::backers;
 use narrowing::choice::choose;
+use narrowing::loops::looped_atoms;
 use plan::LIST_WORDS;
 ghost use Rattle.atoms.specs.Bounded.{Decides};
 ghost use Prim.Native.Nat.{_≤_};
@@ -182,8 +183,8 @@ pub fn search(
         (Wanted (now (rules .entry)) (now (table .entry)) (now (counts .entry)) (now (heads .entry)) unit s)) (now (list .exit)) r ⌝ }
 {
     let backers = backers(rules, unit.rules);
-    let agenda = every_step(rules, unit);
-    let index = wake_index(rules, heads, unit, agenda.others);
+    let looped = looped_atoms(rules, unit.rules);
+    let index = wake_index(rules, heads, unit, looped);
     explore(
         rules,
         table,
@@ -195,7 +196,7 @@ pub fn search(
         list,
         count,
         full_filter(counts),
-        agenda,
+        every_step(unit, looped),
         s,
     )
 }

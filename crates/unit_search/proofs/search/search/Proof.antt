@@ -13,14 +13,14 @@ wake-index-requires c κs =
 
 explore-requires : tie.Need-explore-requires
 explore-requires c κs =
-    let index = c .before .before .before .before in
+    let index = c .before .before .before .before .before in
     let backed = index .before .before in
     let pre = backed .before .before .before .before .before .before .pre in (
       pre .0,
       pre .1,
       backed .backers .ensures,
       omega (arith, index .wake-index .ensures),
-      full-filtered _ _ _ _ _ _ (joinable-some (pre .0 .near) (pre .0 .joinable)) (c .full-filter .ensures),
+      full-filtered _ _ _ _ _ _ (joinable-some (pre .0 .near) (pre .0 .joinable)) (c .before .full-filter .ensures),
     )
 
 pub search-spec : {M : Type 1} → statement M
@@ -32,6 +32,7 @@ search-spec =
     wake-index-requires
     (λ c. search needs)
     (λ c. search needs)
+    (λ c κs. search needs)
     (λ c κs. search needs)
     explore-requires
     (λ c. search needs)
