@@ -2,7 +2,7 @@
 use crate::live::live_rules;
 use answer_sets::State;
 use answer_sets::rule::head;
-use answer_sets::rule::negative_body;
+use answer_sets::rule::looks;
 use answer_sets::rule::positive_body;
 ghost use mathlib.Core.Path.{_≡_};
 ghost use Prim.Native.Nat.{_<_};
@@ -37,7 +37,7 @@ fn open_atoms(rules: &[u64], rule: usize, up: u64, free: u64) -> u64
     if !atoms::are_apart(head, up) {
         return 0;
     }
-    let body = atoms::union(positive_body(rules, rule), negative_body(rules, rule));
+    let body = atoms::union(positive_body(rules, rule), looks(rules, rule));
     atoms::cut(free, atoms::union(head, body))
 }
 

@@ -1,4 +1,4 @@
-// Narrowing passes over the rules of a unit, and the choice of the atom to decide next.
+// Narrowing steps on the rules of a unit, and the choice of the atom to decide next.
 pub mod backers;
 pub mod choice;
 pub mod founded_step;
