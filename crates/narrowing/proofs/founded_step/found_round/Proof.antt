@@ -5,7 +5,9 @@ use Rattle.narrowing.proofs.founded_step.found_round.Statement.{stateme
 use Rattle.narrowing.proofs.founded_step.found_round.Tie as tie
 
 returns : tie.Need-returns
-returns c = let d = c .before .before .before .found-by-all .ensures in round-more {c = c .before .before .before .before .before .args .c} (d .0) (d .1) (c .if1 .taken)
+returns c =
+    let d = c .before .before .before .found-by-all .ensures in
+    round-more {c = c .before .before .before .before .before .args .c} (d .0) (d .1) (c .if1 .taken)
 
 returns-2 : tie.Need-returns-2
 returns-2 c =
