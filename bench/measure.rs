@@ -1,7 +1,8 @@
 //! measure SETTLE CLINGO NODES OUTPUT FOLDER..: whole-process times of both programs on the same plans.
 //!
 //! Each NAME.plan of the folders is given to SETTLE on standard input, and NAME.lp, the same
-//! program, to `CLINGO -n 257`. Runs of the two alternate. NODES counts the nodes of the search, untimed.
+//! program, to `CLINGO -n 257`. Runs of the two alternate, and with those of another settle that the environment's BEFORE may
+//! name. NODES counts the nodes of the search, untimed.
 //! The table is written as Markdown.
 
 use std::collections::BTreeSet;
@@ -19,9 +20,21 @@ const QUICK_RUNS: usize = 15;
 const SLOW_RUNS: usize = 3;
 const SIGKILL: i32 = 9;
 
+const CHILDREN: i32 = -1;
+
+/// `struct rusage` of the C library on 64-bit Linux: user and system time in seconds and microseconds, and what is not read here.
+#[repr(C)]
+#[derive(Default)]
+struct Usage {
+    user: [i64; 2],
+    system: [i64; 2],
+    others: [i64; 14],
+}
+
 extern "C" {
     // From the C library that every Rust program is linked with.
     fn kill(process: i32, signal: i32) -> i32;
+    fn getrusage(who: i32, usage: *mut Usage) -> i32;
 }
 
 fn main() {
@@ -30,8 +43,12 @@ fn main() {
         eprintln!("usage: measure SETTLE CLINGO NODES OUTPUT FOLDER..");
         std::process::exit(2);
     }
-    let programs =
-        Programs { settle: arguments[0].clone(), clingo: arguments[1].clone(), nodes: arguments[2].clone() };
+    let programs = Programs {
+        settle: arguments[0].clone(),
+        clingo: arguments[1].clone(),
+        nodes: arguments[2].clone(),
+        before: std::env::var("BEFORE").ok(),
+    };
     let mut rows = Vec::new();
     for plan in arguments[4..].iter().flat_map(|folder| plans(folder)) {
         rows.push(measure(&programs, &plan));
@@ -60,19 +77,20 @@ struct Programs {
     settle: String,
     clingo: String,
     nodes: String,
+    before: Option<String>,
 }
 
 impl Programs {
     fn settle(&self, plan: &Path) -> Command {
-        let mut command = Command::new(&self.settle);
-        command.stdin(File::open(plan).expect("the plan cannot be read"));
-        command
+        reading(&self.settle, plan)
     }
 
     fn nodes(&self, plan: &Path) -> Command {
-        let mut command = Command::new(&self.nodes);
-        command.stdin(File::open(plan).expect("the plan cannot be read"));
-        command
+        reading(&self.nodes, plan)
+    }
+
+    fn before(&self, plan: &Path) -> Option<Command> {
+        self.before.as_ref().map(|program| reading(program, plan))
     }
 
     fn clingo(&self, plan: &Path) -> Command {
@@ -82,9 +100,32 @@ impl Programs {
     }
 }
 
-/// The wall time of one run, from start to end of the process; nothing if it was stopped.
-fn time(mut command: Command) -> Option<Duration> {
+/// The program with the plan on its standard input.
+fn reading(program: &str, plan: &Path) -> Command {
+    let mut command = Command::new(program);
+    command.stdin(File::open(plan).expect("the plan cannot be read"));
+    command
+}
+
+/// What one run took: wall time from start to end of the process, and the processor's time.
+#[derive(Clone, Copy)]
+struct Run {
+    wall: Duration,
+    cpu: Duration,
+}
+
+/// The processor's time of all ended children.
+fn children_cpu() -> Duration {
+    let mut usage = Usage::default();
+    unsafe { getrusage(CHILDREN, &mut usage) };
+    let seconds = (usage.user[0] + usage.system[0]) as u64;
+    Duration::from_secs(seconds) + Duration::from_micros((usage.user[1] + usage.system[1]) as u64)
+}
+
+/// One run; nothing if it was stopped.
+fn time(mut command: Command) -> Option<Run> {
     command.stdout(Stdio::null()).stderr(Stdio::null());
+    let cpu_before = children_cpu();
     let start = Instant::now();
     let mut child = command.spawn().expect("the program cannot be started");
     let process = child.id() as i32;
@@ -101,7 +142,7 @@ fn time(mut command: Command) -> Option<Duration> {
     // Where the watch has already ended, nobody listens.
     let _ = ended.send(());
     let was_stopped = watch.join().expect("the watch does not fail");
-    if was_stopped { None } else { Some(elapsed) }
+    if was_stopped { None } else { Some(Run { wall: elapsed, cpu: children_cpu() - cpu_before }) }
 }
 
 fn output(mut command: Command) -> String {
@@ -115,8 +156,9 @@ struct Row {
     name: String,
     positions: String,
     nodes: String,
-    settle: Option<Duration>,
-    clingo: Option<Duration>,
+    settle: Option<Run>,
+    clingo: Option<Run>,
+    before: Option<Run>,
     agreement: Agreement,
 }
 
@@ -131,12 +173,14 @@ enum Agreement {
 fn measure(programs: &Programs, plan: &Path) -> Row {
     let mut settle = vec![time(programs.settle(plan))];
     let mut clingo = vec![time(programs.clingo(plan))];
-    let is_quick = |run: &Option<Duration>| run.map_or(false, |elapsed| elapsed < QUICK);
+    let mut before = vec![programs.before(plan).and_then(time)];
+    let is_quick = |run: &Option<Run>| run.map_or(false, |run| run.wall < QUICK);
     let runs = if is_quick(&settle[0]) && is_quick(&clingo[0]) { QUICK_RUNS } else { SLOW_RUNS };
     for _ in 0..runs {
         // A program that was stopped once is not run again.
         repeat(&mut settle, || programs.settle(plan));
         repeat(&mut clingo, || programs.clingo(plan));
+        repeat(&mut before, || programs.before(plan).expect("it was run once"));
     }
     let sheet = if settle[0].is_some() { output(programs.settle(plan)) } else { String::new() };
     let answers = if clingo[0].is_some() { output(programs.clingo(plan)) } else { String::new() };
@@ -146,21 +190,26 @@ fn measure(programs: &Programs, plan: &Path) -> Row {
         nodes: nodes(&output(programs.nodes(plan)), &positions(&sheet)),
         settle: median(settle),
         clingo: median(clingo),
+        before: median(before),
         agreement: agreement(&sheet, &answers),
     }
 }
 
-fn repeat(runs: &mut Vec<Option<Duration>>, command: impl Fn() -> Command) {
+fn repeat(runs: &mut Vec<Option<Run>>, command: impl Fn() -> Command) {
     if runs[0].is_some() {
         runs.push(time(command()));
     }
 }
 
-/// The median of all runs but the first, which only warms up; nothing if one was stopped.
-fn median(runs: Vec<Option<Duration>>) -> Option<Duration> {
-    let mut times = runs.into_iter().skip(1).collect::<Option<Vec<Duration>>>()?;
-    times.sort();
-    times.get(times.len() / 2).copied()
+/// The medians of all runs but the first, which only warms up; nothing if one was stopped.
+fn median(runs: Vec<Option<Run>>) -> Option<Run> {
+    let runs = runs.into_iter().skip(1).collect::<Option<Vec<Run>>>()?;
+    let middle = |time: fn(&Run) -> Duration| {
+        let mut times: Vec<Duration> = runs.iter().map(time).collect();
+        times.sort();
+        times.get(times.len() / 2).copied()
+    };
+    Some(Run { wall: middle(|run| run.wall)?, cpu: middle(|run| run.cpu)? })
 }
 
 /// What the first line of a sheet says, in few words.
@@ -202,7 +251,7 @@ fn position(atoms: &str) -> u64 {
 
 impl Row {
     fn ratio(&self) -> Option<f64> {
-        Some(self.settle?.as_secs_f64() / self.clingo?.as_secs_f64())
+        ratio(self.settle, self.clingo, |run| run.wall)
     }
 
     fn line(&self) -> String {
@@ -211,23 +260,42 @@ impl Row {
             Agreement::Differs => "differs",
             Agreement::NotCompared => "",
         };
-        let ratio = self.ratio().map_or(String::new(), |ratio| format!("{:.2}", ratio));
-        let (settle, clingo) = (milliseconds(self.settle), milliseconds(self.clingo));
-        format!(
-            "| {} | {} | {} | {} | {} | {} | {} |",
-            self.name, self.positions, self.nodes, settle, clingo, ratio, agreement
-        )
+        let (settle, clingo, before) = (self.settle, self.clingo, self.before);
+        let cells = [
+            self.name.clone(),
+            self.positions.clone(),
+            self.nodes.clone(),
+            milliseconds(settle, |run| run.wall),
+            milliseconds(clingo, |run| run.wall),
+            shown(self.ratio()),
+            milliseconds(settle, |run| run.cpu),
+            milliseconds(clingo, |run| run.cpu),
+            shown(ratio(settle, clingo, |run| run.cpu)),
+            shown(ratio(settle, before, |run| run.wall)),
+            shown(ratio(settle, before, |run| run.cpu)),
+            agreement.to_string(),
+        ];
+        format!("| {} |", cells.join(" | "))
     }
 }
 
-fn milliseconds(time: Option<Duration>) -> String {
-    time.map_or("stopped".to_string(), |time| format!("{:.2}", time.as_secs_f64() * 1000.0))
+fn ratio(run: Option<Run>, other: Option<Run>, time: fn(&Run) -> Duration) -> Option<f64> {
+    Some(time(&run?).as_secs_f64() / time(&other?).as_secs_f64())
+}
+
+fn shown(ratio: Option<f64>) -> String {
+    ratio.map_or(String::new(), |ratio| format!("{:.2}", ratio))
+}
+
+fn milliseconds(run: Option<Run>, time: fn(&Run) -> Duration) -> String {
+    run.map_or("stopped".to_string(), |run| format!("{:.2}", time(&run).as_secs_f64() * 1000.0))
 }
 
 fn report(rows: &[Row]) -> String {
     let lines: String = rows.iter().map(|row| row.line() + "\n").collect();
     format!(
-        "{}\n\n| plan | positions | nodes | settle ms | clingo ms | ratio | lists |\n|---|---|---:|---:|---:|---:|---|\n{}",
+        "{}\n\n| plan | positions | nodes | settle ms | clingo ms | ratio | settle CPU ms | clingo CPU ms | ratio | to before | CPU | lists |\n\
+         |---|---|---:|---:|---:|---:|---:|---:|---:|---:|---:|---|\n{}",
         summary(rows),
         lines
     )

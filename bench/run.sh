@@ -3,7 +3,8 @@
 #
 # SETTLE is the program (default: the environment's SETTLE, then target/bin/settle), OUTPUT the
 # Markdown table (default target/bench/results.md), and the folders hold NAME.plan and NAME.lp
-# (default: bench/plans, bench/tables and the families that bench/families.py writes).
+# (default: bench/plans, bench/tables and the families that bench/families.py writes). The environment's
+# BEFORE may name another settle, whose runs alternate with the others.
 set -e
 cd "$(dirname "$0")/.."
 . tests/build.sh
@@ -17,6 +18,8 @@ if ! command -v clingo >/dev/null; then
     apt-get update && apt-get install -y gringo
 fi
 
+command -v valgrind >/dev/null || echo "valgrind is missing: nodes are not counted" >&2
+
 settle=${1:-${SETTLE:-target/bin/settle}}
 output=${2:-target/bench/results.md}
 if [ ! -x "$settle" ]; then
@@ -29,6 +32,6 @@ fi
 }
 
 build_program bench/measure.rs target/bench/measure
-build_program bench/nodes.rs target/bench/nodes
 mkdir -p "$(dirname "$output")"
-target/bench/measure "$settle" "$(command -v clingo)" target/bench/nodes "$output" "$@"
+export SETTLE="$settle"
+target/bench/measure "$settle" "$(command -v clingo)" bench/nodes.py "$output" "$@"

@@ -56,6 +56,6 @@ module _ (rules : List ℕ) (s : State) where
         less : (r : ℕ) → Kept (lent rules) which M r → Kept (lent rules) live M r
         less r k = record { numbered = v .every r M (k .numbered) c (k .holds); holds = k .holds }
 
-    -- so that a pass over the live rules is one over all rules
+    -- so that a step over the live rules is one over all rules
     pub narrows-live : {t : State} → Narrows (AnswersInputs rules live inputs) s t → Narrows (AnswersInputs rules which inputs) s t
     narrows-live n = narrows-when answers-live n

@@ -1,4 +1,4 @@
--- Inner: what the passes over rules look for: answer sets of a unit's rules, with their inputs as facts.
+-- Inner: what the steps on rules look for: answer sets of a unit's rules, with their inputs as facts.
 use mathlib.Core.List.{List}
 use Prim.Native.Nat.{ℕ}
 use Rattle.atoms.specs.Word.{_∩_}

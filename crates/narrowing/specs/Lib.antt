@@ -1,5 +1,8 @@
 pub mod Inputs
 pub mod Live
 pub mod Support
-pub mod Founded
 pub mod Choice
+pub mod Marks
+pub mod Backers
+pub mod Founded
+pub mod Woken

@@ -1,4 +1,4 @@
--- Inner: which rules the passes may leave out.
+-- Inner: which rules a step may leave out.
 use mathlib.Core.List.{List}
 use Prim.Native.Nat.{ℕ}
 use Rattle.atoms.specs.Word.{Has, _⊆_}

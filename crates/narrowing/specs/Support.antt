@@ -1,12 +1,13 @@
--- Inner: support, through which rule an atom is up, and through which it may be.
+-- Inner: support, through which rule an atom is up; and what the support step asks of a position.
 use mathlib.Core.Path.{_≡_}
+use mathlib.Core.Bool.{Bool, false}
 use mathlib.Core.List.{List}
 use Prim.Native.Nat.{ℕ}
-use Rattle.atoms.specs.Word.{Has}
+use Rattle.atoms.specs.Word.{Has, _⊆_}
 use Rattle.answer_sets.specs.Program.{Program, Body}
-use Rattle.answer_sets.specs.Lent.{lent, negative}
+use Rattle.answer_sets.specs.Lent.{lent}
+use Rattle.answer_sets.specs.State.{Completes}
 use Rattle.answer_sets.specs.declared.state.State.{State}
-use Rattle.narrowing.specs.declared.support.Supporters.{Supporters}
 
 -- rule r supports atom a in M: its body holds without a, and a is the one head atom that is up
 pub record Supports (P : Program) (r M a : ℕ) : Type 0 where
@@ -15,24 +16,15 @@ pub record Supports (P : Program) (r M a : ℕ) : Type 0 where
   pub not-positive : ¬ Has (P .positive r) a
   pub only : (b : ℕ) → Has (P .head r) b → Has M b → b ≡ a
 
--- for all that is known, rule r may support atom a at a completion at which its body holds
-pub record MaySupport (rules : List ℕ) (r : ℕ) (s : State) (a : ℕ) : Type 0 where
-  pub in-head : Has (lent rules .head r) a
-  pub not-dropped : ¬ Has (s .dropped) a
-  pub not-positive : ¬ Has (lent rules .positive r) a
-  pub not-negative : ¬ Has (negative rules r) a
-  pub only : (b : ℕ) → Has (lent rules .head r) b → Has (s .up) b → b ≡ a
+-- where the answer is no, rule r supports atom a at no completion
+pub record Excluded (rules : List ℕ) (r a : ℕ) (s : State) (may : Bool) : Type 0 where
+  pub never : may ≡ false → (M : ℕ) → Completes s M → ¬ Supports (lent rules) r M a
 
--- what one of the rules may support, and what two of them may
-pub record Tallied (rules : List ℕ) (which : ℕ) (s : State) (found : Supporters) : Type 0 where
-  pub one : (r a : ℕ) → Has which r → MaySupport rules r s a → Has (found .once) a
-  pub two : (r q a : ℕ) → Has which r → Has which q → ¬ (r ≡ q) → MaySupport rules r s a → MaySupport rules q s a
-      → Has (found .twice) a
+-- rules of the word, and among them each that supports atom a at some completion
+pub record Supporters (rules : List ℕ) (backing a : ℕ) (s : State) (w : ℕ) : Type 0 where
+  pub within : w ⊆ backing
+  pub every : (r M : ℕ) → Has backing r → Completes s M → Supports (lent rules) r M a → Has w r
 
--- each atom of `sole` that rule r may support it does support in M
-pub record HoldsSole (rules : List ℕ) (r : ℕ) (s : State) (sole M : ℕ) : Type 0 where
-  pub supports : (a : ℕ) → Has sole a → MaySupport rules r s a → Supports (lent rules) r M a
-
--- so for each numbered rule
-pub record HoldsSoles (rules : List ℕ) (which : ℕ) (s : State) (sole M : ℕ) : Type 0 where
-  pub each : (r : ℕ) → Has which r → HoldsSole rules r s sole M
+-- where atom a is up, a rule of the word supports it
+pub record Held (rules : List ℕ) (backing a M : ℕ) : Type 0 where
+  pub held : Has M a → (r : ℕ) × Has backing r × Supports (lent rules) r M a

@@ -1,5 +1,10 @@
-// Narrowing passes over the rules of a unit, and the choice of the atom to decide next.
+// Narrowing steps on the rules of a unit, and the choice of the atom to decide next.
+pub mod backers;
 pub mod choice;
-pub mod founded;
+pub mod founded_step;
 pub mod live;
-pub mod support;
+pub mod loops;
+pub mod marks;
+pub mod steps;
+pub mod support_step;
+pub mod woken;

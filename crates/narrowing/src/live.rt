@@ -1,4 +1,4 @@
-// The rules that may still act. What the other passes say of these they say of all rules.
+// The rules that may still act. What the founded step says of these it says of all rules.
 use answer_sets::State;
 use answer_sets::Truth;
 use answer_sets::known::body_known;

@@ -1,4 +1,8 @@
 pub mod Insertion
 pub mod Gathered
-pub mod Joins
+pub mod JoinedLists
+pub mod CoveredUnits
+pub mod Filters
+pub mod Agendas
+pub mod Propagation
 pub mod SearchSteps

@@ -1,32 +1,24 @@
--- The search: what belongs to the list survives each pass, and the two ways to decide an atom together miss nothing.
+-- The search: what belongs to the list survives propagation, and the two ways to decide an atom together miss nothing.
 use mathlib.Core.Path.{_≡_, refl, sym, _∙_, subst}
 use mathlib.Core.Bool.{Bool, true, false, not, true≢false, false≢true}
 use mathlib.Core.Logic.{_⊎_, inl, inr}
 use mathlib.Core.List.{List}
 use Prim.Native.Nat.{ℕ, _<_, _≤_, _^_}
 use borrow.Author.Tests.{not-true, not-false}
-use Rattle.atoms.specs.Word.{ATOMS, Has, _⊆_, Apart, apart, _∩_, _∪_, atom}
+use Rattle.atoms.specs.Word.{ATOMS, Has, Apart, apart, _∩_, _∪_, atom}
 use Rattle.atoms.specs.Bounded.{Decides}
 use Rattle.atoms.proofs.Tests.{decides}
 use Rattle.atoms.proofs.Sets.{decides-apart, has-dec, has-lt, has-none, subset-antisym}
 use Rattle.plan.specs.Limits.{LIST_WORDS}
-use Rattle.answer_sets.specs.Program.{SatisfiesAll}
 use Rattle.answer_sets.specs.Lent.{lent}
 use Rattle.answer_sets.specs.Test.{answerSet}
 use Rattle.answer_sets.specs.State.{Completes, Narrows, undecided}
 use Rattle.answer_sets.specs.declared.state.State.{State}
-use Rattle.answer_sets.proofs.Judged.{decides-answer-set}
-use Rattle.answer_sets.proofs.Support.{satisfied}
 use Rattle.answer_sets.proofs.HalfDecided.{decided-cases}
-use Rattle.answer_sets.proofs.Narrows.{narrows-trans, narrows-for, completes-back, overlap-none, with-up, with-dropped, without-up, without-dropped}
-use Rattle.narrowing.specs.Inputs.{AnswersInputs}
-use Rattle.narrowing.specs.Live.{Live}
-use Rattle.narrowing.proofs.LiveRules.{narrows-live}
+use Rattle.answer_sets.proofs.Narrows.{completes-back, overlap-none, with-up, with-dropped, without-up, without-dropped}
 use Rattle.unit_search.specs.Listing.{Ordered, Inserted, Gathered, Grown}
 use Rattle.unit_search.specs.Job.{joins, Belongs, Wanted, Offered}
-use Rattle.unit_search.specs.JoinPass.{JoinsAll}
 use Rattle.unit_search.specs.declared.unit.Unit.{Unit}
-use Rattle.unit_search.proofs.Joins.{joins-some}
 use Rattle.unit_search.proofs.Gathered.{gathered-insert, gathered-same, gathered-iff, gathered-over, gathered-then}
 
 module _ (rules table counts heads : List ℕ) (unit : Unit) where
@@ -48,33 +40,6 @@ module _ (rules table counts heads : List ℕ) (unit : Unit) where
       → r ≡ answerSet (lent rules) (unit .rules) (M ∩ unit .inputs) M → Decides (Belong M) r
   joined-answers M r w j e =
       decides r (λ t. record { word = w; joined = j; answers = sym e ∙ t }) (λ b. e ∙ b .answers)
-
-  -- ---- the passes
-
-  -- what belongs joins all lists, is an answer set and satisfies each rule of the unit
-  belongs-joins : unit .nearest ⊆ unit .predecessors → (M : ℕ) → Belong M → JoinsAll table counts heads (unit .nearest) M
-  belongs-joins near M b =
-      joins-some table counts heads (unit .predecessors) (unit .nearest) M near (record { joined = b .joined })
-
-  belongs-answers : unit .rules < 2 ^ ATOMS → (M : ℕ) → Belong M → AnswersInputs rules (unit .rules) (unit .inputs) M
-  belongs-answers fits M b =
-      record { answer = decides-answer-set (lent rules) (unit .rules) (M ∩ unit .inputs) M fits .yes (b .answers) }
-
-  belongs-satisfies : unit .rules < 2 ^ ATOMS → (M : ℕ) → Belong M
-      → SatisfiesAll (lent rules) (unit .rules) M
-  belongs-satisfies fits M b = record {
-    each = λ r h. satisfied (lent rules) (unit .rules) (M ∩ unit .inputs) M r (belongs-answers fits M b .answer) h;
-  }
-
-  -- and is an answer set of the live rules
-  pub passes-narrow : unit .rules < 2 ^ ATOMS → unit .nearest ⊆ unit .predecessors → {s t u v w : State} (live : ℕ)
-      → Narrows (JoinsAll table counts heads (unit .nearest)) s t → Narrows (SatisfiesAll (lent rules) (unit .rules)) t u
-      → Live rules (unit .rules) u live → Narrows (AnswersInputs rules live (unit .inputs)) u v
-      → Narrows (AnswersInputs rules live (unit .inputs)) v w → Narrows Belong s w
-  passes-narrow fits near {u = u} live j g l n m =
-      narrows-trans (narrows-for (belongs-joins near) j)
-      (narrows-trans (narrows-for (belongs-satisfies fits) g)
-      (narrows-for (belongs-answers fits) (narrows-live rules u (unit .rules) live (unit .inputs) l (narrows-trans n m))))
 
   -- ---- one position
 
@@ -101,7 +66,7 @@ module _ (rules table counts heads : List ℕ) (unit : Unit) where
 -- ---- the search
 
 module _ {rules table counts heads : List ℕ} {unit : Unit} where
-  -- after the passes the same positions are wanted
+  -- after propagation the same positions are wanted
   pub search-narrowed : (list : List ℕ) (count : ℕ) {s t : State} {after : List ℕ} {r : ℕ}
       → Narrows (Belongs rules table counts heads unit) s t
       → Gathered (Grown list count (Wanted rules table counts heads unit t)) after r

@@ -1,4 +1,5 @@
 pub mod Listing
 pub mod Job
-pub mod JoinPass
 pub mod Nearest
+pub mod Filter
+pub mod Agenda

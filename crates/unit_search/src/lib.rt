@@ -1,9 +1,12 @@
 // The search for the list of one unit.
+pub mod agenda;
+pub mod filter;
 pub mod join;
-pub mod join_pass;
 pub mod listing;
 pub mod nearest;
+pub mod propagate;
 pub mod search;
+pub mod sift;
 mod unit;
 
 pub use unit::Unit;

@@ -1,4 +1,4 @@
-// Which of a unit's direct predecessors the join pass looks at.
+// Which of a unit's direct predecessors' lists the search looks at.
 use plan::MAX_UNITS;
 ghost use Prim.Native.Nat.{_^_, _≤_, _<_};
 ghost use lib.ListN.{length};

@@ -1,19 +1,27 @@
 // The search over undecided atoms.
+use crate::agenda::Agenda;
+use crate::agenda::every_step;
+use crate::agenda::wake_index;
+use crate::agenda::woken;
+use crate::filter::FILTER_WORDS;
+use crate::filter::full_filter;
 use crate::join::joins;
-use crate::join_pass::join_pass;
 use crate::listing::insert;
+use crate::propagate::propagate;
 use crate::unit::Unit;
 use answer_sets::State;
 use answer_sets::is_answer_set;
 use answer_sets::known::undecided;
-use answer_sets::rule_pass::rule_pass;
+use narrowing::backers::backers;
 use narrowing::choice::choose;
-use narrowing::founded::founded_pass;
-use narrowing::live::live_rules;
-use narrowing::support::support_pass;
+use narrowing::loops::looped_atoms;
 use plan::LIST_WORDS;
 ghost use Rattle.atoms.specs.Bounded.{Decides};
-ghost use Rattle.answer_sets.specs.State.{Narrows};
+ghost use Prim.Native.Nat.{_≤_};
+ghost use lib.ListN.{length};
+ghost use Rattle.narrowing.specs.Backers.{Backers};
+ghost use Rattle.unit_search.specs.Filter.{Filtered};
+ghost use Rattle.unit_search.specs.Agenda.{INDEX_WORDS};
 ghost use Rattle.unit_search.specs.Listing.{Ordered, Gathered, Grown};
 ghost use Rattle.unit_search.specs.Job.{Belongs, Searchable, Wanted, Offered};
 
@@ -40,25 +48,6 @@ pub fn belongs(
     )
 }
 
-// The state after the narrowing passes.
-fn narrow(
-    rules: &[u64],
-    table: &[u64],
-    counts: &[usize],
-    heads: &[u64],
-    unit: Unit,
-    s: State,
-) -> State
-    requires { ⌜ Searchable (now rules) (now table) (now counts) (now heads) unit ⌝ }
-    ensures { λ t. ⌜ Narrows (Belongs (now (rules .entry)) (now (table .entry)) (now (counts .entry)) (now (heads .entry)) unit) s t ⌝ }
-{
-    let joined = join_pass(table, counts, heads, unit.nearest, s);
-    let grown = rule_pass(rules, unit.rules, joined);
-    let live = live_rules(rules, unit.rules, grown);
-    let supported = support_pass(rules, live, unit.inputs, grown);
-    founded_pass(rules, live, unit.inputs, supported)
-}
-
 // Adds the position to the list if it belongs there: the new count, or OVERFULL where there is no room.
 fn offer(
     rules: &[u64],
@@ -80,6 +69,104 @@ fn offer(
     insert(list, count, position)
 }
 
+// The agenda after one atom was decided.
+fn after_decision(index: &[u64], before: State, after: State) -> Agenda
+    requires { ⌜ INDEX_WORDS ≤ length (now index) ⌝ }
+{
+    let none = Agenda {
+        rules: 0,
+        supports: 0,
+        others: 0,
+    };
+    woken(index, none, before, after)
+}
+
+// Adds to the list every position that belongs there and completes the state, of which the agenda says what may be told and the filter which entries
+// may be joined: the new count, or OVERFULL where that is more than LIST_WORDS.
+fn explore(
+    rules: &[u64],
+    table: &[u64],
+    counts: &[usize],
+    heads: &[u64],
+    backers: &[u64],
+    index: &[u64],
+    unit: Unit,
+    list: &mut [u64],
+    count: usize,
+    filter: [u64; FILTER_WORDS],
+    agenda: Agenda,
+    s: State,
+) -> usize
+    requires { ⌜ Searchable (now rules) (now table) (now counts) (now heads) unit × Ordered (now list) count
+        × Backers (now rules) (unit .rules) (now backers) × (INDEX_WORDS ≤ length (now index))
+        × Filtered (now table) (now counts) (now heads) (unit .nearest) s filter ⌝ }
+    ensures { λ r. ⌜ Gathered (Grown (now (list .entry)) count
+        (Wanted (now (rules .entry)) (now (table .entry)) (now (counts .entry)) (now (heads .entry)) unit s)) (now (list .exit)) r ⌝ }
+{
+    let mut mine = filter;
+    let t = propagate(
+        rules,
+        table,
+        counts,
+        heads,
+        backers,
+        index,
+        unit,
+        &mut mine,
+        agenda,
+        s,
+    );
+    if !atoms::are_apart(t.up, t.dropped) {
+        return count;
+    }
+    let free = undecided(t.up, t.dropped);
+    if free == 0 {
+        return offer(rules, table, counts, heads, unit, list, count, t.up);
+    }
+    let atom = atoms::single(choose(rules, unit.rules, t, free));
+    let lower = State {
+        up: t.up,
+        dropped: atoms::union(t.dropped, atom),
+    };
+    let below = after_decision(index, t, lower);
+    let found = explore(
+        rules,
+        table,
+        counts,
+        heads,
+        backers,
+        index,
+        unit,
+        list,
+        count,
+        mine,
+        below,
+        lower,
+    );
+    if LIST_WORDS < found {
+        return found;
+    }
+    let upper = State {
+        up: atoms::union(t.up, atom),
+        dropped: t.dropped,
+    };
+    let above = after_decision(index, t, upper);
+    explore(
+        rules,
+        table,
+        counts,
+        heads,
+        backers,
+        index,
+        unit,
+        list,
+        found,
+        mine,
+        above,
+        upper,
+    )
+}
+
 // Adds to the list every position that belongs there and completes the state: the new count, or OVERFULL where that is more than LIST_WORDS.
 pub fn search(
     rules: &[u64],
@@ -95,26 +182,21 @@ pub fn search(
     ensures { λ r. ⌜ Gathered (Grown (now (list .entry)) count
         (Wanted (now (rules .entry)) (now (table .entry)) (now (counts .entry)) (now (heads .entry)) unit s)) (now (list .exit)) r ⌝ }
 {
-    let t = narrow(rules, table, counts, heads, unit, s);
-    if !atoms::are_apart(t.up, t.dropped) {
-        return count;
-    }
-    let free = undecided(t.up, t.dropped);
-    if free == 0 {
-        return offer(rules, table, counts, heads, unit, list, count, t.up);
-    }
-    let atom = atoms::single(choose(rules, unit.rules, t, free));
-    let lower = State {
-        up: t.up,
-        dropped: atoms::union(t.dropped, atom),
-    };
-    let found = search(rules, table, counts, heads, unit, list, count, lower);
-    if LIST_WORDS < found {
-        return found;
-    }
-    let upper = State {
-        up: atoms::union(t.up, atom),
-        dropped: t.dropped,
-    };
-    search(rules, table, counts, heads, unit, list, found, upper)
+    let backers = backers(rules, unit.rules);
+    let looped = looped_atoms(rules, unit.rules);
+    let index = wake_index(rules, heads, unit, looped);
+    explore(
+        rules,
+        table,
+        counts,
+        heads,
+        &backers,
+        &index,
+        unit,
+        list,
+        count,
+        full_filter(counts),
+        every_step(unit, looped),
+        s,
+    )
 }

@@ -1,6 +1,6 @@
 // What is asked of a unit.
 
-// Its rules, the head atoms that an input may have, its direct predecessors, and those of them that the join pass looks at.
+// Its rules, the head atoms that an input may have, its direct predecessors, and those of them whose lists the search looks at.
 pub struct Unit {
     pub rules: u64,
     pub inputs: u64,

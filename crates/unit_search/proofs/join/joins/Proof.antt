@@ -14,7 +14,7 @@ use Rattle.atoms.proofs.Counts.{taken-less, taken-within}
 use Rattle.plan.specs.Limits.{MAX_UNITS, LIST_WORDS}
 use Rattle.unit_search.specs.Listing.{isListed}
 use Rattle.unit_search.specs.Job.{joins}
-use Rattle.unit_search.proofs.Joins.{joins-none, joins-take, joined-lt}
+use Rattle.unit_search.proofs.JoinedLists.{joins-none, joins-take, joined-lt}
 use Rattle.unit_search.proofs.join.joins.Statement.{statement}
 use Rattle.unit_search.proofs.join.joins.Tie as tie
 

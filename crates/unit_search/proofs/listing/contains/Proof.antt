@@ -1,8 +1,9 @@
--- No word passed so far is the value.
+-- It is at its likely place; or no word passed so far is the value.
 use native.Mathlib.Omega.{arith}
 use mathlib.Core.Path.{_≡_, sym}
 use denote.Ref.{now}
 use borrow.Author.Count.{below-none, below-more}
+use borrow.Author.Needs.{needs}
 use borrow.Author.Tests.{eqb-true, eq-eqb}
 use Prim.Native.Nat.{ℕ, _+_, _-_, _≤_, _<_}
 use lib.Dec.{eqb}
@@ -13,30 +14,38 @@ use Rattle.unit_search.proofs.listing.contains.Statement.{statement}
 use Rattle.unit_search.proofs.listing.contains.Tie as tie
 
 abbrev Inv-loop : tie.InvT-loop
-Inv-loop words base count value i₀ i = (i ≤ count) × ((k : ℕ) → k < i → getD words (base + k) 0 ≡ value → ⊥)
+Inv-loop words base count value likely i₀ i = (i ≤ count) × ((k : ℕ) → k < i → getD words (base + k) 0 ≡ value → ⊥)
 
 abbrev μ-loop : tie.MeasureT-loop
-μ-loop words base count value i₀ i = count - i
-
-loop-holds : tie.Need-loop-holds Inv-loop μ-loop
-loop-holds c = (omega arith, below-none _)
+μ-loop words base count value likely i₀ i = count - i
 
 returns : tie.Need-returns Inv-loop μ-loop
 unfolding isListed
 returns c =
-    let at = c .before .before .before .before .args in
-    let i = c .before .before .before .loop .i in
+    let likely = c .before .before .before in
+    let at = likely .before .before .args in
+    let i = likely .likely-place .result in
     sym
-    (some-intro (at .count) (λ (k : ℕ). eqb (getD (now (at .words)) (at .base + k) 0) (at .value)) i (omega arith)
-    (eq-eqb (getD (now (at .words)) (at .base + i) 0) (at .value) (c .if1 .taken)))
-
-loop-again : tie.Need-loop-again Inv-loop μ-loop
-loop-again c = (omega arith, below-more _ _ (c .before .before .before .loop .inv .1) (c .if1 .left))
+    (some-intro (at .count) (λ (k : ℕ). eqb (getD (now (at .words)) (at .base + k) 0) (at .value)) i (c .before .before .if1 .taken)
+    (eq-eqb (getD (now (at .words)) (at .base + i) 0) (at .value) (c .if2 .taken)))
 
 returns-2 : tie.Need-returns-2 Inv-loop μ-loop
 unfolding isListed
 returns-2 c =
-    let at = c .before .before .args in
+    let loop = c .before .before .before in
+    let at = loop .before .before .before .before .args in
+    let i = loop .loop .i in
+    sym
+    (some-intro (at .count) (λ (k : ℕ). eqb (getD (now (at .words)) (at .base + k) 0) (at .value)) i (c .before .before .loop-test .taken)
+    (eq-eqb (getD (now (at .words)) (at .base + i) 0) (at .value) (c .if3 .taken)))
+
+loop-again : tie.Need-loop-again Inv-loop μ-loop
+loop-again c = (omega arith, below-more _ _ (c .before .before .before .loop .inv .1) (c .if3 .left))
+
+returns-3 : tie.Need-returns-3 Inv-loop μ-loop
+unfolding isListed
+returns-3 c =
+    let at = c .before .before .before .before .before .args in
     sym
     (some-none (at .count) (λ (k : ℕ). eqb (getD (now (at .words)) (at .base + k) 0) (at .value))
     (λ k l e.
@@ -48,12 +57,17 @@ contains-spec =
     (tie.spec
     Inv-loop
     μ-loop
-    loop-holds
+    (λ c κs. search needs)
     (λ c. omega arith)
     (λ c. omega arith)
     (λ c. omega arith)
     returns
+    (λ c. (omega arith, below-none _))
+    (λ c. omega arith)
+    (λ c. omega arith)
+    (λ c. omega arith)
+    returns-2
     (λ c. omega arith)
     (λ c. omega arith)
     loop-again
-    returns-2)
+    returns-3)

@@ -9,7 +9,7 @@ use Rattle.atoms.specs.Word.{_⊆_, _∖_}
 use Rattle.atoms.proofs.Sets.{subset-refl, has-lt}
 use Rattle.atoms.proofs.Counts.{taken-less, taken-within}
 use Rattle.plan.specs.Limits.{MAX_UNITS}
-use Rattle.unit_search.proofs.Joins.{Uncovered, uncovered-start, uncovered-next, covered-here, covered-nowhere}
+use Rattle.unit_search.proofs.CoveredUnits.{Uncovered, uncovered-start, uncovered-next, covered-here, covered-nowhere}
 use Rattle.unit_search.proofs.nearest.is_covered.Statement.{statement}
 use Rattle.unit_search.proofs.nearest.is_covered.Tie as tie
 

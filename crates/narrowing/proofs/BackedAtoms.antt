@@ -1,0 +1,85 @@
+-- The table of the rules that may back an atom: one rule more is noted at each turn.
+use mathlib.Core.Path.{_≡_, refl, sym, subst, _∙_}
+use mathlib.Core.Logic.{_⊎_, inl, inr}
+use mathlib.Core.List.{List}
+use Prim.Native.Nat.{ℕ, zero, suc}
+use native.Mathlib.Nat.{zero-add}
+use lib.ListN.{length, getD, replicate}
+use Rattle.atoms.specs.Word.{ATOMS, Has, _∪_, _∖_, atom, Lowest}
+use Rattle.atoms.proofs.Sets.{has-none, has-atom, atom-only, has-without, union-cases}
+use Rattle.atoms.proofs.TakenNumbers.{Taking, taking-start, taking-next, taking-end, taken-lent}
+use Rattle.answer_sets.specs.Lent.{lent, negative}
+use Rattle.narrowing.specs.Marks.{Marked}
+use Rattle.narrowing.specs.Backers.{Backs, RuleBacks, RulesBack, Backers}
+
+-- one rule
+pub rule-backs : (rules : List ℕ) (r which word : ℕ) (before after : List ℕ)
+    → which ≡ lent rules .head r ∖ (lent rules .positive r ∪ negative rules r) → word ≡ atom r → Marked 0 which word before after
+    → RuleBacks rules r before after
+rule-backs rules r which word before after e f m = record {
+  same-length = m .same-length;
+  noted = λ a b. rw zero-add at (m .marked a (rw e (backed a b)) .each r (rw f (has-atom r)));
+  grown = m .grown;
+  no-more = λ a q h. go a q (union-cases (getD before a 0) word (m .no-more a .each q h));
+}
+  where
+    backed : (a : ℕ) → Backs rules r a → Has (lent rules .head r ∖ (lent rules .positive r ∪ negative rules r)) a
+    backed a b =
+        has-without (lent rules .head r) (lent rules .positive r ∪ negative rules r) (b .in-head)
+        (λ h. body (union-cases (lent rules .positive r) (negative rules r) h))
+      where
+        body : Has (lent rules .positive r) a ⊎ Has (negative rules r) a → ⊥
+        body (inl p) = b .not-positive p
+        body (inr p) = b .not-negative p
+
+    go : (a q : ℕ) → Has (getD before a 0) q ⊎ Has word q → Has (getD before a 0) q ⊎ (r ≡ q)
+    go a q (inl h) = inl h
+    go a q (inr h) = inr (atom-only r (rw f at h))
+
+-- all rules: those that are done are noted, and no others than numbered ones
+pub record Backing (rules : List ℕ) (which rest : ℕ) (before table : List ℕ) : Type 0 where
+  pub same-length : length table ≡ length before
+  pub noted : Taking which rest (λ r. (a : ℕ) → Backs rules r a → Has (getD table a 0) r)
+  pub no-more : (a q : ℕ) → Has (getD table a 0) q → Has (getD before a 0) q ⊎ Has which q
+
+pub backing-start : {rules : List ℕ} {which : ℕ} {table : List ℕ} → Backing rules which which table table
+backing-start = record { same-length = refl; noted = taking-start; no-more = λ a q h. inl h }
+
+pub backing-next : {rules : List ℕ} {which rest rest′ r : ℕ} {before table after : List ℕ} → Backing rules which rest before table
+    → Lowest rest r → rest′ ≡ rest ∖ atom r → RuleBacks rules r table after → Backing rules which rest′ before after
+backing-next {which = which} {r = r} {before} {table} b low e n = record {
+  same-length = n .same-length ∙ b .same-length;
+  noted = taking-next (b .noted) low e (λ q f a c. n .grown a .each q (f a c)) (n .noted);
+  no-more = λ a q k. less a q (n .no-more a q k);
+}
+  where
+    less : (a q : ℕ) → Has (getD table a 0) q ⊎ (r ≡ q) → Has (getD before a 0) q ⊎ Has which q
+    less a q (inl k) = b .no-more a q k
+    less a q (inr f) = inr (subst (λ (x : ℕ). Has which x) f (taken-lent (b .noted .within) low))
+
+pub backing-end : {rules : List ℕ} {which rest : ℕ} {before table : List ℕ} → Backing rules which rest before table → rest ≡ 0
+    → RulesBack rules which before table
+backing-end b e = record {
+  same-length = b .same-length;
+  noted = λ r a h. taking-end (b .noted) e r h a;
+  no-more = b .no-more;
+}
+
+-- a table of zeros has no rule
+pub zeros-at : (n a : ℕ) → getD (replicate {A = ℕ} n 0) a 0 ≡ 0
+zeros-at zero a = refl
+zeros-at (suc n) zero = refl
+zeros-at (suc n) (suc a) = zeros-at n a
+
+-- a table that had no rule at first
+pub backers-of : {rules : List ℕ} {which : ℕ} {before table : List ℕ} → length before ≡ ATOMS → ((a : ℕ) → getD before a 0 ≡ 0)
+    → RulesBack rules which before table → Backers rules which table
+backers-of {which = which} {before} {table} l z b = record {
+  long = b .same-length ∙ l;
+  numbered = λ a. record { each = λ q h. go a q (b .no-more a q h) };
+  every = λ r a h c. b .noted r a h c;
+}
+  where
+    go : (a q : ℕ) → Has (getD before a 0) q ⊎ Has which q → Has which q
+    go a q (inl h) = absurd (has-none (rw (z a) at h))
+    go a q (inr h) = h

@@ -1,0 +1,58 @@
+-- The steps by number: what each promises holds of every answer set that has its inputs as facts.
+use mathlib.Core.Path.{_≡_}
+use mathlib.Core.Bool.{Bool, true, false}
+use mathlib.Core.List.{List}
+use mathlib.Core.Logic.{_⊎_, inl, inr}
+use Prim.Native.Nat.{ℕ, _^_, _<_}
+use lib.ListN.{getD}
+use Rattle.atoms.specs.Word.{ATOMS, Has, _⊆_, _∩_, _∪_, atom, apart}
+use Rattle.atoms.proofs.Sets.{decides-has, cut-left, union-cases}
+use Rattle.atoms.proofs.Singles.{has-of-test, lacks-of-test}
+use Rattle.answer_sets.specs.Program.{Satisfies, SatisfiesAll}
+use Rattle.answer_sets.specs.Lent.{lent, Lent}
+use Rattle.answer_sets.specs.State.{Narrows}
+use Rattle.answer_sets.specs.declared.state.State.{State}
+use Rattle.answer_sets.proofs.Narrows.{narrows-for}
+use Rattle.answer_sets.proofs.Support.{satisfied}
+use Rattle.narrowing.specs.Inputs.{AnswersInputs}
+use Rattle.narrowing.specs.Backers.{Backers}
+use Rattle.narrowing.specs.Support.{Held}
+use Rattle.narrowing.proofs.SupportSteps.{answers-held}
+
+module _ (rules : List ℕ) (which inputs : ℕ) {s t : State} where
+  -- an answer set satisfies each rule
+  pub rules-narrow : Narrows (SatisfiesAll (lent rules) which) s t → Narrows (AnswersInputs rules which inputs) s t
+  rules-narrow n =
+      narrows-for (λ M p. record { each = λ r h. satisfied (lent rules) which (M ∩ inputs) M r (p .answer) h }) n
+
+  -- and its atoms that are no inputs are held by their backers
+  pub support-narrows : (backers : List ℕ) (a : ℕ) → which < 2 ^ ATOMS → Backers rules which backers → ¬ Has inputs a
+      → Narrows (Held rules (getD backers a 0) a) s t → Narrows (AnswersInputs rules which inputs) s t
+  support-narrows backers a fits b own n = narrows-for (answers-held rules which inputs backers fits b a own) n
+
+pub rule-narrows : (rules : List ℕ) {which r : ℕ} {s t : State} → Has which r → Narrows (Satisfies (lent rules) r) s t
+    → Narrows (SatisfiesAll (lent rules) which) s t
+rule-narrows rules h n = narrows-for (λ M k. k .each _ h) n
+
+-- a test that the number is in the word, as the code makes it
+pub numbered-by : (w k : ℕ) {x : ℕ} {t : Bool} → x ≡ atom k → t ≡ apart w x → t ≡ false → Has w k
+numbered-by w k e f g = decides-has w k .yes (has-of-test w k e f g)
+
+pub lacked-by : (w k : ℕ) {x : ℕ} {t : Bool} → x ≡ atom k → t ≡ apart w x → t ≡ true → ¬ Has w k
+lacked-by w k e f g = decides-has w k .no (lacks-of-test w k e f g)
+
+pub backers-lent : {rules : List ℕ} {which : ℕ} {backers : List ℕ} → Lent rules which → Backers rules which backers → (a : ℕ)
+    → Lent rules (getD backers a 0)
+backers-lent l b a = record { each = λ r h. l .each r (b .numbered a .each r h) }
+
+-- ---- advice: words that stay within another
+
+pub cut-within : (a b : ℕ) {w : ℕ} → w ≡ a ∩ b → w ⊆ a
+cut-within a b e = record { each = λ i h. cut-left a b (rw e at h) }
+
+pub union-within : {a b c w : ℕ} → a ⊆ c → w ≡ a ∪ b → b ⊆ c → w ⊆ c
+union-within {a} {b} {c} f e g = record { each = λ i h. go i (union-cases a b (rw e at h)) }
+  where
+    go : (i : ℕ) → Has a i ⊎ Has b i → Has c i
+    go i (inl h) = f .each i h
+    go i (inr h) = g .each i h

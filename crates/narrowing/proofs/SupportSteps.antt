@@ -1,0 +1,134 @@
+-- The support step: which rules may support an atom, and what follows where none or one is left.
+use mathlib.Core.Path.{_≡_, sym, subst, _∙_}
+use mathlib.Core.Bool.{Bool, true, false, true≢false}
+use mathlib.Core.Logic.{_⊎_, inl, inr}
+use mathlib.Core.List.{List}
+use Prim.Native.Nat.{ℕ, _^_, _<_}
+use native.Mathlib.Decide.{ℕ-discrete}
+use lib.ListN.{getD}
+use Rattle.atoms.specs.Word.{ATOMS, Has, _∩_, _∪_, _∖_, apart, atom, Lowest}
+use Rattle.atoms.proofs.Sets.{decides-apart, subset-refl, subset-trans, cut-right, has-none, has-atom, atom-only, has-without, without-left}
+use Rattle.atoms.proofs.Sets.{without-right, union-cases}
+use Rattle.atoms.proofs.TakenNumbers.{taken-cases}
+use Rattle.atoms.proofs.Counts.{taken-within}
+use Rattle.answer_sets.specs.Lent.{lent, Lent, negative}
+use Rattle.answer_sets.specs.State.{Completes, Narrows}
+use Rattle.answer_sets.specs.Known.{BodySays}
+use Rattle.answer_sets.specs.declared.state.State.{State}
+use Rattle.answer_sets.specs.declared.state.Truth.{Truth}
+use Rattle.answer_sets.specs.declared.state.Truth.the-variants.{Fails}
+use Rattle.answer_sets.proofs.Parts.{known-fails, completes-known}
+use Rattle.answer_sets.proofs.Bodies.{negative-down}
+use Rattle.answer_sets.proofs.Narrows.{narrows-trans, narrows-when, up-narrows, down-narrows}
+use Rattle.narrowing.specs.Inputs.{AnswersInputs}
+use Rattle.narrowing.specs.Backers.{Backs, Backers}
+use Rattle.narrowing.specs.Support.{Supports, Excluded, Supporters, Held}
+use Rattle.narrowing.proofs.Supports.{supporter}
+
+-- ---- one rule
+
+module _ (rules : List ℕ) (r a : ℕ) (s : State) where
+  pub may : (b : Bool) → b ≡ true → Excluded rules r a s b
+  may b e = record { never = λ f. absurd (true≢false (sym e ∙ f)) }
+
+  -- another head atom is up
+  pub not-alone : (b : Bool) (others : ℕ) → others ≡ lent rules .head r ∖ atom a → apart others (s .up) ≡ false → Excluded rules r a s b
+  not-alone b others e f = record {
+    never = λ _ M c p.
+        decides-apart others (s .up) .no f
+        (record {
+          none = λ i h u.
+              let k = subst (λ (w : ℕ). Has w i) e h in
+              without-right (lent rules .head r) (atom a) k
+              (subst (λ (x : ℕ). Has (atom a) x) (sym (p .only i (without-left (lent rules .head r) (atom a) k) (c .has-up .each i u))) (has-atom a));
+        });
+  }
+
+  -- its body fails
+  pub body-failed : (b : Bool) {t : Truth} → BodySays rules r (s .up) (s .dropped) t → t ≡ Fails → Excluded rules r a s b
+  body-failed b k e = record { never = λ _ M c p. known-fails rules r (s .up) (s .dropped) k M (completes-known c) e (p .holds) }
+
+-- ---- the rules that are left
+
+module _ {rules : List ℕ} {backing a : ℕ} {s : State} where
+  pub supporters-all : Supporters rules backing a s backing
+  supporters-all = record { within = subset-refl; every = λ r M h c p. h }
+
+  pub supporters-next : {rest rest′ r : ℕ} {b : Bool} → Supporters rules backing a s rest → Lowest rest r → rest′ ≡ rest ∖ atom r
+      → Excluded rules r a s b → b ≡ false → Supporters rules backing a s rest′
+  supporters-next {rest} {rest′} {r} w low e x f = record {
+    within = taken-within (w .within) low e;
+    every = λ q M h c p. go q M c p (taken-cases e (w .every q M h c p));
+  }
+    where
+      go : (q M : ℕ) → Completes s M → Supports (lent rules) q M a → Has rest′ q ⊎ (r ≡ q) → Has rest′ q
+      go q M c p (inl h) = h
+      go q M c p (inr k) = absurd (x .never f M c (subst (λ (i : ℕ). Supports (lent rules) i M a) (sym k) p))
+
+  pub supporters-lent : {w : ℕ} → Lent rules backing → Supporters rules backing a s w → (v : ℕ) → ((r : ℕ) → Has v r → Has w r) → Lent rules v
+  supporters-lent l w v f = record { each = λ r h. l .each r (w .within .each r (f r h)) }
+
+-- ---- the step
+
+module _ (rules : List ℕ) (backing a : ℕ) (s : State) {left : ℕ} (w : Supporters rules backing a s left) where
+  -- none is left
+  pub none-left : (x d : ℕ) → left ≡ 0 → x ≡ atom a → d ≡ s .dropped ∪ x
+      → Narrows (Held rules backing a) s (record { up = s .up; dropped = d })
+  none-left x d z e f =
+      rw (f, e)
+      (down-narrows s (atom a)
+      (λ M k c. record {
+        none = λ i h m.
+            let p = k .held (subst (λ (j : ℕ). Has M j) (sym (atom-only a h)) m) in
+            has-none (subst (λ (v : ℕ). Has v (p .0)) z (w .every (p .0) M (p .1) c (p .2)));
+      }))
+
+  -- one is left of an atom that is up
+  pub one-left : (r rest others : ℕ) {t : State} → Has (s .up) a → rest ≡ left ∖ atom r → Supporters rules rest a s others → others ≡ 0
+      → Narrows (λ M. Supports (lent rules) r M a) s t → Narrows (Held rules backing a) s t
+  one-left r rest others u e v z n = narrows-when by-r n
+    where
+      same : (q M : ℕ) → Has left q → Completes s M → Supports (lent rules) q M a → Has rest q ⊎ (r ≡ q) → Supports (lent rules) r M a
+      same q M h c p (inl k) = absurd (has-none (subst (λ (x : ℕ). Has x q) z (v .every q M k c p)))
+      same q M h c p (inr k) = subst (λ (i : ℕ). Supports (lent rules) i M a) (sym k) p
+
+      by-r : (M : ℕ) → Held rules backing a M → Completes s M → Supports (lent rules) r M a
+      by-r M k c =
+          let p = k .held (c .has-up .each a u) in
+          let h = w .every (p .0) M (p .1) c (p .2) in
+          same (p .0) M h c (p .2) (taken-cases e h)
+
+-- what follows of a rule that supports an atom
+pub supports-narrows : (rules : List ℕ) (r a : ℕ) (s : State)
+    → Narrows (λ M. Supports (lent rules) r M a) s
+    (record { up = s .up ∪ lent rules .positive r; dropped = s .dropped ∪ (negative rules r ∪ (lent rules .head r ∖ atom a)) })
+supports-narrows rules r a s =
+    narrows-trans
+    (up-narrows s (lent rules .positive r) (λ N p c. p .holds .positive-up))
+    (down-narrows (record { up = s .up ∪ lent rules .positive r; dropped = s .dropped }) (negative rules r ∪ (lent rules .head r ∖ atom a))
+    (λ N p c. record { none = λ i q m. down N p i m (union-cases (negative rules r) (lent rules .head r ∖ atom a) q) }))
+  where
+    down : (N : ℕ) → Supports (lent rules) r N a → (i : ℕ) → Has N i → Has (negative rules r) i ⊎ Has (lent rules .head r ∖ atom a) i → ⊥
+    down N p i m (inl q) = negative-down rules r N (p .holds) i q m
+    down N p i m (inr q) =
+        without-right (lent rules .head r) (atom a) q
+        (subst (λ (x : ℕ). Has (atom a) x) (sym (p .only i (without-left (lent rules .head r) (atom a) q) m)) (has-atom a))
+
+-- ---- an answer set's atom that is no input is held by its backers
+
+pub answers-held : (rules : List ℕ) (which inputs : ℕ) (backers : List ℕ) → which < 2 ^ ATOMS → Backers rules which backers → (a : ℕ)
+    → ¬ Has inputs a → (M : ℕ) → AnswersInputs rules which inputs M → Held rules (getD backers a 0) a M
+answers-held rules which inputs backers fits b a own M p = record { held = λ m. go m (by m) }
+  where
+    by : Has M a → (r : ℕ) × Has which r × Supports (lent rules) r M a
+    by m = supporter (lent rules) which (M ∩ inputs) M a fits (p .answer) m (λ q. own (cut-right M inputs q))
+
+    go : Has M a → (r : ℕ) × Has which r × Supports (lent rules) r M a → (r : ℕ) × Has (getD backers a 0) r × Supports (lent rules) r M a
+    go m f = (f .0, b .every (f .0) a (f .1) backs, f .2)
+      where
+        backs : Backs rules (f .0) a
+        backs = record {
+          in-head = f .2 .in-head;
+          not-positive = f .2 .not-positive;
+          not-negative = λ n. negative-down rules (f .0) M (f .2 .holds) a n m;
+        }

@@ -1,0 +1,32 @@
+-- The rule is noted for its head atoms without those of its body.
+use mathlib.Core.Path.{ap₂, _∙_}
+use Rattle.atoms.specs.Word.{_∪_, _∖_}
+use Rattle.narrowing.proofs.BackedAtoms.{rule-backs}
+use borrow.Author.Needs.{needs}
+use Rattle.narrowing.proofs.backers.back_by.Statement.{statement}
+use Rattle.narrowing.proofs.backers.back_by.Tie as tie
+
+returns : tie.Need-returns
+returns c =
+    let m = c .before .before in
+    let w = m .before .before .before in
+    rule-backs _ _ _ _ _ _
+    (w .without .ensures
+    ∙ ap₂ _∖_ (w .before .head .ensures)
+    (w .before .before .union .ensures
+    ∙ ap₂ _∪_ (w .before .before .before .before .positive-body .ensures) (w .before .before .before .negative-body .ensures)))
+    (m .before .single .ensures) (m .mark .ensures)
+
+pub back-by-spec : {M : Type 1} → statement M
+back-by-spec =
+    tie.close
+    (tie.spec
+    (λ c κs. search needs)
+    (λ c κs. search needs)
+    (λ c κs. search needs)
+    (λ c κs. search needs)
+    (λ c κs. search needs)
+    (λ c κs. search needs)
+    (λ c κs. search needs)
+    (λ c. search needs)
+    returns)

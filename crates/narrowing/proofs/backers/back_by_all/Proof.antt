@@ -1,0 +1,62 @@
+-- The loop carries that the rules that are done are noted. The measure is how many are left.
+use lib.Count.{ones}
+use native.Mathlib.Omega.{arith}
+use Rattle.atoms.proofs.Counts.{taken-less}
+use Rattle.atoms.proofs.TakenNumbers.{taken-lent}
+use Rattle.narrowing.proofs.BackedAtoms.{Backing, backing-start, backing-next, backing-end}
+use Rattle.narrowing.proofs.backers.back_by_all.Statement.{statement}
+use Rattle.narrowing.proofs.backers.back_by_all.Tie as tie
+
+abbrev Inv-loop : tie.InvT-loop
+Inv-loop rules which table₀ rest₀ table rest = Backing rules which rest table₀ table
+
+abbrev μ-loop : tie.MeasureT-loop
+μ-loop rules which table₀ rest₀ table rest = ones rest
+
+loop-holds : tie.Need-loop-holds Inv-loop μ-loop
+loop-holds c = backing-start
+
+lowest-requires : tie.Need-lowest-requires Inv-loop μ-loop
+lowest-requires c κs = c .loop-test .taken
+
+back-by-requires : tie.Need-back-by-requires Inv-loop μ-loop
+back-by-requires c κs =
+    let low = c .before in
+    let at = low .before .before in
+    let start = at .before .before .before in (
+      start .pre .0 .each _ (taken-lent (at .loop .inv .noted .within) (low .lowest .ensures .0)),
+      low .lowest .ensures .1,
+      omega (arith, start .pre .1, at .loop .inv .same-length),
+    )
+
+drop-requires : tie.Need-drop-requires Inv-loop μ-loop
+drop-requires c κs = c .before .before .before .before .lowest .ensures .1
+
+loop-less : tie.Need-loop-less Inv-loop μ-loop
+loop-less c = taken-less (c .before .before .before .before .before .lowest .ensures .0) (c .drop .ensures)
+
+loop-again : tie.Need-loop-again Inv-loop μ-loop
+loop-again c =
+    let low = c .before .before .before .before .before in
+    backing-next (low .before .before .loop .inv) (low .lowest .ensures .0) (c .drop .ensures) (c .before .before .before .back-by .ensures)
+
+same-length : tie.Need-same-length Inv-loop μ-loop
+same-length c = c .before .loop .inv .same-length
+
+returns : tie.Need-returns Inv-loop μ-loop
+returns c = backing-end (c .before .loop .inv) (c .loop-test .left)
+
+pub back-by-all-spec : {M : Type 1} → statement M
+back-by-all-spec =
+    tie.close
+    (tie.spec
+    Inv-loop
+    μ-loop
+    loop-holds
+    lowest-requires
+    back-by-requires
+    drop-requires
+    loop-less
+    loop-again
+    same-length
+    returns)

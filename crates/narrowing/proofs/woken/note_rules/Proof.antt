@@ -1,0 +1,46 @@
+-- The table keeps its length. The measure is how many rules are left.
+use mathlib.Core.Path.{_≡_, refl, _∙_}
+use native.Mathlib.Omega.{arith}
+use lib.Count.{ones}
+use lib.ListN.{length}
+use Rattle.atoms.proofs.Counts.{taken-less}
+use Rattle.atoms.proofs.TakenNumbers.{Carrying, carrying-start, carrying-next, taken-lent}
+use Rattle.narrowing.proofs.woken.note_rules.Statement.{statement}
+use Rattle.narrowing.proofs.woken.note_rules.Tie as tie
+
+abbrev Inv-loop : tie.InvT-loop
+Inv-loop rules which table₀ rest₀ table rest = Carrying which rest (length table ≡ length table₀)
+
+abbrev μ-loop : tie.MeasureT-loop
+μ-loop rules which table₀ rest₀ table rest = ones rest
+
+note-rule-requires : tie.Need-note-rule-requires Inv-loop μ-loop
+note-rule-requires c κs =
+    let low = c .before in
+    let at = low .before .before in
+    let start = at .before .before .before in (
+      start .pre .0 .each _ (taken-lent (at .loop .inv .within) (low .lowest .ensures .0)),
+      low .lowest .ensures .1,
+      omega (arith, start .pre .1, at .loop .inv .fact),
+    )
+
+loop-again : tie.Need-loop-again Inv-loop μ-loop
+loop-again c =
+    let low = c .before .before .before .before .before in
+    carrying-next (low .before .before .loop .inv) (low .lowest .ensures .0) (c .drop .ensures)
+    (λ h e. c .before .before .before .note-rule .ensures ∙ e)
+
+pub note-rules-spec : {M : Type 1} → statement M
+note-rules-spec =
+    tie.close
+    (tie.spec
+    Inv-loop
+    μ-loop
+    (λ c. carrying-start refl)
+    (λ c κs. c .loop-test .taken)
+    note-rule-requires
+    (λ c κs. c .before .before .before .before .lowest .ensures .1)
+    (λ c. taken-less (c .before .before .before .before .before .lowest .ensures .0) (c .drop .ensures))
+    loop-again
+    (λ c. c .before .loop .inv .fact)
+    (λ c. c .before .loop .inv .fact))

@@ -1,0 +1,132 @@
+// The founded step: relays that only hold each other up are down.
+use crate::live::live_rules;
+use answer_sets::State;
+use answer_sets::rule::head;
+use answer_sets::rule::negative_body;
+use answer_sets::rule::positive_body;
+ghost use Prim.Native.Nat.{_<_};
+ghost use Rattle.atoms.specs.Word.{ATOMS};
+ghost use Rattle.answer_sets.specs.Lent.{IsLent, Lent};
+ghost use Rattle.answer_sets.specs.State.{Narrows};
+ghost use Rattle.narrowing.specs.Inputs.{AnswersInputs};
+ghost use Rattle.narrowing.specs.Founded.{Closed, ClosedAll, Sharp, Shuts, Turn, Round, Founded};
+
+// The founded atoms so far; the up head atoms of rules that wait, of which one is taken in at a standstill; and the rules that may still add atoms.
+pub struct Closure {
+    pub found: u64,
+    pub waiting: u64,
+    pub left: u64,
+}
+
+// The closure after a rule whose positive atoms are founded: its head atoms are, or of those that are up the one; with more than one up it waits.
+fn found_by(rules: &[u64], rule: usize, s: State, c: Closure) -> Closure
+    requires { ⌜ IsLent (now rules) rule × (rule < ATOMS) ⌝ }
+    ensures shuts { λ r. ⌜ Shuts (now (rules .entry)) s c r ⌝ }
+    ensures closes { λ r. ⌜ Turn (Closed (now (rules .entry)) rule s) c r ⌝ }
+    ensures sharp { λ r. ⌜ Sharp (now (rules .entry)) rule s (c .found) (r .found) ⌝ }
+{
+    if !atoms::is_subset(positive_body(rules, rule), c.found) {
+        return c;
+    }
+    let head = head(rules, rule);
+    let up = atoms::cut(head, s.up);
+    let left = atoms::drop(c.left, rule);
+    if up == 0 {
+        let barred = atoms::union(negative_body(rules, rule), s.dropped);
+        return Closure {
+            found: atoms::union(c.found, atoms::without(head, barred)),
+            waiting: c.waiting,
+            left,
+        };
+    }
+    if !atoms::are_apart(up, c.found) {
+        return Closure {
+            found: c.found,
+            waiting: c.waiting,
+            left,
+        };
+    }
+    if atoms::at_most_one(up) {
+        return Closure {
+            found: atoms::union(c.found, up),
+            waiting: c.waiting,
+            left,
+        };
+    }
+    Closure {
+        found: c.found,
+        waiting: atoms::union(c.waiting, up),
+        left: c.left,
+    }
+}
+
+// The same for all rules left, one after the other.
+fn found_by_all(rules: &[u64], s: State, found: u64, left: u64) -> Closure
+    requires { ⌜ Lent (now rules) left ⌝ }
+    ensures shuts { λ r. ⌜ Shuts (now (rules .entry)) s (record { found = found; waiting = 0; left = left }) r ⌝ }
+    ensures closes { λ r. ⌜ Turn (ClosedAll (now (rules .entry)) left s) (record { found = found; waiting = 0; left = left }) r ⌝ }
+{
+    let mut rest = left;
+    let mut c = Closure {
+        found,
+        waiting: 0,
+        left,
+    };
+    while rest != 0 {
+        let rule = atoms::lowest(rest);
+        c = found_by(rules, rule, s, c);
+        rest = atoms::drop(rest, rule);
+    }
+    c
+}
+
+// The closure after one round; where that would add no atom, with one that a rule waits for.
+fn found_round(rules: &[u64], s: State, c: Closure) -> Closure
+    requires { ⌜ Lent (now rules) (c .left) ⌝ }
+    ensures { λ r. ⌜ Round (now (rules .entry)) s c r ⌝ }
+{
+    let d = found_by_all(rules, s, c.found, c.left);
+    if d.found != c.found {
+        return d;
+    }
+    if d.waiting == 0 {
+        return d;
+    }
+    Closure {
+        found: atoms::union(d.found, atoms::single(atoms::lowest(d.waiting))),
+        waiting: 0,
+        left: d.left,
+    }
+}
+
+// The atoms that are founded on those of the start: rounds until one adds nothing.
+fn founded_atoms(rules: &[u64], which: u64, s: State, start: u64) -> u64
+    requires { ⌜ Lent (now rules) which ⌝ }
+    ensures { λ r. ⌜ Founded (now (rules .entry)) which s start r ⌝ }
+{
+    let mut c = Closure {
+        found: start,
+        waiting: 0,
+        left: which,
+    };
+    let mut next = found_round(rules, s, c);
+    while next.found != c.found {
+        c = next;
+        next = found_round(rules, s, c);
+    }
+    c.found
+}
+
+// The founded step: what is not founded on the inputs is dropped.
+pub fn founded_step(rules: &[u64], which: u64, inputs: u64, s: State) -> State
+    requires { ⌜ Lent (now rules) which ⌝ }
+    ensures { λ t. ⌜ Narrows (AnswersInputs (now (rules .entry)) which inputs) s t ⌝ }
+{
+    let live = live_rules(rules, which, s);
+    let start = atoms::without(inputs, s.dropped);
+    let found = founded_atoms(rules, live, s, start);
+    State {
+        up: s.up,
+        dropped: atoms::union(s.dropped, atoms::outside(found)),
+    }
+}

@@ -1,0 +1,46 @@
+// Which atoms may hold each other up: advice for whoever asks when the founded step is worth its while.
+use answer_sets::rule::head;
+use answer_sets::rule::positive_body;
+use atoms::ATOMS;
+ghost use Rattle.atoms.specs.Word.{_⊆_};
+ghost use Rattle.answer_sets.specs.Lent.{IsLent, Lent};
+
+// Of the atoms those in the head of a rule with a positive atom among them, added to the others found so far.
+fn held_on(rules: &[u64], rule: usize, within: u64, held: u64) -> u64
+    requires { ⌜ IsLent (now rules) rule × (held ⊆ within) ⌝ }
+    ensures { λ r. ⌜ r ⊆ within ⌝ }
+{
+    if atoms::are_apart(positive_body(rules, rule), within) {
+        return held;
+    }
+    atoms::union(held, atoms::cut(within, head(rules, rule)))
+}
+
+// So for all rules of the word.
+fn held_on_all(rules: &[u64], which: u64, within: u64) -> u64
+    requires { ⌜ Lent (now rules) which ⌝ }
+    ensures { λ r. ⌜ r ⊆ within ⌝ }
+{
+    let mut rest = which;
+    let mut held = 0;
+    while rest != 0 {
+        let rule = atoms::lowest(rest);
+        held = held_on(rules, rule, within, held);
+        rest = atoms::drop(rest, rule);
+    }
+    held
+}
+
+// The atoms that depend on a positive loop of the rules, or on nothing else: with none the founded step has nothing to say beyond the support
+// steps. Nothing is promised of them.
+pub fn looped_atoms(rules: &[u64], which: u64) -> u64
+    requires { ⌜ Lent (now rules) which ⌝ }
+{
+    let mut within = atoms::first(ATOMS);
+    let mut held = held_on_all(rules, which, within);
+    while held != within {
+        within = held;
+        held = held_on_all(rules, which, within);
+    }
+    within
+}
