@@ -176,11 +176,13 @@ fn measure(programs: &Programs, plan: &Path) -> Row {
     let mut before = vec![programs.before(plan).and_then(time)];
     let is_quick = |run: &Option<Run>| run.map_or(false, |run| run.wall < QUICK);
     let runs = if is_quick(&settle[0]) && is_quick(&clingo[0]) { QUICK_RUNS } else { SLOW_RUNS };
-    for _ in 0..runs {
-        // A program that was stopped once is not run again.
-        repeat(&mut settle, || programs.settle(plan));
+    for run in 0..runs {
+        // A program that was stopped once is not run again. The two builds take turns at running behind clingo, which leaves cold caches.
+        let turn = |settle: &mut Vec<Option<Run>>| repeat(settle, || programs.settle(plan));
+        let other = |before: &mut Vec<Option<Run>>| repeat(before, || programs.before(plan).expect("it was run once"));
+        if run % 2 == 0 { turn(&mut settle) } else { other(&mut before) }
         repeat(&mut clingo, || programs.clingo(plan));
-        repeat(&mut before, || programs.before(plan).expect("it was run once"));
+        if run % 2 == 0 { other(&mut before) } else { turn(&mut settle) }
     }
     let sheet = if settle[0].is_some() { output(programs.settle(plan)) } else { String::new() };
     let answers = if clingo[0].is_some() { output(programs.clingo(plan)) } else { String::new() };
