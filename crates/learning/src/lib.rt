@@ -1,0 +1,2 @@
+// What a search learns from its stops. It knows nothing of rules and lists, only of states and the positions that complete them.
+pub mod nogood;
