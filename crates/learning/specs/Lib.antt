@@ -1,1 +1,2 @@
 pub mod Nogood
+pub mod Store
