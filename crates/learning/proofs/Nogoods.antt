@@ -6,7 +6,8 @@ use Prim.Native.Nat.{ℕ}
 use native.Mathlib.Decide.{ℕ-discrete}
 use Rattle.atoms.specs.Word.{Has, _⊆_, subset, Apart, _∩_, _∪_, _∖_, atom, AtMostOne}
 use Rattle.atoms.specs.Bounded.{Decides}
-use Rattle.atoms.proofs.Sets.{subset-refl, subset-trans, has-none, has-left, has-right, has-without, without-left, without-right, has-dec, atom-only, empty, some-atom, shared-atom, apart-of-cut, cut-left, decides-subset}
+use Rattle.atoms.proofs.Sets.{subset-refl, subset-trans, has-none, has-left, has-right, has-without, without-left, without-right, has-dec}
+use Rattle.atoms.proofs.Sets.{atom-only, empty, some-atom, shared-atom, apart-of-cut, cut-left, decides-subset}
 use Rattle.answer_sets.specs.State.{Completes, Narrows, clashed}
 use Rattle.answer_sets.specs.declared.state.State.{State}
 use Rattle.answer_sets.proofs.Narrows.{narrows-refl, narrows-when, narrows-for, clash-overlaps, clash-narrows, up-narrows, down-narrows}

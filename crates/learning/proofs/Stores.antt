@@ -45,7 +45,8 @@ pub written : (store : List ℕ) (i : ℕ) (n : State) → 2 * i + 1 < length st
 written store i n l = record {
   same-length = length-set first (2 * i + 1) (n .dropped) ∙ length-set store (2 * i) (n .up);
   here = pair-of n up-here (getD-set-same first (2 * i + 1) (n .dropped) 0 long);
-  others = λ j d. pair-of (pairAt store j) (other j d (2 * j) (omega (arith, d)) (omega (arith, d))) (other j d (2 * j + 1) (omega (arith, d)) (omega (arith, d)));
+  others = λ j d.
+      pair-of (pairAt store j) (other (2 * j) (omega (arith, d)) (omega (arith, d))) (other (2 * j + 1) (omega (arith, d)) (omega (arith, d)));
 }
   where
     first : List ℕ
@@ -59,8 +60,8 @@ written store i n l = record {
         getD-set-other first (2 * i + 1) (2 * i) (n .dropped) 0 (λ e. omega (arith, e))
         ∙ getD-set-same store (2 * i) (n .up) 0 (omega (arith, l))
 
-    other : (j : ℕ) → ¬ (j ≡ i) → (k : ℕ) → ¬ (k ≡ 2 * i) → ¬ (k ≡ 2 * i + 1) → getD (set first (2 * i + 1) (n .dropped)) k 0 ≡ getD store k 0
-    other j d k a b = getD-set-other first (2 * i + 1) k (n .dropped) 0 b ∙ getD-set-other store (2 * i) k (n .up) 0 a
+    other : (k : ℕ) → ¬ (k ≡ 2 * i) → ¬ (k ≡ 2 * i + 1) → getD (set first (2 * i + 1) (n .dropped)) k 0 ≡ getD store k 0
+    other k a b = getD-set-other first (2 * i + 1) k (n .dropped) 0 b ∙ getD-set-other store (2 * i) k (n .up) 0 a
 
 -- a pair that is avoided may be written
 pub keeps-written : {i : ℕ} {n : State} {before after : List ℕ} → Written i n before after → Keeps (Avoids n) before after

@@ -16,7 +16,7 @@ abbrev μ-loop : tie.MeasureT-loop
 loop-again : tie.Need-loop-again Inv-loop μ-loop
 loop-again c =
     let read = c .before in
-    swept-next (read .before .before .loop .inv) (read .before .loop-test .taken) (read .read-pair .ensures) (c .refute .ensures .0)
+    swept-next (read .before .before .loop .inv) (omega (arith, read .before .loop-test .taken)) (read .read-pair .ensures) (c .refute .ensures .0)
     (c .refute .ensures .1)
 
 pub sweep-spec : {M : Type 1} → statement M
