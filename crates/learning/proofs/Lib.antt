@@ -1,2 +1,3 @@
 pub mod Nogoods
 pub mod Stores
+pub mod Trails

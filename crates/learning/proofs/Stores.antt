@@ -11,7 +11,7 @@ use Rattle.answer_sets.specs.State.{Narrows}
 use Rattle.answer_sets.specs.declared.state.State.{State}
 use Rattle.answer_sets.proofs.Narrows.{narrows-refl, narrows-trans, narrows-for}
 use Rattle.learning.specs.Nogood.{Avoids, Within, Overlaps}
-use Rattle.learning.specs.Store.{RING, PAIRS, STORE_WORDS, pairAt, AvoidsAll, Empty, Keeps, Written, Learnt, Stops}
+use Rattle.learning.specs.Store.{RING, PAIRS, MEMORY_WORDS, pairAt, AvoidsAll, Empty, Keeps, SamePairs, Written, Learnt, Stops}
 use Rattle.learning.proofs.Nogoods.{within-narrows, within-trans, overlap-avoided, overlap-grows}
 
 -- ---- at first
@@ -25,13 +25,13 @@ same-at (suc n) v (suc i) l = same-at n v i (omega (arith, l))
 same-overlaps : {s : State} {w a : ℕ} → Has w a → s .up ≡ w → s .dropped ≡ w → Overlaps s
 same-overlaps {s} {w} {a} h u d = record { overlap = λ n. n .none a (rw u h) (rw d h) }
 
-pub empty-of : {w a : ℕ} → Has w a → Empty (replicate STORE_WORDS w)
+pub empty-of : {w a : ℕ} → Has w a → Empty (replicate MEMORY_WORDS w)
 empty-of {w} h = record {
-  long = length-replicate STORE_WORDS w;
+  long = length-replicate MEMORY_WORDS w;
   avoided = λ N. record {
     each = λ i l.
         overlap-avoided N
-        (same-overlaps h (same-at STORE_WORDS w (2 * i) (omega (arith, l))) (same-at STORE_WORDS w (2 * i + 1) (omega (arith, l))));
+        (same-overlaps h (same-at MEMORY_WORDS w (2 * i) (omega (arith, l))) (same-at MEMORY_WORDS w (2 * i + 1) (omega (arith, l))));
   };
 }
 
@@ -93,11 +93,26 @@ behind store at v j b l =
     pair-of (pairAt store j) (getD-set-other store at (2 * j) v 0 (λ e. omega (arith, e, b, l)))
     (getD-set-other store at (2 * j + 1) v 0 (λ e. omega (arith, e, b, l)))
 
-pub keeps-behind : {Q : ℕ → Type 0} (store : List ℕ) (at v : ℕ) → 2 * PAIRS ≤ at → Keeps Q store (set store at v)
-keeps-behind store at v b = record {
-  same-length = length-set store at v;
-  keeps = λ N q a. record { each = λ j l. subst (λ (x : State). Avoids x N) (sym (behind store at v j b l)) (a .each j l) };
+pub same-pairs : {memory : List ℕ} → SamePairs memory memory
+same-pairs = record { same-length = refl; same = λ i l. refl }
+
+pub same-trans : {before between after : List ℕ} → SamePairs before between → SamePairs between after → SamePairs before after
+same-trans f g = record { same-length = g .same-length ∙ f .same-length; same = λ i l. g .same i l ∙ f .same i l }
+
+pub same-behind : {before memory : List ℕ} (at v : ℕ) → SamePairs before memory → 2 * PAIRS ≤ at → SamePairs before (set memory at v)
+same-behind {memory = memory} at v m b = record {
+  same-length = length-set memory at v ∙ m .same-length;
+  same = λ j l. behind memory at v j b l ∙ m .same j l;
 }
+
+pub keeps-same : {Q : ℕ → Type 0} {before after : List ℕ} → SamePairs before after → Keeps Q before after
+keeps-same m = record {
+  same-length = m .same-length;
+  keeps = λ N q a. record { each = λ j l. subst (λ (x : State). Avoids x N) (sym (m .same j l)) (a .each j l) };
+}
+
+pub keeps-behind : {Q : ℕ → Type 0} (store : List ℕ) (at v : ℕ) → 2 * PAIRS ≤ at → Keeps Q store (set store at v)
+keeps-behind store at v b = keeps-same (same-behind at v same-pairs b)
 
 pub long-after : {i : ℕ} {n : State} {after : List ℕ} (before : List ℕ) (at v : ℕ) → Written i n (set before at v) after → length after ≡ length before
 long-after before at v w = w .same-length ∙ length-set before at v

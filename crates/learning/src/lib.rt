@@ -1,3 +1,4 @@
 // What a search learns from its stops. It knows nothing of rules and lists, only of states and the positions that complete them.
 pub mod nogood;
 pub mod store;
+pub mod trail;

@@ -9,7 +9,7 @@ use Rattle.learning.proofs.store.learn.Tie as tie
 same-length : tie.Need-same-length
 same-length c =
     let call = c .before .before in
-    long-after (now (call .before .before .before .before .args .store)) _ _ (call .write-pair .ensures)
+    long-after (now (call .before .before .before .before .args .memory)) _ _ (call .write-pair .ensures)
 
 returns : tie.Need-returns
 returns c = learnt-at _ _ _ (omega arith) (omega arith) (c .before .before .write-pair .ensures)

@@ -8,8 +8,8 @@ use borrow.Author.Needs.{needs}
 use Rattle.learning.proofs.store.write_pair.Statement.{statement}
 use Rattle.learning.proofs.store.write_pair.Tie as tie
 
-slice-write-store-2 : tie.Need-slice-write-store-2
-slice-write-store-2 c = omega (arith, c .pre, length-set (now (c .args .store)) (2 * c .args .i) (c .args .n .up))
+slice-write-memory-2 : tie.Need-slice-write-memory-2
+slice-write-memory-2 c = omega (arith, c .pre, length-set (now (c .args .memory)) (2 * c .args .i) (c .args .n .up))
 
 returns : tie.Need-returns
 returns c = written _ _ _ (omega (arith, c .pre))
@@ -24,6 +24,6 @@ write-pair-spec =
     (λ c. search needs)
     (λ c. search needs)
     (λ c. search needs)
-    slice-write-store-2
+    slice-write-memory-2
     (λ c. search needs)
     returns)
