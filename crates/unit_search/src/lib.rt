@@ -5,6 +5,7 @@ pub mod join;
 pub mod listing;
 pub mod nearest;
 pub mod propagate;
+pub mod reasons;
 pub mod search;
 pub mod sift;
 mod unit;
