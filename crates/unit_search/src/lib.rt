@@ -2,6 +2,7 @@
 pub mod agenda;
 pub mod filter;
 pub mod join;
+pub mod lift;
 pub mod listing;
 pub mod nearest;
 pub mod propagate;
