@@ -10,11 +10,19 @@ use Rattle.unit_search.proofs.reasons.explain.Statement.{statement}
 use Rattle.unit_search.proofs.reasons.explain.Tie as tie
 
 abbrev Inv-loop : tie.InvT-loop
-Inv-loop rules table counts heads backers memory unit step goal part₀ rest₀ part rest =
+Inv-loop rules table counts heads backers memory unit step goal seen part₀ rest₀ part rest =
     Explains (Heeds (Belongs rules table counts heads unit) memory) part goal
 
 abbrev μ-loop : tie.MeasureT-loop
-μ-loop rules table counts heads backers memory unit step goal part₀ rest₀ part rest = ones rest
+μ-loop rules table counts heads backers memory unit step goal seen part₀ rest₀ part rest = ones rest
+
+looked-at-requires : tie.Need-looked-at-requires Inv-loop μ-loop
+looked-at-requires c κs =
+    let pre = c .before .before .before .before .before .before .pre in
+    (pre .0 .rules-lent, pre .0 .joinable .heads-long, pre .2)
+
+still-tells-requires : tie.Need-still-tells-requires Inv-loop μ-loop
+still-tells-requires c κs = c .before .before .before .before .before .before .before .before .before .pre
 
 loop-holds : tie.Need-loop-holds Inv-loop μ-loop
 loop-holds c =
@@ -23,13 +31,13 @@ loop-holds c =
 
 newest-requires : tie.Need-newest-requires Inv-loop μ-loop
 newest-requires c κs =
-    let pre = c .before .before .before .before .before .before .before .before .before .before .before .pre in
+    let pre = c .before .before .before .before .before .before .before .before .before .before .before .before .before .before .pre in
     (pre .2, c .loop-test .taken)
 
 spare-requires : tie.Need-spare-requires Inv-loop μ-loop
 spare-requires c κs =
     let at = c .before .before in
-    let pre = at .before .before .before .before .before .before .before .before .before .before .pre in
+    let pre = at .before .before .before .before .before .before .before .before .before .before .before .before .before .pre in
     (pre .0, pre .1, pre .2, c .newest .ensures .1, at .loop .inv)
 
 loop-less : tie.Need-loop-less Inv-loop μ-loop
@@ -41,7 +49,10 @@ explain-spec =
     (tie.spec
     Inv-loop
     μ-loop
+    looked-at-requires
     (λ c κs. search needs)
+    (λ c κs. search needs)
+    still-tells-requires
     (λ c. explains-refl)
     (λ c κs. search needs)
     loop-holds
