@@ -191,7 +191,8 @@ fn spare(
     part
 }
 
-// A reason of the goal, told by the step from those atoms of the state that it looks at, of which the newest are spared first. The goal itself where the step does not tell it.
+// A reason of the goal, told by the step from those atoms of the state that it looks at, of which the newest are spared first. The goal itself where
+// the step does not tell it.
 pub fn explain(
     rules: &[u64],
     table: &[u64],
