@@ -1,4 +1,4 @@
--- The newest atom: what the loop over a word carries.
+-- The newest atom and the leading ones: what the loops over a word carry.
 use mathlib.Core.Path.{_≡_, refl, sym, subst}
 use mathlib.Core.Logic.{_⊎_, inl, inr}
 use Prim.Native.Nat.{ℕ, _<_}
@@ -30,3 +30,7 @@ among-next {which} {best} {rest} {a} {next} {left} m l (inr e) f = record {
   fits = rw e (l .1);
   within = record { each = λ i h. m .within .each i (without-left rest (atom a) (rw f at h)) };
 }
+
+-- a word without an atom
+pub drop-within : (w a : ℕ) {r : ℕ} → r ≡ w ∖ atom a → r ⊆ w
+drop-within w a e = record { each = λ i h. without-left w (atom a) (rw e at h) }
