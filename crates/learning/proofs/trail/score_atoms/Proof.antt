@@ -16,7 +16,7 @@ Inv-loop memory₀ which rest₀ memory rest = SamePairs memory₀ memory
 abbrev μ-loop : tie.MeasureT-loop
 μ-loop memory₀ which rest₀ memory rest = ones rest
 
--- the word's place is in the memory
+-- where the scores begin, and that an atom's word is in the memory
 abbrev FIRST_SCORE : ℕ
 FIRST_SCORE = 651
 
