@@ -6,3 +6,4 @@ pub mod Filters
 pub mod Agendas
 pub mod Propagation
 pub mod SearchSteps
+pub mod HeededSteps

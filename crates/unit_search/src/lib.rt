@@ -2,9 +2,11 @@
 pub mod agenda;
 pub mod filter;
 pub mod join;
+pub mod lift;
 pub mod listing;
 pub mod nearest;
 pub mod propagate;
+pub mod reasons;
 pub mod search;
 pub mod sift;
 mod unit;

@@ -18,7 +18,7 @@ ghost use Rattle.unit_search.specs.Filter.{Filtered};
 ghost use Rattle.unit_search.specs.Agenda.{INDEX_WORDS};
 
 // The state after the step of this number; a list's step is one over the entries that the filter has.
-fn take_step(
+pub fn take_step(
     rules: &[u64],
     table: &[u64],
     counts: &[usize],

@@ -1,0 +1,4 @@
+pub mod Nogoods
+pub mod Stores
+pub mod Trails
+pub mod Reasons

@@ -1,0 +1,224 @@
+-- Nogoods: what lies within what, what a pair that is avoided says of a state, and resolution.
+use mathlib.Core.Path.{_≡_, refl, sym, subst, _∙_}
+use mathlib.Core.Bool.{Bool, true, false, false≢true}
+use mathlib.Core.Logic.{_⊎_, inl, inr}
+use Prim.Native.Nat.{ℕ}
+use native.Mathlib.Decide.{ℕ-discrete}
+use Rattle.atoms.specs.Word.{Has, _⊆_, subset, Apart, _∩_, _∪_, _∖_, atom, AtMostOne}
+use Rattle.atoms.specs.Bounded.{Decides}
+use Rattle.atoms.proofs.Sets.{subset-refl, subset-trans, has-none, has-left, has-right, has-without, without-left, without-right, has-dec}
+use Rattle.atoms.proofs.Sets.{atom-only, empty, some-atom, shared-atom, apart-of-cut, cut-left, decides-subset}
+use Rattle.answer_sets.specs.State.{Completes, Narrows, clashed}
+use Rattle.answer_sets.specs.declared.state.State.{State}
+use Rattle.answer_sets.proofs.Narrows.{narrows-refl, narrows-when, narrows-for, clash-overlaps, clash-narrows, up-narrows, down-narrows}
+use Rattle.learning.specs.Nogood.{Avoids, Nogood, Within, Overlaps, SomeUp, SomeDown, Refuted, resolvent, Resolves}
+
+-- ---- what lies within what
+
+pub within-refl : {s : State} → Within s s
+within-refl = record { up-within = subset-refl; dropped-within = subset-refl }
+
+pub within-trans : {n m s : State} → Within n m → Within m s → Within n s
+within-trans a b = record {
+  up-within = subset-trans (a .up-within) (b .up-within);
+  dropped-within = subset-trans (a .dropped-within) (b .dropped-within);
+}
+
+-- a narrowing step only grows the state
+pub within-narrows : {K : ℕ → Type 0} {s t : State} → Narrows K s t → Within s t
+within-narrows n = record { up-within = n .up-grows; dropped-within = n .dropped-grows }
+
+-- a completion of the larger completes the smaller
+pub completes-within : {n s : State} {N : ℕ} → Within n s → Completes s N → Completes n N
+completes-within w c = record {
+  has-up = subset-trans (w .up-within) (c .has-up);
+  no-dropped = record { none = λ i d. c .no-dropped .none i (w .dropped-within .each i d) };
+}
+
+-- a state cut to some atoms lies within it
+pub cut-within : (s : State) (w : ℕ) → Within (record { up = s .up ∩ w; dropped = s .dropped ∩ w }) s
+cut-within s w = record {
+  up-within = record { each = λ i h. cut-left (s .up) w h };
+  dropped-within = record { each = λ i h. cut-left (s .dropped) w h };
+}
+
+-- who avoids the smaller avoids the larger, so a pair with a nogood within it is one
+pub avoids-larger : {n m : State} {N : ℕ} → Within n m → Avoids n N → Avoids m N
+avoids-larger w a = record { never = λ c. a .never (completes-within w c) }
+
+pub nogood-larger : {K : ℕ → Type 0} {n m : State} → Within n m → Nogood K n → Nogood K m
+nogood-larger w g = record { avoided = λ N k. avoids-larger w (g .avoided N k) }
+
+-- nothing of interest completes a state with a nogood within it
+pub nogood-stops : {K : ℕ → Type 0} {n s : State} → Nogood K n → Within n s → (N : ℕ) → K N → ¬ Completes s N
+nogood-stops g w N k c = g .avoided N k .never (completes-within w c)
+
+-- a state that overlaps is a nogood, and it overlaps still when it grows
+pub overlap-avoided : {s : State} (N : ℕ) → Overlaps s → Avoids s N
+overlap-avoided N o = record {
+  never = λ c. o .overlap (record { none = λ i u d. c .no-dropped .none i d (c .has-up .each i u) });
+}
+
+pub overlap-grows : {s t : State} → Within s t → Overlaps s → Overlaps t
+overlap-grows w o = record {
+  overlap = λ a. o .overlap (record { none = λ i u d. a .none i (w .up-within .each i u) (w .dropped-within .each i d) });
+}
+
+-- a step that keeps who avoids the pair keeps whoever has K
+pub nogood-narrows : {K : ℕ → Type 0} {n s t : State} → Nogood K n → Narrows (Avoids n) s t → Narrows K s t
+nogood-narrows g m = narrows-for (λ N k. g .avoided N k) m
+
+-- the test of both words
+pub within-decided : (n s : State) {r : Bool} → subset (n .up) (s .up) ≡ true → r ≡ subset (n .dropped) (s .dropped) → Decides (Within n s) r
+within-decided n s u e = record {
+  yes = λ f. record {
+    up-within = decides-subset (n .up) (s .up) .yes u;
+    dropped-within = decides-subset (n .dropped) (s .dropped) .yes (sym e ∙ f);
+  };
+  no = λ f w. decides-subset (n .dropped) (s .dropped) .no (sym e ∙ f) (w .dropped-within);
+}
+
+pub not-within : (n s : State) → subset (n .up) (s .up) ≡ false → Decides (Within n s) false
+not-within n s u = record {
+  yes = λ e. absurd (false≢true e);
+  no = λ e w. decides-subset (n .up) (s .up) .no u (w .up-within);
+}
+
+-- ---- a word of which one atom goes one way
+
+-- with no atom nothing completes the state
+clash-refuted : {K : ℕ → Type 0} {word : ℕ} {s t : State} → ((N : ℕ) → ¬ K N) → t ≡ clashed s → Refuted K word s t
+clash-refuted {s = s} f e = rw e (record {
+  narrows = clash-narrows s (λ N k p. f N k);
+  stops = λ z. record { overlap = clash-overlaps s };
+})
+
+pub none-up : {word : ℕ} {s t : State} → word ≡ 0 → t ≡ clashed s → Refuted (SomeUp word) word s t
+none-up z e = clash-refuted (λ N k. has-none (rw z at (k .in-word))) e
+
+pub none-down : {word : ℕ} {s t : State} → word ≡ 0 → t ≡ clashed s → Refuted (SomeDown word) word s t
+none-down z e = clash-refuted (λ N k. has-none (rw z at (k .in-word))) e
+
+pub last-up : {word up : ℕ} {s : State} → ¬ (word ≡ 0) → AtMostOne word → up ≡ s .up ∪ word
+    → Refuted (SomeUp word) word s (record { up = up; dropped = s .dropped })
+last-up {word} {s = s} n o e = rw e (record {
+  narrows = up-narrows s word (λ N k p. record { each = λ i h. rw (o .same (k .atom) i (k .in-word) h) at (k .is-up) });
+  stops = λ z. absurd (n z);
+})
+
+pub last-down : {word dropped : ℕ} {s : State} → ¬ (word ≡ 0) → AtMostOne word → dropped ≡ s .dropped ∪ word
+    → Refuted (SomeDown word) word s (record { up = s .up; dropped = dropped })
+last-down {word} {s = s} n o e = rw e (record {
+  narrows = down-narrows s word (λ N k p. record { none = λ i h m. k .is-down (rw (o .same i (k .atom) h (k .in-word)) at m) });
+  stops = λ z. absurd (n z);
+})
+
+pub several : {K : ℕ → Type 0} {word : ℕ} {s : State} → ¬ (word ≡ 0) → Refuted K word s s
+several n = record { narrows = narrows-refl; stops = λ z. absurd (n z) }
+
+-- ---- a pair that is avoided
+
+-- where nothing of a word is missing it is within the other, and then nothing is missing
+missing-none : (a b : ℕ) {w : ℕ} → w ≡ a ∖ b → w ≡ 0 → a ⊆ b
+missing-none a b {w} e z = record { each = λ i h. found i h (has-dec b i) }
+  where
+    found : (i : ℕ) → Has a i → Dec (Has b i) → Has b i
+    found i h (yes k) = k
+    found i h (no k) = absurd (has-none (subst (λ (x : ℕ). Has x i) (sym e ∙ z) (has-without a b h k)))
+
+none-missing : (a b : ℕ) {w : ℕ} → w ≡ a ∖ b → a ⊆ b → w ≡ 0
+none-missing a b e f = e ∙ empty (a ∖ b) (λ i h. without-right a b h (f .each i (without-left a b h)))
+
+-- the empty word
+within-all : {w N : ℕ} → w ≡ 0 → w ⊆ N
+within-all z = record { each = λ i h. absurd (has-none (rw z at h)) }
+
+apart-all : {w N : ℕ} → w ≡ 0 → Apart w N
+apart-all z = record { none = λ i h m. has-none (rw z at h) }
+
+module _ (n s : State) {up dropped : ℕ} (u : up ≡ n .up ∖ s .up) (d : dropped ≡ n .dropped ∖ s .dropped) where
+  -- a completion of the state has all the pair's up atoms but missing ones, and none of its dropped ones but missing ones
+  has-wanted : {N : ℕ} → Completes s N → up ⊆ N → n .up ⊆ N
+  has-wanted {N} c f = record { each = λ i h. found i h (has-dec (s .up) i) }
+    where
+      found : (i : ℕ) → Has (n .up) i → Dec (Has (s .up) i) → Has N i
+      found i h (yes k) = c .has-up .each i k
+      found i h (no k) = f .each i (rw u (has-without (n .up) (s .up) h k))
+
+  lacks-barred : {N : ℕ} → Completes s N → Apart dropped N → Apart (n .dropped) N
+  lacks-barred {N} c f = record { none = λ i h m. found i h m (has-dec (s .dropped) i) }
+    where
+      found : (i : ℕ) → Has (n .dropped) i → Has N i → Dec (Has (s .dropped) i) → ⊥
+      found i h m (yes k) = c .no-dropped .none i k m
+      found i h m (no k) = f .none i (rw d (has-without (n .dropped) (s .dropped) h k)) m
+
+  -- where none of its up atoms is missing, one is up that the pair has dropped
+  avoided-up : up ≡ 0 → (N : ℕ) → Avoids n N → Completes s N → SomeUp dropped N
+  avoided-up z N a c = found (ℕ-discrete (dropped ∩ N) 0)
+    where
+      found : Dec (dropped ∩ N ≡ 0) → SomeUp dropped N
+      found (yes e) =
+          absurd (a .never (record { has-up = has-wanted c (within-all z); no-dropped = lacks-barred c (apart-of-cut dropped N e) }))
+      found (no e) = let i = shared-atom dropped N e in record { atom = i .0; in-word = i .1; is-up = i .2 }
+
+  -- where none of its dropped atoms is missing, one is dropped that the pair has up
+  avoided-down : dropped ≡ 0 → (N : ℕ) → Avoids n N → Completes s N → SomeDown up N
+  avoided-down z N a c = found (ℕ-discrete (up ∖ N) 0)
+    where
+      found : Dec (up ∖ N ≡ 0) → SomeDown up N
+      found (yes e) =
+          absurd (a .never (record { has-up = has-wanted c (missing-none up N refl e); no-dropped = lacks-barred c (apart-all z) }))
+      found (no e) =
+          let i = some-atom (up ∖ N) e in
+          record { atom = i .0; in-word = without-left up N (i .1); is-down = without-right up N (i .1) }
+
+  pub refuted-up : {t : State} → up ≡ 0 → Refuted (SomeUp dropped) dropped s t → Narrows (Avoids n) s t
+  refuted-up z r = narrows-when (avoided-up z) (r .narrows)
+
+  pub refuted-down : {t : State} → dropped ≡ 0 → Refuted (SomeDown up) up s t → Narrows (Avoids n) s t
+  refuted-down z r = narrows-when (avoided-down z) (r .narrows)
+
+  -- a pair within the state has nothing missing
+  pub within-up : Within n s → up ≡ 0
+  within-up w = none-missing (n .up) (s .up) u (w .up-within)
+
+  pub within-dropped : Within n s → dropped ≡ 0
+  within-dropped w = none-missing (n .dropped) (s .dropped) d (w .dropped-within)
+
+-- ---- resolution
+
+pub resolution : (first second : State) (a : ℕ) → Resolves first second (resolvent first second a)
+resolution first second a = record { avoided = λ N p q. record { never = λ c. go N p q c (has-dec N a) } }
+  where
+    go : (N : ℕ) → Avoids first N → Avoids second N → Completes (resolvent first second a) N → Dec (Has N a) → ⊥
+    go N p q c (yes h) =
+        p .never
+        (record {
+          has-up = record { each = λ i k. here i k (ℕ-discrete a i) };
+          no-dropped = record { none = λ i k. c .no-dropped .none i (has-left (first .dropped) (second .dropped ∖ atom a) k) };
+        })
+      where
+        here : (i : ℕ) → Has (first .up) i → Dec (a ≡ i) → Has N i
+        here i k (yes e) = rw e at h
+        here i k (no e) =
+            c .has-up .each i (has-left (first .up ∖ atom a) (second .up) (has-without (first .up) (atom a) k (λ m. e (atom-only a m))))
+    go N p q c (no h) =
+        q .never
+        (record {
+          has-up = record { each = λ i k. c .has-up .each i (has-right (first .up ∖ atom a) (second .up) k) };
+          no-dropped = record { none = λ i k m. here i k m (ℕ-discrete a i) };
+        })
+      where
+        here : (i : ℕ) → Has (second .dropped) i → Has N i → Dec (a ≡ i) → ⊥
+        here i k m (yes e) = h (rw e m)
+        here i k m (no e) =
+            c .no-dropped .none i
+            (has-right (first .dropped) (second .dropped ∖ atom a) (has-without (second .dropped) (atom a) k (λ x. e (atom-only a x)))) m
+
+pub resolves-equal : (first second : State) (a : ℕ) {r : State} → r ≡ resolvent first second a
+    → (r ≡ resolvent first second a) × Resolves first second r
+resolves-equal first second a {r} e = (e, rw e (resolution first second a))
+
+-- two nogoods resolve to a nogood
+pub nogood-resolved : {K : ℕ → Type 0} {first second r : State} → Resolves first second r → Nogood K first → Nogood K second → Nogood K r
+nogood-resolved r f g = record { avoided = λ N k. r .avoided N (f .avoided N k) (g .avoided N k) }

@@ -1,0 +1,105 @@
+-- Reasons: a goal told by a step, a pair with the reason in the goal's place, and a nogood lifted over a trail.
+use mathlib.Core.Path.{_≡_, refl, sym, _∙_}
+use mathlib.Core.Bool.{Bool, true, false, true≢false}
+use mathlib.Core.Logic.{_⊎_, inl, inr}
+use mathlib.Core.List.{List}
+use Prim.Native.Nat.{ℕ}
+use Rattle.atoms.specs.Word.{Has, Apart, _∩_}
+use Rattle.atoms.specs.Bounded.{Decides}
+use Rattle.atoms.proofs.Sets.{has-cut, has-left, has-right, has-without, has-dec}
+use Rattle.answer_sets.specs.State.{Completes, Narrows}
+use Rattle.answer_sets.specs.declared.state.State.{State}
+use Rattle.learning.specs.Nogood.{Avoids, Nogood, Within, Overlaps}
+use Rattle.learning.specs.Store.{AvoidsAll, Keeps}
+use Rattle.learning.specs.Reason.{Heeds, Explains, Tells, beyondOf, replaced, Leads, Lifted}
+use Rattle.learning.proofs.Nogoods.{completes-within, overlap-avoided}
+use Rattle.learning.proofs.Stores.{keeps-refl, keeps-trans, keeps-for}
+
+-- ---- a goal and its reason
+
+-- the goal itself, and what a step tells
+pub explains-refl : {K : ℕ → Type 0} {goal : State} → Explains K goal goal
+explains-refl = record { completes = λ N k c. c }
+
+pub explains-told : {K : ℕ → Type 0} {part t goal : State} → Narrows K part t → Tells t goal → Explains K part goal
+explains-told {K} {part} {t} {goal} n w = record { completes = λ N k c. go N (n .keeps N k c) (w .told) }
+  where
+    go : (N : ℕ) → Completes t N → Within goal t ⊎ Overlaps t → Completes goal N
+    go N c (inl h) = completes-within h c
+    go N c (inr o) = absurd (overlap-avoided N o .never c)
+
+-- the two tests
+pub overlap-tells : {t goal : State} → ¬ Apart (t .up) (t .dropped) → Decides (Tells t goal) true
+overlap-tells o = record { yes = λ e. record { told = inr (record { overlap = o }) }; no = λ e. absurd (true≢false e) }
+
+pub within-tells : {t goal : State} {r : Bool} → Apart (t .up) (t .dropped) → Decides (Within goal t) r → Decides (Tells t goal) r
+within-tells {t} {goal} {r} a d = record { yes = λ e. record { told = inl (d .yes e) }; no = λ e w. go e (w .told) }
+  where
+    go : r ≡ false → Within goal t ⊎ Overlaps t → ⊥
+    go e (inl h) = d .no e h
+    go e (inr o) = o .overlap a
+
+-- a completion of the pair with the reason in place of the goal completes the pair
+replaced-completes : (n s part : State) {N : ℕ} → Completes (replaced n s part) N → Completes (beyondOf n s) N → Completes n N
+replaced-completes n s part {N} c g = record {
+  has-up = record { each = λ i h. up i h (has-dec (s .up) i) };
+  no-dropped = record { none = λ i h m. down i h m (has-dec (s .dropped) i) };
+}
+  where
+    up : (i : ℕ) → Has (n .up) i → Dec (Has (s .up) i) → Has N i
+    up i h (yes k) = c .has-up .each i (has-left (n .up ∩ s .up) (part .up) (has-cut (n .up) (s .up) h k))
+    up i h (no k) = g .has-up .each i (has-without (n .up) (s .up) h k)
+
+    down : (i : ℕ) → Has (n .dropped) i → Has N i → Dec (Has (s .dropped) i) → ⊥
+    down i h m (yes k) =
+        c .no-dropped .none i (has-left (n .dropped ∩ s .dropped) (part .dropped) (has-cut (n .dropped) (s .dropped) h k)) m
+    down i h m (no k) = g .no-dropped .none i (has-without (n .dropped) (s .dropped) h k) m
+
+replaced-part : (n s part : State) → Within part (replaced n s part)
+replaced-part n s part = record {
+  up-within = record { each = λ i h. has-right (n .up ∩ s .up) (part .up) h };
+  dropped-within = record { each = λ i h. has-right (n .dropped ∩ s .dropped) (part .dropped) h };
+}
+
+-- so the pair stays a nogood
+pub replaced-leads : {K : ℕ → Type 0} (n s part : State) {goal r : State} → goal ≡ beyondOf n s → Explains K part goal → r ≡ replaced n s part
+    → Leads K n r
+replaced-leads {K} n s part e x f = rw f (record {
+  avoided = λ N k a. record {
+    never = λ c. a .never (replaced-completes n s part c (rw e at (x .completes N k (completes-within (replaced-part n s part) c))));
+  };
+})
+
+pub leads-refl : {K : ℕ → Type 0} {n : State} → Leads K n n
+leads-refl = record { avoided = λ N k a. a }
+
+-- ---- over a trail
+
+pub lifted-start : {K : ℕ → Type 0} {n : State} {memory : List ℕ} → Lifted K n memory memory n
+lifted-start = record { keeps = keeps-refl; leads = leads-refl }
+
+module _ {K : ℕ → Type 0} {n r : State} {before memory : List ℕ} (l : Lifted K n before memory r) where
+  -- the pair so far is learnt, or not
+  pub lifted-learn : {after : List ℕ} → Keeps (Avoids r) memory after → Lifted K n before after r
+  lifted-learn k = record {
+    keeps = record {
+      same-length = k .same-length ∙ l .keeps .same-length;
+      keeps = λ N q a. k .keeps N (l .leads .avoided N (record { has = q .0; avoids = a }) (q .1)) (l .keeps .keeps N q a);
+    };
+    leads = l .leads;
+  }
+
+  -- it leads to another
+  pub lifted-over : {next : State} → Leads (Heeds K memory) r next → Lifted K n before memory next
+  lifted-over m = record {
+    keeps = l .keeps;
+    leads = record {
+      avoided = λ N h a.
+          m .avoided N (record { has = h .has; avoids = l .keeps .keeps N (h .has, a) (h .avoids) }) (l .leads .avoided N h a);
+    };
+  }
+
+-- a nogood of those that have K is lifted to one
+pub lifted-nogood : {K : ℕ → Type 0} {n r : State} {before after : List ℕ} → Lifted K n before after r → ((N : ℕ) → K N → AvoidsAll before N)
+    → Nogood K n → Nogood K r
+lifted-nogood l s g = record { avoided = λ N k. l .leads .avoided N (record { has = k; avoids = s N k }) (g .avoided N k) }

@@ -1,0 +1,154 @@
+-- The store: what a write changes, and what a sweep over the ring says of a state.
+use mathlib.Core.Path.{_≡_, refl, sym, ap, subst, _∙_}
+use mathlib.Core.List.{List}
+use Prim.Native.Nat.{ℕ, zero, suc, _+_, _*_, _≤_, _<_}
+use native.Mathlib.Omega.{arith}
+use native.Mathlib.Decide.{ℕ-discrete}
+use lib.ListN.{length, getD, set, replicate, length-set, length-replicate}
+use lib.Seq.{getD-set-same, getD-set-other}
+use Rattle.atoms.specs.Word.{Has}
+use Rattle.answer_sets.specs.State.{Narrows}
+use Rattle.answer_sets.specs.declared.state.State.{State}
+use Rattle.answer_sets.proofs.Narrows.{narrows-refl, narrows-trans, narrows-for}
+use Rattle.learning.specs.Nogood.{Avoids, Within, Overlaps}
+use Rattle.learning.specs.Store.{RING, PAIRS, MEMORY_WORDS, pairAt, AvoidsAll, Empty, Keeps, SamePairs, Written, Learnt, Stops}
+use Rattle.learning.proofs.Nogoods.{within-narrows, within-trans, overlap-avoided, overlap-grows}
+
+-- ---- at first
+
+same-at : (n v i : ℕ) → i < n → getD (replicate n v) i 0 ≡ v
+same-at zero v i l = absurd (omega (arith, l))
+same-at (suc n) v zero l = refl
+same-at (suc n) v (suc i) l = same-at n v i (omega (arith, l))
+
+-- a pair of twice the same word, if that has an atom, is completed by nothing
+same-overlaps : {s : State} {w a : ℕ} → Has w a → s .up ≡ w → s .dropped ≡ w → Overlaps s
+same-overlaps {s} {w} {a} h u d = record { overlap = λ n. n .none a (rw u h) (rw d h) }
+
+pub empty-of : {w a : ℕ} → Has w a → Empty (replicate MEMORY_WORDS w)
+empty-of {w} h = record {
+  long = length-replicate MEMORY_WORDS w;
+  avoided = λ N. record {
+    each = λ i l.
+        overlap-avoided N
+        (same-overlaps h (same-at MEMORY_WORDS w (2 * i) (omega (arith, l))) (same-at MEMORY_WORDS w (2 * i + 1) (omega (arith, l))));
+  };
+}
+
+-- ---- writing
+
+pair-of : {up dropped : ℕ} (n : State) → up ≡ n .up → dropped ≡ n .dropped → record { up = up; dropped = dropped } ≡ n
+pair-of n e f = rw (e, f)
+
+pub written : (store : List ℕ) (i : ℕ) (n : State) → 2 * i + 1 < length store
+    → Written i n store (set (set store (2 * i) (n .up)) (2 * i + 1) (n .dropped))
+written store i n l = record {
+  same-length = length-set first (2 * i + 1) (n .dropped) ∙ length-set store (2 * i) (n .up);
+  here = pair-of n up-here (getD-set-same first (2 * i + 1) (n .dropped) 0 long);
+  others = λ j d.
+      pair-of (pairAt store j) (other (2 * j) (omega (arith, d)) (omega (arith, d))) (other (2 * j + 1) (omega (arith, d)) (omega (arith, d)));
+}
+  where
+    first : List ℕ
+    first = set store (2 * i) (n .up)
+
+    long : 2 * i + 1 < length first
+    long = omega (arith, length-set store (2 * i) (n .up), l)
+
+    up-here : getD (set first (2 * i + 1) (n .dropped)) (2 * i) 0 ≡ n .up
+    up-here =
+        getD-set-other first (2 * i + 1) (2 * i) (n .dropped) 0 (λ e. omega (arith, e))
+        ∙ getD-set-same store (2 * i) (n .up) 0 (omega (arith, l))
+
+    other : (k : ℕ) → ¬ (k ≡ 2 * i) → ¬ (k ≡ 2 * i + 1) → getD (set first (2 * i + 1) (n .dropped)) k 0 ≡ getD store k 0
+    other k a b = getD-set-other first (2 * i + 1) k (n .dropped) 0 b ∙ getD-set-other store (2 * i) k (n .up) 0 a
+
+-- a pair that is avoided may be written
+pub keeps-written : {i : ℕ} {n : State} {before after : List ℕ} → Written i n before after → Keeps (Avoids n) before after
+keeps-written {i} {n} {before} {after} w = record {
+  same-length = w .same-length;
+  keeps = λ N q a. record { each = λ j l. go N q a j l (ℕ-discrete j i) };
+}
+  where
+    go : (N : ℕ) → Avoids n N → AvoidsAll before N → (j : ℕ) → j < PAIRS → Dec (j ≡ i) → Avoids (pairAt after j) N
+    go N q a j l (yes e) = subst (λ (x : State). Avoids x N) (sym (ap (pairAt after) e ∙ w .here)) q
+    go N q a j l (no d) = subst (λ (x : State). Avoids x N) (sym (w .others j d)) (a .each j l)
+
+pub keeps-refl : {Q : ℕ → Type 0} {store : List ℕ} → Keeps Q store store
+keeps-refl = record { same-length = refl; keeps = λ N q a. a }
+
+pub keeps-trans : {Q : ℕ → Type 0} {before between after : List ℕ} → Keeps Q before between → Keeps Q between after → Keeps Q before after
+keeps-trans f g = record {
+  same-length = g .same-length ∙ f .same-length;
+  keeps = λ N q a. g .keeps N q (f .keeps N q a);
+}
+
+-- who has Q has what is kept
+pub keeps-for : {Q R : ℕ → Type 0} {before after : List ℕ} → ((N : ℕ) → R N → Q N) → Keeps Q before after → Keeps R before after
+keeps-for f k = record { same-length = k .same-length; keeps = λ N r a. k .keeps N (f N r) a }
+
+-- words behind the pairs are of no account
+behind : (store : List ℕ) (at v j : ℕ) → 2 * PAIRS ≤ at → j < PAIRS → pairAt (set store at v) j ≡ pairAt store j
+behind store at v j b l =
+    pair-of (pairAt store j) (getD-set-other store at (2 * j) v 0 (λ e. omega (arith, e, b, l)))
+    (getD-set-other store at (2 * j + 1) v 0 (λ e. omega (arith, e, b, l)))
+
+pub same-pairs : {memory : List ℕ} → SamePairs memory memory
+same-pairs = record { same-length = refl; same = λ i l. refl }
+
+pub same-trans : {before between after : List ℕ} → SamePairs before between → SamePairs between after → SamePairs before after
+same-trans f g = record { same-length = g .same-length ∙ f .same-length; same = λ i l. g .same i l ∙ f .same i l }
+
+pub same-behind : {before memory : List ℕ} (at v : ℕ) → SamePairs before memory → 2 * PAIRS ≤ at → SamePairs before (set memory at v)
+same-behind {memory = memory} at v m b = record {
+  same-length = length-set memory at v ∙ m .same-length;
+  same = λ j l. behind memory at v j b l ∙ m .same j l;
+}
+
+pub keeps-same : {Q : ℕ → Type 0} {before after : List ℕ} → SamePairs before after → Keeps Q before after
+keeps-same m = record {
+  same-length = m .same-length;
+  keeps = λ N q a. record { each = λ j l. subst (λ (x : State). Avoids x N) (sym (m .same j l)) (a .each j l) };
+}
+
+pub keeps-behind : {Q : ℕ → Type 0} (store : List ℕ) (at v : ℕ) → 2 * PAIRS ≤ at → Keeps Q store (set store at v)
+keeps-behind store at v b = keeps-same (same-behind at v same-pairs b)
+
+pub long-after : {i : ℕ} {n : State} {after : List ℕ} (before : List ℕ) (at v : ℕ) → Written i n (set before at v) after → length after ≡ length before
+long-after before at v w = w .same-length ∙ length-set before at v
+
+pub learnt-at : {n : State} {before after : List ℕ} (at v i : ℕ) → 2 * PAIRS ≤ at → i < RING → Written i n (set before at v) after
+    → Learnt n before after
+learnt-at {before = before} at v i b l w = record {
+  keeps = keeps-trans (keeps-behind before at v b) (keeps-written w);
+  place = i;
+  in-ring = l;
+  stored = w .here;
+}
+
+-- ---- sweeping
+
+-- the state after the first k pairs
+pub record Swept (store : List ℕ) (k : ℕ) (s t : State) : Type 0 where
+  pub few : k ≤ RING
+  pub narrows : Narrows (AvoidsAll store) s t
+  pub stops : Stops store k s t
+
+pub swept-start : {store : List ℕ} {s : State} → Swept store 0 s s
+swept-start = record { few = omega arith; narrows = narrows-refl; stops = record { stops = λ i l. absurd (omega (arith, l)) } }
+
+pub swept-next : {store : List ℕ} {k : ℕ} {s t u p : State} → Swept store k s t → k < RING → p ≡ pairAt store k → Narrows (Avoids p) t u
+    → (Within p t → Overlaps u) → Swept store (k + 1) s u
+swept-next {store} {k} {s} {t} {u} {p} w l e n f = record {
+  few = omega (arith, l);
+  narrows = narrows-trans (w .narrows) (narrows-for (λ N a. subst (λ (x : State). Avoids x N) (sym e) (a .each k (omega (arith, l)))) n);
+  stops = record { stops = λ i m h. go i m h (ℕ-discrete i k) };
+}
+  where
+    go : (i : ℕ) → i < k + 1 → Within (pairAt store i) s → Dec (i ≡ k) → Overlaps u
+    go i m h (yes q) =
+        f (subst (λ (x : State). Within x t) (ap (pairAt store) q ∙ sym e) (within-trans h (within-narrows (w .narrows))))
+    go i m h (no q) = overlap-grows (within-narrows n) (w .stops .stops i (omega (arith, m, q)) h)
+
+pub swept-end : {store : List ℕ} {k : ℕ} {s t : State} → Swept store k s t → RING ≤ k → Stops store RING s t
+swept-end w n = record { stops = λ i l. w .stops .stops i (omega (arith, l, n)) }

@@ -1,0 +1,3 @@
+pub mod Nogood
+pub mod Store
+pub mod Reason

@@ -1,0 +1,61 @@
+-- Inner: the store of learnt pairs, and what is promised of it: whoever avoided all its pairs, and the one that is learnt, avoids all of them after.
+use mathlib.Core.Path.{_≡_}
+use mathlib.Core.List.{List}
+use Prim.Native.Nat.{ℕ, _+_, _*_, _<_}
+use lib.ListN.{length, getD}
+use Rattle.answer_sets.specs.declared.state.State.{State}
+use Rattle.learning.specs.Nogood.{Avoids, Within, Overlaps}
+
+-- how many pairs propagate, how many there are, and how many words they and the advice behind them take
+abbrev pub RING : ℕ
+RING = 128
+
+abbrev pub PAIRS : ℕ
+PAIRS = 194
+
+abbrev pub MEMORY_WORDS : ℕ
+MEMORY_WORDS = 715
+
+-- how many steps the trail has
+abbrev pub STEPS : ℕ
+STEPS = 66
+
+-- pair i: two words
+abbrev pub pairAt : List ℕ → ℕ → State
+pairAt memory i = record { up = getD memory (2 * i) 0; dropped = getD memory (2 * i + 1) 0 }
+
+-- N completes no pair of the store
+pub record AvoidsAll (memory : List ℕ) (N : ℕ) : Type 0 where
+  pub each : (i : ℕ) → i < PAIRS → Avoids (pairAt memory i) N
+
+-- nothing is learnt yet: every N avoids all pairs
+pub record Empty (memory : List ℕ) : Type 0 where
+  pub long : length memory ≡ MEMORY_WORDS
+  pub avoided : (N : ℕ) → AvoidsAll memory N
+
+-- who has Q and avoided all pairs before avoids all after
+pub record Keeps (Q : ℕ → Type 0) (before after : List ℕ) : Type 0 where
+  pub same-length : length after ≡ length before
+  pub keeps : (N : ℕ) → Q N → AvoidsAll before N → AvoidsAll after N
+
+-- all pairs are as before
+pub record SamePairs (before after : List ℕ) : Type 0 where
+  pub same-length : length after ≡ length before
+  pub same : (i : ℕ) → i < PAIRS → pairAt after i ≡ pairAt before i
+
+-- pair i is n, and the others are as before
+pub record Written (i : ℕ) (n : State) (before after : List ℕ) : Type 0 where
+  pub same-length : length after ≡ length before
+  pub here : pairAt after i ≡ n
+  pub others : (j : ℕ) → ¬ (j ≡ i) → pairAt after j ≡ pairAt before j
+
+-- n is in the ring, and all that avoid it and the pairs before avoid what is there
+pub record Learnt (n : State) (before after : List ℕ) : Type 0 where
+  pub keeps : Keeps (Avoids n) before after
+  pub place : ℕ
+  pub in-ring : place < RING
+  pub stored : pairAt after place ≡ n
+
+-- where one of the first k pairs lies within s, nothing completes t
+pub record Stops (memory : List ℕ) (k : ℕ) (s t : State) : Type 0 where
+  pub stops : (i : ℕ) → i < k → Within (pairAt memory i) s → Overlaps t

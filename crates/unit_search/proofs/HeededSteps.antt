@@ -1,0 +1,30 @@
+-- Steps run again: what belongs to the list and completes no learnt pair survives each of them.
+use mathlib.Core.Path.{_≡_, sym, subst, _∙_}
+use mathlib.Core.List.{List}
+use Prim.Native.Nat.{ℕ, _<_}
+use Rattle.answer_sets.specs.State.{Narrows}
+use Rattle.answer_sets.specs.declared.state.State.{State}
+use Rattle.answer_sets.proofs.Narrows.{narrows-for}
+use Rattle.learning.specs.Nogood.{Avoids}
+use Rattle.learning.specs.Store.{PAIRS, pairAt, Keeps}
+use Rattle.learning.specs.Reason.{Heeds, Lifted}
+
+module _ {K : ℕ → Type 0} {memory : List ℕ} {s t : State} where
+  pub heeds-narrows : Narrows K s t → Narrows (Heeds K memory) s t
+  heeds-narrows n = narrows-for (λ N h. h .has) n
+
+  pub pair-narrows : {p : State} (i : ℕ) → i < PAIRS → p ≡ pairAt memory i → Narrows (Avoids p) s t → Narrows (Heeds K memory) s t
+  pair-narrows i l e n = narrows-for (λ N h. subst (λ (x : State). Avoids x N) (sym e) (h .avoids .each i l)) n
+
+-- a pair that was learnt before it was lifted
+pub lifted-after : {K : ℕ → Type 0} {n r : State} {before memory after : List ℕ} → Keeps (Avoids n) before memory → Lifted K n memory after r
+    → Lifted K n before after r
+lifted-after k l = record {
+  keeps = record {
+    same-length = l .keeps .same-length ∙ k .same-length;
+    keeps = λ N q a. l .keeps .keeps N q (k .keeps N (q .1) a);
+  };
+  leads = record {
+    avoided = λ N h a. l .leads .avoided N (record { has = h .has; avoids = k .keeps N a (h .avoids) }) a;
+  };
+}
