@@ -9,7 +9,8 @@ use lib.ListN.{getD}
 use Rattle.atoms.specs.Word.{ATOMS, Has, has, _⊆_, _∩_, Apart, _∖_}
 use Rattle.atoms.specs.Bounded.{Decides, someBelow}
 use Rattle.atoms.proofs.Tests.{test-cases, and-true, not-is-true, not-both, true-of-not-false, decided-true, decided as is-decided}
-use Rattle.atoms.proofs.Sets.{ext, has-dec, has-lt, has-cut, cut-left, cut-right, has-without, without-left, subset-dec, subset-trans, decides-has, decides-apart}
+use Rattle.atoms.proofs.Sets.{ext, has-dec, has-lt, has-cut, cut-left, cut-right, has-without, subset-dec, subset-trans}
+use Rattle.atoms.proofs.Sets.{decides-has, decides-apart}
 use Rattle.atoms.proofs.Bounded.{some-at, some-intro}
 use Rattle.plan.specs.Limits.{CONTACT_WORDS}
 use Rattle.answer_sets.specs.Program.{Body, Satisfies}

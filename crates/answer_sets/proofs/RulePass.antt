@@ -17,7 +17,8 @@ use Rattle.answer_sets.specs.declared.state.Truth.{Truth}
 use Rattle.answer_sets.specs.declared.state.Truth.the-variants.{Holds}
 use Rattle.answer_sets.proofs.Parts.{known-holds, completes-known}
 use Rattle.answer_sets.proofs.Bodies.{parts-body}
-use Rattle.answer_sets.proofs.Narrows.{narrows-refl, narrows-when, clash-overlaps, clash-narrows, up-narrows, down-narrows, with-all-up, with-all-dropped}
+use Rattle.answer_sets.proofs.Narrows.{narrows-refl, narrows-when, clash-overlaps, clash-narrows, up-narrows, down-narrows}
+use Rattle.answer_sets.proofs.Narrows.{with-all-up, with-all-dropped}
 
 -- ---- a word of which one atom has to be up; `w` are those that are not dropped
 

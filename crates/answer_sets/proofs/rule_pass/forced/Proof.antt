@@ -9,7 +9,8 @@ returns c = head-clash (c .before .before .without .ensures) (c .before .if1 .ta
 
 returns-2 : tie.Need-returns-2
 returns-2 c =
-    head-forced (c .before .before .before .before .without .ensures) (c .before .before .before .if1 .left) (c .before .before .at-most-one .ensures .yes (c .before .if2 .taken))
+    head-forced (c .before .before .before .before .without .ensures) (c .before .before .before .if1 .left)
+    (c .before .before .at-most-one .ensures .yes (c .before .if2 .taken))
     (c .union .ensures)
 
 pub forced-spec : {M : Type 1} → statement M

@@ -32,7 +32,9 @@ loop-again : tie.Need-loop-again Inv-loop μ-loop
 loop-again c =
     let low = c .before .before .before .before in
     gathers-next (low .before .before .loop .inv) (low .lowest .ensures .0) (c .drop .ensures)
-    (c .before .before .table-inputs .ensures ∙ ap (inputs (now (low .before .before .before .before .before .before .before .args .rules))) (c .before .before .before .table-of .ensures .0)) (c .before .union .ensures)
+    (c .before .before .table-inputs .ensures
+    ∙ ap (inputs (now (low .before .before .before .before .before .before .before .args .rules))) (c .before .before .before .table-of .ensures .0))
+    (c .before .union .ensures)
 
 returns : tie.Need-returns Inv-loop μ-loop
 unfolding usedInputs

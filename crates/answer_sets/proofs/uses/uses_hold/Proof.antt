@@ -35,7 +35,8 @@ returns : tie.Need-returns Inv-loop μ-loop
 returns c =
     let test = c .before .use-holds in
     let at = c .before .before .before .before in
-    use-fails (now (start at .args .rules)) (start at .args .rule) (start at .args .position) (taken-lent (at .loop .inv .within) (c .before .before .lowest .ensures .0)) (sym (test .ensures) ∙ not-true (test .result) (c .if1 .taken))
+    use-fails (now (start at .args .rules)) (start at .args .rule) (start at .args .position)
+    (taken-lent (at .loop .inv .within) (c .before .before .lowest .ensures .0)) (sym (test .ensures) ∙ not-true (test .result) (c .if1 .taken))
 
 loop-again : tie.Need-loop-again Inv-loop μ-loop
 loop-again c =
