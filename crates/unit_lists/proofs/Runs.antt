@@ -78,9 +78,3 @@ runs-paste (suc n) f g rest (suc v) h k s l =
     ∙ ap (λ (l : List ℕ). f 0 ++ l)
     (runs-paste n (λ j. f (suc j)) (λ j. g (suc j)) rest v (λ j. h (suc j)) k (λ j d. s (suc j) (λ q. d (omega arith))) (omega arith))
     )
-
--- ---- a list that is stored word by word
-
-pub stored-next : (d : List ℕ) (at : ℕ) (s l : List ℕ) (i : ℕ) → at + length s ≤ length d → i < length s → l ≡ paste d at s i
-    → set l (at + i) (getD s i 0) ≡ paste d at s (i + 1)
-stored-next d at s l i fits k e = rw (e, add-one) (paste-suc d at s i 0 (omega arith) k)

@@ -2,7 +2,6 @@
 use crate::listing::Listing;
 use crate::listing::refuse;
 use crate::table::clear;
-use crate::table::store;
 use answer_sets::State;
 use dependency_graph::head_atoms::HeadAtoms;
 use dependency_graph::head_atoms::head_atoms;
@@ -16,6 +15,7 @@ use plan::Plan;
 use unit_search::Unit;
 use unit_search::nearest::nearest;
 use unit_search::search::search;
+use unit_search::words::store;
 ghost use mathlib.Core.Path.{_≡_};
 ghost use Prim.Native.Nat.{_+_, _*_, _≤_, _<_};
 ghost use lib.ListN.{length};

@@ -7,3 +7,4 @@ pub mod Agendas
 pub mod Propagation
 pub mod SearchSteps
 pub mod HeededSteps
+pub mod StoredWords

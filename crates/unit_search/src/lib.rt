@@ -1,5 +1,6 @@
 // The search for the list of one unit.
 pub mod agenda;
+pub mod desk;
 pub mod filter;
 pub mod join;
 pub mod lift;
@@ -10,5 +11,6 @@ pub mod reasons;
 pub mod search;
 pub mod sift;
 mod unit;
+pub mod words;
 
 pub use unit::Unit;
