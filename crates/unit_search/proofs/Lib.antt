@@ -1,10 +1,3 @@
 pub mod Insertion
 pub mod Gathered
-pub mod JoinedLists
-pub mod CoveredUnits
-pub mod Filters
-pub mod Agendas
-pub mod Propagation
 pub mod SearchSteps
-pub mod HeededSteps
-pub mod StoredWords

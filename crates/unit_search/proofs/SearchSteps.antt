@@ -17,8 +17,8 @@ use Rattle.answer_sets.specs.declared.state.State.{State}
 use Rattle.answer_sets.proofs.HalfDecided.{decided-cases}
 use Rattle.answer_sets.proofs.Narrows.{completes-back, overlap-none, with-up, with-dropped, without-up, without-dropped}
 use Rattle.unit_search.specs.Listing.{Ordered, Inserted, Gathered, Grown}
-use Rattle.unit_search.specs.Job.{joins, Belongs, Wanted, Offered}
-use Rattle.unit_search.specs.declared.unit.Unit.{Unit}
+use Rattle.unit_steps.specs.Job.{joins, Belongs, Wanted, Offered}
+use Rattle.unit_steps.specs.declared.unit.Unit.{Unit}
 use Rattle.unit_search.proofs.Gathered.{gathered-insert, gathered-same, gathered-iff, gathered-over, gathered-then}
 
 module _ (rules table counts heads : List ℕ) (unit : Unit) where

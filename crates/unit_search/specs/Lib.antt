@@ -1,6 +1,1 @@
 pub mod Listing
-pub mod Job
-pub mod Nearest
-pub mod Filter
-pub mod Agenda
-pub mod Desk

@@ -1,12 +1,11 @@
 -- Inner: a rising list in LIST_WORDS words, zeros behind it, and what is said of one that grows or has become too long.
 use mathlib.Core.Path.{_≡_}
-use mathlib.Core.Bool.{Bool, true, false}
+use mathlib.Core.Bool.{true, false}
 use mathlib.Core.List.{List, [], _∷_, _++_, List·Memᴰ}
 use mathlib.Core.Logic.{_⊎_}
-use Prim.Native.Nat.{ℕ, _+_, _-_, _≤_}
+use Prim.Native.Nat.{ℕ, _-_, _≤_}
 use lib.Dec.{eqb, ltb}
-use lib.ListN.{length, take, drop, getD, replicate}
-use Rattle.atoms.specs.Bounded.{someBelow}
+use lib.ListN.{length, take, drop, replicate}
 use Rattle.atoms.specs.Rising.{Rising}
 use Rattle.plan.specs.Limits.{LIST_WORDS, OVERFULL}
 
@@ -15,10 +14,6 @@ unfoldable pub insertInto : ℕ → List ℕ → List ℕ
 insertInto v [] = v ∷ []
 insertInto v (x ∷ xs) =
     elim (ltb v x) [ true ↦ v ∷ insertInto x xs | false ↦ elim (eqb v x) [ true ↦ x ∷ xs | false ↦ x ∷ insertInto v xs ] ]
-
--- the value is one of the `count` words from `base` on
-unfoldable pub isListed : List ℕ → ℕ → ℕ → ℕ → Bool
-isListed words base count value = someBelow count (λ i. eqb (getD words (base + i) 0) value)
 
 -- the words hold a rising list of `count` members and zeros behind it
 pub record Ordered (list : List ℕ) (count : ℕ) : Type 0 where

@@ -1,14 +1,14 @@
 // The search over undecided atoms.
-use crate::agenda::Agenda;
-use crate::agenda::every_step;
-use crate::agenda::wake_index;
-use crate::agenda::woken;
-use crate::filter::FILTER_WORDS;
-use crate::filter::full_filter;
-use crate::join::joins;
+use unit_steps::agenda::Agenda;
+use unit_steps::agenda::every_step;
+use unit_steps::agenda::wake_index;
+use unit_steps::agenda::woken;
+use unit_steps::filter::FILTER_WORDS;
+use unit_steps::filter::full_filter;
+use unit_steps::join::joins;
 use crate::listing::insert;
-use crate::propagate::propagate;
-use crate::unit::Unit;
+use unit_steps::propagate::propagate;
+use unit_steps::Unit;
 use answer_sets::State;
 use answer_sets::is_answer_set;
 use answer_sets::known::undecided;
@@ -20,10 +20,10 @@ ghost use Rattle.atoms.specs.Bounded.{Decides};
 ghost use Prim.Native.Nat.{_≤_};
 ghost use lib.ListN.{length};
 ghost use Rattle.narrowing.specs.Backers.{Backers};
-ghost use Rattle.unit_search.specs.Filter.{Filtered};
-ghost use Rattle.unit_search.specs.Agenda.{INDEX_WORDS};
+ghost use Rattle.unit_steps.specs.Filter.{Filtered};
+ghost use Rattle.unit_steps.specs.Agenda.{INDEX_WORDS};
 ghost use Rattle.unit_search.specs.Listing.{Ordered, Gathered, Grown};
-ghost use Rattle.unit_search.specs.Job.{Belongs, Searchable, Wanted, Offered};
+ghost use Rattle.unit_steps.specs.Job.{Belongs, Searchable, Wanted, Offered};
 
 // Whether the position belongs to the unit's list.
 pub fn belongs(

@@ -12,7 +12,7 @@ use Rattle.answer_sets.specs.State.{undecided}
 use Rattle.answer_sets.proofs.HalfDecided.{undecided-shrinks}
 use Rattle.answer_sets.proofs.Between.{raise-falls, lower-falls}
 use Rattle.unit_search.proofs.Gathered.{gathered-ordered}
-use Rattle.unit_search.proofs.Filters.{filtered-lower, filtered-upper}
+use Rattle.unit_steps.proofs.Filters.{filtered-lower, filtered-upper}
 use Rattle.unit_search.proofs.SearchSteps.{search-narrowed, search-clash, search-leaf, search-over, search-both}
 use Rattle.unit_search.proofs.search.explore.Reads as explore′
 use Rattle.unit_search.proofs.search.explore.Kinds as explore-kinds
@@ -22,7 +22,7 @@ use Rattle.atoms.proofs.are_apart.Reads as are-apart-reads
 use Rattle.narrowing.proofs.choice.choose.Reads as choose-reads
 use Rattle.atoms.proofs.single.Reads as single-reads
 use Rattle.atoms.proofs.union.Reads as union-reads
-use Rattle.unit_search.proofs.propagate.propagate.Reads as propagate-reads
+use Rattle.unit_steps.proofs.propagate.propagate.Reads as propagate-reads
 use Rattle.unit_search.proofs.search.after_decision.Reads as after-decision-reads
 use Rattle.unit_search.proofs.search.offer.Reads as offer-reads
 use Rattle.unit_search.proofs.search.+explore.{statement}

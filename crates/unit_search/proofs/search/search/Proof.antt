@@ -1,7 +1,7 @@
 -- At first every entry may be joined, and every step is on the agenda.
 use native.Mathlib.Omega.{arith}
-use Rattle.unit_search.proofs.JoinedLists.{joinable-some}
-use Rattle.unit_search.proofs.Filters.{full-filtered}
+use Rattle.unit_steps.proofs.JoinedLists.{joinable-some}
+use Rattle.unit_steps.proofs.Filters.{full-filtered}
 use borrow.Author.Needs.{needs}
 use Rattle.unit_search.proofs.search.search.Statement.{statement}
 use Rattle.unit_search.proofs.search.search.Tie as tie

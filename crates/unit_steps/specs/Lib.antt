@@ -1,0 +1,5 @@
+pub mod Job
+pub mod Nearest
+pub mod Filter
+pub mod Agenda
+pub mod Desk

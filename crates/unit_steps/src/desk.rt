@@ -1,0 +1,34 @@
+// The desk: what is told once for a unit and looked at by every step, in one area of words. In front stand the head atoms of each list, then the
+// rules that may back each atom, then the index of woken steps.
+use crate::agenda::INDEX_WORDS;
+use crate::agenda::wake_index;
+use crate::unit::Unit;
+use crate::words::store;
+use atoms::ATOMS;
+use narrowing::backers::backers;
+use plan::MAX_UNITS;
+ghost use Prim.Native.Nat.{_^_, _≤_, _<_};
+ghost use lib.ListN.{length};
+ghost use Rattle.plan.specs.Limits.{MAX_UNITS};
+ghost use Rattle.answer_sets.specs.Lent.{Lent};
+ghost use Rattle.unit_steps.specs.Desk.{LaidOut};
+
+pub const BACKERS: usize = MAX_UNITS;
+
+pub const INDEX: usize = BACKERS + ATOMS;
+
+pub const DESK_WORDS: usize = INDEX + INDEX_WORDS;
+
+// The desk of a unit whose looped atoms are these.
+pub fn lay_out(rules: &[u64], heads: &[u64], unit: Unit, looped: u64) -> [u64; DESK_WORDS]
+    requires { ⌜ Lent (now rules) (unit .rules) × (MAX_UNITS ≤ length (now heads)) × (unit .nearest < 2 ^ MAX_UNITS) ⌝ }
+    ensures { λ r. ⌜ LaidOut (now (rules .entry)) (now (heads .entry)) unit r ⌝ }
+{
+    let backers = backers(rules, unit.rules);
+    let index = wake_index(rules, heads, unit, looped);
+    let mut desk = [0u64; DESK_WORDS];
+    store(&heads[0..MAX_UNITS], &mut desk, 0);
+    store(&backers, &mut desk, BACKERS);
+    store(&index, &mut desk, INDEX);
+    desk
+}
