@@ -5,3 +5,4 @@ pub mod Agendas
 pub mod Propagation
 pub mod HeededSteps
 pub mod StoredWords
+pub mod Desks

@@ -5,7 +5,7 @@ use Prim.Native.Nat.{ℕ, _+_, _≤_, _<_}
 use native.Mathlib.Omega.{arith}
 use native.Mathlib.Numerals.{add-one}
 use lib.ListN.{length, take, drop, getD, set, List·getD-append}
-use lib.Seq.{paste, paste-suc, take-paste, take-all, take-at, drop-at}
+use lib.Seq.{paste, paste-suc, length-paste, take-paste, take-all, take-at, drop-at}
 
 pub stored-next : (d : List ℕ) (at : ℕ) (s l : List ℕ) (i : ℕ) → at + length s ≤ length d → i < length s → l ≡ paste d at s i
     → set l (at + i) (getD s i 0) ≡ paste d at s (i + 1)
@@ -29,3 +29,18 @@ module _ (first second rest : List ℕ) {area : List ℕ} {n m : ℕ} (long : le
   pub second-part : take m (drop n area) ≡ second
   second-part =
       ap (λ (a : List ℕ). take m (drop n a)) parts ∙ ap (take m) (drop-at first (second ++ rest) n long) ∙ take-at second rest m long₂
+
+-- an area into which three parts were stored, one behind the other
+pub stored-parts : (d h b w : List ℕ) {d₁ d₂ d₃ : List ℕ} {n k : ℕ} → length h ≡ n → n + length b ≡ k → k ≤ length d
+    → d₁ ≡ paste d 0 h (length h) → d₂ ≡ paste d₁ n b (length b) → d₃ ≡ paste d₂ k w (length w)
+    → d₃ ≡ (h ++ b) ++ (take (length w) w ++ drop (k + length w) d₂)
+stored-parts d h b w {d₁} {d₂} {d₃} {n} {k} l m fits e f g =
+    g ∙ ap (λ (t : List ℕ). t ++ take (length w) w ++ drop (k + length w) d₂) front ∙ append-assoc (h ++ b) (take (length w) w) _
+  where
+    same : length d₁ ≡ length d
+    same = ap length e ∙ length-paste d 0 h (length h) (omega (arith, l, m, fits)) (omega arith)
+
+    front : take k d₂ ≡ h ++ b
+    front =
+        stored-front d₁ n b (omega (arith, same, m, fits)) m f
+        ∙ ap (λ (t : List ℕ). t ++ b) (stored-front d 0 h {n = n} (omega arith) (omega (arith, l)) e)

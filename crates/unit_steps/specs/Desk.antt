@@ -11,18 +11,18 @@ use Rattle.unit_steps.specs.Job.{Searchable}
 use Rattle.unit_steps.specs.declared.unit.Unit.{Unit}
 
 -- where the backers and the index begin, and how many words there are
-abbrev pub BACKERS : ℕ
-BACKERS = 16
+abbrev pub BACKERS_AT : ℕ
+BACKERS_AT = 16
 
-abbrev pub INDEX : ℕ
-INDEX = 80
+abbrev pub INDEX_AT : ℕ
+INDEX_AT = 80
 
 abbrev pub DESK_WORDS : ℕ
 DESK_WORDS = 400
 
 -- the part of the backers
 abbrev pub backersOf : List ℕ → List ℕ
-backersOf desk = take ATOMS (drop BACKERS desk)
+backersOf desk = take ATOMS (drop BACKERS_AT desk)
 
 -- a desk with the head atoms of these lists and the backers of the unit's rules
 pub record LaidOut (rules heads : List ℕ) (unit : Unit) (desk : List ℕ) : Type 0 where
