@@ -10,7 +10,7 @@ returns c =
     let body = c .before .before in
     c .union2 .ensures
     ∙ ap₂ _∪_ (c .before .head .ensures)
-      (body .union .ensures ∙ ap₂ _∪_ (body .before .before .positive-body .ensures) (body .before .looks .ensures))
+    (body .union .ensures ∙ ap₂ _∪_ (body .before .before .positive-body .ensures) (body .before .looks .ensures))
 
 pub rule-atoms-spec : {M : Type 1} → statement M
 rule-atoms-spec =
