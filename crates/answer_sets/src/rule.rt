@@ -4,6 +4,7 @@ use crate::uses::uses_hold;
 use plan::FIRST_RULE;
 use plan::RULE_WORDS;
 ghost use mathlib.Core.Path.{_≡_};
+ghost use Rattle.atoms.specs.Word.{_∪_};
 ghost use Rattle.answer_sets.specs.Lent.{lent, ruleCount, IsLent, negative, looks};
 ghost use Rattle.answer_sets.specs.Test.{body, satisfies as satisfiesAt};
 
@@ -47,6 +48,15 @@ pub fn looks(rules: &[u64], rule: usize) -> u64
     ensures { λ r. ⌜ r ≡ looks (now (rules .entry)) rule ⌝ }
 {
     atoms::union(negative_body(rules, rule), used_inputs(rules, rule))
+}
+
+// All atoms of the rule: its head's and those that its body looks at.
+pub fn rule_atoms(rules: &[u64], rule: usize) -> u64
+    requires { ⌜ IsLent (now rules) rule ⌝ }
+    ensures { λ r. ⌜ r ≡ lent (now (rules .entry)) .head rule ∪ (lent (now (rules .entry)) .positive rule ∪ looks (now (rules .entry)) rule) ⌝ }
+{
+    let body = atoms::union(positive_body(rules, rule), looks(rules, rule));
+    atoms::union(head(rules, rule), body)
 }
 
 // Whether the body holds at the position.

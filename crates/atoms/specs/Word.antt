@@ -76,3 +76,8 @@ pub record Lowest (w r : ℕ) : Type 0 where
 -- w has no two atoms
 pub record AtMostOne (w : ℕ) : Type 0 where
   pub same : (i j : ℕ) → Has w i → Has w j → i ≡ j
+
+-- some of the word's atoms, at least one
+pub record SomeOf (word w : ℕ) : Type 0 where
+  pub within : w ⊆ word
+  pub some : ¬ (w ≡ 0)

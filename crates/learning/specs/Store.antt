@@ -4,7 +4,7 @@ use mathlib.Core.List.{List}
 use Prim.Native.Nat.{ℕ, _+_, _*_, _<_}
 use lib.ListN.{length, getD}
 use Rattle.answer_sets.specs.declared.state.State.{State}
-use Rattle.learning.specs.Nogood.{Avoids, Within, Overlaps}
+use Rattle.learning.specs.Nogood.{Avoids}
 
 -- how many pairs propagate, how many there are, and how many words they and the advice behind them take
 abbrev pub RING : ℕ
@@ -14,7 +14,7 @@ abbrev pub PAIRS : ℕ
 PAIRS = 194
 
 abbrev pub MEMORY_WORDS : ℕ
-MEMORY_WORDS = 715
+MEMORY_WORDS = 603
 
 -- how many steps the trail has
 abbrev pub STEPS : ℕ
@@ -55,7 +55,3 @@ pub record Learnt (n : State) (before after : List ℕ) : Type 0 where
   pub place : ℕ
   pub in-ring : place < RING
   pub stored : pairAt after place ≡ n
-
--- where one of the first k pairs lies within s, nothing completes t
-pub record Stops (memory : List ℕ) (k : ℕ) (s t : State) : Type 0 where
-  pub stops : (i : ℕ) → i < k → Within (pairAt memory i) s → Overlaps t

@@ -1,6 +1,7 @@
 // Reasons: a part of a state from which a step tells a goal. A pair with a goal in it is no less a nogood with the goal's reason in its place.
 use crate::nogood::lies_within;
 use crate::store::learn;
+use crate::trail::score_atoms;
 use answer_sets::State;
 ghost use mathlib.Core.Path.{_≡_};
 ghost use Prim.Native.Nat.{_≤_};
@@ -40,7 +41,7 @@ pub fn replace(n: State, s: State, part: State) -> State
     }
 }
 
-// Learns the pair if none was learnt and it names at most one atom beyond the base; whether one is learnt now.
+// Learns the pair if none was learnt, something might complete it, and it names at most one atom beyond the base; whether one is learnt now.
 pub fn learn_once(memory: &mut [u64], base: State, n: State, learnt: bool) -> bool
     requires { ⌜ MEMORY_WORDS ≤ length (now memory) ⌝ }
     ensures { λ _. ⌜ Keeps (Avoids n) (now (memory .entry)) (now (memory .exit)) ⌝ }
@@ -48,10 +49,14 @@ pub fn learn_once(memory: &mut [u64], base: State, n: State, learnt: bool) -> bo
     if learnt {
         return true;
     }
-    let new = beyond(n, base);
-    if atoms::at_most_one(atoms::union(new.up, new.dropped)) {
-        learn(memory, n);
-        return true;
+    if !atoms::are_apart(n.up, n.dropped) {
+        return false;
     }
-    false
+    let new = beyond(n, base);
+    if !atoms::at_most_one(atoms::union(new.up, new.dropped)) {
+        return false;
+    }
+    learn(memory, n);
+    score_atoms(memory, atoms::union(n.up, n.dropped));
+    true
 }

@@ -1,11 +1,11 @@
 -- Some atoms are in both, or all of the word are left.
 use mathlib.Core.Path.{subst}
 use Prim.Native.Nat.{ℕ}
 use Rattle.atoms.specs.Word.{Has}
 use Rattle.atoms.proofs.Sets.{subset-refl, cut-left}
 use borrow.Author.Needs.{needs}
-use Rattle.narrowing.proofs.choice.prefer.Statement.{statement}
-use Rattle.narrowing.proofs.choice.prefer.Tie as tie
+use Rattle.atoms.proofs.tally.prefer.Statement.{statement}
+use Rattle.atoms.proofs.tally.prefer.Tie as tie
 
 returns : tie.Need-returns
 returns c = record { within = subset-refl; some = c .before .before .pre }

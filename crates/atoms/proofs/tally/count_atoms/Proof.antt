@@ -5,8 +5,8 @@ use Prim.Native.Nat.{_-_, _<_}
 use lib.ListN.{length, length-set}
 use borrow.Author.Tests.{ltb-true}
 use borrow.Author.Needs.{needs}
-use Rattle.narrowing.proofs.choice.count_atoms.Statement.{statement}
-use Rattle.narrowing.proofs.choice.count_atoms.Tie as tie
+use Rattle.atoms.proofs.tally.count_atoms.Statement.{statement}
+use Rattle.atoms.proofs.tally.count_atoms.Tie as tie
 
 abbrev Inv-loop : tie.InvT-loop
 Inv-loop places₀ word carried₀ i₀ places carried i = length places ≡ length places₀

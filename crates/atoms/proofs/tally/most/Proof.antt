@@ -1,18 +1,18 @@
--- The invariant: some of the free atoms are left. The measure is how many places are to be looked at.
+-- The invariant: some of the atoms are left. The measure is how many places are to be looked at.
 use native.Mathlib.Omega.{arith}
 use Prim.Native.Nat.{_≤_}
 use lib.ListN.{length}
 use Rattle.atoms.proofs.Sets.{subset-refl, subset-trans}
-use Rattle.narrowing.specs.Choice.{SomeOf}
+use Rattle.atoms.specs.Word.{SomeOf}
 use borrow.Author.Needs.{needs}
-use Rattle.narrowing.proofs.choice.most.Statement.{statement}
-use Rattle.narrowing.proofs.choice.most.Tie as tie
+use Rattle.atoms.proofs.tally.most.Statement.{statement}
+use Rattle.atoms.proofs.tally.most.Tie as tie
 
 abbrev Inv-loop : tie.InvT-loop
-Inv-loop places free best₀ i₀ best i = SomeOf free best × (i ≤ length places)
+Inv-loop places word best₀ i₀ best i = SomeOf word best × (i ≤ length places)
 
 abbrev μ-loop : tie.MeasureT-loop
-μ-loop places free best₀ i₀ best i = i
+μ-loop places word best₀ i₀ best i = i
 
 loop-holds : tie.Need-loop-holds Inv-loop μ-loop
 loop-holds c = (record { within = subset-refl; some = c .before .pre }, omega arith)
