@@ -1,4 +1,3 @@
 pub mod Nogoods
 pub mod Stores
-pub mod Trails
 pub mod Reasons

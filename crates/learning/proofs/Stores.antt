@@ -1,25 +1,19 @@
--- The store: what a write changes, and what a sweep over the ring says of a state.
+-- The store: what it is at first, and what a write changes.
 use mathlib.Core.Path.{_≡_, refl, sym, ap, subst, _∙_}
-use mathlib.Core.List.{List}
-use Prim.Native.Nat.{ℕ, zero, suc, _+_, _*_, _≤_, _<_}
+use mathlib.Core.List.{List, _++_}
+use Prim.Native.Nat.{ℕ, _+_, _*_, _≤_, _<_}
 use native.Mathlib.Omega.{arith}
 use native.Mathlib.Decide.{ℕ-discrete}
-use lib.ListN.{length, getD, set, replicate, length-set, length-replicate}
-use lib.Seq.{getD-set-same, getD-set-other}
+use lib.ListN.{length, getD, set, take, replicate, length-set, length-replicate, getD-replicate, List·getD-append}
+use lib.Seq.{getD-set-same, getD-set-other, getD-take, length-take-le}
+use borrow.Rule.Slice.PartMut.{midOf, postOf, putMid, same-len-mid}
 use Rattle.atoms.specs.Word.{Has}
-use Rattle.answer_sets.specs.State.{Narrows}
 use Rattle.answer_sets.specs.declared.state.State.{State}
-use Rattle.answer_sets.proofs.Narrows.{narrows-refl, narrows-trans, narrows-for}
-use Rattle.learning.specs.Nogood.{Avoids, Within, Overlaps}
-use Rattle.learning.specs.Store.{RING, PAIRS, MEMORY_WORDS, pairAt, AvoidsAll, Empty, Keeps, SamePairs, Written, Learnt, Stops}
-use Rattle.learning.proofs.Nogoods.{within-narrows, within-trans, overlap-avoided, overlap-grows}
+use Rattle.learning.specs.Nogood.{Avoids, Overlaps}
+use Rattle.learning.specs.Store.{RING, PAIRS, MEMORY_WORDS, pairAt, AvoidsAll, Empty, Keeps, SamePairs, Written, Learnt}
+use Rattle.learning.proofs.Nogoods.{overlap-avoided}
 
 -- ---- at first
-
-same-at : (n v i : ℕ) → i < n → getD (replicate n v) i 0 ≡ v
-same-at zero v i l = absurd (omega (arith, l))
-same-at (suc n) v zero l = refl
-same-at (suc n) v (suc i) l = same-at n v i (omega (arith, l))
 
 -- a pair of twice the same word, if that has an atom, is completed by nothing
 same-overlaps : {s : State} {w a : ℕ} → Has w a → s .up ≡ w → s .dropped ≡ w → Overlaps s
@@ -31,9 +25,12 @@ empty-of {w} h = record {
   avoided = λ N. record {
     each = λ i l.
         overlap-avoided N
-        (same-overlaps h (same-at MEMORY_WORDS w (2 * i) (omega (arith, l))) (same-at MEMORY_WORDS w (2 * i + 1) (omega (arith, l))));
+        (same-overlaps h (at-first (2 * i) (omega (arith, l))) (at-first (2 * i + 1) (omega (arith, l))));
   };
 }
+  where
+    at-first : (k : ℕ) → k < MEMORY_WORDS → getD (replicate MEMORY_WORDS w) k 0 ≡ w
+    at-first k l = getD-replicate MEMORY_WORDS k w 0 l
 
 -- ---- writing
 
@@ -111,44 +108,30 @@ keeps-same m = record {
   keeps = λ N q a. record { each = λ j l. subst (λ (x : State). Avoids x N) (sym (m .same j l)) (a .each j l) };
 }
 
-pub keeps-behind : {Q : ℕ → Type 0} (store : List ℕ) (at v : ℕ) → 2 * PAIRS ≤ at → Keeps Q store (set store at v)
-keeps-behind store at v b = keeps-same (same-behind at v same-pairs b)
+pub empty-same : {before after : List ℕ} → Empty before → SamePairs before after → Empty after
+empty-same e m = record {
+  long = m .same-length ∙ e .long;
+  avoided = λ N. keeps-same {Q = λ n. Unit {0}} m .keeps N tt (e .avoided N);
+}
 
-pub long-after : {i : ℕ} {n : State} {after : List ℕ} (before : List ℕ) (at v : ℕ) → Written i n (set before at v) after → length after ≡ length before
-long-after before at v w = w .same-length ∙ length-set before at v
-
-pub learnt-at : {n : State} {before after : List ℕ} (at v i : ℕ) → 2 * PAIRS ≤ at → i < RING → Written i n (set before at v) after
+pub learnt-at : {n : State} {before between after : List ℕ} (i : ℕ) → i < RING → SamePairs before between → Written i n between after
     → Learnt n before after
-learnt-at {before = before} at v i b l w = record {
-  keeps = keeps-trans (keeps-behind before at v b) (keeps-written w);
+learnt-at i l m w = record {
+  keeps = keeps-trans (keeps-same m) (keeps-written w);
   place = i;
   in-ring = l;
   stored = w .here;
 }
 
--- ---- sweeping
-
--- the state after the first k pairs
-pub record Swept (store : List ℕ) (k : ℕ) (s t : State) : Type 0 where
-  pub few : k ≤ RING
-  pub narrows : Narrows (AvoidsAll store) s t
-  pub stops : Stops store k s t
-
-pub swept-start : {store : List ℕ} {s : State} → Swept store 0 s s
-swept-start = record { few = omega arith; narrows = narrows-refl; stops = record { stops = λ i l. absurd (omega (arith, l)) } }
-
-pub swept-next : {store : List ℕ} {k : ℕ} {s t u p : State} → Swept store k s t → k < RING → p ≡ pairAt store k → Narrows (Avoids p) t u
-    → (Within p t → Overlaps u) → Swept store (k + 1) s u
-swept-next {store} {k} {s} {t} {u} {p} w l e n f = record {
-  few = omega (arith, l);
-  narrows = narrows-trans (w .narrows) (narrows-for (λ N a. subst (λ (x : State). Avoids x N) (sym e) (a .each k (omega (arith, l)))) n);
-  stops = record { stops = λ i m h. go i m h (ℕ-discrete i k) };
+-- a part behind the pairs may be lent: what comes back in its place is as long
+pub same-part : (memory part : List ℕ) (from words : ℕ) → 2 * PAIRS ≤ from → from ≤ length memory → length part ≡ length (midOf from words memory)
+    → SamePairs memory (putMid from words memory part)
+same-part memory part from words b l e = record {
+  same-length = same-len-mid from words memory part e;
+  same = λ i h. pair-of (pairAt memory i) (kept (2 * i) (omega (arith, h, b))) (kept (2 * i + 1) (omega (arith, h, b)));
 }
   where
-    go : (i : ℕ) → i < k + 1 → Within (pairAt store i) s → Dec (i ≡ k) → Overlaps u
-    go i m h (yes q) =
-        f (subst (λ (x : State). Within x t) (ap (pairAt store) q ∙ sym e) (within-trans h (within-narrows (w .narrows))))
-    go i m h (no q) = overlap-grows (within-narrows n) (w .stops .stops i (omega (arith, m, q)) h)
-
-pub swept-end : {store : List ℕ} {k : ℕ} {s t : State} → Swept store k s t → RING ≤ k → Stops store RING s t
-swept-end w n = record { stops = λ i l. w .stops .stops i (omega (arith, l, n)) }
+    kept : (j : ℕ) → j < from → getD (putMid from words memory part) j 0 ≡ getD memory j 0
+    kept j h =
+        List·getD-append (take from memory) (part ++ postOf from words memory) 0 j (omega (arith, h, length-take-le from memory l))
+        ∙ getD-take from memory j 0 h

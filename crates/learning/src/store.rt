@@ -2,7 +2,7 @@
 // free: a pair that is forgotten costs pruning and no member.
 use answer_sets::State;
 ghost use mathlib.Core.Path.{_≡_};
-ghost use Prim.Native.Nat.{_≤_, _<_};
+ghost use Prim.Native.Nat.{_*_, _≤_, _<_};
 ghost use lib.ListN.{length};
 ghost use Rattle.learning.specs.Nogood.{Avoids};
 ghost use Rattle.learning.specs.Store.{RING, PAIRS, MEMORY_WORDS, pairAt, Empty, Keeps, SamePairs, Written, Learnt};

@@ -1,0 +1,39 @@
+-- The loop carries that the pairs are as before: each word that is written stands behind them.
+use native.Mathlib.Omega.{arith}
+use Prim.Native.Nat.{_*_, _-_, _≤_}
+use Rattle.learning.specs.Store.{PAIRS, MEMORY_WORDS, SamePairs}
+use Rattle.learning.proofs.Stores.{same-pairs, same-trans}
+use borrow.Author.Needs.{needs}
+use Rattle.learning.proofs.store.clear_advice.Statement.{statement}
+use Rattle.learning.proofs.store.clear_advice.Tie as tie
+
+abbrev Inv-loop : tie.InvT-loop
+Inv-loop memory₀ i₀ memory i = (2 * PAIRS ≤ i) × SamePairs memory₀ memory
+
+abbrev μ-loop : tie.MeasureT-loop
+μ-loop memory₀ i₀ memory i = MEMORY_WORDS - i
+
+note-requires : tie.Need-note-requires Inv-loop μ-loop
+note-requires c κs =
+    let at = c .before .before in
+    (at .loop .inv .0, omega (arith, c .before .loop-test .taken, at .loop .inv .1 .same-length, at .before .before .pre))
+
+loop-again : tie.Need-loop-again Inv-loop μ-loop
+loop-again c =
+    let call = c .before .before in
+    let inv = call .before .before .before .loop .inv in
+    (omega (arith, inv .0), same-trans (inv .1) (call .note .ensures))
+
+pub clear-advice-spec : {M : Type 1} → statement M
+clear-advice-spec =
+    tie.close
+    (tie.spec
+    Inv-loop
+    μ-loop
+    (λ c. (omega arith, same-pairs))
+    note-requires
+    (λ c. search needs)
+    (λ c. search needs)
+    loop-again
+    (λ c. c .before .loop .inv .1 .same-length)
+    (λ c. c .before .loop .inv .1))
