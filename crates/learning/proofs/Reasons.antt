@@ -4,16 +4,18 @@ use mathlib.Core.Bool.{Bool, true, false, true≢false}
 use mathlib.Core.Logic.{_⊎_, inl, inr}
 use mathlib.Core.List.{List}
 use Prim.Native.Nat.{ℕ}
+use native.Mathlib.Omega.{arith}
 use Rattle.atoms.specs.Word.{Has, Apart, _∩_}
 use Rattle.atoms.specs.Bounded.{Decides}
 use Rattle.atoms.proofs.Sets.{has-cut, has-left, has-right, has-without, has-dec}
 use Rattle.answer_sets.specs.State.{Completes, Narrows}
 use Rattle.answer_sets.specs.declared.state.State.{State}
 use Rattle.learning.specs.Nogood.{Avoids, Nogood, Within, Overlaps}
-use Rattle.learning.specs.Store.{AvoidsAll, Keeps}
-use Rattle.learning.specs.Reason.{Heeds, Explains, Tells, beyondOf, replaced, Leads, Lifted}
+use Rattle.learning.specs.Store.{AvoidsAll, Empty, Keeps, SamePairs}
+use Rattle.learning.specs.Reason.{Heeds, Remembers, Explains, Tells, beyondOf, replaced, Leads, Lifted}
 use Rattle.learning.proofs.Nogoods.{completes-within, overlap-avoided}
-use Rattle.learning.proofs.Stores.{keeps-refl, keeps-trans, keeps-for}
+use Rattle.answer_sets.proofs.Narrows.{narrows-for}
+use Rattle.learning.proofs.Stores.{keeps-refl, keeps-trans, keeps-for, keeps-same}
 
 -- ---- a goal and its reason
 
@@ -99,7 +101,29 @@ module _ {K : ℕ → Type 0} {n r : State} {before memory : List ℕ} (l : Lift
     };
   }
 
--- a nogood of those that have K is lifted to one
-pub lifted-nogood : {K : ℕ → Type 0} {n r : State} {before after : List ℕ} → Lifted K n before after r → ((N : ℕ) → K N → AvoidsAll before N)
-    → Nogood K n → Nogood K r
-lifted-nogood l s g = record { avoided = λ N k. l .leads .avoided N (record { has = k; avoids = s N k }) (g .avoided N k) }
+-- ---- what is remembered
+
+module _ {K : ℕ → Type 0} where
+  pub remembers-empty : {memory : List ℕ} → Empty memory → Remembers K memory
+  remembers-empty e = record { long = omega (arith, e .long); avoids = λ N k. e .avoided N }
+
+  module _ {before after : List ℕ} (r : Remembers K before) where
+    pub remembers-keeps : {Q : ℕ → Type 0} → ((N : ℕ) → K N → Q N) → Keeps Q before after → Remembers K after
+    remembers-keeps f k = record {
+      long = omega (arith, r .long, k .same-length);
+      avoids = λ N h. k .keeps N (f N h) (r .avoids N h);
+    }
+
+    pub remembers-same : SamePairs before after → Remembers K after
+    remembers-same m = remembers-keeps (λ N h. h) (keeps-same m)
+
+    -- a nogood is lifted to one, and what is learnt on the way is remembered
+    pub lifted-nogood : {n t : State} → Lifted K n before after t → Nogood K n → Nogood K t
+    lifted-nogood l g = record { avoided = λ N h. l .leads .avoided N (record { has = h; avoids = r .avoids N h }) (g .avoided N h) }
+
+    pub lifted-remembers : {n t : State} → Lifted K n before after t → Nogood K n → Remembers K after
+    lifted-remembers l g = remembers-keeps (λ N h. (h, g .avoided N h)) (l .keeps)
+
+  -- a step that keeps who avoids all pairs keeps whoever has K
+  pub remembered-narrows : {memory : List ℕ} {s t : State} → Remembers K memory → Narrows (AvoidsAll memory) s t → Narrows K s t
+  remembered-narrows r n = narrows-for (λ N h. r .avoids N h) n

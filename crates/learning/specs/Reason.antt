@@ -1,17 +1,23 @@
 -- Inner: reasons. What a step tells from a part of a state may stand in a nogood as that part.
 use mathlib.Core.Logic.{_⊎_}
 use mathlib.Core.List.{List}
-use Prim.Native.Nat.{ℕ}
+use Prim.Native.Nat.{ℕ, _≤_}
+use lib.ListN.{length}
 use Rattle.atoms.specs.Word.{_∩_, _∪_, _∖_}
 use Rattle.answer_sets.specs.State.{Completes}
 use Rattle.answer_sets.specs.declared.state.State.{State}
 use Rattle.learning.specs.Nogood.{Avoids, Within, Overlaps}
-use Rattle.learning.specs.Store.{AvoidsAll, Keeps}
+use Rattle.learning.specs.Store.{MEMORY_WORDS, AvoidsAll, Keeps}
 
 -- N has K and completes no pair that was learnt
 pub record Heeds (K : ℕ → Type 0) (memory : List ℕ) (N : ℕ) : Type 0 where
   pub has : K N
   pub avoids : AvoidsAll memory N
+
+-- the memory is there, and no N with K completes a pair of it
+pub record Remembers (K : ℕ → Type 0) (memory : List ℕ) : Type 0 where
+  pub long : MEMORY_WORDS ≤ length memory
+  pub avoids : (N : ℕ) → K N → AvoidsAll memory N
 
 -- the part is a reason of the goal: each N with K that completes the part completes the goal
 pub record Explains (K : ℕ → Type 0) (part goal : State) : Type 0 where

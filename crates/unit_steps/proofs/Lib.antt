@@ -6,3 +6,4 @@ pub mod Propagation
 pub mod HeededSteps
 pub mod StoredWords
 pub mod Desks
+pub mod ToldClaims

@@ -3,3 +3,4 @@ pub mod Nearest
 pub mod Filter
 pub mod Agenda
 pub mod Desk
+pub mod Claims

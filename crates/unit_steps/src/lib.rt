@@ -2,6 +2,7 @@
 pub mod agenda;
 pub mod desk;
 pub mod filter;
+pub mod front;
 pub mod join;
 pub mod lift;
 mod listed;

@@ -1,108 +1,158 @@
 // Reasons of a unit's steps, found by running a step again on a smaller state: if it still tells the same, the smaller state is a reason.
 use crate::agenda::LISTS;
+use crate::desk::BACKERS;
+use crate::desk::INDEX;
+use crate::filter::filter_step;
 use crate::filter::full_filter;
-use crate::propagate::take_step;
+use crate::propagate::PAIR_STEPS;
 use crate::unit::Unit;
 use answer_sets::State;
-use answer_sets::rule::head;
-use answer_sets::rule::looks;
-use answer_sets::rule::positive_body;
+use answer_sets::rule::rule_atoms;
 use atoms::ATOMS;
 use learning::nogood::refute;
 use learning::reason::tells;
 use learning::store::PAIRS;
 use learning::store::read_pair;
-use learning::trail::newest;
+use learning::trail::decided_since;
 use narrowing::steps::SUPPORTS;
+use narrowing::steps::apply;
 use plan::MAX_UNITS;
 ghost use mathlib.Core.Path.{_≡_};
 ghost use mathlib.Core.Bool.{true};
 ghost use Prim.Native.Nat.{_≤_, _<_};
 ghost use lib.ListN.{length};
-ghost use Rattle.atoms.specs.Word.{ATOMS};
+ghost use Rattle.atoms.specs.Word.{ATOMS, _⊆_};
 ghost use Rattle.plan.specs.Limits.{MAX_UNITS};
 ghost use Rattle.answer_sets.specs.Lent.{Lent};
 ghost use Rattle.answer_sets.specs.State.{Narrows};
-ghost use Rattle.narrowing.specs.Backers.{Backers};
-ghost use Rattle.learning.specs.Store.{MEMORY_WORDS};
+ghost use Rattle.learning.specs.Store.{MEMORY_WORDS, STEPS, AvoidsAll};
 ghost use Rattle.learning.specs.Reason.{Heeds, Explains};
-ghost use Rattle.unit_steps.specs.Job.{Belongs, Searchable};
+ghost use Rattle.unit_steps.specs.Job.{Belongs, Joinable};
+ghost use Rattle.unit_steps.specs.Filter.{JoinsAll};
+ghost use Rattle.unit_steps.specs.Desk.{DESK_WORDS, Prepared};
+ghost use Rattle.unit_steps.specs.Claims.{Told};
 
-// Steps behind the lists and the founded step: the pairs of the memory.
-pub const PAIR_STEPS: usize = LISTS + MAX_UNITS + 1;
+// A step, a part of a state, and what the step is to tell from it.
+pub struct Claim {
+    pub step: usize,
+    pub part: State,
+    pub goal: State,
+}
 
-// The state after the step of this number, from any state: a list's step looks at all entries.
+// The state after pair i of the memory, if there is one.
+fn pair_again(memory: &[u64], i: usize, s: State) -> State
+    requires { ⌜ MEMORY_WORDS ≤ length (now memory) ⌝ }
+    ensures { λ t. ⌜ Narrows (AvoidsAll (now (memory .entry))) s t ⌝ }
+{
+    if PAIRS <= i {
+        return s;
+    }
+    refute(read_pair(memory, i), s)
+}
+
+// The state after list v, of which all entries are looked at.
+fn list_again(
+    table: &[u64],
+    counts: &[usize],
+    heads: &[u64],
+    near: u64,
+    v: usize,
+    s: State,
+) -> State
+    requires { ⌜ Joinable (now table) (now counts) (now heads) near × (v < MAX_UNITS) ⌝ }
+    ensures { λ t. ⌜ Narrows (JoinsAll (now (table .entry)) (now (counts .entry)) (now (heads .entry)) near) s t ⌝ }
+{
+    let mut filter = full_filter(counts);
+    filter_step(table, counts, heads, near, v, &mut filter, s)
+}
+
+// The state after the step of this number, from any state.
 fn step_again(
     rules: &[u64],
     table: &[u64],
     counts: &[usize],
-    heads: &[u64],
-    backers: &[u64],
+    desk: &[u64],
     memory: &[u64],
     unit: Unit,
     step: usize,
     s: State,
 ) -> State
-    requires { ⌜ Searchable (now rules) (now table) (now counts) (now heads) unit × Backers (now rules) (unit .rules) (now backers)
-        × (MEMORY_WORDS ≤ length (now memory)) ⌝ }
-    ensures { λ t. ⌜ Narrows (Heeds (Belongs (now (rules .entry)) (now (table .entry)) (now (counts .entry)) (now (heads .entry)) unit)
+    requires { ⌜ Prepared (now rules) (now table) (now counts) (now desk) unit × (MEMORY_WORDS ≤ length (now memory)) ⌝ }
+    ensures { λ t. ⌜ Narrows (Heeds (Belongs (now (rules .entry)) (now (table .entry)) (now (counts .entry)) (now (desk .entry)) unit)
         (now (memory .entry))) s t ⌝ }
 {
-    if step < PAIR_STEPS {
-        let mut filter = full_filter(counts);
-        return take_step(
-            rules,
-            table,
-            counts,
-            heads,
-            backers,
-            unit,
-            &mut filter,
-            step,
-            s,
-        );
+    if PAIR_STEPS <= step {
+        return pair_again(memory, step - PAIR_STEPS, s);
     }
-    let pair = step - PAIR_STEPS;
-    if PAIRS <= pair {
-        return s;
+    if LISTS <= step {
+        let list = step - LISTS;
+        if list < MAX_UNITS {
+            return list_again(table, counts, desk, unit.nearest, list, s);
+        }
     }
-    refute(read_pair(memory, pair), s)
-}
-
-// The atoms of a rule, if it is numbered.
-fn rule_atoms(rules: &[u64], which: u64, rule: usize) -> u64
-    requires { ⌜ Lent (now rules) which × (rule < ATOMS) ⌝ }
-{
-    if atoms::are_apart(which, atoms::single(rule)) {
-        return 0;
-    }
-    atoms::union(
-        head(rules, rule),
-        atoms::union(positive_body(rules, rule), looks(rules, rule)),
+    apply(
+        rules,
+        unit.rules,
+        unit.inputs,
+        &desk[BACKERS..INDEX],
+        step,
+        s,
     )
 }
 
-// The atoms that the step looks at, or all. It is advice: a reason that has too few does not tell the goal.
-fn looked_at(rules: &[u64], heads: &[u64], memory: &[u64], unit: Unit, step: usize) -> u64
-    requires { ⌜ Lent (now rules) (unit .rules) × (MAX_UNITS ≤ length (now heads)) × (MEMORY_WORDS ≤ length (now memory)) ⌝ }
+// The atoms of the rules of the word.
+fn atoms_of(rules: &[u64], which: u64) -> u64
+    requires { ⌜ Lent (now rules) which ⌝ }
+{
+    let mut rest = which;
+    let mut r = 0;
+    while rest != 0 {
+        let rule = atoms::lowest(rest);
+        r = atoms::union(r, rule_atoms(rules, rule));
+        rest = atoms::drop(rest, rule);
+    }
+    r
+}
+
+// The rules that a step on rules looks at: one rule, those that may back one atom, or all.
+fn rules_looked_at(desk: &[u64], which: u64, step: usize) -> u64
+    requires { ⌜ length (now desk) ≡ DESK_WORDS ⌝ }
+    ensures { λ r. ⌜ r ⊆ which ⌝ }
 {
     if step < SUPPORTS {
-        return rule_atoms(rules, unit.rules, step);
+        return atoms::cut(which, atoms::single(step));
     }
     if step < LISTS {
-        return atoms::first(ATOMS);
+        return atoms::cut(which, desk[BACKERS + (step - SUPPORTS)]);
+    }
+    which
+}
+
+// The atoms of pair i of the memory, if there is one.
+fn pair_atoms(memory: &[u64], i: usize) -> u64
+    requires { ⌜ MEMORY_WORDS ≤ length (now memory) ⌝ }
+{
+    if PAIRS <= i {
+        return 0;
+    }
+    let pair = read_pair(memory, i);
+    atoms::union(pair.up, pair.dropped)
+}
+
+// The atoms that the step looks at. It is advice: a reason that has too few does not tell the goal.
+fn looked_at(rules: &[u64], desk: &[u64], memory: &[u64], unit: Unit, step: usize) -> u64
+    requires { ⌜ Lent (now rules) (unit .rules) × (length (now desk) ≡ DESK_WORDS) × (MEMORY_WORDS ≤ length (now memory)) ⌝ }
+{
+    if step < LISTS {
+        return atoms_of(rules, rules_looked_at(desk, unit.rules, step));
     }
     if step < LISTS + MAX_UNITS {
-        return heads[step - LISTS];
+        return desk[step - LISTS];
     }
     if step < PAIR_STEPS {
         return atoms::first(ATOMS);
     }
-    if PAIRS <= step - PAIR_STEPS {
-        return 0;
-    }
-    let pair = read_pair(memory, step - PAIR_STEPS);
-    atoms::union(pair.up, pair.dropped)
+    pair_atoms(memory, step - PAIR_STEPS)
 }
 
 // The atoms that may be spared in a reason: those of rules and pairs are few already.
@@ -121,132 +171,137 @@ fn still_tells(
     rules: &[u64],
     table: &[u64],
     counts: &[usize],
-    heads: &[u64],
-    backers: &[u64],
+    desk: &[u64],
     memory: &[u64],
     unit: Unit,
-    step: usize,
-    part: State,
-    goal: State,
+    c: Claim,
 ) -> bool
-    requires { ⌜ Searchable (now rules) (now table) (now counts) (now heads) unit × Backers (now rules) (unit .rules) (now backers)
-        × (MEMORY_WORDS ≤ length (now memory)) ⌝ }
-    ensures { λ r. ⌜ (r ≡ true → Explains (Heeds (Belongs (now (rules .entry)) (now (table .entry)) (now (counts .entry)) (now (heads .entry)) unit)
-        (now (memory .entry))) part goal) ⌝ }
+    requires { ⌜ Prepared (now rules) (now table) (now counts) (now desk) unit × (MEMORY_WORDS ≤ length (now memory)) ⌝ }
+    ensures { λ r. ⌜ (r ≡ true → Told (Belongs (now (rules .entry)) (now (table .entry)) (now (counts .entry)) (now (desk .entry)) unit)
+        (now (memory .entry)) (c .goal) c) ⌝ }
 {
-    tells(
-        step_again(
-            rules,
-            table,
-            counts,
-            heads,
-            backers,
-            memory,
-            unit,
-            step,
-            part,
-        ),
-        goal,
-    )
+    let t = step_again(rules, table, counts, desk, memory, unit, c.step, c.part);
+    tells(t, c.goal)
 }
 
-// The reason without the atom if the step can spare it, and else as it is.
+// The claim without the atom in its part if the step can spare it, and else as it is.
 fn spare(
     rules: &[u64],
     table: &[u64],
     counts: &[usize],
-    heads: &[u64],
-    backers: &[u64],
+    desk: &[u64],
     memory: &[u64],
     unit: Unit,
-    step: usize,
-    part: State,
-    goal: State,
+    c: Claim,
     atom: usize,
-) -> State
-    requires { ⌜ Searchable (now rules) (now table) (now counts) (now heads) unit × Backers (now rules) (unit .rules) (now backers)
-        × (MEMORY_WORDS ≤ length (now memory)) × (atom < ATOMS)
-        × Explains (Heeds (Belongs (now rules) (now table) (now counts) (now heads) unit) (now memory)) part goal ⌝ }
-    ensures { λ r. ⌜ Explains (Heeds (Belongs (now (rules .entry)) (now (table .entry)) (now (counts .entry)) (now (heads .entry)) unit)
-        (now (memory .entry))) r goal ⌝ }
+) -> Claim
+    requires { ⌜ Prepared (now rules) (now table) (now counts) (now desk) unit × (MEMORY_WORDS ≤ length (now memory)) × (atom < ATOMS)
+        × Told (Belongs (now rules) (now table) (now counts) (now desk) unit) (now memory) (c .goal) c ⌝ }
+    ensures { λ r. ⌜ Told (Belongs (now (rules .entry)) (now (table .entry)) (now (counts .entry)) (now (desk .entry)) unit) (now (memory .entry))
+        (c .goal) r ⌝ }
 {
-    let less = State {
+    let part = c.part;
+    let goal = c.goal;
+    let fewer = State {
         up: atoms::drop(part.up, atom),
         dropped: atoms::drop(part.dropped, atom),
     };
-    if still_tells(
-        rules,
-        table,
-        counts,
-        heads,
-        backers,
-        memory,
-        unit,
-        step,
-        less,
+    let less = Claim {
+        step: c.step,
+        part: fewer,
         goal,
-    ) {
+    };
+    if still_tells(rules, table, counts, desk, memory, unit, less) {
         return less;
     }
-    part
+    c
 }
 
-// A reason of the goal, told by the step from those atoms of the state that it looks at, of which the newest are spared first. The goal itself where
-// the step does not tell it.
+// The claim without those of the atoms that the step can spare, one after the other.
+fn spare_each(
+    rules: &[u64],
+    table: &[u64],
+    counts: &[usize],
+    desk: &[u64],
+    memory: &[u64],
+    unit: Unit,
+    claim: Claim,
+    which: u64,
+) -> Claim
+    requires { ⌜ Prepared (now rules) (now table) (now counts) (now desk) unit × (MEMORY_WORDS ≤ length (now memory))
+        × Told (Belongs (now rules) (now table) (now counts) (now desk) unit) (now memory) (claim .goal) claim ⌝ }
+    ensures { λ r. ⌜ Told (Belongs (now (rules .entry)) (now (table .entry)) (now (counts .entry)) (now (desk .entry)) unit) (now (memory .entry))
+        (claim .goal) r ⌝ }
+{
+    let mut c = claim;
+    let mut rest = which;
+    while rest != 0 {
+        let atom = atoms::lowest(rest);
+        c = spare(rules, table, counts, desk, memory, unit, c, atom);
+        rest = atoms::drop(rest, atom);
+    }
+    c
+}
+
+// The claim without what its step can spare, what was decided last being tried first: the trail is gone back from step `at`.
+fn shrink(
+    rules: &[u64],
+    table: &[u64],
+    counts: &[usize],
+    desk: &[u64],
+    memory: &[u64],
+    unit: Unit,
+    claim: Claim,
+    at: usize,
+) -> Claim
+    requires { ⌜ Prepared (now rules) (now table) (now counts) (now desk) unit × (MEMORY_WORDS ≤ length (now memory)) × (at < STEPS)
+        × Told (Belongs (now rules) (now table) (now counts) (now desk) unit) (now memory) (claim .goal) claim ⌝ }
+    ensures { λ r. ⌜ Told (Belongs (now (rules .entry)) (now (table .entry)) (now (counts .entry)) (now (desk .entry)) unit) (now (memory .entry))
+        (claim .goal) r ⌝ }
+{
+    let mut c = claim;
+    let mut i = at;
+    let mut rest = to_spare(claim.step, claim.part);
+    while 0 < i && rest != 0 {
+        i -= 1;
+        let new = decided_since(memory, i, rest);
+        c = spare_each(rules, table, counts, desk, memory, unit, c, new);
+        rest = atoms::without(rest, new);
+    }
+    c
+}
+
+// A reason of the claim's goal, which step `at` of the trail told from the state that is the claim's part: those atoms of it that the step looks at
+// and cannot spare. The goal itself where the step does not tell it from these.
 pub fn explain(
     rules: &[u64],
     table: &[u64],
     counts: &[usize],
-    heads: &[u64],
-    backers: &[u64],
+    desk: &[u64],
     memory: &[u64],
     unit: Unit,
-    step: usize,
-    s: State,
-    goal: State,
+    c: Claim,
+    at: usize,
 ) -> State
-    requires { ⌜ Searchable (now rules) (now table) (now counts) (now heads) unit × Backers (now rules) (unit .rules) (now backers)
-        × (MEMORY_WORDS ≤ length (now memory)) ⌝ }
-    ensures { λ r. ⌜ Explains (Heeds (Belongs (now (rules .entry)) (now (table .entry)) (now (counts .entry)) (now (heads .entry)) unit)
-        (now (memory .entry))) r goal ⌝ }
+    requires { ⌜ Prepared (now rules) (now table) (now counts) (now desk) unit × (MEMORY_WORDS ≤ length (now memory)) × (at < STEPS) ⌝ }
+    ensures { λ r. ⌜ Explains (Heeds (Belongs (now (rules .entry)) (now (table .entry)) (now (counts .entry)) (now (desk .entry)) unit)
+        (now (memory .entry))) r (c .goal) ⌝ }
 {
-    let seen = looked_at(rules, heads, memory, unit, step);
-    let near = State {
-        up: atoms::cut(s.up, seen),
-        dropped: atoms::cut(s.dropped, seen),
+    let seen = looked_at(rules, desk, memory, unit, c.step);
+    let whole = c.part;
+    let part = State {
+        up: atoms::cut(whole.up, seen),
+        dropped: atoms::cut(whole.dropped, seen),
     };
-    if !still_tells(
-        rules,
-        table,
-        counts,
-        heads,
-        backers,
-        memory,
-        unit,
-        step,
-        near,
+    let goal = c.goal;
+    let near = Claim {
+        step: c.step,
+        part,
         goal,
-    ) {
+    };
+    if !still_tells(rules, table, counts, desk, memory, unit, near) {
         return goal;
     }
-    let mut part = near;
-    let mut rest = to_spare(step, near);
-    while rest != 0 {
-        let atom = newest(memory, rest);
-        part = spare(
-            rules,
-            table,
-            counts,
-            heads,
-            backers,
-            memory,
-            unit,
-            step,
-            part,
-            goal,
-            atom,
-        );
-        rest = atoms::drop(rest, atom);
-    }
-    part
+    let least = shrink(rules, table, counts, desk, memory, unit, near, at);
+    least.part
 }

@@ -1,71 +1,79 @@
--- The loop carries that the state so far narrows the first one and that the filter has each entry that may still be joined. The measure is 193 for
--- each undecided atom and one for each step on the agenda.
-use Prim.Native.Nat.{_+_, _*_, _^_, _<_}
+-- The loop carries what is promised of the front so far. The measure is how many pairs are left.
+use Prim.Native.Nat.{_+_, _-_, _≤_}
 use native.Mathlib.Omega.{arith}
-use lib.Count.{ones}
 use lib.ListN.{length}
 use mathlib.Core.Path.{_≡_, refl, sym, _∙_}
-use borrow.Author.Needs.{needs}
-use borrow.Author.Tests.{not-true}
-use Rattle.atoms.specs.Word.{ATOMS}
-use Rattle.answer_sets.specs.State.{undecided, Narrows}
+use Rattle.answer_sets.specs.State.{Narrows}
 use Rattle.answer_sets.proofs.Narrows.{narrows-refl, narrows-trans}
+use Rattle.learning.specs.Store.{RING}
+use Rattle.learning.specs.Reason.{Remembers}
+use Rattle.learning.proofs.Reasons.{remembers-same, remembers-keeps, remembered-narrows}
 use Rattle.unit_steps.specs.Job.{Belongs}
 use Rattle.unit_steps.specs.Filter.{Filtered}
-use Rattle.unit_steps.specs.Agenda.{weight}
-use Rattle.unit_steps.proofs.Agendas.{propagation-falls}
+use Rattle.unit_steps.proofs.Filters.{filtered-narrows}
+use borrow.Author.Needs.{needs}
 use Rattle.unit_steps.proofs.propagate.propagate.Statement.{statement}
 use Rattle.unit_steps.proofs.propagate.propagate.Tie as tie
 
 abbrev Inv-loop : tie.InvT-loop
-Inv-loop rules table counts heads backers index unit filter₀ t₀ left₀ filter t left =
-    Narrows (Belongs rules table counts heads unit) t₀ t × Filtered table counts heads (unit .nearest) t filter
+Inv-loop rules table counts desk unit memory₀ filter₀ f₀ i₀ memory filter f i =
+    Narrows (Belongs rules table counts desk unit) (f₀ .state) (f .state) × Filtered table counts desk (unit .nearest) (f .state) filter
+    × Remembers (Belongs rules table counts desk unit) memory × (length memory ≡ length memory₀)
 
 abbrev μ-loop : tie.MeasureT-loop
-μ-loop rules table counts heads backers index unit filter₀ t₀ left₀ filter t left = 193 * ones (undecided (t .up) (t .dropped)) + weight left
+μ-loop rules table counts desk unit memory₀ filter₀ f₀ i₀ memory filter f i = RING + 1 - i
 
 loop-holds : tie.Need-loop-holds Inv-loop μ-loop
-loop-holds c = (narrows-refl, c .before .before .before .before .before .before .before .pre .3)
+loop-holds c = let pre = c .before .before .before .before .before .before .pre in (narrows-refl, pre .2, pre .1, refl)
 
-is-idle-requires : tie.Need-is-idle-requires Inv-loop μ-loop
-is-idle-requires c κs = search needs
+run-agenda-requires : tie.Need-run-agenda-requires Inv-loop μ-loop
+run-agenda-requires c κs =
+    let loop = c .before .before .before in
+    (loop .before .before .before .before .before .before .before .pre .0, loop .loop .inv .2 .long, loop .loop .inv .1)
 
-take-requires : tie.Need-take-requires Inv-loop μ-loop
-take-requires c κs = c .before .is-idle .ensures .no (not-true (c .before .is-idle .result) (c .if1 .taken))
+next-pair-requires : tie.Need-next-pair-requires Inv-loop μ-loop
+next-pair-requires c κs =
+    let run = c .before .before .before .before .before in
+    let loop = run .before .before .before .before in (
+      omega (arith, loop .loop .inv .2 .long, run .run-agenda .ensures .1 .1 .same-length),
+      omega (arith, run .before .before .before .loop-test .taken),
+    )
 
-take-step-requires : tie.Need-take-step-requires Inv-loop μ-loop
-take-step-requires c κs =
-    let loop = c .before .before .before .before in
-    let pre = loop .before .before .before .before .before .before .before .before .pre in (pre .0, pre .1, loop .loop .inv .1)
-
-woken-requires : tie.Need-woken-requires Inv-loop μ-loop
-woken-requires c κs =
-    c .before .before .before .before .before .before .before .before .before .before .before .before .before .before .before .pre .2
-
--- the agenda's words are words
-small : (c : tie.After-woken Inv-loop μ-loop)
-    → (c .woken .result .rules < 2 ^ ATOMS) × (c .woken .result .supports < 2 ^ ATOMS) × (c .woken .result .others < 2 ^ ATOMS)
-small c = (omega arith, omega arith, omega arith)
+take-pair-requires : tie.Need-take-pair-requires Inv-loop μ-loop
+take-pair-requires c κs =
+    let run = c .before .before .before .before .before .before .before in
+    let loop = run .before .before .before .before in (
+      loop .before .before .before .before .before .before .before .pre .0 .long,
+      omega (arith, loop .loop .inv .2 .long, run .run-agenda .ensures .1 .1 .same-length),
+    )
 
 loop-less : tie.Need-loop-less Inv-loop μ-loop
 loop-less c =
-    let step = c .before .before .before in
-    let s = small c in
-    propagation-falls _ _ _ _ _ (step .take-step .ensures .0) (step .before .before .take .ensures .less) (c .woken .ensures) (s .0) (s .1) (s .2)
+    let next = c .before .before .before .before in
+    let test = next .before .before .before .before .before .before .before .before .before in
+    omega (arith, next .next-pair .ensures .0, next .next-pair .ensures .1, test .loop-test .taken)
 
 loop-again : tie.Need-loop-again Inv-loop μ-loop
 loop-again c =
-    let step = c .before .before .before in
-    let old = step .before .before .before .before .before .loop in
-    (narrows-trans (old .inv .0) (step .take-step .ensures .0), step .take-step .ensures .1)
+    let pair = c .before .before in
+    let run = pair .before .before .before .before .before .before .before .before in
+    let old = run .before .before .before .before .loop .inv in
+    let ran = run .run-agenda .ensures in
+    let told = pair .take-pair .ensures in
+    let known = remembers-same (old .2) (ran .1 .1) in (
+      narrows-trans (old .0) (narrows-trans (ran .0) (remembered-narrows known (told .0))),
+      filtered-narrows (told .0) (ran .1 .0),
+      remembers-keeps known (known .avoids) (told .1),
+      told .1 .same-length ∙ ran .1 .1 .same-length ∙ old .3,
+    )
 
-same-length : tie.Need-same-length Inv-loop μ-loop
-same-length c =
-    let loop = c .before .before in
-    loop .loop .inv .1 .long ∙ sym (loop .before .before .before .before .before .before .before .before .pre .3 .long)
+same-filter : tie.Need-same-length-2 Inv-loop μ-loop
+same-filter c =
+    let loop = c .before in
+    loop .loop .inv .1 .long ∙ sym (loop .before .before .before .before .before .before .before .pre .2 .long)
 
 returns : tie.Need-returns Inv-loop μ-loop
-returns c = c .before .before .loop .inv
+returns c = let inv = c .before .loop .inv in (inv .0, (inv .1, inv .2))
 
 pub propagate-spec : {M : Type 1} → statement M
 propagate-spec =
@@ -74,11 +82,12 @@ propagate-spec =
     Inv-loop
     μ-loop
     loop-holds
-    is-idle-requires
-    take-requires
-    take-step-requires
-    woken-requires
+    run-agenda-requires
+    next-pair-requires
+    take-pair-requires
+    (λ c. omega (arith, c .before .before .before .before .next-pair .ensures .1))
     loop-less
     loop-again
-    same-length
+    (λ c. c .before .loop .inv .3)
+    same-filter
     returns)

@@ -13,35 +13,31 @@ use Rattle.unit_steps.proofs.propagate.take_step.Tie as tie
 fits : (c : tie.Start) → c .args .unit .rules < 2 ^ ATOMS
 fits c = omega arith
 
+filter-step-requires : tie.Need-filter-step-requires
+filter-step-requires c κs =
+    let pre = c .before .before .before .before .before .before .before .before .pre in
+    (joinable-some (pre .0 .searchable .near) (pre .0 .searchable .joinable), search needs, pre .1)
+
 returns : tie.Need-returns
 returns c =
-    let start = c .before .before .before .before .before .before .before .before in
-    (rules-narrow _ _ _ _ _ (fits start) (c .apply .ensures), filtered-narrows (c .apply .ensures) (start .pre .2))
+    let step = c .before .before in
+    let pre = step .before .before .before .before .before .before .before .before .before .pre in
+    (lists-narrow _ _ _ _ _ (pre .0 .searchable .near) (step .filter-step .ensures .0), step .filter-step .ensures .1)
 
 returns-2 : tie.Need-returns-2
 returns-2 c =
-    let start = c .before .before .before .before .before .before .before .before .before in
-    (rules-narrow _ _ _ _ _ (fits start) (c .apply2 .ensures), filtered-narrows (c .apply2 .ensures) (start .pre .2))
-
-filter-step-requires : tie.Need-filter-step-requires
-filter-step-requires c κs =
-    let pre = c .before .before .before .before .before .before .before .before .before .pre in
-    (joinable-some (pre .0 .near) (pre .0 .joinable), omega arith, pre .2)
-
-returns-3 : tie.Need-returns-3
-returns-3 c =
-    let step = c .before .before in
-    let pre = step .before .before .before .before .before .before .before .before .before .before .pre in
-    (lists-narrow _ _ _ _ _ (pre .0 .near) (step .filter-step .ensures .0), step .filter-step .ensures .1)
+    let start = c .before .before .before .before .before .before .before .before in
+    (rules-narrow _ _ _ _ _ (fits start) (c .apply .ensures), filtered-narrows (c .apply .ensures) (start .pre .1))
 
 pub take-step-spec : {M : Type 1} → statement M
 take-step-spec =
     tie.close
     (tie.spec
-    (λ c κs. search needs)
-    returns
-    (λ c κs. search needs)
-    returns-2
     filter-step-requires
     (λ c. search needs)
-    returns-3)
+    returns
+    (λ c. search needs)
+    (λ c. search needs)
+    (λ c. search needs)
+    (λ c κs. search needs)
+    returns-2)

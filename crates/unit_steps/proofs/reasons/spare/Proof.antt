@@ -1,4 +1,4 @@
--- The step tells the goal without the atom, or the reason stays.
+-- The step tells the goal without the atom, or the claim stays.
 use borrow.Author.Needs.{needs}
 use Rattle.unit_steps.proofs.reasons.spare.Statement.{statement}
 use Rattle.unit_steps.proofs.reasons.spare.Tie as tie

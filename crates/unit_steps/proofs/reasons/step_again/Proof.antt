@@ -1,32 +1,43 @@
--- A step of the agenda from the filter of all entries, or a pair.
+-- A pair, a list with all its entries, or a step on rules.
+use Prim.Native.Nat.{_^_, _<_}
 use native.Mathlib.Omega.{arith}
+use Rattle.atoms.specs.Word.{ATOMS}
 use Rattle.unit_steps.proofs.JoinedLists.{joinable-some}
-use Rattle.unit_steps.proofs.Filters.{full-filtered}
-use Rattle.unit_steps.proofs.HeededSteps.{heeds-narrows, pair-narrows}
+use Rattle.unit_steps.proofs.Propagation.{lists-narrow, rules-narrow}
+use Rattle.unit_steps.proofs.HeededSteps.{heeds-narrows, pairs-narrow}
 use borrow.Author.Needs.{needs}
 use Rattle.unit_steps.proofs.reasons.step_again.Statement.{statement}
 use Rattle.unit_steps.proofs.reasons.step_again.Tie as tie
 
-take-step-requires : tie.Need-take-step-requires
-take-step-requires c κs =
-    let pre = c .before .before .before .before .before .before .before .before .before .pre in (
-      pre .0,
-      pre .1,
-      full-filtered _ _ _ _ _ _ (joinable-some (pre .0 .near) (pre .0 .joinable)) (c .before .full-filter .ensures),
-    )
+-- rule numbers are bits of a word
+fits : (c : tie.Start) → c .args .unit .rules < 2 ^ ATOMS
+fits c = omega arith
+
+list-again-requires : tie.Need-list-again-requires
+list-again-requires c κs =
+    let pre = c .before .before .before .before .before .before .before .before .pre in
+    (joinable-some (pre .0 .searchable .near) (pre .0 .searchable .joinable), search needs)
+
+returns-2 : tie.Need-returns-2
+returns-2 c =
+    let pre = c .before .before .before .before .before .before .before .before .before .pre in
+    heeds-narrows (lists-narrow _ _ _ _ _ (pre .0 .searchable .near) (c .list-again .ensures))
 
 returns-3 : tie.Need-returns-3
-returns-3 c = pair-narrows _ (omega arith) (c .before .read-pair .ensures) (c .refute .ensures .0)
+returns-3 c =
+    let start = c .before .before .before .before .before .before .before .before .before in
+    heeds-narrows (rules-narrow _ _ _ _ _ (fits start) (c .apply .ensures))
 
 pub step-again-spec : {M : Type 1} → statement M
 step-again-spec =
     tie.close
     (tie.spec
     (λ c κs. search needs)
+    (λ c. pairs-narrow (c .pair-again .ensures))
+    list-again-requires
+    returns-2
     (λ c. search needs)
-    take-step-requires
-    (λ c. heeds-narrows (c .before .take-step .ensures .0))
     (λ c. search needs)
-    (λ c κs. search needs)
+    (λ c. search needs)
     (λ c κs. search needs)
     returns-3)
