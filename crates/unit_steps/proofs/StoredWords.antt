@@ -44,3 +44,9 @@ stored-parts d h b w {d₁} {d₂} {d₃} {n} {k} l m fits e f g =
     front =
         stored-front d₁ n b (omega (arith, same, m, fits)) m f
         ∙ ap (λ (t : List ℕ). t ++ b) (stored-front d 0 h {n = n} (omega arith) (omega (arith, l)) e)
+
+-- an area that is stored over as a whole
+pub stored-whole : (d s : List ℕ) {e : List ℕ} → length s ≡ length d → e ≡ paste d 0 s (length s) → e ≡ s
+stored-whole d s {e} l p =
+    sym (take-all (length s) e (omega (arith, l, ap length p ∙ length-paste d 0 s (length s) (omega (arith, l)) (omega arith))))
+    ∙ stored-front d 0 s {n = length s} (omega arith) (omega arith) p

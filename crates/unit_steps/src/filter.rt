@@ -1,6 +1,7 @@
 // The filter: for each list that the search looks at the entries that still agree with the state, BLOCKS words to a list.
 use crate::sift::BLOCKS;
 use crate::sift::join_step;
+use crate::words::store;
 use answer_sets::State;
 use atoms::ATOMS;
 use plan::LIST_WORDS;
@@ -12,7 +13,7 @@ ghost use Rattle.atoms.specs.Word.{ATOMS, below};
 ghost use Rattle.plan.specs.Limits.{MAX_UNITS};
 ghost use Rattle.answer_sets.specs.State.{Narrows};
 ghost use Rattle.unit_steps.specs.Job.{Joinable};
-ghost use Rattle.unit_steps.specs.Filter.{BLOCKS, JoinsAll, Filtered, Full};
+ghost use Rattle.unit_steps.specs.Filter.{BLOCKS, FILTER_WORDS, JoinsAll, Filtered, Full};
 
 pub const FILTER_WORDS: usize = BLOCKS * MAX_UNITS;
 
@@ -43,6 +44,16 @@ pub fn full_filter(counts: &[usize]) -> [u64; FILTER_WORDS]
         i += 1;
     }
     filter
+}
+
+// The filter once more, for a node that narrows its own.
+pub fn copied(filter: &[u64]) -> [u64; FILTER_WORDS]
+    requires { ⌜ length (now filter) ≡ FILTER_WORDS ⌝ }
+    ensures { λ r. ⌜ r ≡ now (filter .entry) ⌝ }
+{
+    let mut r = [0u64; FILTER_WORDS];
+    store(filter, &mut r, 0);
+    r
 }
 
 // The state after the list of predecessor v, if that is one of those looked at.
