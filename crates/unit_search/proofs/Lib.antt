@@ -1,3 +1,4 @@
 pub mod Insertion
 pub mod Gathered
 pub mod SearchSteps
+pub mod Branches

@@ -16,9 +16,13 @@ use Rattle.answer_sets.specs.State.{Completes, Narrows, undecided}
 use Rattle.answer_sets.specs.declared.state.State.{State}
 use Rattle.answer_sets.proofs.HalfDecided.{decided-cases}
 use Rattle.answer_sets.proofs.Narrows.{completes-back, overlap-none, with-up, with-dropped, without-up, without-dropped}
+use Rattle.learning.specs.Nogood.{Nogood, Within}
+use Rattle.learning.proofs.Nogoods.{nogood-stops}
 use Rattle.unit_search.specs.Listing.{Ordered, Inserted, Gathered, Grown}
 use Rattle.unit_steps.specs.Job.{joins, Belongs, Wanted, Offered}
 use Rattle.unit_steps.specs.declared.unit.Unit.{Unit}
+use Rattle.unit_steps.specs.Desk.{LaidOut}
+use Rattle.unit_steps.proofs.Desks.{wanted-desk, desk-wanted}
 use Rattle.unit_search.proofs.Gathered.{gathered-insert, gathered-same, gathered-iff, gathered-over, gathered-then}
 
 module _ (rules table counts heads : List ℕ) (unit : Unit) where
@@ -66,6 +70,13 @@ module _ (rules table counts heads : List ℕ) (unit : Unit) where
 -- ---- the search
 
 module _ {rules table counts heads : List ℕ} {unit : Unit} where
+  -- of the same state
+  pub search-state : (list : List ℕ) (count : ℕ) {s t : State} {after : List ℕ} {r : ℕ} → s ≡ t
+      → Gathered (Grown list count (Wanted rules table counts heads unit s)) after r
+      → Gathered (Grown list count (Wanted rules table counts heads unit t)) after r
+  search-state list count {after = after} {r = r} e g =
+      subst (λ (x : State). Gathered (Grown list count (Wanted rules table counts heads unit x)) after r) e g
+
   -- after propagation the same positions are wanted
   pub search-narrowed : (list : List ℕ) (count : ℕ) {s t : State} {after : List ℕ} {r : ℕ}
       → Narrows (Belongs rules table counts heads unit) s t
@@ -146,6 +157,21 @@ module _ {rules table counts heads : List ℕ} {unit : Unit} where
         into x (inl m) = inl m
         into x (inr w) = inr (record { belongs = w .belongs; completes = dropped-completes (w .completes) })
 
+    -- no member completes the state, so that the other branch has none
+    pub search-skip : {n : State} → Nogood (Belongs rules table counts heads unit) n → Within n t
+        → Gathered (Grown list₀ count₀ (Wanted rules table counts heads unit t)) list₁ count₁
+    search-skip g w = gathered-iff into from low
+      where
+        into : (x : ℕ) → Grown list₀ count₀ (Wanted rules table counts heads unit (record { up = t .up; dropped = d })) x
+            → Grown list₀ count₀ (Wanted rules table counts heads unit t) x
+        into x (inl m) = inl m
+        into x (inr v) = inr (record { belongs = v .belongs; completes = dropped-completes (v .completes) })
+
+        from : (x : ℕ) → Grown list₀ count₀ (Wanted rules table counts heads unit t) x
+            → Grown list₀ count₀ (Wanted rules table counts heads unit (record { up = t .up; dropped = d })) x
+        from x (inl m) = inl m
+        from x (inr v) = absurd (nogood-stops g w x (v .belongs) (v .completes))
+
     pub search-both : count₁ ≤ LIST_WORDS → {list₂ : List ℕ} {u count₂ : ℕ} → u ≡ t .up ∪ x
         → Gathered (Grown list₁ count₁ (Wanted rules table counts heads unit (record { up = u; dropped = t .dropped }))) list₂ count₂
         → Gathered (Grown list₀ count₀ (Wanted rules table counts heads unit t)) list₂ count₂
@@ -160,3 +186,17 @@ module _ {rules table counts heads : List ℕ} {unit : Unit} where
             ⊎ Wanted rules table counts heads unit (record { up = u; dropped = t .dropped }) N
         split N w (yes h) = inr (record { belongs = w .belongs; completes = rw (f, a) (with-up t i (w .completes) h) })
         split N w (no h) = inl (record { belongs = w .belongs; completes = rw (e, a) (with-dropped t i (w .completes) h) })
+
+-- what is wanted through the desk is what is wanted
+pub search-desk : {rules table counts heads desk : List ℕ} {unit : Unit} → LaidOut rules heads unit desk → (list : List ℕ) (count : ℕ) {s : State}
+    {after : List ℕ} {r : ℕ} → Gathered (Grown list count (Wanted rules table counts desk unit s)) after r
+    → Gathered (Grown list count (Wanted rules table counts heads unit s)) after r
+search-desk {rules} {table} {counts} {heads} {desk} {unit} l list count {s} g = gathered-iff into from g
+  where
+    into : (x : ℕ) → Grown list count (Wanted rules table counts desk unit s) x → Grown list count (Wanted rules table counts heads unit s) x
+    into x (inl m) = inl m
+    into x (inr w) = inr (desk-wanted l table counts x w)
+
+    from : (x : ℕ) → Grown list count (Wanted rules table counts heads unit s) x → Grown list count (Wanted rules table counts desk unit s) x
+    from x (inl m) = inl m
+    from x (inr w) = inr (wanted-desk l table counts x w)

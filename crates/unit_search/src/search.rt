@@ -1,170 +1,104 @@
 // The search over undecided atoms.
-use crate::listing::insert;
+use crate::branch::Found;
+use crate::branch::Node;
+use crate::branch::contradiction;
+use crate::branch::everything;
+use crate::branch::handed;
+use crate::branch::lowered;
+use crate::branch::merged;
+use crate::branch::pick;
+use crate::branch::raised;
+use crate::dive::dive;
+use crate::member::offer;
 use answer_sets::State;
-use answer_sets::is_answer_set;
 use answer_sets::known::undecided;
-use narrowing::backers::backers;
-use narrowing::choice::choose;
+use learning::nogood::lies_within;
+use learning::store::empty_store;
 use narrowing::loops::looped_atoms;
 use plan::LIST_WORDS;
 use unit_steps::Unit;
-use unit_steps::agenda::Agenda;
 use unit_steps::agenda::every_step;
-use unit_steps::agenda::wake_index;
-use unit_steps::agenda::woken;
-use unit_steps::filter::FILTER_WORDS;
+use unit_steps::desk::lay_out;
+use unit_steps::filter::copied;
 use unit_steps::filter::full_filter;
-use unit_steps::join::joins;
+use unit_steps::front::Front;
+use unit_steps::lift::blame;
+use unit_steps::lift::lift;
+use unit_steps::lift::span;
 use unit_steps::propagate::propagate;
-ghost use Rattle.atoms.specs.Bounded.{Decides};
-ghost use Prim.Native.Nat.{_≤_};
-ghost use lib.ListN.{length};
-ghost use Rattle.narrowing.specs.Backers.{Backers};
-ghost use Rattle.unit_steps.specs.Filter.{Filtered};
-ghost use Rattle.unit_steps.specs.Agenda.{INDEX_WORDS};
+ghost use Rattle.learning.specs.Nogood.{Nogood};
+ghost use Rattle.learning.specs.Reason.{Remembers};
 ghost use Rattle.unit_search.specs.Listing.{Ordered, Gathered, Grown};
-ghost use Rattle.unit_steps.specs.Job.{Belongs, Searchable, Wanted, Offered};
+ghost use Rattle.unit_steps.specs.Filter.{Filtered};
+ghost use Rattle.unit_steps.specs.Desk.{Prepared};
+ghost use Rattle.unit_steps.specs.Job.{Belongs, Searchable, Wanted};
 
-// Whether the position belongs to the unit's list.
-pub fn belongs(
-    rules: &[u64],
-    table: &[u64],
-    counts: &[usize],
-    heads: &[u64],
-    unit: Unit,
-    position: u64,
-) -> bool
-    requires { ⌜ Searchable (now rules) (now table) (now counts) (now heads) unit ⌝ }
-    ensures { λ r. ⌜ Decides (Belongs (now (rules .entry)) (now (table .entry)) (now (counts .entry)) (now (heads .entry)) unit position) r ⌝ }
-{
-    if !joins(table, counts, heads, unit.predecessors, position) {
-        return false;
-    }
-    is_answer_set(
-        rules,
-        unit.rules,
-        atoms::cut(position, unit.inputs),
-        position,
-    )
-}
-
-// Adds the position to the list if it belongs there: the new count, or OVERFULL where there is no room.
-fn offer(
-    rules: &[u64],
-    table: &[u64],
-    counts: &[usize],
-    heads: &[u64],
-    unit: Unit,
-    list: &mut [u64],
-    count: usize,
-    position: u64,
-) -> usize
-    requires { ⌜ Searchable (now rules) (now table) (now counts) (now heads) unit × Ordered (now list) count ⌝ }
-    ensures { λ r. ⌜ Gathered (Grown (now (list .entry)) count
-        (Offered (now (rules .entry)) (now (table .entry)) (now (counts .entry)) (now (heads .entry)) unit position)) (now (list .exit)) r ⌝ }
-{
-    if !belongs(rules, table, counts, heads, unit, position) {
-        return count;
-    }
-    insert(list, count, position)
-}
-
-// The agenda after one atom was decided.
-fn after_decision(index: &[u64], before: State, after: State) -> Agenda
-    requires { ⌜ INDEX_WORDS ≤ length (now index) ⌝ }
-{
-    let none = Agenda {
-        rules: 0,
-        supports: 0,
-        others: 0,
-    };
-    woken(index, none, before, after)
-}
-
-// Adds to the list every position that belongs there and completes the state, of which the agenda says what may be told and the filter which entries
-// may be joined: the new count, or OVERFULL where that is more than LIST_WORDS.
+// Adds to the list every position that belongs there and completes the node's state, of which the filter says which entries may be joined: the new
+// count, or OVERFULL where that is more than LIST_WORDS. The memory keeps what is learnt on the way. The pair that is handed back is completed by no
+// member; where it lies within the state that the first branch began from, the second branch has none.
 fn explore(
     rules: &[u64],
     table: &[u64],
     counts: &[usize],
-    heads: &[u64],
-    backers: &[u64],
-    index: &[u64],
-    unit: Unit,
+    desk: &[u64],
     list: &mut [u64],
-    count: usize,
-    filter: [u64; FILTER_WORDS],
-    agenda: Agenda,
-    s: State,
-) -> usize
-    requires { ⌜ Searchable (now rules) (now table) (now counts) (now heads) unit × Ordered (now list) count
-        × Backers (now rules) (unit .rules) (now backers) × (INDEX_WORDS ≤ length (now index))
-        × Filtered (now table) (now counts) (now heads) (unit .nearest) s filter ⌝ }
-    ensures { λ r. ⌜ Gathered (Grown (now (list .entry)) count
-        (Wanted (now (rules .entry)) (now (table .entry)) (now (counts .entry)) (now (heads .entry)) unit s)) (now (list .exit)) r ⌝ }
+    memory: &mut [u64],
+    filter: &[u64],
+    node: Node,
+) -> Found
+    requires { ⌜ Prepared (now rules) (now table) (now counts) (now desk) (node .unit) × Ordered (now list) (node .count)
+        × Remembers (Belongs (now rules) (now table) (now counts) (now desk) (node .unit)) (now memory)
+        × Filtered (now table) (now counts) (now desk) (node .unit .nearest) (node .front .state) (now filter) ⌝ }
+    ensures gathered { λ r. ⌜ Gathered (Grown (now (list .entry)) (node .count)
+        (Wanted (now (rules .entry)) (now (table .entry)) (now (counts .entry)) (now (desk .entry)) (node .unit) (node .front .state)))
+        (now (list .exit)) (r .count) ⌝ }
+    ensures remembers { λ _. ⌜ Remembers (Belongs (now (rules .entry)) (now (table .entry)) (now (counts .entry)) (now (desk .entry)) (node .unit))
+        (now (memory .exit)) ⌝ }
+    ensures nogood { λ r. ⌜ Nogood (Belongs (now (rules .entry)) (now (table .entry)) (now (counts .entry)) (now (desk .entry)) (node .unit)) (r .nogood) ⌝ }
 {
-    let mut mine = filter;
-    let t = propagate(
-        rules,
-        table,
-        counts,
-        heads,
-        backers,
-        index,
-        unit,
-        &mut mine,
-        agenda,
-        s,
-    );
+    let unit = node.unit;
+    let front = node.front;
+    let base = node.base;
+    let mut mine = copied(filter);
+    let f = propagate(rules, table, counts, desk, unit, memory, &mut mine, front);
+    let t = f.state;
+    let way = span(base, front.top, f.top);
     if !atoms::are_apart(t.up, t.dropped) {
-        return count;
+        let clash = contradiction(t);
+        let nogood = lift(rules, table, counts, desk, unit, memory, way, clash);
+        return handed(node.count, nogood);
     }
     let free = undecided(t.up, t.dropped);
     if free == 0 {
-        return offer(rules, table, counts, heads, unit, list, count, t.up);
+        let count = offer(rules, table, counts, desk, unit, list, node.count, t.up);
+        return handed(count, everything());
     }
-    let atom = atoms::single(choose(rules, unit.rules, t, free));
-    let lower = State {
-        up: t.up,
-        dropped: atoms::union(t.dropped, atom),
-    };
-    let below = after_decision(index, t, lower);
-    let found = explore(
-        rules,
-        table,
-        counts,
-        heads,
-        backers,
-        index,
+    let i = pick(rules, unit.rules, memory, t, free);
+    let lower = Node {
         unit,
-        list,
-        count,
-        mine,
-        below,
-        lower,
-    );
-    if LIST_WORDS < found {
-        return found;
+        count: node.count,
+        front: lowered(desk, f, i),
+        base: t,
+    };
+    let first = explore(rules, table, counts, desk, list, memory, &mine, lower);
+    if LIST_WORDS < first.count {
+        return first;
     }
-    let upper = State {
-        up: atoms::union(t.up, atom),
-        dropped: t.dropped,
-    };
-    let above = after_decision(index, t, upper);
-    explore(
-        rules,
-        table,
-        counts,
-        heads,
-        backers,
-        index,
+    let n = first.nogood;
+    if lies_within(n, t) {
+        let nogood = blame(rules, table, counts, desk, unit, memory, way, n);
+        return handed(first.count, nogood);
+    }
+    let upper = Node {
         unit,
-        list,
-        found,
-        mine,
-        above,
-        upper,
-    )
+        count: first.count,
+        front: raised(desk, f, i),
+        base: t,
+    };
+    let second = explore(rules, table, counts, desk, list, memory, &mine, upper);
+    let left = merged(n, second.nogood, t, i);
+    let nogood = blame(rules, table, counts, desk, unit, memory, way, left);
+    handed(second.count, nogood)
 }
 
 // Adds to the list every position that belongs there and completes the state: the new count, or OVERFULL where that is more than LIST_WORDS.
@@ -182,21 +116,41 @@ pub fn search(
     ensures { λ r. ⌜ Gathered (Grown (now (list .entry)) count
         (Wanted (now (rules .entry)) (now (table .entry)) (now (counts .entry)) (now (heads .entry)) unit s)) (now (list .exit)) r ⌝ }
 {
-    let backers = backers(rules, unit.rules);
     let looped = looped_atoms(rules, unit.rules);
-    let index = wake_index(rules, heads, unit, looped);
+    let desk = lay_out(rules, heads, unit, looped);
+    let mut memory = empty_store();
+    let mut filter = full_filter(counts);
+    let front = Front {
+        state: s,
+        agenda: every_step(unit, looped),
+        top: 0,
+    };
+    let f = propagate(
+        rules,
+        table,
+        counts,
+        &desk,
+        unit,
+        &mut memory,
+        &mut filter,
+        front,
+    );
+    dive(rules, table, counts, &desk, unit, &mut memory, &filter, f);
+    let base = f.state;
+    let node = Node {
+        unit,
+        count,
+        front: f,
+        base,
+    };
     explore(
         rules,
         table,
         counts,
-        heads,
-        &backers,
-        &index,
-        unit,
+        &desk,
         list,
-        count,
-        full_filter(counts),
-        every_step(unit, looped),
-        s,
-    )
+        &mut memory,
+        &filter,
+        node,
+    ).count
 }

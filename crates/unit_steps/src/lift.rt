@@ -23,6 +23,11 @@ pub struct Stretch {
     pub top: usize,
 }
 
+// A stretch, put together.
+pub fn span(base: State, from: usize, top: usize) -> Stretch {
+    Stretch { base, from, top }
+}
+
 // The pair with the reason of what step `at` of the trail added in place of that.
 fn lift_over(
     rules: &[u64],
@@ -81,4 +86,25 @@ pub fn lift(
         learnt = learn_once(memory, base, r, learnt);
     }
     r
+}
+
+// The pair lifted over the stretch, unless nothing can complete it: then there is nothing to blame.
+pub fn blame(
+    rules: &[u64],
+    table: &[u64],
+    counts: &[usize],
+    desk: &[u64],
+    unit: Unit,
+    memory: &mut [u64],
+    stretch: Stretch,
+    n: State,
+) -> State
+    requires { ⌜ Prepared (now rules) (now table) (now counts) (now desk) unit × (MEMORY_WORDS ≤ length (now memory)) ⌝ }
+    ensures { λ r. ⌜ Lifted (Belongs (now (rules .entry)) (now (table .entry)) (now (counts .entry)) (now (desk .entry)) unit) n
+        (now (memory .entry)) (now (memory .exit)) r ⌝ }
+{
+    if !atoms::are_apart(n.up, n.dropped) {
+        return n;
+    }
+    lift(rules, table, counts, desk, unit, memory, stretch, n)
 }

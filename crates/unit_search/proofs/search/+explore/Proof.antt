@@ -1,35 +1,47 @@
--- The measure is the count of undecided atoms. Each return says what its step of the search adds to the list.
-use mathlib.Core.Path.{_∙_}
+-- The measure is the count of undecided atoms. Each return says what its step of the search adds to the list, that the memory keeps its promise, and
+-- why no member completes the pair.
+use mathlib.Core.Path.{_≡_, refl, sym, _∙_}
 use Prim.Native.Nat.{ℕ, _<_, _≤_}
 use lib.Count.{ones}
 use denote.Ref.{now}
 use borrow.Author.Needs.{needs}
+use borrow.Author.Tests.{not-true}
 use borrow.Fn.Kinds.{In}
 use borrow.Fn.PlainCycle.{Measures, is, falls, and}
 use Rattle.atoms.specs.Word.{Has}
-use Rattle.atoms.proofs.Counts.{count-le}
 use Rattle.answer_sets.specs.State.{undecided}
-use Rattle.answer_sets.proofs.HalfDecided.{undecided-shrinks}
 use Rattle.answer_sets.proofs.Between.{raise-falls, lower-falls}
-use Rattle.unit_search.proofs.Gathered.{gathered-ordered}
+use Rattle.learning.proofs.Nogoods.{nogood-resolved}
+use Rattle.learning.proofs.Reasons.{lifted-nogood, lifted-remembers}
 use Rattle.unit_steps.proofs.Filters.{filtered-lower, filtered-upper}
-use Rattle.unit_search.proofs.SearchSteps.{search-narrowed, search-clash, search-leaf, search-over, search-both}
+use Rattle.unit_search.proofs.Gathered.{gathered-ordered}
+use Rattle.unit_search.proofs.Branches.{overlap-of, overlap-nogood, narrowed-le, found-as}
+use Rattle.unit_search.proofs.SearchSteps.{search-state, search-narrowed, search-clash, search-leaf, search-over, search-skip, search-both}
 use Rattle.unit_search.proofs.search.explore.Reads as explore′
 use Rattle.unit_search.proofs.search.explore.Kinds as explore-kinds
 use Rattle.unit_search.proofs.search.+explore.Lts-explore as explore-lts
 use Rattle.answer_sets.proofs.known.undecided.Reads as undecided-reads
 use Rattle.atoms.proofs.are_apart.Reads as are-apart-reads
-use Rattle.narrowing.proofs.choice.choose.Reads as choose-reads
-use Rattle.atoms.proofs.single.Reads as single-reads
-use Rattle.atoms.proofs.union.Reads as union-reads
+use Rattle.learning.proofs.nogood.lies_within.Reads as lies-within-reads
+use Rattle.unit_search.proofs.branch.contradiction.Reads as contradiction-reads
+use Rattle.unit_search.proofs.branch.everything.Reads as everything-reads
+use Rattle.unit_search.proofs.branch.handed.Reads as handed-reads
+use Rattle.unit_search.proofs.branch.lowered.Reads as lowered-reads
+use Rattle.unit_search.proofs.branch.merged.Reads as merged-reads
+use Rattle.unit_search.proofs.branch.pick.Reads as pick-reads
+use Rattle.unit_search.proofs.branch.raised.Reads as raised-reads
+use Rattle.unit_search.proofs.member.offer.Reads as offer-reads
+use Rattle.unit_steps.proofs.filter.copied.Reads as copied-reads
+use Rattle.unit_steps.proofs.lift.blame.Reads as blame-reads
+use Rattle.unit_steps.proofs.lift.lift.Reads as lift-reads
+use Rattle.unit_steps.proofs.lift.span.Reads as span-reads
 use Rattle.unit_steps.proofs.propagate.propagate.Reads as propagate-reads
-use Rattle.unit_search.proofs.search.after_decision.Reads as after-decision-reads
-use Rattle.unit_search.proofs.search.offer.Reads as offer-reads
 use Rattle.unit_search.proofs.search.+explore.{statement}
 use Rattle.unit_search.proofs.search.+explore.Tie.{close}
 
 abbrev μ-explore : Measures 7 explore-kinds.ps ℕ
-μ-explore κs a = ones (undecided (a .1 .1 .1 .1 .1 .1 .1 .1 .1 .1 .1 .0 .up) (a .1 .1 .1 .1 .1 .1 .1 .1 .1 .1 .1 .0 .dropped))
+μ-explore κs a =
+    ones (undecided (a .1 .1 .1 .1 .1 .1 .1 .0 .front .state .up) (a .1 .1 .1 .1 .1 .1 .1 .0 .front .state .dropped))
 
 abbrev explore-at : ℕ → In 7 explore-kinds.ps
 explore-at t = and 7 explore-kinds.ps (is 7 explore-kinds.ps μ-explore t) explore′.Pre
@@ -39,24 +51,40 @@ explore-below t = and 7 explore-kinds.ps (falls 7 explore-kinds.ps _<_ μ-explor
 
 abbrev calls : ℕ → explore-lts.Claims
 calls t = (
+  copied-reads.Asked,
+  copied-reads.Learnt,
   propagate-reads.Asked,
   propagate-reads.Learnt,
+  span-reads.Asked,
+  span-reads.Learnt,
   are-apart-reads.Asked,
   are-apart-reads.Learnt,
+  contradiction-reads.Asked,
+  contradiction-reads.Learnt,
+  lift-reads.Asked,
+  lift-reads.Learnt,
+  handed-reads.Asked,
+  handed-reads.Learnt,
   undecided-reads.Asked,
   undecided-reads.Learnt,
   offer-reads.Asked,
   offer-reads.Learnt,
-  choose-reads.Asked,
-  choose-reads.Learnt,
-  single-reads.Asked,
-  single-reads.Learnt,
-  union-reads.Asked,
-  union-reads.Learnt,
-  after-decision-reads.Asked,
-  after-decision-reads.Learnt,
+  everything-reads.Asked,
+  everything-reads.Learnt,
+  pick-reads.Asked,
+  pick-reads.Learnt,
+  lowered-reads.Asked,
+  lowered-reads.Learnt,
   explore-below t,
   explore′.Post,
+  lies-within-reads.Asked,
+  lies-within-reads.Learnt,
+  blame-reads.Asked,
+  blame-reads.Learnt,
+  raised-reads.Asked,
+  raised-reads.Learnt,
+  merged-reads.Asked,
+  merged-reads.Learnt,
 )
 
 module _ (t : ℕ) where
@@ -68,131 +96,212 @@ module _ (t : ℕ) where
 
   -- an atom was chosen
   abbrev Chosen : Type 0
-  Chosen = explore-lts.After-choose (calls t) (explore-at t) explore′.Post
+  Chosen = explore-lts.After-pick (calls t) (explore-at t) explore′.Post
 
   -- the atom was dropped, and what that adds to the list was searched
   abbrev Searched : Type 0
   Searched = explore-lts.After-explore (calls t) (explore-at t) explore′.Post
 
+  -- then it went up
+  abbrev Twice : Type 0
+  Twice = explore-lts.After-explore2 (calls t) (explore-at t) explore′.Post
+
   abbrev start : Narrowed → explore-lts.Start (calls t) (explore-at t) explore′.Post
-  start c = c .before .before .before .before .before .before .before .before .before
+  start c = c .before .before .before .before .before .before .before .before .before .before .before .before .before .before
 
   abbrev narrowed : Chosen → Narrowed
-  narrowed c = c .before .before .before .before .before .before
+  narrowed c = c .before .before .before .before .before .before .before .before .before .before .before
 
   abbrev chosen : Searched → Chosen
   chosen c = c .before .before .before .before .before
 
-  -- what propagation leaves undecided
-  abbrev left : Chosen → ℕ
-  left c = undecided (narrowed c .propagate .result .up) (narrowed c .propagate .result .dropped)
+  abbrev searched : Twice → Searched
+  searched c = c .before .before .before .before .before .before .before .before .before .before .before .before .before .before
 
-  -- the atom that is tried is undecided
-  undecided-atom : (c : Chosen) → Has (left c) (c .choose .result)
-  undecided-atom c = rw (c .before .before .undecided .ensures) at (c .choose .ensures .0)
+  -- the chosen atom is undecided
+  undecided-atom : (c : Chosen)
+      → Has (undecided (narrowed c .propagate .result .state .up) (narrowed c .propagate .result .state .dropped)) (c .pick .result)
+  undecided-atom c = rw (c .before .before .before .undecided .ensures) at (c .pick .ensures .0)
 
   -- propagation leaves no more undecided
-  no-more : (c : Chosen) → ones (left c) ≤ t
-  no-more c =
-      let n = narrowed c .propagate in
-      rw (start (narrowed c) .pre .0) at
-      (count-le (left c) _
-      (undecided-shrinks _ _ (n .result .up) (n .result .dropped) (n .ensures .0 .up-grows) (n .ensures .0 .dropped-grows)))
+  no-more : (c : Chosen)
+      → ones (undecided (narrowed c .propagate .result .state .up) (narrowed c .propagate .result .state .dropped)) ≤ t
+  no-more c = rw (start (narrowed c) .pre .0) at (narrowed-le (narrowed c .propagate .ensures .0))
 
-  -- ---- the needs
+  -- ---- what the calls ask
 
-  overlap : explore-lts.Need-returns (calls t) (explore-at t) explore′.Post
-  overlap c =
-      let n = c .before .before .before in
-      search-narrowed (now (start n .args .list)) (start n .args .count) (n .propagate .ensures .0)
-      (search-clash (start n .pre .1 .1) (c .before .are-apart .ensures) (c .if1 .taken))
+  propagate-requires : explore-lts.Need-propagate-requires (calls t) (explore-at t) explore′.Post
+  propagate-requires c κs =
+      let pre = c .before .before .before .before .before .before .before .before .before .before .before .before .before .pre .1 in (pre .0, pre .2, rw (c .before .before .copied .ensures) (pre .3))
+
+  contradiction-requires : explore-lts.Need-contradiction-requires (calls t) (explore-at t) explore′.Post
+  contradiction-requires c κs = overlap-of (c .before .are-apart .ensures) (not-true (c .before .are-apart .result) (c .if1 .taken))
+
+  lift-requires : explore-lts.Need-lift-requires (calls t) (explore-at t) explore′.Post
+  lift-requires c κs = let n = c .before .before .before .before .before .before .before .before .before in (start n .pre .1 .0, n .propagate .ensures .1 .1 .long)
 
   offer-requires : explore-lts.Need-offer-requires (calls t) (explore-at t) explore′.Post
-  offer-requires c κs =
-      let s = start (c .before .before .before .before .before .before) in (s .pre .1 .0, s .pre .1 .1)
+  offer-requires c κs = let pre = start (c .before .before .before .before .before .before .before .before .before .before) .pre .1 in (pre .0 .searchable, pre .1)
 
-  decided : explore-lts.Need-returns-2 (calls t) (explore-at t) explore′.Post
-  decided c =
-      let free = c .before .before .before .before .before in
-      let n = free .before .before .before .before in
-      search-narrowed (now (start n .args .list)) (start n .args .count) (n .propagate .ensures .0)
-      (search-leaf (now (start n .args .list)) (start n .args .count) (free .before .before .are-apart .ensures) (free .before .if1 .left)
-      (free .undecided .ensures) (c .before .before .before .before .if2 .taken) (c .before .before .offer .ensures))
+  pick-requires : explore-lts.Need-pick-requires (calls t) (explore-at t) explore′.Post
+  pick-requires c κs =
+      let n = c .before .before .before .before .before .before .before .before .before .before in (start n .pre .1 .0 .searchable .rules-lent, n .propagate .ensures .1 .1 .long, c .before .if2 .left)
+
+  lowered-requires : explore-lts.Need-lowered-requires (calls t) (explore-at t) explore′.Post
+  lowered-requires c κs = (start (narrowed c) .pre .1 .0 .long, c .pick .ensures .1)
 
   lower-requires : explore-lts.Need-explore-requires (calls t) (explore-at t) explore′.Post
   lower-requires c κs =
-      let single = c .before .before .before in
-      let k = single .before in
+      let down = c .before .before .before in
+      let k = down .before in
       let n = narrowed k in
       let pre = start n .pre .1 in (
-        lower-falls _ _ (single .single .ensures) (undecided-atom k) (no-more k) (c .before .before .union .ensures),
-        (pre .0, pre .1, pre .2, pre .3, filtered-lower (n .propagate .result) _ (c .before .before .union .ensures) (n .propagate .ensures .1)),
+        rw (down .lowered .ensures) (lower-falls _ _ refl (undecided-atom k) (no-more k) refl),
+        (pre .0, pre .1, n .propagate .ensures .1 .1, rw (down .lowered .ensures) (filtered-lower _ _ refl (n .propagate .ensures .1 .0))),
       )
 
-  too-many : explore-lts.Need-returns-3 (calls t) (explore-at t) explore′.Post
-  too-many c =
-      let low = c .before .before .before in
-      let k = chosen low in
-      let n = narrowed k in
-      search-narrowed (now (start n .args .list)) (start n .args .count) (n .propagate .ensures .0)
-      (search-over (now (start n .args .list)) (start n .args .count) (k .choose .result) (low .before .before .before .before .single .ensures)
-      (low .before .before .before .union .ensures) (low .explore .ensures) (c .if3 .taken))
+  blame-requires : explore-lts.Need-blame-requires (calls t) (explore-at t) explore′.Post
+  blame-requires c κs =
+      let s = c .before .before .before .before .before .before .before .before .before .before in (start (narrowed (chosen s)) .pre .1 .0, s .explore .ensures .1 .0 .long)
+
+  raised-requires : explore-lts.Need-raised-requires (calls t) (explore-at t) explore′.Post
+  raised-requires c κs = let k = chosen (c .before .before .before .before .before .before .before .before .before) in (start (narrowed k) .pre .1 .0 .long, k .pick .ensures .1)
 
   upper-requires : explore-lts.Need-explore-requires-2 (calls t) (explore-at t) explore′.Post
   upper-requires c κs =
-      let up = c .before .before in
-      let low = up .before .before .before .before in
-      let k = chosen low in
+      let up = c .before .before .before in
+      let s = up .before .before .before .before .before .before .before .before .before .before in
+      let k = chosen s in
       let n = narrowed k in
       let pre = start n .pre .1 in (
-        raise-falls _ _ (low .before .before .before .before .single .ensures) (undecided-atom k) (no-more k) (up .union2 .ensures),
+        rw (up .raised .ensures) (raise-falls _ _ refl (undecided-atom k) (no-more k) refl),
         (
           pre .0,
-          gathered-ordered (up .before .if3 .left) (low .explore .ensures),
-          pre .2,
-          pre .3,
-          filtered-upper (n .propagate .result) _ (up .union2 .ensures) (n .propagate .ensures .1),
+          gathered-ordered (up .before .before .before .before .if3 .left) (s .explore .ensures .0),
+          s .explore .ensures .1 .0,
+          rw (up .raised .ensures) (filtered-upper _ _ refl (n .propagate .ensures .1 .0)),
         ),
       )
 
-  both-searched : explore-lts.Need-returns-4 (calls t) (explore-at t) explore′.Post
-  both-searched c =
-      let up = c .before .before .before .before .before in
-      let low = up .before .before .before .before in
-      let k = chosen low in
-      let n = narrowed k in
-      search-narrowed (now (start n .args .list)) (start n .args .count) (n .propagate .ensures .0)
-      (search-both (now (start n .args .list)) (start n .args .count) (k .choose .result) (low .before .before .before .before .single .ensures)
-      (low .before .before .before .union .ensures) (low .explore .ensures) (up .before .if3 .left) (up .union2 .ensures)
-      (c .before .before .explore2 .ensures))
+  blame-both-requires : explore-lts.Need-blame-requires-2 (calls t) (explore-at t) explore′.Post
+  blame-both-requires c κs =
+      let s = c .before .before .before .before .before .before in (start (narrowed (chosen (searched s))) .pre .1 .0, s .explore2 .ensures .1 .0 .long)
 
-  same-length : explore-lts.Need-same-length-3 (calls t) (explore-at t) explore′.Post
-  same-length c =
-      let low = c .before .before .before .before .before .before .before .before .before in
-      c .before .before .explore2 .kept .1 .1 .1 .1 .1 .1 .1 .0 ∙ low .explore .kept .1 .1 .1 .1 .1 .1 .1 .0
+  -- ---- what is handed back
+
+  overlap : explore-lts.Need-returns (calls t) (explore-at t) explore′.Post
+  overlap c =
+      let lifted = c .before .before .before in
+      let clash = lifted .before .before in
+      let n = clash .before .before .before .before .before .before .before .before in
+      let known = n .propagate .ensures .1 .1 in
+      let none = overlap-nogood (clash .contradiction .ensures) in
+      found-as (c .handed .ensures)
+      (search-narrowed (now (start n .args .list)) (start n .args .node .count) (n .propagate .ensures .0)
+      (search-clash (start n .pre .1 .1) (clash .before .before .are-apart .ensures) (clash .before .if1 .taken)))
+      (lifted-remembers known (lifted .lift .ensures) none)
+      (lifted-nogood known (lifted .lift .ensures) none)
+
+  decided : explore-lts.Need-returns-2 (calls t) (explore-at t) explore′.Post
+  decided c =
+      let offered = c .before .before .before .before in
+      let free = offered .before .before .before in
+      let n = free .before .before .before .before .before .before .before .before in
+      found-as (c .handed2 .ensures)
+      (search-narrowed (now (start n .args .list)) (start n .args .node .count) (n .propagate .ensures .0)
+      (search-leaf (now (start n .args .list)) (start n .args .node .count) (free .before .before .are-apart .ensures) (free .before .if1 .left)
+      (free .undecided .ensures) (offered .before .before .if2 .taken) (offered .offer .ensures)))
+      (n .propagate .ensures .1 .1)
+      (overlap-nogood (c .before .everything .ensures))
+
+  too-many : explore-lts.Need-returns-3 (calls t) (explore-at t) explore′.Post
+  too-many c =
+      let s = c .before .before .before .before .before .before in
+      let k = chosen s in
+      let n = narrowed k in (
+        search-narrowed (now (start n .args .list)) (start n .args .node .count) (n .propagate .ensures .0)
+            (search-over (now (start n .args .list)) (start n .args .node .count) (k .pick .result) refl refl
+            (search-state (now (start n .args .list)) (start n .args .node .count) (s .before .before .before .before .lowered .ensures) (s .explore .ensures .0)) (c .if3 .taken)),
+        s .explore .ensures .1,
+      )
+
+  skipped : explore-lts.Need-returns-4 (calls t) (explore-at t) explore′.Post
+  skipped c =
+      let blamed = c .before .before .before in
+      let test = blamed .before .before .before in
+      let s = test .before .before .before .before .before .before .before .before in
+      let k = chosen s in
+      let n = narrowed k in
+      let known = s .explore .ensures .1 .0 in
+      let none = s .explore .ensures .1 .1 in
+      found-as (c .handed3 .ensures)
+      (search-narrowed (now (start n .args .list)) (start n .args .node .count) (n .propagate .ensures .0)
+      (search-skip (now (start n .args .list)) (start n .args .node .count) (k .pick .result) refl refl
+      (search-state (now (start n .args .list)) (start n .args .node .count) (s .before .before .before .before .lowered .ensures) (s .explore .ensures .0)) none
+      (test .lies-within .ensures .yes (blamed .before .before .if4 .taken))))
+      (lifted-remembers known (blamed .blame .ensures) none)
+      (lifted-nogood known (blamed .blame .ensures) none)
+
+  both-searched : explore-lts.Need-returns-5 (calls t) (explore-at t) explore′.Post
+  both-searched c =
+      let blamed = c .before .before .before in
+      let left = blamed .before .before in
+      let h = left .before .before .before .before .before in
+      let s = searched h in
+      let k = chosen s in
+      let n = narrowed k in
+      let known = h .explore2 .ensures .1 .0 in
+      let none = nogood-resolved (left .merged .ensures) (h .explore2 .ensures .1 .1) (s .explore .ensures .1 .1) in
+      found-as (c .handed4 .ensures)
+      (search-narrowed (now (start n .args .list)) (start n .args .node .count) (n .propagate .ensures .0)
+      (search-both (now (start n .args .list)) (start n .args .node .count) (k .pick .result) refl refl
+      (search-state (now (start n .args .list)) (start n .args .node .count) (s .before .before .before .before .lowered .ensures) (s .explore .ensures .0)) (h .before .before .before .before .before .before .before .before .if3 .left) refl
+      (search-state (s .explore .last .1 .1 .1 .1 .0) (s .explore .result .count) (h .before .before .before .before .raised .ensures) (h .explore2 .ensures .0))))
+      (lifted-remembers known (blamed .blame2 .ensures) none)
+      (lifted-nogood known (blamed .blame2 .ensures) none)
 
 pub +explore-spec : {M : Type 1} → statement M
 +explore-spec = close μ-explore λ t. explore-lts.spec (calls t)
     (explore-at t)
     explore′.Post
+    (λ c κs. c .before .before .before .before .before .before .before .before .before .before .pre .1 .3 .long)
     (λ c. search needs)
-    (λ c κs.
-    let pre = c .before .before .before .before .before .before .before .before .pre .1 in (pre .0, pre .2, pre .3, pre .4))
+    (propagate-requires t)
     (λ c κs. search needs)
+    (λ c κs. search needs)
+    (contradiction-requires t)
+    (lift-requires t)
+    (λ c κs. search needs)
+    (λ c. search needs)
     (overlap t)
     (λ c κs. search needs)
     (offer-requires t)
-    (λ c. c .before .before .offer .kept .1 .1 .1 .1 .1 .0)
-    (decided t)
-    (λ c κs. (start t (c .before .before .before .before .before) .pre .1 .0 .rules-lent, c .if2 .left))
-    (λ c κs. c .choose .ensures .1)
     (λ c κs. search needs)
-    (λ c κs. start t (narrowed t (c .before .before)) .pre .1 .3)
+    (λ c κs. search needs)
+    (λ c. search needs)
+    (λ c. search needs)
+    (decided t)
+    (pick-requires t)
+    (lowered-requires t)
+    (λ c. search needs)
     (lower-requires t)
-    (λ c. c .before .before .before .explore .kept .1 .1 .1 .1 .1 .1 .1 .0)
+    (λ c. c .before .before .before .before .before .before .explore .kept .1 .1 .1 .1 .0)
+    (λ c. c .before .before .before .before .before .before .explore .kept .1 .1 .1 .1 .1 .0 ∙ narrowed t (chosen t (c .before .before .before .before .before .before)) .propagate .kept .1 .1 .1 .1 .1 .0)
     (too-many t)
     (λ c κs. search needs)
-    (λ c κs. start t (narrowed t (chosen t (c .before .before .before .before))) .pre .1 .3)
+    (blame-requires t)
+    (λ c κs. search needs)
+    (λ c. c .before .before .before .before .before .before .before .before .before .before .before .before .before .before .explore .kept .1 .1 .1 .1 .0)
+    (λ c. c .before .before .before .blame .kept .1 .1 .1 .1 .1 .0 ∙ c .before .before .before .before .before .before .before .before .before .before .before .before .before .before .explore .kept .1 .1 .1 .1 .1 .0 ∙ narrowed t (chosen t (c .before .before .before .before .before .before .before .before .before .before .before .before .before .before)) .propagate .kept .1 .1 .1 .1 .1 .0)
+    (skipped t)
+    (raised-requires t)
+    (λ c. sym (narrowed t (chosen t (c .before .before .before .before .before .before .before .before .before .before .before .before .before)) .propagate .ensures .1 .0 .long))
     (upper-requires t)
-    (same-length t)
+    (λ c κs. chosen t (searched t (c .before .before .before .before)) .pick .ensures .1)
+    (blame-both-requires t)
+    (λ c κs. search needs)
+    (λ c. c .before .before .before .before .before .before .before .before .before .before .explore2 .kept .1 .1 .1 .1 .0 ∙ searched t (c .before .before .before .before .before .before .before .before .before .before) .explore .kept .1 .1 .1 .1 .0)
+    (λ c.
+    c .before .before .before .blame2 .kept .1 .1 .1 .1 .1 .0 ∙ c .before .before .before .before .before .before .before .before .before .before .explore2 .kept .1 .1 .1 .1 .1 .0 ∙ searched t (c .before .before .before .before .before .before .before .before .before .before) .explore .kept .1 .1 .1 .1 .1 .0
+    ∙ narrowed t (chosen t (searched t (c .before .before .before .before .before .before .before .before .before .before))) .propagate .kept .1 .1 .1 .1 .1 .0)
     (both-searched t)

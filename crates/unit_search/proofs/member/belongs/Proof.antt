@@ -7,8 +7,8 @@ use Rattle.answer_sets.specs.Lent.{lent}
 use Rattle.answer_sets.specs.Test.{answerSet}
 use Rattle.unit_search.proofs.SearchSteps.{not-joined, joined-answers}
 use borrow.Author.Needs.{needs}
-use Rattle.unit_search.proofs.search.belongs.Statement.{statement}
-use Rattle.unit_search.proofs.search.belongs.Tie as tie
+use Rattle.unit_search.proofs.member.belongs.Statement.{statement}
+use Rattle.unit_search.proofs.member.belongs.Tie as tie
 
 returns : tie.Need-returns
 returns c =

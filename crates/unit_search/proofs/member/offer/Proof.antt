@@ -3,8 +3,8 @@ use denote.Ref.{now}
 use borrow.Author.Tests.{not-true, not-false}
 use Rattle.unit_search.proofs.SearchSteps.{offer-none, offer-one}
 use borrow.Author.Needs.{needs}
-use Rattle.unit_search.proofs.search.offer.Statement.{statement}
-use Rattle.unit_search.proofs.search.offer.Tie as tie
+use Rattle.unit_search.proofs.member.offer.Statement.{statement}
+use Rattle.unit_search.proofs.member.offer.Tie as tie
 
 returns : tie.Need-returns
 returns c =

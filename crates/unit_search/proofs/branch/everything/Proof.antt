@@ -1,0 +1,14 @@
+-- Atom 0 is in both words.
+use mathlib.Core.Path.{refl}
+use borrow.Author.Needs.{needs}
+use Rattle.unit_search.proofs.branch.everything.Statement.{statement}
+use Rattle.unit_search.proofs.branch.everything.Tie as tie
+
+returns : tie.Need-returns
+returns c = record { overlap = λ a. a .none 0 (record { bit = refl }) (record { bit = refl }) }
+
+pub everything-spec : {M : Type 1} → statement M
+everything-spec =
+    tie.close
+    (tie.spec
+    returns)

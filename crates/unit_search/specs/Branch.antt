@@ -1,0 +1,10 @@
+-- Inner: the two branches of a search: a state with one more atom dropped, and with it up.
+use Prim.Native.Nat.{ℕ}
+use Rattle.atoms.specs.Word.{_∪_, atom}
+use Rattle.answer_sets.specs.declared.state.State.{State}
+
+abbrev pub withDropped : State → ℕ → State
+withDropped s i = record { up = s .up; dropped = s .dropped ∪ atom i }
+
+abbrev pub withUp : State → ℕ → State
+withUp s i = record { up = s .up ∪ atom i; dropped = s .dropped }

@@ -1,0 +1,142 @@
+// Where a search stands, how it goes on from there, and what is left of two branches.
+use answer_sets::State;
+use learning::nogood::lies_within;
+use learning::nogood::resolve;
+use learning::store::learnt_pairs;
+use learning::trail::leaders;
+use narrowing::choice::choose;
+use unit_steps::Unit;
+use unit_steps::agenda::Agenda;
+use unit_steps::agenda::woken;
+use unit_steps::desk::DESK_WORDS;
+use unit_steps::desk::INDEX;
+use unit_steps::front::Front;
+ghost use mathlib.Core.Path.{_≡_};
+ghost use Prim.Native.Nat.{_≤_, _<_};
+ghost use lib.ListN.{length};
+ghost use Rattle.atoms.specs.Word.{ATOMS, Has};
+ghost use Rattle.answer_sets.specs.Lent.{Lent};
+ghost use Rattle.learning.specs.Nogood.{Overlaps, Resolves};
+ghost use Rattle.learning.specs.Store.{MEMORY_WORDS};
+ghost use Rattle.unit_steps.specs.Desk.{DESK_WORDS};
+ghost use Rattle.unit_search.specs.Branch.{withDropped, withUp};
+
+// A node of the search: its unit, how many positions are listed so far, where propagation stands, and the state in which the atom was decided.
+pub struct Node {
+    pub unit: Unit,
+    pub count: usize,
+    pub front: Front,
+    pub base: State,
+}
+
+// What was found below a node: how many positions are listed now, and a pair that no member completes.
+pub struct Found {
+    pub count: usize,
+    pub nogood: State,
+}
+
+// What was found, put together.
+pub fn handed(count: usize, nogood: State) -> Found
+    ensures { λ r. ⌜ r ≡ record { count = count; nogood = nogood } ⌝ }
+{
+    Found { count, nogood }
+}
+
+const ALL: u64 = 0xffff_ffff_ffff_ffff;
+
+// The pair that names everything, which nothing completes.
+pub fn everything() -> State
+    ensures { λ r. ⌜ Overlaps r ⌝ }
+{
+    State {
+        up: ALL,
+        dropped: ALL,
+    }
+}
+
+// The pair of an atom that is both up and dropped.
+pub fn contradiction(s: State) -> State
+    requires { ⌜ Overlaps s ⌝ }
+    ensures { λ r. ⌜ Overlaps r ⌝ }
+{
+    let atom = atoms::single(atoms::lowest(atoms::cut(s.up, s.dropped)));
+    State {
+        up: atom,
+        dropped: atom,
+    }
+}
+
+// The front in another state, with the steps that it wakes on the agenda.
+fn moved(desk: &[u64], f: Front, after: State) -> Front
+    requires { ⌜ length (now desk) ≡ DESK_WORDS ⌝ }
+    ensures { λ r. ⌜ r .state ≡ after ⌝ }
+{
+    let none = Agenda {
+        rules: 0,
+        supports: 0,
+        others: 0,
+    };
+    let before = f.state;
+    Front {
+        state: after,
+        agenda: woken(&desk[INDEX..DESK_WORDS], none, before, after),
+        top: f.top,
+    }
+}
+
+// The front with the atom dropped.
+pub fn lowered(desk: &[u64], f: Front, i: usize) -> Front
+    requires { ⌜ (length (now desk) ≡ DESK_WORDS) × (i < ATOMS) ⌝ }
+    ensures { λ r. ⌜ r .state ≡ withDropped (f .state) i ⌝ }
+{
+    let s = f.state;
+    let after = State {
+        up: s.up,
+        dropped: atoms::union(s.dropped, atoms::single(i)),
+    };
+    moved(desk, f, after)
+}
+
+// The front with the atom up.
+pub fn raised(desk: &[u64], f: Front, i: usize) -> Front
+    requires { ⌜ (length (now desk) ≡ DESK_WORDS) × (i < ATOMS) ⌝ }
+    ensures { λ r. ⌜ r .state ≡ withUp (f .state) i ⌝ }
+{
+    let s = f.state;
+    let after = State {
+        up: atoms::union(s.up, atoms::single(i)),
+        dropped: s.dropped,
+    };
+    moved(desk, f, after)
+}
+
+// The atoms whose rules come first in the choice: those that are decided, once a stop has shown that it matters what hangs together.
+fn near_atoms(memory: &[u64], s: State) -> u64
+    requires { ⌜ MEMORY_WORDS ≤ length (now memory) ⌝ }
+{
+    if learnt_pairs(memory) == 0 {
+        return 0;
+    }
+    atoms::union(s.up, s.dropped)
+}
+
+// The free atom to decide next: of those that stood most often in what was learnt.
+pub fn pick(rules: &[u64], which: u64, memory: &[u64], s: State, free: u64) -> usize
+    requires { ⌜ Lent (now rules) which × (MEMORY_WORDS ≤ length (now memory)) × (free ≡ 0 → ⊥) ⌝ }
+    ensures { λ r. ⌜ Has free r × (r < ATOMS) ⌝ }
+{
+    let leading = leaders(memory, free);
+    choose(rules, which, s, leading, near_atoms(memory, s))
+}
+
+// What is left of the pairs of both branches, of which the first has the atom dropped and the second has it up: the second where that lies within
+// the state, and else both without the atom.
+pub fn merged(first: State, second: State, s: State, i: usize) -> State
+    requires { ⌜ i < ATOMS ⌝ }
+    ensures { λ r. ⌜ Resolves second first r ⌝ }
+{
+    if lies_within(second, s) {
+        return second;
+    }
+    resolve(second, first, i)
+}

@@ -1,0 +1,113 @@
+// A first way down: one branch alone, so that a stop is learnt from before the first atom of the search is chosen. It lists nothing.
+use crate::branch::contradiction;
+use crate::branch::lowered;
+use crate::branch::pick;
+use answer_sets::State;
+use answer_sets::known::undecided;
+use unit_steps::Unit;
+use unit_steps::filter::copied;
+use unit_steps::front::Front;
+use unit_steps::lift::lift;
+use unit_steps::lift::span;
+use unit_steps::propagate::propagate;
+ghost use mathlib.Core.Path.{_≡_};
+ghost use Prim.Native.Nat.{_<_};
+ghost use lib.Count.{ones};
+ghost use Rattle.answer_sets.specs.State.{undecided as undecidedOf};
+ghost use Rattle.learning.specs.Reason.{Remembers};
+ghost use Rattle.unit_steps.specs.Filter.{Filtered};
+ghost use Rattle.unit_steps.specs.Desk.{Prepared};
+ghost use Rattle.unit_steps.specs.Job.{Belongs};
+
+// With fewer atoms undecided the search is short, and a way down before it is not worth its time.
+const DEEP: usize = 24;
+
+// The undecided atoms of a state that something completes.
+fn free_atoms(s: State) -> u64
+    ensures { λ r. ⌜ ((r ≡ 0 → ⊥) → r ≡ undecidedOf (s .up) (s .dropped)) ⌝ }
+{
+    if !atoms::are_apart(s.up, s.dropped) {
+        return 0;
+    }
+    undecided(s.up, s.dropped)
+}
+
+// The front one atom further down: the atom is dropped, and steps are taken until none has anything new to say.
+fn descend(
+    rules: &[u64],
+    table: &[u64],
+    counts: &[usize],
+    desk: &[u64],
+    unit: Unit,
+    memory: &mut [u64],
+    filter: &mut [u64],
+    f: Front,
+) -> Front
+    requires { ⌜ Prepared (now rules) (now table) (now counts) (now desk) unit
+        × Remembers (Belongs (now rules) (now table) (now counts) (now desk) unit) (now memory)
+        × Filtered (now table) (now counts) (now desk) (unit .nearest) (f .state) (now filter)
+        × (undecidedOf (f .state .up) (f .state .dropped) ≡ 0 → ⊥) ⌝ }
+    ensures filtered { λ r. ⌜ Filtered (now (table .entry)) (now (counts .entry)) (now (desk .entry)) (unit .nearest) (r .state) (now (filter .exit)) ⌝ }
+    ensures remembers { λ _. ⌜ Remembers (Belongs (now (rules .entry)) (now (table .entry)) (now (counts .entry)) (now (desk .entry)) unit)
+        (now (memory .exit)) ⌝ }
+    ensures falls { λ r. ⌜ ones (undecidedOf (r .state .up) (r .state .dropped)) < ones (undecidedOf (f .state .up) (f .state .dropped)) ⌝ }
+{
+    let s = f.state;
+    let i = pick(rules, unit.rules, memory, s, undecided(s.up, s.dropped));
+    let below = lowered(desk, f, i);
+    propagate(rules, table, counts, desk, unit, memory, filter, below)
+}
+
+// Learns from the state if it is a stop; the state above it is that of the front before.
+fn learn_stop(
+    rules: &[u64],
+    table: &[u64],
+    counts: &[usize],
+    desk: &[u64],
+    unit: Unit,
+    memory: &mut [u64],
+    above: Front,
+    f: Front,
+)
+    requires { ⌜ Prepared (now rules) (now table) (now counts) (now desk) unit
+        × Remembers (Belongs (now rules) (now table) (now counts) (now desk) unit) (now memory) ⌝ }
+    ensures { λ _. ⌜ Remembers (Belongs (now (rules .entry)) (now (table .entry)) (now (counts .entry)) (now (desk .entry)) unit) (now (memory .exit)) ⌝ }
+{
+    let s = f.state;
+    if atoms::are_apart(s.up, s.dropped) {
+        return;
+    }
+    let base = above.state;
+    let way = span(base, above.top, f.top);
+    let clash = contradiction(s);
+    lift(rules, table, counts, desk, unit, memory, way, clash);
+}
+
+// Goes down from the front until nothing is undecided or nothing completes the state, and learns from the stop.
+pub fn dive(
+    rules: &[u64],
+    table: &[u64],
+    counts: &[usize],
+    desk: &[u64],
+    unit: Unit,
+    memory: &mut [u64],
+    filter: &[u64],
+    front: Front,
+)
+    requires { ⌜ Prepared (now rules) (now table) (now counts) (now desk) unit
+        × Remembers (Belongs (now rules) (now table) (now counts) (now desk) unit) (now memory)
+        × Filtered (now table) (now counts) (now desk) (unit .nearest) (front .state) (now filter) ⌝ }
+    ensures { λ _. ⌜ Remembers (Belongs (now (rules .entry)) (now (table .entry)) (now (counts .entry)) (now (desk .entry)) unit) (now (memory .exit)) ⌝ }
+{
+    if atoms::count(free_atoms(front.state)) < DEEP {
+        return;
+    }
+    let mut mine = copied(filter);
+    let mut above = front;
+    let mut f = front;
+    while free_atoms(f.state) != 0 {
+        above = f;
+        f = descend(rules, table, counts, desk, unit, memory, &mut mine, f);
+    }
+    learn_stop(rules, table, counts, desk, unit, memory, above, f);
+}
