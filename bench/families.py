@@ -389,6 +389,10 @@ def main(folder):
 
 
 if __name__ == "__main__":
-    if len(sys.argv) != 2:
+    arguments = sys.argv[1:]
+    if "-h" in arguments or "--help" in arguments:
+        print(__doc__)
+        sys.exit()
+    if len(arguments) != 1 or arguments[0].startswith("-"):
         sys.exit(__doc__)
-    main(sys.argv[1])
+    main(arguments[0])
