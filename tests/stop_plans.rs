@@ -5,7 +5,7 @@ use crate::random::Random;
 use crate::table_plans::{put_tables, truth_by, FALSE, TRUE};
 use crate::valid_plans::{add_choice, add_choices, bit, one, turn_keys, zero};
 
-/// Most atoms in heads: of so many the comparison still tries every set. These plans have few sets that pass even their choices.
+/// Most atoms in heads: of so many the comparison still tries every set.
 const MOST_ATOMS: usize = 14;
 
 /// A part of a rule's body: positive atoms, negative atoms.
@@ -27,7 +27,7 @@ impl Contact {
         Contact { up: vec![[one(i), 0], [0, zero(i)]], down: vec![[zero(i), 0], [0, one(i)]] }
     }
 
-    /// The contact of a relay that is up where this one is says the same.
+    /// This relay is up where the contact is, so it says the same.
     fn follow(&mut self, relay: u64) {
         self.up.push([relay, 0]);
         self.down.push([0, relay]);
@@ -249,7 +249,7 @@ fn ask_parity(random: &mut Random, draft: &mut Draft, unit: usize, [a, b]: [&Con
     }
 }
 
-/// Eight or nine keys, some of them in a unit below, of which an odd and an even number must be up: hundreds of stops.
+/// The same with eight or nine keys, some of them in a unit below, told by tables: hundreds of stops.
 pub fn parities_of_many(random: &mut Random) -> Draft {
     let count = random.between(8, 9);
     let below = random.pick(&[0, 0, 2, 3, 4]);
