@@ -288,6 +288,71 @@ def pigeonholes(size):
     return plan
 
 
+def add_tracks_to_fill(plan, size):
+    """`size` trains for `size` + 1 tracks, each of which must be used. From eight trains on each keeps off one track of its own."""
+    tracks = [[] for _ in range(size + 1)]
+    for train in range(size):
+        served = [track for track in range(size + 1) if size < 8 or track != train]
+        places = [plan.atom() for _ in served]
+        plan.rule(places)
+        for track, place in zip(served, places):
+            tracks[track].append(place)
+    for places in tracks:
+        plan.rule((), (), places)
+
+
+def tracks_to_fill(size):
+    """One train too few for `size` + 1 tracks: no position. Eight trains that serve all tracks would take 72 atoms."""
+    plan = Plan()
+    add_tracks_to_fill(plan, size)
+    return plan
+
+
+def busy_keys(size):
+    """`size` keys that stand in most rules, though they have no part in it that one train is missing for seven tracks: no position."""
+    plan = Plan()
+    keys = [plan.choice()[0] for _ in range(size)]
+    triples = list(itertools.combinations(keys, 3))
+    for spared in triples[:: -(-len(triples) // 40)]:
+        plan.rule((), [key for key in keys if key not in spared])
+    add_tracks_to_fill(plan, 6)
+    return plan
+
+
+def trains_in_turn(size):
+    """`size` + 1 trains, each on one of `size` tracks that no earlier train has; none may be left over: no position. Seven tracks take all 64
+    rules."""
+    plan = Plan()
+    trains = [[plan.atom() for _ in range(size)] for _ in range(size + 1)]
+    for i, tracks in enumerate(trains):
+        for track, place in enumerate(tracks):
+            earlier = [other[track] for other in trains[:i]]
+            plan.rule([place], negative=earlier + [other for other in tracks if other != place])
+        plan.rule((), (), tracks)
+    return plan
+
+
+def counted_trains(size):
+    """`size` + 1 trains on `size` tracks; tables tell whether one or two of the first six are on a track, and no two may be: no position.
+    Eight tracks would take 72 atoms."""
+    plan = Plan()
+    never = plan.atom()
+    trains = [[plan.atom() for _ in range(size)] for _ in range(size + 1)]
+    for tracks in trains:
+        plan.rule(tracks)
+    for track in range(size):
+        first, others = [[tracks[track] for tracks in part] for part in (trains[:6], trains[6:])]
+        two = plan.table(first, lambda ups: sum(ups) >= 2)
+        plan.rule((), (), [never], uses=[(two, True)])
+        if others:
+            one = plan.table(first, any)
+            for place in others:
+                plan.rule((), [place], uses=[(one, True)])
+        for pair in itertools.combinations(others, 2):
+            plan.rule((), pair)
+    return plan
+
+
 def full_tracks(size):
     """`size` trains on `size` tracks, each track used: every permutation."""
     plan = Plan()
@@ -321,6 +386,75 @@ def parity_cut(size):
         relay = plan.atom()
         plan.rule([relay], uses=[(odd, True)])
         plan.rule((), [relay])
+    return plan
+
+
+def mixed(keys):
+    """Up to sixteen keys in an order that has nothing of the order in which they stand."""
+    places = sorted(range(len(keys)), key=lambda place: pow(3, place + 1, 17))
+    return [keys[place] for place in places]
+
+
+def contact(relay):
+    """The bodies, each as (positive, negative), that hold where the relay is up and where it is not."""
+    return ([relay], []), ([], [relay])
+
+
+def parity_chain(plan, keys):
+    """The contact of the last of new relays, each up where either the relay before it or the next key is; keys are given by their contacts."""
+    last = keys[0]
+    for key in keys[1:]:
+        relay = plan.atom()
+        for one, other in zip(last, reversed(key)):
+            plan.rule([relay], one[0] + other[0], one[1] + other[1])
+        last = contact(relay)
+    return last
+
+
+def ask_odd_and_even(plan, keys):
+    """One chain over the keys must find an odd number up, another one in mixed order an even number."""
+    _, even = parity_chain(plan, keys)
+    odd, _ = parity_chain(plan, mixed(keys))
+    plan.rule((), *even)
+    plan.rule((), *odd)
+
+
+def odd_and_even(size):
+    """`size` keys of which an odd and an even number must be up, told by two chains of relays: no position. Fourteen keys would take 68 rules."""
+    plan = Plan()
+    ask_odd_and_even(plan, [contact(plan.choice()[0]) for _ in range(size)])
+    return plan
+
+
+def odd_and_even_pairs(size):
+    """The same with two keys for each choice of one of four relays, so that fourteen keys fit."""
+    plan = Plan()
+    keys = []
+    for _ in range(size // 2):
+        four = [plan.atom() for _ in range(4)]
+        plan.rule(four)
+        # A key is up where no relay is up that has it down.
+        keys += [(([], four[:2]), ([], four[2:])), (([], four[::2]), ([], four[1::2]))]
+    ask_odd_and_even(plan, keys)
+    return plan
+
+
+def parity_tables(plan, relays):
+    """The last of new relays, each up where an odd number of the next five relays is."""
+    relays = list(relays)
+    while len(relays) > 1:
+        odd = plan.table(relays[:5], lambda ups: sum(ups) % 2)
+        relays = relays[5:] + [plan.atom()]
+        plan.rule([relays[-1]], uses=[(odd, True)])
+    return relays[0]
+
+
+def odd_and_even_tables(size):
+    """`size` keys of which an odd and an even number must be up, told by tables of five: no position."""
+    plan = Plan()
+    keys = [plan.choice()[0] for _ in range(size)]
+    plan.rule((), (), [parity_tables(plan, keys)])
+    plan.rule((), [parity_tables(plan, mixed(keys))])
     return plan
 
 
@@ -366,9 +500,16 @@ FAMILIES = {
     even_ring: range(4, 33, 7),
     holding_loops: range(4, 33, 7),
     pigeonholes: range(2, 5),
+    tracks_to_fill: range(4, 9),
+    busy_keys: range(5, 12, 2),
+    trains_in_turn: range(4, 8),
+    counted_trains: range(4, 8),
     full_tracks: range(2, 8),
     parity: range(2, 17, 3),
     parity_cut: range(2, 15, 3),
+    odd_and_even: [6, 8, 10, 12, 13],
+    odd_and_even_pairs: range(6, 15, 2),
+    odd_and_even_tables: range(6, 17, 2),
     majority: range(2, 17, 3),
     decoder: range(1, 7),
 }
@@ -389,6 +530,10 @@ def main(folder):
 
 
 if __name__ == "__main__":
-    if len(sys.argv) != 2:
+    arguments = sys.argv[1:]
+    if "-h" in arguments or "--help" in arguments:
+        print(__doc__)
+        sys.exit()
+    if len(arguments) != 1 or arguments[0].startswith("-"):
         sys.exit(__doc__)
-    main(sys.argv[1])
+    main(arguments[0])

@@ -203,7 +203,7 @@ impl Groups {
 /// A valid plan with one to three reading faults, sometimes cut short at one.
 pub fn broken_reading(random: &mut Random) -> Vec<u8> {
     let mut draft = if random.chance(30) { large_draft(random) } else { sound_draft(random) };
-    if random.chance(30) {
+    if random.chance(50) {
         draft.given.get_or_insert(0);
     }
     let groups = Groups::of(&draft);
@@ -246,7 +246,7 @@ fn break_reading(random: &mut Random, draft: &Draft, groups: &Groups, commands: 
     let (units, rules) = (draft.units.len() as u8, draft.rules.len());
     let edge = (random.byte() % 20, random.byte() % 20);
     let any_word = random.word() >> random.below(64);
-    let (first, last, command) = match random.below(20) {
+    let (first, last, command) = match random.below(22) {
         0 => (0, groups.end, vec![random.byte()]),
         1 => (groups.rules, groups.uses, encode::rule(0, 0, 0)),
         2 => (groups.units, groups.edges, encode::unit(any_word)),
@@ -265,7 +265,7 @@ fn break_reading(random: &mut Random, draft: &Draft, groups: &Groups, commands: 
         15 => (groups.rules, groups.uses, encode::rule(any_word, 1 << 63, 1 << 63)),
         16 => (groups.rules, groups.uses, encode::rule(0, any_word | 1, any_word | 3)),
         17 => (groups.rules, groups.end, encode::rule(any_word, any_word, any_word)),
-        18 => (groups.tables, groups.tables, encode::given(any_word)),
+        18..=20 => (groups.tables, groups.tables, encode::given(any_word)),
         _ => (groups.end + 1, groups.end + 1, vec![random.pick(&[0, 1, 2, 3, 4, 5, 6, 9]); random.between(1, 30)]),
     };
     let place = random.between(first, last).min(commands.len());
@@ -285,7 +285,7 @@ pub fn broken_tables(random: &mut Random) -> Vec<u8> {
         };
         let place = random.between(first, last);
         commands.insert(place, command);
-        if random.chance(20) {
+        if random.chance(30) {
             return cut_inside(random, &commands, place);
         }
     }

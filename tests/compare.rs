@@ -14,6 +14,7 @@ mod questions;
 mod random;
 mod readings;
 mod samples;
+mod stop_plans;
 mod table_plans;
 mod table_tally;
 mod tally;

@@ -4,6 +4,7 @@ use crate::broken_plans as broken;
 use crate::draft::Draft;
 use crate::lister::TABLE_WORDS;
 use crate::random::Random;
+use crate::stop_plans as stops;
 use crate::table_plans as tables;
 use crate::valid_plans as valid;
 
@@ -43,6 +44,11 @@ static FAMILIES: &[Family] = &[
     family("full size", 10, Draw::Valid(valid::full_size)),
     family("given atoms", 70, Draw::Valid(valid::given_atoms)),
     family("given atoms, many in heads", 10, Draw::ManyAtoms(valid::given_among_many)),
+    family("contradicting constraints", 80, Draw::Valid(stops::contradicting_constraints)),
+    family("pigeonholes", 40, Draw::Valid(stops::pigeonholes)),
+    family("contradicting parities", 50, Draw::Valid(stops::contradicting_parities)),
+    family("contradicting parities of many keys", 8, Draw::ManyAtoms(stops::parities_of_many)),
+    family("hitting sets", 50, Draw::Valid(stops::hitting_sets)),
     family("tables put into other plans", 110, Draw::Valid(tables::tables_anywhere)),
     family("small circuits with tables", 90, Draw::Valid(tables::table_circuits)),
     family("banks of tables in layers", 50, Draw::Valid(tables::banks_in_layers)),

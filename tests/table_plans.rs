@@ -11,7 +11,7 @@ pub const FALSE: usize = 1;
 // ---- Tables ----------------------------------------------------------------------------------
 
 /// The truth word of a table with so many inputs whose answer is told by the number of the row.
-fn truth_by(inputs: usize, answer: impl Fn(usize) -> bool) -> u64 {
+pub fn truth_by(inputs: usize, answer: impl Fn(usize) -> bool) -> u64 {
     (0..1 << inputs).filter(|&row| answer(row)).fold(0, |truth, row| truth | 1 << row)
 }
 

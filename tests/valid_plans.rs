@@ -239,7 +239,7 @@ pub fn given_among_many(random: &mut Random) -> Draft {
 }
 
 /// Puts keys, atoms that no head has, into some bodies and gives some of them.
-fn turn_keys(random: &mut Random, draft: &mut Draft) {
+pub fn turn_keys(random: &mut Random, draft: &mut Draft) {
     let free = !draft.head_atoms();
     let most_keys = random.pick(&[1, 2, 4, 8]);
     let keys = random.atoms_of(free, most_keys);
@@ -263,7 +263,7 @@ fn turn_keys(random: &mut Random, draft: &mut Draft) {
 // ---- Long lists ------------------------------------------------------------------------------
 
 /// A choice of one of two relays, as a disjunction or as an even loop.
-fn add_choice(random: &mut Random, draft: &mut Draft, unit: usize, [a, b]: [u64; 2]) {
+pub fn add_choice(random: &mut Random, draft: &mut Draft, unit: usize, [a, b]: [u64; 2]) {
     if random.chance(50) {
         draft.add_rule(unit, [a | b, 0, 0]);
     } else {
@@ -277,7 +277,7 @@ pub fn one(i: usize) -> u64 {
     bit(2 * i)
 }
 
-fn zero(i: usize) -> u64 {
+pub fn zero(i: usize) -> u64 {
     bit(2 * i + 1)
 }
 
