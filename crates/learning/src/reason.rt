@@ -41,14 +41,20 @@ pub fn replace(n: State, s: State, part: State) -> State
     }
 }
 
-// Learns the pair if none was learnt, something might complete it, and it names at most one atom beyond the base; whether one is learnt now.
-pub fn learn_once(memory: &mut [u64], base: State, n: State, learnt: bool) -> bool
+// Learns the pair if none was learnt, something might complete it, and it names at most one atom beyond the base; whether one is learnt now. Until
+// then the atoms score that were replaced since the pair before.
+pub fn learn_once(memory: &mut [u64], base: State, old: State, n: State, learnt: bool) -> bool
     requires { ⌜ MEMORY_WORDS ≤ length (now memory) ⌝ }
     ensures { λ _. ⌜ Keeps (Avoids n) (now (memory .entry)) (now (memory .exit)) ⌝ }
 {
     if learnt {
         return true;
     }
+    let all = atoms::union(n.up, n.dropped);
+    score_atoms(
+        memory,
+        atoms::without(atoms::union(old.up, old.dropped), all),
+    );
     if !atoms::are_apart(n.up, n.dropped) {
         return false;
     }
@@ -57,6 +63,6 @@ pub fn learn_once(memory: &mut [u64], base: State, n: State, learnt: bool) -> bo
         return false;
     }
     learn(memory, n);
-    score_atoms(memory, atoms::union(n.up, n.dropped));
+    score_atoms(memory, all);
     true
 }

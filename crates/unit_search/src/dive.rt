@@ -1,4 +1,5 @@
-// A first way down: one branch alone, so that a stop is learnt from before the first atom of the search is chosen. It lists nothing.
+// Ways down before the search: each follows one branch alone and learns from its stop, so that the first atom of the search is chosen by what was
+// learnt. They list nothing.
 use crate::branch::contradiction;
 use crate::branch::lowered;
 use crate::branch::pick;
@@ -21,6 +22,9 @@ ghost use Rattle.unit_steps.specs.Job.{Belongs};
 
 // With fewer atoms undecided the search is short, and a way down before it is not worth its time.
 const DEEP: usize = 24;
+
+// How many ways down there are at most.
+const WAYS: usize = 16;
 
 // The undecided atoms of a state that something completes.
 fn free_atoms(s: State) -> u64
@@ -58,7 +62,7 @@ fn descend(
     propagate(rules, table, counts, desk, unit, memory, filter, below)
 }
 
-// Learns from the state if it is a stop; the state above it is that of the front before.
+// Learns from the state if it is a stop, and whether it is; the state above it is that of the front before.
 fn learn_stop(
     rules: &[u64],
     table: &[u64],
@@ -68,23 +72,50 @@ fn learn_stop(
     memory: &mut [u64],
     above: Front,
     f: Front,
-)
+) -> bool
     requires { ⌜ Prepared (now rules) (now table) (now counts) (now desk) unit
         × Remembers (Belongs (now rules) (now table) (now counts) (now desk) unit) (now memory) ⌝ }
     ensures { λ _. ⌜ Remembers (Belongs (now (rules .entry)) (now (table .entry)) (now (counts .entry)) (now (desk .entry)) unit) (now (memory .exit)) ⌝ }
 {
     let s = f.state;
     if atoms::are_apart(s.up, s.dropped) {
-        return;
+        return false;
     }
     let base = above.state;
     let way = span(base, above.top, f.top);
     let clash = contradiction(s);
     lift(rules, table, counts, desk, unit, memory, way, clash);
+    true
 }
 
-// Goes down from the front until nothing is undecided or nothing completes the state, and learns from the stop.
-pub fn dive(
+// Goes down from the front until nothing is undecided or nothing completes the state, and learns from the stop: whether there was one.
+fn dive(
+    rules: &[u64],
+    table: &[u64],
+    counts: &[usize],
+    desk: &[u64],
+    unit: Unit,
+    memory: &mut [u64],
+    filter: &[u64],
+    front: Front,
+) -> bool
+    requires { ⌜ Prepared (now rules) (now table) (now counts) (now desk) unit
+        × Remembers (Belongs (now rules) (now table) (now counts) (now desk) unit) (now memory)
+        × Filtered (now table) (now counts) (now desk) (unit .nearest) (front .state) (now filter) ⌝ }
+    ensures { λ _. ⌜ Remembers (Belongs (now (rules .entry)) (now (table .entry)) (now (counts .entry)) (now (desk .entry)) unit) (now (memory .exit)) ⌝ }
+{
+    let mut mine = copied(filter);
+    let mut above = front;
+    let mut f = front;
+    while free_atoms(f.state) != 0 {
+        above = f;
+        f = descend(rules, table, counts, desk, unit, memory, &mut mine, f);
+    }
+    learn_stop(rules, table, counts, desk, unit, memory, above, f)
+}
+
+// Goes down again and again, as long as that ends in a stop.
+pub fn dive_ahead(
     rules: &[u64],
     table: &[u64],
     counts: &[usize],
@@ -102,12 +133,11 @@ pub fn dive(
     if atoms::count(free_atoms(front.state)) < DEEP {
         return;
     }
-    let mut mine = copied(filter);
-    let mut above = front;
-    let mut f = front;
-    while free_atoms(f.state) != 0 {
-        above = f;
-        f = descend(rules, table, counts, desk, unit, memory, &mut mine, f);
+    let mut left = WAYS;
+    while 0 < left {
+        if !dive(rules, table, counts, desk, unit, memory, filter, front) {
+            return;
+        }
+        left -= 1;
     }
-    learn_stop(rules, table, counts, desk, unit, memory, above, f);
 }

@@ -8,7 +8,7 @@ use crate::branch::lowered;
 use crate::branch::merged;
 use crate::branch::pick;
 use crate::branch::raised;
-use crate::dive::dive;
+use crate::dive::dive_ahead;
 use crate::member::offer;
 use answer_sets::State;
 use answer_sets::known::undecided;
@@ -135,7 +135,7 @@ pub fn search(
         &mut filter,
         front,
     );
-    dive(rules, table, counts, &desk, unit, &mut memory, &filter, f);
+    dive_ahead(rules, table, counts, &desk, unit, &mut memory, &filter, f);
     let base = f.state;
     let node = Node {
         unit,

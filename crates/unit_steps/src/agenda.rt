@@ -116,7 +116,8 @@ fn wake(index: &[u64], which: u64, side: usize, a: Agenda) -> Agenda
     r
 }
 
-// The agenda after a step: with what the newly decided atoms wake; empty where nothing completes the state.
+// The agenda after a step: with what the newly decided atoms wake, but not the supports of dropped atoms, which have nothing to say; empty where
+// nothing completes the state.
 pub fn woken(index: &[u64], a: Agenda, before: State, after: State) -> Agenda
     requires { ⌜ INDEX_WORDS ≤ length (now index) ⌝ }
     ensures { λ r. ⌜ Woken before after a r ⌝ }
@@ -136,7 +137,12 @@ pub fn woken(index: &[u64], a: Agenda, before: State, after: State) -> Agenda
         return a;
     }
     let raised = wake(index, atoms::cut(new, after.up), RULES_UP, a);
-    wake(index, atoms::cut(new, after.dropped), RULES_DOWN, raised)
+    let r = wake(index, atoms::cut(new, after.dropped), RULES_DOWN, raised);
+    Agenda {
+        rules: r.rules,
+        supports: atoms::without(r.supports, after.dropped),
+        others: r.others,
+    }
 }
 
 // Notes for each atom the lists that look at it.

@@ -79,11 +79,12 @@ pub fn lift(
     let base = stretch.base;
     let mut r = n;
     let mut i = stretch.top;
-    let mut learnt = learn_once(memory, base, r, false);
+    let mut learnt = learn_once(memory, base, r, r, false);
     while stretch.from < i {
         i -= 1;
-        r = lift_over(rules, table, counts, desk, unit, memory, i, r);
-        learnt = learn_once(memory, base, r, learnt);
+        let old = r;
+        r = lift_over(rules, table, counts, desk, unit, memory, i, old);
+        learnt = learn_once(memory, base, old, r, learnt);
     }
     r
 }

@@ -7,6 +7,10 @@ use crate::filter::full_filter;
 use crate::propagate::PAIR_STEPS;
 use crate::unit::Unit;
 use answer_sets::State;
+use answer_sets::rule::head;
+use answer_sets::rule::looks;
+use answer_sets::rule::negative_body;
+use answer_sets::rule::positive_body;
 use answer_sets::rule::rule_atoms;
 use atoms::ATOMS;
 use learning::nogood::refute;
@@ -100,32 +104,48 @@ fn step_again(
     )
 }
 
-// The atoms of the rules of the word.
-fn atoms_of(rules: &[u64], which: u64) -> u64
+// The same atoms up and dropped.
+fn either_way(word: u64) -> State {
+    State {
+        up: word,
+        dropped: word,
+    }
+}
+
+// The atoms of a rule, if it is numbered.
+fn numbered_atoms(rules: &[u64], which: u64, rule: usize) -> u64
+    requires { ⌜ Lent (now rules) which × (rule < ATOMS) ⌝ }
+{
+    if atoms::are_apart(which, atoms::single(rule)) {
+        return 0;
+    }
+    rule_atoms(rules, rule)
+}
+
+// The atoms that keep one of the rules from supporting an atom where they are up, and those that do where they are dropped.
+fn excluding(rules: &[u64], which: u64) -> State
     requires { ⌜ Lent (now rules) which ⌝ }
 {
     let mut rest = which;
-    let mut r = 0;
+    let mut up = 0;
+    let mut dropped = 0;
     while rest != 0 {
         let rule = atoms::lowest(rest);
-        r = atoms::union(r, rule_atoms(rules, rule));
+        let looked = looks(rules, rule);
+        let inputs = atoms::without(looked, negative_body(rules, rule));
+        up = atoms::union(up, atoms::union(head(rules, rule), looked));
+        dropped = atoms::union(dropped, atoms::union(positive_body(rules, rule), inputs));
         rest = atoms::drop(rest, rule);
     }
-    r
+    State { up, dropped }
 }
 
-// The rules that a step on rules looks at: one rule, those that may back one atom, or all.
-fn rules_looked_at(desk: &[u64], which: u64, step: usize) -> u64
-    requires { ⌜ length (now desk) ≡ DESK_WORDS ⌝ }
+// The rules that may back an atom.
+fn backing(desk: &[u64], which: u64, atom: usize) -> u64
+    requires { ⌜ (length (now desk) ≡ DESK_WORDS) × (atom < ATOMS) ⌝ }
     ensures { λ r. ⌜ r ⊆ which ⌝ }
 {
-    if step < SUPPORTS {
-        return atoms::cut(which, atoms::single(step));
-    }
-    if step < LISTS {
-        return atoms::cut(which, desk[BACKERS + (step - SUPPORTS)]);
-    }
-    which
+    atoms::cut(which, desk[BACKERS + atom])
 }
 
 // The atoms of pair i of the memory, if there is one.
@@ -139,20 +159,23 @@ fn pair_atoms(memory: &[u64], i: usize) -> u64
     atoms::union(pair.up, pair.dropped)
 }
 
-// The atoms that the step looks at. It is advice: a reason that has too few does not tell the goal.
-fn looked_at(rules: &[u64], desk: &[u64], memory: &[u64], unit: Unit, step: usize) -> u64
+// What the step looks at: atoms that are up, and atoms that are dropped. It is advice: a reason that has too few does not tell the goal.
+fn looked_at(rules: &[u64], desk: &[u64], memory: &[u64], unit: Unit, step: usize) -> State
     requires { ⌜ Lent (now rules) (unit .rules) × (length (now desk) ≡ DESK_WORDS) × (MEMORY_WORDS ≤ length (now memory)) ⌝ }
 {
+    if step < SUPPORTS {
+        return either_way(numbered_atoms(rules, unit.rules, step));
+    }
     if step < LISTS {
-        return atoms_of(rules, rules_looked_at(desk, unit.rules, step));
+        return excluding(rules, backing(desk, unit.rules, step - SUPPORTS));
     }
     if step < LISTS + MAX_UNITS {
-        return desk[step - LISTS];
+        return either_way(desk[step - LISTS]);
     }
     if step < PAIR_STEPS {
-        return atoms::first(ATOMS);
+        return either_way(atoms::first(ATOMS));
     }
-    pair_atoms(memory, step - PAIR_STEPS)
+    either_way(pair_atoms(memory, step - PAIR_STEPS))
 }
 
 // The atoms that may be spared in a reason: those of rules and pairs are few already.
@@ -290,8 +313,8 @@ pub fn explain(
     let seen = looked_at(rules, desk, memory, unit, c.step);
     let whole = c.part;
     let part = State {
-        up: atoms::cut(whole.up, seen),
-        dropped: atoms::cut(whole.dropped, seen),
+        up: atoms::cut(whole.up, seen.up),
+        dropped: atoms::cut(whole.dropped, seen.dropped),
     };
     let goal = c.goal;
     let near = Claim {

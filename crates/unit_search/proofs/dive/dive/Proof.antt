@@ -1,6 +1,6 @@
--- The loop carries that the memory keeps its promise and that the filter has each entry that may be joined. The measure is how many atoms are undecided.
-use mathlib.Core.Path.{_≡_, refl, sym, _∙_}
-use native.Mathlib.Omega.{arith}
+-- The loop carries that the memory keeps its promise and that the filter has each entry that may be joined. The measure is how many atoms are
+-- undecided.
+use mathlib.Core.Path.{_≡_, refl}
 use lib.Count.{ones}
 use lib.ListN.{length}
 use Rattle.answer_sets.specs.State.{undecided}
@@ -21,27 +21,25 @@ abbrev μ-loop : tie.MeasureT-loop
 
 loop-holds : tie.Need-loop-holds Inv-loop μ-loop
 loop-holds c =
-    let pre = c .before .before .before .before .before .before .before .before .before .before .pre in
-    (rw (c .copied .ensures) (pre .2), pre .1, refl)
+    let pre = c .before .before .before .before .before .before .before .pre in (rw (c .copied .ensures) (pre .2), pre .1, refl)
 
 descend-requires : tie.Need-descend-requires Inv-loop μ-loop
 descend-requires c κs =
     let test = c .before .before in
     let free = test .before in
     let loop = free .before in
-    let pre = loop .before .before .before .before .before .before .before .before .before .before .before .pre in
-    (pre .0, loop .loop .inv .1, loop .loop .inv .0, rw (free .free-atoms2 .ensures (test .if2 .taken)) at (test .if2 .taken))
+    let pre = loop .before .before .before .before .before .before .before .before .pre in
+    (pre .0, loop .loop .inv .1, loop .loop .inv .0, rw (free .free-atoms .ensures (test .if1 .taken)) at (test .if1 .taken))
 
 loop-again : tie.Need-loop-again Inv-loop μ-loop
 loop-again c =
     let down = c .before .before .before in
-    let old = down .before .before .before .before .before .loop .inv in
     (down .descend .ensures .0, down .descend .ensures .1 .0, search needs)
 
 learn-stop-requires : tie.Need-learn-stop-requires Inv-loop μ-loop
 learn-stop-requires c κs =
     let loop = c .before .before .before in
-    (loop .before .before .before .before .before .before .before .before .before .before .before .pre .0, loop .loop .inv .1)
+    (loop .before .before .before .before .before .before .before .before .pre .0, loop .loop .inv .1)
 
 pub dive-spec : {M : Type 1} → statement M
 dive-spec =
@@ -49,9 +47,6 @@ dive-spec =
     (tie.spec
     Inv-loop
     μ-loop
-    (λ c κs. search needs)
-    (λ c κs. search needs)
-    (λ c. search needs)
     (λ c κs. search needs)
     loop-holds
     (λ c κs. search needs)

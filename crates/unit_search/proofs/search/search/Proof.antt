@@ -23,7 +23,7 @@ propagate-requires c κs =
       full-filtered _ _ _ _ _ _ (joinable-some (ready .searchable .near) (ready .searchable .joinable)) (c .before .before .before .before .full-filter .ensures),
     )
 
-dive-requires : tie.Need-dive-requires
+dive-requires : tie.Need-dive-ahead-requires
 dive-requires c κs =
     let told = c .before .before .before .before .before in
     let laid = told .before .before .before .before .before .before .before in
@@ -35,7 +35,7 @@ explore-requires c κs =
     let told = dived .before .before .before .before .before .before in
     let laid = told .before .before .before .before .before .before .before in
     let pre = laid .before .before .before .before .before .before .before .pre in
-    (prepared (laid .lay-out .ensures) (pre .0), pre .1, dived .dive .ensures, told .propagate .ensures .1 .0)
+    (prepared (laid .lay-out .ensures) (pre .0), pre .1, dived .dive-ahead .ensures, told .propagate .ensures .1 .0)
 
 returns : tie.Need-returns
 returns c =

@@ -9,9 +9,9 @@ returns c = woken-none _ _ _
 
 returns-3 : tie.Need-returns-3
 returns-3 c =
-    let new = c .before .before .before .before .before in
+    let new = c .before .before .before .before .before .before in
     woken-new _ _ _ _ _ _ _ (new .before .before .undecided .ensures) (new .before .undecided2 .ensures) (new .without .ensures)
-    (c .before .before .before .before .if2 .left)
+    (c .before .before .before .before .before .if2 .left)
 
 pub woken-spec : {M : Type 1} → statement M
 woken-spec =
@@ -23,6 +23,7 @@ woken-spec =
     (λ c κs. search needs)
     (λ c κs. search needs)
     (λ c. search needs)
+    (λ c κs. search needs)
     (λ c κs. search needs)
     (λ c κs. search needs)
     (λ c κs. search needs)
