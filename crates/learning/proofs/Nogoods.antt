@@ -1,7 +1,6 @@
 -- Nogoods: what lies within what, what a pair that is avoided says of a state, and resolution.
 use mathlib.Core.Path.{_≡_, refl, sym, subst, _∙_}
 use mathlib.Core.Bool.{Bool, true, false, false≢true}
-use mathlib.Core.Logic.{_⊎_, inl, inr}
 use Prim.Native.Nat.{ℕ}
 use native.Mathlib.Decide.{ℕ-discrete}
 use Rattle.atoms.specs.Word.{Has, _⊆_, subset, Apart, _∩_, _∪_, _∖_, atom, AtMostOne}
@@ -14,19 +13,6 @@ use Rattle.answer_sets.proofs.Narrows.{narrows-refl, narrows-when, narrows-for,
 use Rattle.learning.specs.Nogood.{Avoids, Nogood, Within, Overlaps, SomeUp, SomeDown, Refuted, resolvent, Resolves}
 
 -- ---- what lies within what
-
-pub within-refl : {s : State} → Within s s
-within-refl = record { up-within = subset-refl; dropped-within = subset-refl }
-
-pub within-trans : {n m s : State} → Within n m → Within m s → Within n s
-within-trans a b = record {
-  up-within = subset-trans (a .up-within) (b .up-within);
-  dropped-within = subset-trans (a .dropped-within) (b .dropped-within);
-}
-
--- a narrowing step only grows the state
-pub within-narrows : {K : ℕ → Type 0} {s t : State} → Narrows K s t → Within s t
-within-narrows n = record { up-within = n .up-grows; dropped-within = n .dropped-grows }
 
 -- a completion of the larger completes the smaller
 pub completes-within : {n s : State} {N : ℕ} → Within n s → Completes s N → Completes n N
@@ -53,15 +39,10 @@ nogood-larger w g = record { avoided = λ N k. avoids-larger w (g .avoided N k) 
 pub nogood-stops : {K : ℕ → Type 0} {n s : State} → Nogood K n → Within n s → (N : ℕ) → K N → ¬ Completes s N
 nogood-stops g w N k c = g .avoided N k .never (completes-within w c)
 
--- a state that overlaps is a nogood, and it overlaps still when it grows
+-- a state that overlaps is a nogood
 pub overlap-avoided : {s : State} (N : ℕ) → Overlaps s → Avoids s N
 overlap-avoided N o = record {
   never = λ c. o .overlap (record { none = λ i u d. c .no-dropped .none i d (c .has-up .each i u) });
-}
-
-pub overlap-grows : {s t : State} → Within s t → Overlaps s → Overlaps t
-overlap-grows w o = record {
-  overlap = λ a. o .overlap (record { none = λ i u d. a .none i (w .up-within .each i u) (w .dropped-within .each i d) });
 }
 
 -- a step that keeps who avoids the pair keeps whoever has K

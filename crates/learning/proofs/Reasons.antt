@@ -1,5 +1,5 @@
 -- Reasons: a goal told by a step, a pair with the reason in the goal's place, and a nogood lifted over a trail.
-use mathlib.Core.Path.{_≡_, refl, sym, _∙_}
+use mathlib.Core.Path.{_≡_, refl, _∙_}
 use mathlib.Core.Bool.{Bool, true, false, true≢false}
 use mathlib.Core.Logic.{_⊎_, inl, inr}
 use mathlib.Core.List.{List}
@@ -15,7 +15,7 @@ use Rattle.learning.specs.Store.{AvoidsAll, Empty, Keeps, SamePairs}
 use Rattle.learning.specs.Reason.{Heeds, Remembers, Explains, Tells, beyondOf, replaced, Leads, Lifted}
 use Rattle.learning.proofs.Nogoods.{completes-within, overlap-avoided}
 use Rattle.answer_sets.proofs.Narrows.{narrows-for}
-use Rattle.learning.proofs.Stores.{keeps-refl, keeps-trans, keeps-for, keeps-same}
+use Rattle.learning.proofs.Stores.{keeps-refl, keeps-same}
 
 -- ---- a goal and its reason
 

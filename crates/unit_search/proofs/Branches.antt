@@ -1,5 +1,5 @@
 -- Branches: states that overlap, the state with one more atom decided, and what falls.
-use mathlib.Core.Path.{_≡_, refl, sym, subst, _∙_}
+use mathlib.Core.Path.{_≡_, refl, sym, _∙_}
 use mathlib.Core.Bool.{Bool, false}
 use mathlib.Core.List.{List}
 use Prim.Native.Nat.{ℕ, _≤_, _<_}
@@ -11,8 +11,8 @@ use Rattle.atoms.proofs.Counts.{count-le}
 use Rattle.answer_sets.specs.State.{Narrows, undecided}
 use Rattle.answer_sets.specs.declared.state.State.{State}
 use Rattle.answer_sets.proofs.HalfDecided.{undecided-shrinks}
-use Rattle.answer_sets.proofs.Between.{raise-falls, lower-falls}
-use Rattle.learning.specs.Nogood.{Nogood, Overlaps, Resolves}
+use Rattle.answer_sets.proofs.Between.{lower-falls}
+use Rattle.learning.specs.Nogood.{Nogood, Overlaps}
 use Rattle.learning.specs.Reason.{Remembers}
 use Rattle.unit_search.specs.Listing.{Gathered}
 use Rattle.unit_search.specs.Branch.{withDropped, withUp}
@@ -32,10 +32,6 @@ atom-overlaps i e = rw e (record { overlap = λ a. a .none i (has-atom i) (has-a
 
 pub overlap-nogood : {K : ℕ → Type 0} {n : State} → Overlaps n → Nogood K n
 overlap-nogood o = record { avoided = λ N k. overlap-avoided N o }
-
--- who avoids both pairs avoids the second
-pub resolves-first : {first second : State} → Resolves first second first
-resolves-first = record { avoided = λ N a b. a }
 
 -- ---- one more atom decided
 

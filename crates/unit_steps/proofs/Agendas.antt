@@ -1,19 +1,17 @@
 -- The agenda: each step taken makes it lighter, and it grows only where an atom was decided.
 use mathlib.Core.Path.{_≡_, refl, sym, subst, _∙_}
-use mathlib.Core.Bool.{Bool, true, false, true≢false, false≢true}
 use Prim.Native.Nat.{ℕ, _+_, _*_, _^_, _≤_, _<_}
 use native.Mathlib.Omega.{arith}
 use native.Mathlib.Decide.{ℕ-discrete}
 use lib.Count.{ones}
-use Rattle.atoms.specs.Word.{ATOMS, Has, _⊆_, _∖_, atom, Lowest}
-use Rattle.atoms.proofs.Sets.{some-atom, has-without, without-left, without-right}
-use Rattle.atoms.proofs.Counts.{count-proper, counts-small, taken-less}
+use Rattle.atoms.specs.Word.{ATOMS, Has, _∖_, atom}
+use Rattle.atoms.proofs.Sets.{some-atom, without-left, without-right}
+use Rattle.atoms.proofs.Counts.{count-proper, counts-small}
 use Rattle.answer_sets.specs.State.{undecided, Narrows}
 use Rattle.answer_sets.specs.declared.state.State.{State}
 use Rattle.answer_sets.proofs.HalfDecided.{undecided-shrinks}
-use Rattle.unit_steps.specs.Agenda.{weight, Idle, TakenFrom, Woken}
+use Rattle.unit_steps.specs.Agenda.{weight, Woken}
 use Rattle.unit_steps.specs.declared.agenda.Agenda.{Agenda}
-use Rattle.unit_steps.specs.declared.agenda.Taken.{Taken}
 
 -- ---- the agenda is empty, or an atom was decided
 

@@ -5,7 +5,7 @@ use mathlib.Core.List.{List, _++_}
 use Prim.Native.Nat.{ℕ, _+_, _*_, _≤_, _<_}
 use native.Mathlib.Omega.{arith}
 use lib.ListN.{length, take, drop, getD}
-use lib.Seq.{paste, length-paste, length-take-le, getD-take}
+use lib.Seq.{paste, length-take-le, getD-take}
 use Rattle.atoms.specs.Word.{_∩_}
 use Rattle.atoms.specs.Bounded.{allIn}
 use Rattle.atoms.proofs.Bounded.{all-in-at, all-in-intro}
@@ -14,7 +14,7 @@ use Rattle.plan.specs.Limits.{MAX_UNITS, LIST_WORDS}
 use Rattle.answer_sets.specs.declared.state.State.{State}
 use Rattle.narrowing.specs.Backers.{Backers}
 use Rattle.unit_steps.specs.Agenda.{INDEX_WORDS}
-use Rattle.unit_steps.specs.Job.{isListed, joins, Searchable, Belongs, Wanted}
+use Rattle.unit_steps.specs.Job.{isListed, joins, Searchable, Wanted}
 use Rattle.unit_steps.specs.Desk.{BACKERS_AT, INDEX_AT, DESK_WORDS, LaidOut, Prepared}
 use Rattle.unit_steps.specs.declared.unit.Unit.{Unit}
 use Rattle.unit_steps.proofs.StoredWords.{stored-parts, first-at, second-part}

@@ -6,7 +6,7 @@ use Rattle.answer_sets.specs.Lent.{lent}
 use Rattle.answer_sets.specs.State.{Narrows}
 use Rattle.answer_sets.specs.declared.state.State.{State}
 use Rattle.answer_sets.proofs.Judged.{decides-answer-set}
-use Rattle.answer_sets.proofs.Narrows.{narrows-trans, narrows-for}
+use Rattle.answer_sets.proofs.Narrows.{narrows-for}
 use Rattle.narrowing.specs.Inputs.{AnswersInputs}
 use Rattle.unit_steps.specs.Job.{Belongs}
 use Rattle.unit_steps.specs.Filter.{JoinsAll}

@@ -1,5 +1,5 @@
 -- Claims: what a step tells of a goal, through steps that keep the goal.
-use mathlib.Core.Path.{_≡_, refl, sym, subst, _∙_}
+use mathlib.Core.Path.{refl, sym, subst, _∙_}
 use mathlib.Core.List.{List}
 use Prim.Native.Nat.{ℕ}
 use Rattle.answer_sets.specs.declared.state.State.{State}

@@ -1,6 +1,6 @@
 -- Inner: the agenda's weight, by which propagation falls.
 use mathlib.Core.Path.{_≡_}
-use Prim.Native.Nat.{ℕ, _+_, _*_, _≤_, _<_}
+use Prim.Native.Nat.{ℕ, _+_, _≤_, _<_}
 use lib.Count.{ones}
 use Rattle.answer_sets.specs.State.{undecided}
 use Rattle.answer_sets.specs.declared.state.State.{State}

@@ -1,12 +1,11 @@
 -- Inner: the desk of a unit: its lists' head atoms, its atoms' backers and the index of woken steps in one area of words.
 use mathlib.Core.Path.{_≡_}
 use mathlib.Core.List.{List}
-use Prim.Native.Nat.{ℕ, _+_, _<_}
+use Prim.Native.Nat.{ℕ, _<_}
 use lib.ListN.{length, getD, take, drop}
 use Rattle.atoms.specs.Word.{ATOMS}
 use Rattle.plan.specs.Limits.{MAX_UNITS}
 use Rattle.narrowing.specs.Backers.{Backers}
-use Rattle.unit_steps.specs.Agenda.{INDEX_WORDS}
 use Rattle.unit_steps.specs.Job.{Searchable}
 use Rattle.unit_steps.specs.declared.unit.Unit.{Unit}
 

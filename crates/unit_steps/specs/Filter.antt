@@ -8,7 +8,6 @@ use Rattle.atoms.specs.Word.{ATOMS, Has, _⊆_, _∩_, below}
 use Rattle.plan.specs.Limits.{MAX_UNITS, LIST_WORDS}
 use Rattle.answer_sets.specs.State.{Completes}
 use Rattle.answer_sets.specs.declared.state.State.{State}
-use Rattle.unit_steps.specs.Job.{isListed}
 use Rattle.unit_steps.specs.Job.{joins}
 use Rattle.unit_steps.specs.declared.sift.Sifted.{Sifted}
 

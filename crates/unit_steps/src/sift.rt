@@ -5,7 +5,7 @@ use answer_sets::rule_pass::clash;
 use atoms::ATOMS;
 use plan::LIST_WORDS;
 ghost use Prim.Native.Nat.{_+_, _≤_, _<_};
-ghost use lib.ListN.{length, getD};
+ghost use lib.ListN.{length};
 ghost use Rattle.atoms.specs.Word.{ATOMS};
 ghost use Rattle.plan.specs.Limits.{LIST_WORDS};
 ghost use Rattle.answer_sets.specs.State.{Narrows};

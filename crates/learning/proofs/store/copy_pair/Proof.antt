@@ -1,5 +1,4 @@
 -- Nothing is written, or one pair.
-use native.Mathlib.Omega.{arith}
 use Rattle.learning.proofs.Stores.{keeps-refl, keeps-written}
 use borrow.Author.Needs.{needs}
 use Rattle.learning.proofs.store.copy_pair.Statement.{statement}

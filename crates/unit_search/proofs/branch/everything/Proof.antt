@@ -1,6 +1,5 @@
 -- Atom 0 is in both words.
 use mathlib.Core.Path.{refl}
-use borrow.Author.Needs.{needs}
 use Rattle.unit_search.proofs.branch.everything.Statement.{statement}
 use Rattle.unit_search.proofs.branch.everything.Tie as tie
 

@@ -1,12 +1,7 @@
 -- The atom that is dropped was undecided, so that fewer are.
-use mathlib.Core.Path.{_≡_, refl, sym, subst}
-use Prim.Native.Nat.{ℕ}
-use native.Mathlib.Omega.{arith}
-use lib.Count.{ones}
-use Rattle.atoms.specs.Word.{Has}
-use Rattle.answer_sets.proofs.Between.{lower-falls}
+use mathlib.Core.Path.{refl}
 use Rattle.unit_steps.proofs.Filters.{filtered-lower}
-use Rattle.unit_search.proofs.Branches.{narrowed-le, lowered-falls}
+use Rattle.unit_search.proofs.Branches.{lowered-falls}
 use borrow.Author.Needs.{needs}
 use Rattle.unit_search.proofs.dive.descend.Statement.{statement}
 use Rattle.unit_search.proofs.dive.descend.Tie as tie

@@ -1,6 +1,5 @@
 -- The loop carries that the memory keeps its promise. The measure is how many ways down are left.
 use mathlib.Core.Path.{_≡_, refl, _∙_}
-use native.Mathlib.Omega.{arith}
 use lib.ListN.{length}
 use Rattle.learning.specs.Reason.{Remembers}
 use Rattle.unit_steps.specs.Job.{Belongs}

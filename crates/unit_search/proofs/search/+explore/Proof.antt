@@ -1,6 +1,6 @@
 -- The measure is the count of undecided atoms. Each return says what its step of the search adds to the list, that the memory keeps its promise, and
 -- why no member completes the pair.
-use mathlib.Core.Path.{_≡_, refl, sym, _∙_}
+use mathlib.Core.Path.{refl, sym, _∙_}
 use Prim.Native.Nat.{ℕ, _<_, _≤_}
 use lib.Count.{ones}
 use denote.Ref.{now}

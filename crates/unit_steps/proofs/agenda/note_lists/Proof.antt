@@ -4,7 +4,6 @@ use Prim.Native.Nat.{_<_}
 use native.Mathlib.Omega.{arith}
 use lib.Count.{ones}
 use lib.ListN.{length}
-use borrow.Author.Needs.{needs}
 use Rattle.atoms.proofs.Counts.{taken-less}
 use Rattle.atoms.proofs.TakenNumbers.{Carrying, carrying-start, carrying-next, taken-lt}
 use Rattle.plan.specs.Limits.{MAX_UNITS}

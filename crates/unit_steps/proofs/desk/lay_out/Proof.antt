@@ -1,6 +1,4 @@
 -- The desk is put together of three parts, and each stands where it is looked for.
-use native.Mathlib.Omega.{arith}
-use lib.ListN.{length-replicate}
 use Rattle.unit_steps.proofs.Desks.{laid-out}
 use borrow.Author.Needs.{needs}
 use Rattle.unit_steps.proofs.desk.lay_out.Statement.{statement}

@@ -1,7 +1,7 @@
 -- The whole area is stored over.
 use Prim.Native.Nat.{ℕ}
 use lib.ListN.{length-replicate}
-use mathlib.Core.Path.{_≡_, sym, _∙_}
+use mathlib.Core.Path.{sym, _∙_}
 use Rattle.unit_steps.specs.Filter.{FILTER_WORDS}
 use Rattle.unit_steps.proofs.StoredWords.{stored-whole}
 use borrow.Author.Needs.{needs}

@@ -1,6 +1,6 @@
 -- A block has no entry, all, or the first of them.
 use mathlib.Core.Path.{_≡_, ap, _∙_}
-use Prim.Native.Nat.{ℕ, _-_, _*_, min}
+use Prim.Native.Nat.{_-_, _*_, min}
 use native.Mathlib.Omega.{arith}
 use Rattle.atoms.specs.Word.{ATOMS, below}
 use borrow.Author.Needs.{needs}

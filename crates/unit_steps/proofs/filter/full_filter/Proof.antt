@@ -2,7 +2,6 @@
 use mathlib.Core.Path.{refl}
 use Prim.Native.Nat.{_-_}
 use native.Mathlib.Omega.{arith}
-use borrow.Author.Needs.{needs}
 use Rattle.unit_steps.specs.Filter.{FILTER_WORDS}
 use Rattle.unit_steps.proofs.Filters.{Filling, filling-next, filling-end}
 use Rattle.unit_steps.proofs.filter.full_filter.Statement.{statement}

@@ -1,5 +1,5 @@
 -- The loop carries what is promised of the front so far. The measure is how many pairs are left.
-use Prim.Native.Nat.{_+_, _-_, _≤_}
+use Prim.Native.Nat.{_+_, _-_}
 use native.Mathlib.Omega.{arith}
 use lib.ListN.{length}
 use mathlib.Core.Path.{_≡_, refl, sym, _∙_}
@@ -11,7 +11,6 @@ use Rattle.learning.proofs.Reasons.{remembers-same, remembers-keeps, remembered
 use Rattle.unit_steps.specs.Job.{Belongs}
 use Rattle.unit_steps.specs.Filter.{Filtered}
 use Rattle.unit_steps.proofs.Filters.{filtered-narrows}
-use borrow.Author.Needs.{needs}
 use Rattle.unit_steps.proofs.propagate.propagate.Statement.{statement}
 use Rattle.unit_steps.proofs.propagate.propagate.Tie as tie
 

@@ -1,7 +1,6 @@
 -- The loop carries what the claim tells. The measure is how many steps of the trail are left.
 use native.Mathlib.Omega.{arith}
-use Prim.Native.Nat.{_≤_, _<_}
-use borrow.Author.Tests.{ltb-true}
+use Prim.Native.Nat.{_<_}
 use Rattle.learning.specs.Store.{STEPS}
 use Rattle.unit_steps.specs.Job.{Belongs}
 use Rattle.unit_steps.specs.Claims.{Told}

@@ -4,7 +4,6 @@ use Rattle.atoms.proofs.Counts.{taken-less}
 use Rattle.unit_steps.specs.Job.{Belongs}
 use Rattle.unit_steps.specs.Claims.{Told}
 use Rattle.unit_steps.proofs.ToldClaims.{told-own, told-on}
-use borrow.Author.Needs.{needs}
 use Rattle.unit_steps.proofs.reasons.spare_each.Statement.{statement}
 use Rattle.unit_steps.proofs.reasons.spare_each.Tie as tie
 

@@ -1,7 +1,6 @@
 -- The loop carries that each entry that is done is kept and spanned where it agrees. The measure is how many are left.
 use native.Mathlib.Omega.{arith}
 use lib.Count.{ones}
-use borrow.Author.Needs.{needs}
 use Rattle.atoms.proofs.Sets.{subset-refl}
 use Rattle.atoms.proofs.Counts.{taken-less}
 use Rattle.unit_steps.proofs.Filters.{Sifting, sifting-start, sifting-next, sifting-end, sifted-from}

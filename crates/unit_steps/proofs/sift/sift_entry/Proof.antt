@@ -1,5 +1,5 @@
 -- An entry that does not agree leaves.
-use mathlib.Core.Path.{_∙_, sym}
+use mathlib.Core.Path.{_∙_}
 use Rattle.unit_steps.proofs.Filters.{entry-leaves, entry-stays}
 use borrow.Author.Needs.{needs}
 use Rattle.unit_steps.proofs.sift.sift_entry.Statement.{statement}

@@ -3,7 +3,6 @@ use Prim.Native.Nat.{_+_, _-_, _<_}
 use native.Mathlib.Omega.{arith}
 use lib.ListN.{length}
 use borrow.Author.Needs.{needs}
-use denote.Ref.{now}
 use Rattle.unit_steps.specs.Filter.{BLOCKS}
 use Rattle.unit_steps.proofs.Filters.{Listing, listing-start, listing-next, listing-end}
 use Rattle.unit_steps.proofs.sift.sift_list.Statement.{statement}
