@@ -5,6 +5,7 @@ use crate::store::SCORES;
 use crate::store::STEP_WORDS;
 use crate::store::STEPS;
 use crate::store::TRAIL;
+use crate::store::learnt_pairs;
 use crate::store::note;
 use answer_sets::State;
 use atoms::tally::count_atoms;
@@ -76,10 +77,13 @@ pub fn score_atoms(memory: &mut [u64], which: u64)
     count_atoms(&mut memory[SCORES..MEMORY_WORDS], which);
 }
 
-// Of these atoms those with the highest score.
+// Of these atoms those with the highest score; at first all.
 pub fn leaders(memory: &[u64], which: u64) -> u64
     requires { ⌜ (MEMORY_WORDS ≤ length (now memory)) × (which ≡ 0 → ⊥) ⌝ }
     ensures { λ r. ⌜ SomeOf which r ⌝ }
 {
+    if learnt_pairs(memory) == 0 {
+        return which;
+    }
     most(&memory[SCORES..MEMORY_WORDS], which)
 }

@@ -4,8 +4,9 @@ use mathlib.Core.List.{List, _++_, append-assoc}
 use Prim.Native.Nat.{ℕ, _+_, _≤_, _<_}
 use native.Mathlib.Omega.{arith}
 use native.Mathlib.Numerals.{add-one}
-use lib.ListN.{length, take, drop, getD, set, List·getD-append}
-use lib.Seq.{paste, paste-suc, length-paste, take-paste, take-all, take-at, drop-at}
+use native.Mathlib.Decide.{ℕ-discrete}
+use lib.ListN.{length, take, drop, getD, set, length-set, List·getD-append}
+use lib.Seq.{paste, paste-suc, length-paste, take-paste, take-all, take-at, drop-at, ext-getD, getD-set-same, getD-set-other}
 
 pub stored-next : (d : List ℕ) (at : ℕ) (s l : List ℕ) (i : ℕ) → at + length s ≤ length d → i < length s → l ≡ paste d at s i
     → set l (at + i) (getD s i 0) ≡ paste d at s (i + 1)
@@ -45,8 +46,20 @@ stored-parts d h b w {d₁} {d₂} {d₃} {n} {k} l m fits e f g =
         stored-front d₁ n b (omega (arith, same, m, fits)) m f
         ∙ ap (λ (t : List ℕ). t ++ b) (stored-front d 0 h {n = n} (omega arith) (omega (arith, l)) e)
 
--- an area that is stored over as a whole
-pub stored-whole : (d s : List ℕ) {e : List ℕ} → length s ≡ length d → e ≡ paste d 0 s (length s) → e ≡ s
-stored-whole d s {e} l p =
-    sym (take-all (length s) e (omega (arith, l, ap length p ∙ length-paste d 0 s (length s) (omega (arith, l)) (omega arith))))
-    ∙ stored-front d 0 s {n = length s} (omega arith) (omega arith) p
+-- an area of which the first words are copied
+pub record Copying (words area : List ℕ) (i : ℕ) : Type 0 where
+  pub same-length : length area ≡ length words
+  pub done : (j : ℕ) → j < i → getD area j 0 ≡ getD words j 0
+
+pub copying-next : (words area : List ℕ) (i : ℕ) → Copying words area i → i < length words → Copying words (set area i (getD words i 0)) (i + 1)
+copying-next words area i k l = record {
+  same-length = length-set area i (getD words i 0) ∙ k .same-length;
+  done = λ j m. go j m (ℕ-discrete j i);
+}
+  where
+    go : (j : ℕ) → j < i + 1 → Dec (j ≡ i) → getD (set area i (getD words i 0)) j 0 ≡ getD words j 0
+    go j m (yes q) = rw q (getD-set-same area i (getD words i 0) 0 (omega (arith, k .same-length, l)))
+    go j m (no d) = getD-set-other area i j (getD words i 0) 0 d ∙ k .done j (omega (arith, m, d))
+
+pub copying-end : {words area : List ℕ} {i : ℕ} → Copying words area i → length words ≤ i → area ≡ words
+copying-end {words} {area} k l = ext-getD 0 area words (k .same-length) (λ j m. k .done j (omega (arith, m, l, k .same-length)))

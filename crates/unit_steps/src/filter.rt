@@ -1,7 +1,6 @@
 // The filter: for each list that the search looks at the entries that still agree with the state, BLOCKS words to a list.
 use crate::sift::BLOCKS;
 use crate::sift::join_step;
-use crate::words::store;
 use answer_sets::State;
 use atoms::ATOMS;
 use plan::LIST_WORDS;
@@ -52,7 +51,11 @@ pub fn copied(filter: &[u64]) -> [u64; FILTER_WORDS]
     ensures { λ r. ⌜ r ≡ now (filter .entry) ⌝ }
 {
     let mut r = [0u64; FILTER_WORDS];
-    store(filter, &mut r, 0);
+    let mut i = 0;
+    while i < FILTER_WORDS {
+        r[i] = filter[i];
+        i += 1;
+    }
     r
 }
 
