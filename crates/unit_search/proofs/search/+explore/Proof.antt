@@ -132,20 +132,26 @@ module _ (t : ℕ) where
 
   propagate-requires : explore-lts.Need-propagate-requires (calls t) (explore-at t) explore′.Post
   propagate-requires c κs =
-      let pre = c .before .before .before .before .before .before .before .before .before .before .before .before .before .pre .1 in (pre .0, pre .2, rw (c .before .before .copied .ensures) (pre .3))
+      let pre = c .before .before .before .before .before .before .before .before .before .before .before .before .before .pre .1 in
+      (pre .0, pre .2, rw (c .before .before .copied .ensures) (pre .3))
 
   contradiction-requires : explore-lts.Need-contradiction-requires (calls t) (explore-at t) explore′.Post
   contradiction-requires c κs = overlap-of (c .before .are-apart .ensures) (not-true (c .before .are-apart .result) (c .if1 .taken))
 
   lift-requires : explore-lts.Need-lift-requires (calls t) (explore-at t) explore′.Post
-  lift-requires c κs = let n = c .before .before .before .before .before .before .before .before .before in (start n .pre .1 .0, n .propagate .ensures .1 .1 .long)
+  lift-requires c κs =
+      let n = c .before .before .before .before .before .before .before .before .before in
+      (start n .pre .1 .0, n .propagate .ensures .1 .1 .long)
 
   offer-requires : explore-lts.Need-offer-requires (calls t) (explore-at t) explore′.Post
-  offer-requires c κs = let pre = start (c .before .before .before .before .before .before .before .before .before .before) .pre .1 in (pre .0 .searchable, pre .1)
+  offer-requires c κs =
+      let pre = start (c .before .before .before .before .before .before .before .before .before .before) .pre .1 in
+      (pre .0 .searchable, pre .1)
 
   pick-requires : explore-lts.Need-pick-requires (calls t) (explore-at t) explore′.Post
   pick-requires c κs =
-      let n = c .before .before .before .before .before .before .before .before .before .before in (start n .pre .1 .0 .searchable .rules-lent, n .propagate .ensures .1 .1 .long, c .before .if2 .left)
+      let n = c .before .before .before .before .before .before .before .before .before .before in
+      (start n .pre .1 .0 .searchable .rules-lent, n .propagate .ensures .1 .1 .long, c .before .if2 .left)
 
   lowered-requires : explore-lts.Need-lowered-requires (calls t) (explore-at t) explore′.Post
   lowered-requires c κs = (start (narrowed c) .pre .1 .0 .long, c .pick .ensures .1)
@@ -162,10 +168,13 @@ module _ (t : ℕ) where
 
   blame-requires : explore-lts.Need-blame-requires (calls t) (explore-at t) explore′.Post
   blame-requires c κs =
-      let s = c .before .before .before .before .before .before .before .before .before .before in (start (narrowed (chosen s)) .pre .1 .0, s .explore .ensures .1 .0 .long)
+      let s = c .before .before .before .before .before .before .before .before .before .before in
+      (start (narrowed (chosen s)) .pre .1 .0, s .explore .ensures .1 .0 .long)
 
   raised-requires : explore-lts.Need-raised-requires (calls t) (explore-at t) explore′.Post
-  raised-requires c κs = let k = chosen (c .before .before .before .before .before .before .before .before .before) in (start (narrowed k) .pre .1 .0 .long, k .pick .ensures .1)
+  raised-requires c κs =
+      let k = chosen (c .before .before .before .before .before .before .before .before .before) in
+      (start (narrowed k) .pre .1 .0 .long, k .pick .ensures .1)
 
   upper-requires : explore-lts.Need-explore-requires-2 (calls t) (explore-at t) explore′.Post
   upper-requires c κs =
@@ -221,7 +230,9 @@ module _ (t : ℕ) where
       let n = narrowed k in (
         search-narrowed (now (start n .args .list)) (start n .args .node .count) (n .propagate .ensures .0)
             (search-over (now (start n .args .list)) (start n .args .node .count) (k .pick .result) refl refl
-            (search-state (now (start n .args .list)) (start n .args .node .count) (s .before .before .before .before .lowered .ensures) (s .explore .ensures .0)) (c .if3 .taken)),
+            (search-state (now (start n .args .list)) (start n .args .node .count)
+            (s .before .before .before .before .lowered .ensures) (s .explore .ensures .0))
+            (c .if3 .taken)),
         s .explore .ensures .1,
       )
 
@@ -237,7 +248,8 @@ module _ (t : ℕ) where
       found-as (c .handed3 .ensures)
       (search-narrowed (now (start n .args .list)) (start n .args .node .count) (n .propagate .ensures .0)
       (search-skip (now (start n .args .list)) (start n .args .node .count) (k .pick .result) refl refl
-      (search-state (now (start n .args .list)) (start n .args .node .count) (s .before .before .before .before .lowered .ensures) (s .explore .ensures .0)) none
+      (search-state (now (start n .args .list)) (start n .args .node .count) (s .before .before .before .before .lowered .ensures) (s .explore .ensures .0))
+      none
       (test .lies-within .ensures .yes (blamed .before .before .if4 .taken))))
       (lifted-remembers known (blamed .blame .ensures) none)
       (lifted-nogood known (blamed .blame .ensures) none)
@@ -255,8 +267,10 @@ module _ (t : ℕ) where
       found-as (c .handed4 .ensures)
       (search-narrowed (now (start n .args .list)) (start n .args .node .count) (n .propagate .ensures .0)
       (search-both (now (start n .args .list)) (start n .args .node .count) (k .pick .result) refl refl
-      (search-state (now (start n .args .list)) (start n .args .node .count) (s .before .before .before .before .lowered .ensures) (s .explore .ensures .0)) (h .before .before .before .before .before .before .before .before .if3 .left) refl
-      (search-state (s .explore .last .1 .1 .1 .1 .0) (s .explore .result .count) (h .before .before .before .before .raised .ensures) (h .explore2 .ensures .0))))
+      (search-state (now (start n .args .list)) (start n .args .node .count) (s .before .before .before .before .lowered .ensures) (s .explore .ensures .0))
+      (h .before .before .before .before .before .before .before .before .if3 .left) refl
+      (search-state (s .explore .last .1 .1 .1 .1 .0) (s .explore .result .count)
+      (h .before .before .before .before .raised .ensures) (h .explore2 .ensures .0))))
       (lifted-remembers known (blamed .blame2 .ensures) none)
       (lifted-nogood known (blamed .blame2 .ensures) none)
 
@@ -286,22 +300,32 @@ pub +explore-spec : {M : Type 1} → statement M
     (λ c. search needs)
     (lower-requires t)
     (λ c. c .before .before .before .before .before .before .explore .kept .1 .1 .1 .1 .0)
-    (λ c. c .before .before .before .before .before .before .explore .kept .1 .1 .1 .1 .1 .0 ∙ narrowed t (chosen t (c .before .before .before .before .before .before)) .propagate .kept .1 .1 .1 .1 .1 .0)
+    (λ c.
+    let s = c .before .before .before .before .before .before in
+    s .explore .kept .1 .1 .1 .1 .1 .0 ∙ narrowed t (chosen t s) .propagate .kept .1 .1 .1 .1 .1 .0)
     (too-many t)
     (λ c κs. search needs)
     (blame-requires t)
     (λ c κs. search needs)
     (λ c. c .before .before .before .before .before .before .before .before .before .before .before .before .before .before .explore .kept .1 .1 .1 .1 .0)
-    (λ c. c .before .before .before .blame .kept .1 .1 .1 .1 .1 .0 ∙ c .before .before .before .before .before .before .before .before .before .before .before .before .before .before .explore .kept .1 .1 .1 .1 .1 .0 ∙ narrowed t (chosen t (c .before .before .before .before .before .before .before .before .before .before .before .before .before .before)) .propagate .kept .1 .1 .1 .1 .1 .0)
+    (λ c.
+    let s = c .before .before .before .before .before .before .before .before .before .before .before .before .before .before in
+    c .before .before .before .blame .kept .1 .1 .1 .1 .1 .0 ∙ s .explore .kept .1 .1 .1 .1 .1 .0 ∙ narrowed t (chosen t s) .propagate .kept .1 .1 .1 .1 .1 .0)
     (skipped t)
     (raised-requires t)
-    (λ c. sym (narrowed t (chosen t (c .before .before .before .before .before .before .before .before .before .before .before .before .before)) .propagate .ensures .1 .0 .long))
+    (λ c.
+    let s = c .before .before .before .before .before .before .before .before .before .before .before .before .before in
+    sym (narrowed t (chosen t s) .propagate .ensures .1 .0 .long))
     (upper-requires t)
     (λ c κs. chosen t (searched t (c .before .before .before .before)) .pick .ensures .1)
     (blame-both-requires t)
     (λ c κs. search needs)
-    (λ c. c .before .before .before .before .before .before .before .before .before .before .explore2 .kept .1 .1 .1 .1 .0 ∙ searched t (c .before .before .before .before .before .before .before .before .before .before) .explore .kept .1 .1 .1 .1 .0)
     (λ c.
-    c .before .before .before .blame2 .kept .1 .1 .1 .1 .1 .0 ∙ c .before .before .before .before .before .before .before .before .before .before .explore2 .kept .1 .1 .1 .1 .1 .0 ∙ searched t (c .before .before .before .before .before .before .before .before .before .before) .explore .kept .1 .1 .1 .1 .1 .0
-    ∙ narrowed t (chosen t (searched t (c .before .before .before .before .before .before .before .before .before .before))) .propagate .kept .1 .1 .1 .1 .1 .0)
+    let h = c .before .before .before .before .before .before .before .before .before .before in
+    h .explore2 .kept .1 .1 .1 .1 .0 ∙ searched t h .explore .kept .1 .1 .1 .1 .0)
+    (λ c.
+    let h = c .before .before .before .before .before .before .before .before .before .before in
+    let s = searched t h in
+    c .before .before .before .blame2 .kept .1 .1 .1 .1 .1 .0 ∙ h .explore2 .kept .1 .1 .1 .1 .1 .0 ∙ s .explore .kept .1 .1 .1 .1 .1 .0
+    ∙ narrowed t (chosen t s) .propagate .kept .1 .1 .1 .1 .1 .0)
     (both-searched t)

@@ -12,7 +12,8 @@ use Rattle.unit_search.proofs.search.search.Tie as tie
 
 lay-out-requires : tie.Need-lay-out-requires
 lay-out-requires c κs =
-    let pre = c .before .before .before .before .before .before .pre .0 in (pre .rules-lent, pre .joinable .heads-long, joinable-some (pre .near) (pre .joinable) .few)
+    let pre = c .before .before .before .before .before .before .pre .0 in
+    (pre .rules-lent, pre .joinable .heads-long, joinable-some (pre .near) (pre .joinable) .few)
 
 propagate-requires : tie.Need-propagate-requires
 propagate-requires c κs =
@@ -20,14 +21,18 @@ propagate-requires c κs =
     let ready = prepared (laid .lay-out .ensures) (laid .before .before .before .before .before .before .before .pre .0) in (
       ready,
       remembers-empty (c .before .before .before .before .before .empty-store .ensures),
-      full-filtered _ _ _ _ _ _ (joinable-some (ready .searchable .near) (ready .searchable .joinable)) (c .before .before .before .before .full-filter .ensures),
+      full-filtered _ _ _ _ _ _ (joinable-some (ready .searchable .near) (ready .searchable .joinable))
+          (c .before .before .before .before .full-filter .ensures),
     )
 
 dive-requires : tie.Need-dive-ahead-requires
 dive-requires c κs =
     let told = c .before .before .before .before .before in
-    let laid = told .before .before .before .before .before .before .before in
-    (prepared (laid .lay-out .ensures) (laid .before .before .before .before .before .before .before .pre .0), told .propagate .ensures .1 .1, told .propagate .ensures .1 .0)
+    let laid = told .before .before .before .before .before .before .before in (
+      prepared (laid .lay-out .ensures) (laid .before .before .before .before .before .before .before .pre .0),
+      told .propagate .ensures .1 .1,
+      told .propagate .ensures .1 .0,
+    )
 
 explore-requires : tie.Need-explore-requires
 explore-requires c κs =
@@ -62,7 +67,9 @@ search-spec =
     (λ c. search needs)
     (λ c. search needs)
     dive-requires
-    (λ c. sym (c .before .before .before .before .before .before .before .before .before .before .before .before .before .before .before .before .lay-out .ensures .long))
+    (λ c.
+    let laid = c .before .before .before .before .before .before .before .before .before .before .before .before .before .before .before .before in
+    sym (laid .lay-out .ensures .long))
     (λ c. search needs)
     (λ c. search needs)
     explore-requires

@@ -40,5 +40,7 @@ excluding-spec =
     (λ c κs. search needs)
     (λ c κs. c .before .before .before .before .before .before .before .before .before .lowest .ensures .1)
     (λ c. taken-less (c .before .before .before .before .before .before .before .before .before .before .lowest .ensures .0) (c .drop .ensures))
-    (λ c. taken-within (c .before .before .before .before .before .before .before .before .before .before .before .before .loop .inv) (c .before .before .before .before .before .before .before .before .before .before .lowest .ensures .0) (c .drop .ensures))
+    (λ c.
+    let taken = c .before .before .before .before .before .before .before .before .before .before in
+    taken-within (taken .before .before .loop .inv) (taken .lowest .ensures .0) (c .drop .ensures))
     (λ c. search needs))
