@@ -1,16 +1,18 @@
--- Which rules are lent.
+-- Which rules are lent, and that answer sets of lent words are words.
 use mathlib.Core.Path.{_≡_}
-use mathlib.Core.Logic.{_↔_}
+use mathlib.Core.Logic.{_↔_, inl, inr}
 use mathlib.Core.List.{List}
-use Prim.Native.Nat.{ℕ, _*_, _<_, _≤_, min}
+use Prim.Native.Nat.{ℕ, _*_, _^_, _<_, _≤_, min}
 use native.Mathlib.Omega.{arith}
-use lib.ListN.{length}
-use Rattle.atoms.specs.Word.{Has, _⊆_, _∩_, below}
-use Rattle.atoms.proofs.Sets.{has-cut, cut-left, cut-right, has-below, below-lt}
+use lib.ListN.{length, getD}
+use Rattle.atoms.specs.Word.{ATOMS, Has, _⊆_, _∩_, below}
+use Rattle.atoms.proofs.Sets.{has-cut, cut-left, cut-right, has-below, below-lt, has-lt, lt-of-has}
 use Rattle.plan.specs.Limits.{MAX_RULES}
+use Rattle.answer_sets.specs.AnswerSet.{AnswerSet}
 use Rattle.answer_sets.specs.Lent.{lent, ruleAt, ruleCount, IsLent, Lent, numbered}
 use Rattle.answer_sets.specs.Test.{kept}
 use Rattle.answer_sets.proofs.Judged.{kept-at}
+use Rattle.answer_sets.proofs.Support.{Supported, supported}
 
 pub lent-within : {rules : List ℕ} {v w : ℕ} → v ⊆ w → Lent rules w → Lent rules v
 lent-within f l = record { each = λ r h. l .each r (f .each r h) }
@@ -53,3 +55,13 @@ numbered-cut rules n which {r = r} a b c d e = (is, rw is (lent-numbered rules n
   where
     is : r ≡ numbered rules n which
     is = rw (e, d, c, b, a)
+
+-- an answer set has only facts and atoms of heads, and these are words
+pub answer-word : (rules : List ℕ) {which facts M : ℕ} → ((i : ℕ) → getD rules i 0 < 2 ^ ATOMS) → facts < 2 ^ ATOMS
+    → AnswerSet (lent rules) which facts M → M < 2 ^ ATOMS
+unfolding lent
+answer-word rules {which} {facts} {M} g f a = lt-of-has M ATOMS (λ i h. go i (supported (lent rules) which facts M i a h))
+  where
+    go : (i : ℕ) → Supported (lent rules) which facts i → i < ATOMS
+    go i (inl h) = has-lt facts ATOMS f h
+    go i (inr s) = has-lt (getD rules (ruleAt (s .0)) 0) ATOMS (g (ruleAt (s .0))) (s .2)

@@ -1,15 +1,17 @@
--- Answer sets by their members: minimality said positively, support (only facts and head atoms are up), and that no answer set
--- lies within another. Each rests on a smaller position that still satisfies the kept rules; deciding `⊆` is all that it takes.
+-- Answer sets by their members: minimality said positively, support (only facts and head atoms are up), that no answer set
+-- lies within another, and that fewer constraints lose none. Each rests on a smaller position that still satisfies the kept rules; deciding `⊆` is all
+-- that it takes.
+use mathlib.Core.Path.{_≡_, subst}
 use mathlib.Core.Logic.{_⊎_, inl, inr}
 use Prim.Native.Nat.{ℕ, zero, suc, _^_, _<_}
 use native.Mathlib.Omega.{arith}
 use native.Mathlib.Nat.{pow-suc}
 use Rattle.atoms.specs.Word.{Has, _⊆_, _∩_, _∪_}
 use Rattle.atoms.specs.Bounded.{unionIn}
-use Rattle.atoms.proofs.Sets.{subset-dec, has-cut, cut-left, cut-right, has-left, has-right, union-cases, has-lt}
+use Rattle.atoms.proofs.Sets.{subset-dec, has-none, has-cut, cut-left, cut-right, has-left, has-right, union-cases, has-lt}
 use Rattle.atoms.proofs.Bounded.{union-has, union-at}
 use Rattle.answer_sets.specs.Program.{Program, Satisfies}
-use Rattle.answer_sets.specs.AnswerSet.{ReductModel, AnswerSet}
+use Rattle.answer_sets.specs.AnswerSet.{Kept, ReductModel, AnswerSet}
 
 -- so a word has only numbers below itself
 lt-pow : (n : ℕ) → n < 2 ^ n
@@ -84,3 +86,21 @@ module _ (P : Program) (which facts : ℕ) where
               (t .0, t .1, has-cut M word (t .2) (supported-has (t .0) (inr (r, k .numbered, t .1))));
         };
       }
+
+-- no constraint is kept at an answer set, since it would want a head atom: without some of them the reduct there is the same
+pub fewer-constraints : {P : Program} {more fewer facts M : ℕ} → fewer ⊆ more → ((r : ℕ) → Has more r → Has fewer r ⊎ (P .head r ≡ 0))
+    → AnswerSet P more facts M → AnswerSet P fewer facts M
+fewer-constraints {P} {more} {fewer} {facts} {M} f g a = record {
+  model = record {
+    facts-up = a .model .facts-up;
+    each = λ r k. a .model .each r (record { numbered = f .each r (k .numbered); holds = k .holds });
+  };
+  minimal = λ N p m.
+      a .minimal N p (record { facts-up = m .facts-up; each = λ r k. m .each r (kept r k (g r (k .numbered))) });
+}
+  where
+    kept : (r : ℕ) → Kept P more M r → Has fewer r ⊎ (P .head r ≡ 0) → Kept P fewer M r
+    kept r k (inl h) = record { numbered = h; holds = k .holds }
+    kept r k (inr e) =
+        let h = a .model .each r k .head-up (k .holds) in
+        absurd (has-none (subst (λ (w : ℕ). Has w (h .0)) e (h .1)))

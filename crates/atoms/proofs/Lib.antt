@@ -1,6 +1,7 @@
 pub mod Digits
 pub mod Tests
 pub mod Sets
+pub mod HighParts
 pub mod Counts
 pub mod Bounded
 pub mod Singles
@@ -9,3 +10,5 @@ pub mod TakenNumbers
 pub mod GatheredWords
 pub mod Rising
 pub mod Lists
+pub mod Insertion
+pub mod Cuts

@@ -3,3 +3,4 @@ pub mod Bounded
 pub mod Collected
 pub mod Rising
 pub mod Lists
+pub mod Cuts

@@ -2,6 +2,7 @@
 use mathlib.Core.List.{List, [], _∷_, _++_}
 use mathlib.Core.Bool.{Bool, true, false}
 use Prim.Native.Nat.{ℕ, zero, suc, _<_}
+use lib.Dec.{eqb, ltb}
 
 -- each member of the list is above b
 pub data Above (b : ℕ) : List ℕ → Type 0 where
@@ -17,3 +18,9 @@ pub data Rising : List ℕ → Type 0 where
 unfoldable pub members : (ℕ → Bool) → ℕ → List ℕ
 members p zero = []
 members p (suc n) = members p n ++ elim (p n) [ true ↦ n ∷ [] | false ↦ [] ]
+
+-- v put into its place in a rising list, unless it is there already
+unfoldable pub insertInto : ℕ → List ℕ → List ℕ
+insertInto v [] = v ∷ []
+insertInto v (x ∷ xs) =
+    elim (ltb v x) [ true ↦ v ∷ insertInto x xs | false ↦ elim (eqb v x) [ true ↦ x ∷ xs | false ↦ x ∷ insertInto v xs ] ]

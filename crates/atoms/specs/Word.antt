@@ -13,6 +13,10 @@ infix 50 _⊆_ _⊂_
 abbrev pub ATOMS : ℕ
 ATOMS = 64
 
+-- the word of all atoms
+abbrev pub EVERY_ATOM : ℕ
+EVERY_ATOM = 2 ^ ATOMS - 1
+
 -- "atom i is bit i": the binary digit of w at place i
 abbrev pub digit : ℕ → ℕ → ℕ
 digit w i = w / 2 ^ i % 2
@@ -63,6 +67,10 @@ atom i = 2 ^ i
 -- the set of all atoms below n; `below ATOMS` is every atom there is
 unfoldable pub below : ℕ → ℕ
 below n = 2 ^ n - 1
+
+-- the part of w from atom n on, as a number
+unfoldable pub high : ℕ → ℕ → ℕ
+high n w = w / 2 ^ n
 
 -- all atoms but those of w
 unfoldable pub outside : ℕ → ℕ

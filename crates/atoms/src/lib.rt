@@ -11,6 +11,9 @@ ghost use Rattle.atoms.specs.Bounded.{Decides, singleIf, unionIn};
 // How many atoms there are.
 pub const ATOMS: usize = 64;
 
+// The word of all atoms.
+pub const EVERY_ATOM: u64 = 0xffff_ffff_ffff_ffff;
+
 // The atoms that are in both.
 pub fn cut(a: u64, b: u64) -> u64
     ensures { λ r. ⌜ r ≡ a ∩ b ⌝ }

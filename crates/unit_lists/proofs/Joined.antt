@@ -7,12 +7,14 @@ use native.Mathlib.Omega.{arith}
 use lib.Dec.{eqb}
 use lib.ListN.{length, getD}
 use borrow.Author.Tests.{eqb-true, eq-eqb}
-use Rattle.atoms.specs.Word.{ATOMS, Has, _⊆_, _∩_, below}
+use Rattle.atoms.specs.Word.{ATOMS, EVERY_ATOM, Has, _⊆_, _∩_, below}
 use Rattle.atoms.specs.Rising.{Rising}
+use Rattle.atoms.specs.Cuts.{CutOf, cutList}
 use Rattle.atoms.proofs.Tests.{decided-true}
 use Rattle.atoms.proofs.Sets.{has-dec, has-lt, lt-of-has, has-outside, outside-lacks, subset-le, cut-right, below-lt}
 use Rattle.atoms.proofs.Bounded.{some-at, some-intro, all-in-at, all-in-intro}
 use Rattle.atoms.proofs.Rising.{members-rising}
+use Rattle.atoms.proofs.Cuts.{cut-rising, cut-at, cut-has, cut-whole}
 use Rattle.answer_sets.specs.Lent.{lent, ruleAt}
 use Rattle.answer_sets.specs.State.{Completes}
 use Rattle.answer_sets.proofs.Judged.{decides-answer-set}
@@ -76,7 +78,7 @@ module _ {T : Units} {u : ℕ} {rules heads′ table counts : List ℕ} {unit : 
           omega (arith, a .rules-there);
     });
     joinable = rw (t .predecessors-are) (record {
-      table-long = omega (arith, a .lists .table-long);
+      table-long = λ v h. let l : v < MAX_UNITS = a .named v h .0 in omega (arith, a .lists .table-long);
       counts-long = omega (arith, a .lists .counts-long);
       heads-long = a .heads-there;
       few = lt-of-has (T .predecessors u) MAX_UNITS (λ v h. a .named v h .0);
@@ -141,17 +143,39 @@ module _ {T : Units} {u : ℕ} {rules heads′ table counts : List ℕ} {unit : 
       go i h (yes p) = p
       go i h (no n) = absurd (c .no-dropped .none i (has-outside (heads T u) (has-lt M ATOMS w h) n) h)
 
-  -- what the search stores is the unit's list
-  pub unit-stored : (within place : ℕ) {table′ counts′ : List ℕ} {fits : Bool} → within ≡ heads T u
-      → ListStored (Wanted rules table counts heads′ unit) (T .given) within place table counts table′ counts′ fits
-      → MembersStored (unitList T u) place table counts table′ counts′ fits
-  unit-stored within place e s =
-      members-stored (Wanted rules table counts heads′ unit) (T .given) within (unitList T u) (unit-list-rising T u)
-      (λ M w.
-      unit-list-has T (a .passes) (a .passes .given-free) (a .rules-most) u M (a .is-unit)
-      (belongs-listed M (w .belongs) (w .completes .has-up) (to-heads M (w .belongs .word) (rw e at (w .completes)))))
-      (λ M m.
-      let l = unit-list-at T (a .passes) (a .passes .given-free) (a .rules-most) u M (a .is-unit) m in
-      let k = listed-member T (a .passes) (a .passes .given-free) u (a .is-unit) M .0 l in
-      record { belongs = listed-belongs M (rw e at (s .word)) l; completes = rw e (from-start M (k .given-up) (k .within)) })
+  -- what the search stores are the cuts of the unit's list
+  pub cuts-stored : (within shown place : ℕ) {table′ counts′ : List ℕ} {fits : Bool} → within ≡ heads T u
+      → ListStored (λ s. CutOf shown (Wanted rules table counts heads′ unit s)) (T .given) within place table counts table′ counts′ fits
+      → MembersStored (cutList shown (unitList T u)) place table counts table′ counts′ fits
+  cuts-stored within shown place e s =
+      members-stored (λ t. CutOf shown (Wanted rules table counts heads′ unit t)) (T .given) within (cutList shown (unitList T u))
+      (cut-rising shown (unitList T u))
+      (λ x c.
+      let w = c .wanted in
+      cut-has shown (unitList T u) (c .whole) x
+      (unit-list-has T (a .passes) (a .passes .given-free) (a .rules-most) u (c .whole) (a .is-unit)
+      (belongs-listed (c .whole) (w .belongs) (w .completes .has-up) (to-heads (c .whole) (w .belongs .word) (rw e at (w .completes)))))
+      (c .is))
+      (λ x m.
+      let c = cut-at shown (unitList T u) x m in
+      let l = unit-list-at T (a .passes) (a .passes .given-free) (a .rules-most) u (c .0) (a .is-unit) (c .1) in
+      let k = listed-member T (a .passes) (a .passes .given-free) u (a .is-unit) (c .0) .0 l in
+      record {
+        whole = c .0;
+        wanted = record { belongs = listed-belongs (c .0) (rw e at (s .word)) l; completes = rw e (from-start (c .0) (k .given-up) (k .within)) };
+        is = c .2;
+      })
       s
+
+  -- where every atom shows they are the list itself
+  pub unit-stored : (within place : ℕ) {table′ counts′ : List ℕ} {fits : Bool} → within ≡ heads T u
+      → ListStored (λ s. CutOf EVERY_ATOM (Wanted rules table counts heads′ unit s)) (T .given) within place table counts table′ counts′ fits
+      → MembersStored (unitList T u) place table counts table′ counts′ fits
+  unit-stored within place {table′} {counts′} {fits} e s =
+      subst (λ (xs : List ℕ). MembersStored xs place table counts table′ counts′ fits) (cut-whole (unitList T u) (unit-list-rising T u) words)
+      (cuts-stored within EVERY_ATOM place e s)
+    where
+      words : (x : ℕ) → List·Memᴰ x (unitList T u) → x < 2 ^ ATOMS
+      words x m =
+          listed-belongs x (rw e at (s .word))
+          (unit-list-at T (a .passes) (a .passes .given-free) (a .rules-most) u x (a .is-unit) m) .word

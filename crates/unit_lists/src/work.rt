@@ -19,6 +19,7 @@ use unit_steps::words::store;
 ghost use mathlib.Core.Path.{_≡_};
 ghost use Prim.Native.Nat.{_+_, _*_, _≤_, _<_};
 ghost use lib.ListN.{length};
+ghost use Rattle.atoms.specs.Cuts.{CutOf};
 ghost use Rattle.plan.specs.Limits.{LIST_WORDS, TABLE_WORDS, LAST_COUNT};
 ghost use Rattle.plan.specs.declared.fault.Fault.the-variants.{LongList};
 ghost use Rattle.dependency_graph.specs.Units.{Edge};
@@ -45,13 +46,14 @@ fn list_one(
     unit: Unit,
     given: u64,
     within: u64,
+    shown: u64,
     place: usize,
     table: &mut [u64],
     counts: &mut [usize],
 ) -> bool
     requires { ⌜ Searchable (now rules) (now table) (now counts) (now heads) unit
         × (LIST_WORDS * place + LIST_WORDS ≤ length (now table)) × (place < length (now counts)) ⌝ }
-    ensures { λ r. ⌜ ListStored (Wanted (now (rules .entry)) (now (table .entry)) (now (counts .entry)) (now (heads .entry)) unit)
+    ensures { λ r. ⌜ ListStored (λ s. CutOf shown (Wanted (now (rules .entry)) (now (table .entry)) (now (counts .entry)) (now (heads .entry)) unit s))
         given within place (now (table .entry)) (now (counts .entry)) (now (table .exit)) (now (counts .exit)) r ⌝ }
 {
     let mut list = [0u64; LIST_WORDS];
@@ -62,6 +64,7 @@ fn list_one(
         counts,
         heads,
         unit,
+        shown,
         &mut list,
         0,
         State {
@@ -111,6 +114,7 @@ fn list_unit(
         unit,
         plan.given,
         within,
+        atoms::EVERY_ATOM,
         u,
         table,
         counts,
@@ -167,6 +171,7 @@ fn list_last(plan: Plan, head_atoms: HeadAtoms, table: &mut [u64], counts: &mut 
         unit,
         plan.given,
         unit.inputs,
+        atoms::EVERY_ATOM,
         LAST_COUNT,
         table,
         counts,

@@ -8,6 +8,7 @@ use lib.Count.{ones}
 use Rattle.atoms.specs.Word.{Has, apart, _∩_, _∪_, atom}
 use Rattle.atoms.proofs.Sets.{decides-apart, apart-of-cut, has-atom}
 use Rattle.atoms.proofs.Counts.{count-le}
+use Rattle.plan.specs.Limits.{LIST_WORDS}
 use Rattle.answer_sets.specs.State.{Narrows, undecided}
 use Rattle.answer_sets.specs.declared.state.State.{State}
 use Rattle.answer_sets.proofs.HalfDecided.{undecided-shrinks}
@@ -16,7 +17,9 @@ use Rattle.learning.specs.Nogood.{Nogood, Overlaps}
 use Rattle.learning.specs.Reason.{Remembers}
 use Rattle.unit_search.specs.Listing.{Gathered}
 use Rattle.unit_search.specs.Branch.{withDropped, withUp}
+use Rattle.unit_search.specs.Witness.{Witnessed}
 use Rattle.unit_search.specs.declared.branch.Found.{Found}
+use Rattle.unit_search.specs.declared.witness.Witness.{Witness}
 use Rattle.learning.proofs.Nogoods.{overlap-avoided}
 
 -- ---- states that overlap
@@ -59,6 +62,7 @@ lowered-falls s {r} {t} {i} h e n = omega (arith, narrowed-le n, less)
 
 -- ---- what is handed back
 
-pub found-as : {P K : ℕ → Type 0} {list memory : List ℕ} {count : ℕ} {n : State} {r : Found} → r ≡ record { count = count; nogood = n }
-    → Gathered P list count → Remembers K memory → Nogood K n → Gathered P list (r .count) × (Remembers K memory × Nogood K (r .nogood))
-found-as e g m k = rw e (g, (m, k))
+pub found-as : {P K Q : ℕ → Type 0} {list memory : List ℕ} {count : ℕ} {n : State} {w : Witness} {r : Found}
+    → r ≡ record { count = count; nogood = n; witness = w } → Gathered P list count × (count ≤ LIST_WORDS → Witnessed Q w) → Remembers K memory
+    → Nogood K n → Gathered P list (r .count) × ((r .count ≤ LIST_WORDS → Witnessed Q (r .witness)) × (Remembers K memory × Nogood K (r .nogood)))
+found-as e g m k = rw e (g .0, (g .1, (m, k)))

@@ -1,137 +1,18 @@
 -- What an insertion adds to a rising list, and how the answers of two searches go together.
-use mathlib.Core.Path.{_≡_, sym, ap, _∙_, subst}
+use mathlib.Core.Path.{_≡_, refl, sym, ap, _∙_, subst}
 use mathlib.Core.List.{List, [], _∷_, _++_}
 use mathlib.Core.List.{List·Memᴰ, List·Memᴰ·head, List·Memᴰ·tail, List·Memᴰ·not-nil, List·Memᴰ·cases-cons, List·Memᴰ·eq-of-singleton}
 use mathlib.Core.Logic.{_⊎_, inl, inr}
 use Prim.Native.Nat.{ℕ, zero, suc, min, _+_, _-_, _≤_, _<_}
 use native.Mathlib.Omega.{arith}
 use native.Mathlib.Decide.{ℕ-discrete, decLt}
-use lib.ListN.{length, take, drop, replicate, length-append, length-take, length-drop}
+use lib.ListN.{length, take, drop, replicate, length-append, length-take, length-drop, length-replicate}
 use lib.Seq.{drop-drop, take-at, drop-at, length-take-le}
-use Rattle.atoms.specs.Rising.{above-nil, Rising, rising-nil, rising-cons}
+use Rattle.atoms.specs.Rising.{above-nil, Rising, rising-nil, rising-cons, insertInto}
+use Rattle.atoms.proofs.Insertion.{insert-at, insert-has, insert-rising, insert-longer}
 use Rattle.atoms.proofs.Rising.{above-at, above-intro}
 use Rattle.plan.specs.Limits.{LIST_WORDS}
-use Rattle.unit_search.specs.Listing.{insertInto, Inserted, room, no-room, Ordered, Overfull, LeftOver, Gathered, fits, over, Grown}
-use Rattle.unit_search.proofs.Insertion.{insert-below, insert-same, insert-above}
-
--- the three ways in which a value meets a member
-data Meets (v x : ℕ) : Type 0 where
-  below : v < x → Meets v x
-  same : v ≡ x → Meets v x
-  above : ¬ (v ≡ x) → x ≤ v → Meets v x
-
-meets : (v x : ℕ) → Meets v x
-meets v x = go (decLt v x) (ℕ-discrete v x)
-  where
-    go : Dec (v < x) → Dec (v ≡ x) → Meets v x
-    go (yes l) d = below l
-    go (no n) (yes e) = same e
-    go (no n) (no e) = above e (omega arith)
-
--- ---- members
-
-insert-at : (v : ℕ) (xs : List ℕ) (y : ℕ) → List·Memᴰ y (insertInto v xs) → (y ≡ v) ⊎ List·Memᴰ y xs
-unfolding insertInto
-insert-at v [] y m = inl (List·Memᴰ·eq-of-singleton m)
-insert-at v (x ∷ xs) y m = go (meets v x) (insert-at x xs y) (insert-at v xs y)
-  where
-    behind : List·Memᴰ y (x ∷ xs) → (y ≡ v) ⊎ List·Memᴰ y (x ∷ xs)
-    behind k = inr k
-
-    carried : (y ≡ x) ⊎ List·Memᴰ y xs → (y ≡ v) ⊎ List·Memᴰ y (x ∷ xs)
-    carried (inl e) = inr (List·Memᴰ·head e)
-    carried (inr k) = inr (List·Memᴰ·tail k)
-
-    stayed : (y ≡ v) ⊎ List·Memᴰ y xs → (y ≡ v) ⊎ List·Memᴰ y (x ∷ xs)
-    stayed (inl e) = inl e
-    stayed (inr k) = inr (List·Memᴰ·tail k)
-
-    first-below : (y ≡ v) ⊎ List·Memᴰ y (insertInto x xs) → (List·Memᴰ y (insertInto x xs) → (y ≡ x) ⊎ List·Memᴰ y xs)
-        → (y ≡ v) ⊎ List·Memᴰ y (x ∷ xs)
-    first-below (inl e) r = inl e
-    first-below (inr k) r = carried (r k)
-
-    first-above : (y ≡ x) ⊎ List·Memᴰ y (insertInto v xs) → (List·Memᴰ y (insertInto v xs) → (y ≡ v) ⊎ List·Memᴰ y xs)
-        → (y ≡ v) ⊎ List·Memᴰ y (x ∷ xs)
-    first-above (inl e) r = inr (List·Memᴰ·head e)
-    first-above (inr k) r = stayed (r k)
-
-    go : Meets v x → (List·Memᴰ y (insertInto x xs) → (y ≡ x) ⊎ List·Memᴰ y xs)
-        → (List·Memᴰ y (insertInto v xs) → (y ≡ v) ⊎ List·Memᴰ y xs) → (y ≡ v) ⊎ List·Memᴰ y (x ∷ xs)
-    go (below l) r q =
-        first-below (List·Memᴰ·cases-cons (subst (List·Memᴰ y) (insert-below v x xs l) m)) r
-    go (same e) r q = behind (subst (List·Memᴰ y) (insert-same v x xs e) m)
-    go (above n l) r q =
-        first-above (List·Memᴰ·cases-cons (subst (List·Memᴰ y) (insert-above v x xs n l) m)) q
-
-insert-has : (v : ℕ) (xs : List ℕ) (y : ℕ) → (y ≡ v) ⊎ List·Memᴰ y xs → List·Memᴰ y (insertInto v xs)
-unfolding insertInto
-insert-has v [] y (inl e) = List·Memᴰ·head e
-insert-has v [] y (inr m) = absurd (List·Memᴰ·not-nil m)
-insert-has v (x ∷ xs) y m = go (meets v x) (insert-has x xs y) (insert-has v xs y) m
-  where
-    split : List·Memᴰ y (x ∷ xs) → (y ≡ x) ⊎ List·Memᴰ y xs
-    split k = List·Memᴰ·cases-cons k
-
-    lower : ((y ≡ x) ⊎ List·Memᴰ y xs → List·Memᴰ y (insertInto x xs)) → (y ≡ v) ⊎ List·Memᴰ y (x ∷ xs)
-        → List·Memᴰ y (v ∷ insertInto x xs)
-    lower r (inl e) = List·Memᴰ·head e
-    lower r (inr k) = List·Memᴰ·tail (r (split k))
-
-    equal : v ≡ x → (y ≡ v) ⊎ List·Memᴰ y (x ∷ xs) → List·Memᴰ y (x ∷ xs)
-    equal e (inl f) = List·Memᴰ·head (f ∙ e)
-    equal e (inr k) = k
-
-    higher′ : ((y ≡ v) ⊎ List·Memᴰ y xs → List·Memᴰ y (insertInto v xs)) → (y ≡ x) ⊎ List·Memᴰ y xs
-        → List·Memᴰ y (x ∷ insertInto v xs)
-    higher′ q (inl e) = List·Memᴰ·head e
-    higher′ q (inr k) = List·Memᴰ·tail (q (inr k))
-
-    higher : ((y ≡ v) ⊎ List·Memᴰ y xs → List·Memᴰ y (insertInto v xs)) → (y ≡ v) ⊎ List·Memᴰ y (x ∷ xs)
-        → List·Memᴰ y (x ∷ insertInto v xs)
-    higher q (inl e) = List·Memᴰ·tail (q (inl e))
-    higher q (inr k) = higher′ q (split k)
-
-    go : Meets v x → ((y ≡ x) ⊎ List·Memᴰ y xs → List·Memᴰ y (insertInto x xs))
-        → ((y ≡ v) ⊎ List·Memᴰ y xs → List·Memᴰ y (insertInto v xs)) → (y ≡ v) ⊎ List·Memᴰ y (x ∷ xs)
-        → List·Memᴰ y (insertInto v (x ∷ xs))
-    go (below l) r q k = subst (List·Memᴰ y) (sym (insert-below v x xs l)) (lower r k)
-    go (same e) r q k = subst (List·Memᴰ y) (sym (insert-same v x xs e)) (equal e k)
-    go (above n l) r q k = subst (List·Memᴰ y) (sym (insert-above v x xs n l)) (higher q k)
-
--- ---- order
-
-insert-rising : (v : ℕ) (xs : List ℕ) → Rising xs → Rising (insertInto v xs)
-unfolding insertInto
-insert-rising v [] r = rising-cons above-nil rising-nil
-insert-rising v (x ∷ xs) (rising-cons a r) = go (meets v x) (insert-rising x xs r) (insert-rising v xs r)
-  where
-    over-v : v < x → (y : ℕ) → (y ≡ x) ⊎ List·Memᴰ y xs → v < y
-    over-v l y (inl e) = omega arith
-    over-v l y (inr m) = omega (arith, above-at a y m)
-
-    over-x : ¬ (v ≡ x) → x ≤ v → (y : ℕ) → (y ≡ v) ⊎ List·Memᴰ y xs → x < y
-    over-x n l y (inl e) = omega arith
-    over-x n l y (inr m) = above-at a y m
-
-    go : Meets v x → Rising (insertInto x xs) → Rising (insertInto v xs) → Rising (insertInto v (x ∷ xs))
-    go (below l) p q =
-        subst Rising (sym (insert-below v x xs l))
-        (rising-cons (above-intro v (insertInto x xs) (λ y m. over-v l y (insert-at x xs y m))) p)
-    go (same e) p q = subst Rising (sym (insert-same v x xs e)) (rising-cons a r)
-    go (above n l) p q =
-        subst Rising (sym (insert-above v x xs n l))
-        (rising-cons (above-intro x (insertInto v xs) (λ y m. over-x n l y (insert-at v xs y m))) q)
-
-insert-longer : (v : ℕ) (xs : List ℕ) → length xs ≤ length (insertInto v xs)
-insert-longer v [] = omega arith
-insert-longer v (x ∷ xs) = go (meets v x) (insert-longer x xs) (insert-longer v xs)
-  where
-    go : Meets v x → length xs ≤ length (insertInto x xs) → length xs ≤ length (insertInto v xs)
-        → length (x ∷ xs) ≤ length (insertInto v (x ∷ xs))
-    go (below l) p q = omega (arith, ap length (insert-below v x xs l))
-    go (same e) p q = omega (arith, ap length (insert-same v x xs e))
-    go (above n l) p q = omega (arith, ap length (insert-above v x xs n l))
+use Rattle.unit_search.specs.Listing.{Inserted, room, no-room, Ordered, Overfull, LeftOver, Gathered, fits, over, Grown}
 
 -- ---- gathered lists
 
@@ -278,3 +159,7 @@ gathered-then {A} {B} {C} list₀ count₀ list₁ count₁ a b c l (fits o s h)
     from x (inl m) = inl (h x (inl m))
     from x (inr p) = cases x (c x p)
 gathered-then list₀ count₀ list₁ count₁ a b c l (over o k) g = absurd (omega arith)
+
+-- a list of zeros has no members
+pub zeros-ordered : Ordered (replicate {A = ℕ} LIST_WORDS 0) 0
+zeros-ordered = record { long = length-replicate {A = ℕ} LIST_WORDS 0; small = omega arith; rising = rising-nil; zeros = refl }

@@ -11,28 +11,9 @@ use lib.ListN.{length, take, drop, getD, set, take-append-drop, drop-of-length-l
 use lib.Seq.{take-all, take-at, take-suc, drop-cons, drop-drop, drop-set-lt, drop-append-le, take-suc-set, set-split, getD-take, getD-drop, length-take-le}
 use borrow.Author.Tests.{lt-ltb, le-ltb, eq-eqb, ne-eqb}
 use Rattle.plan.specs.Limits.{LIST_WORDS, OVERFULL}
-use Rattle.unit_search.specs.Listing.{insertInto, Inserted, room, no-room}
-
--- ---- the three cases
-
-pub insert-below : (v x : ℕ) (xs : List ℕ) → v < x → insertInto v (x ∷ xs) ≡ v ∷ insertInto x xs
-unfolding insertInto
-insert-below v x xs l =
-    rw (insertInto, lt-ltb v x l)
-
-not-below : (v x : ℕ) (xs : List ℕ) → x ≤ v → insertInto v (x ∷ xs) ≡ elim (eqb v x) [ true ↦ x ∷ xs | false ↦ x ∷ insertInto v xs ]
-unfolding insertInto
-not-below v x xs l =
-    rw (insertInto, le-ltb v x l)
-
-pub insert-same : (v x : ℕ) (xs : List ℕ) → v ≡ x → insertInto v (x ∷ xs) ≡ x ∷ xs
-insert-same v x xs e =
-    not-below v x xs (omega arith)
-    ∙ ap (λ (b : Bool). elim b [ true ↦ x ∷ xs | false ↦ x ∷ insertInto v xs ]) (eq-eqb v x e)
-
-pub insert-above : (v x : ℕ) (xs : List ℕ) → ¬ (v ≡ x) → x ≤ v → insertInto v (x ∷ xs) ≡ x ∷ insertInto v xs
-insert-above v x xs n l =
-    not-below v x xs l ∙ ap (λ (b : Bool). elim b [ true ↦ x ∷ xs | false ↦ x ∷ insertInto v xs ]) (ne-eqb v x n)
+use Rattle.atoms.specs.Rising.{insertInto}
+use Rattle.atoms.proofs.Insertion.{insert-below, insert-same, insert-above}
+use Rattle.unit_search.specs.Listing.{Inserted, room, no-room}
 
 -- ---- what is left to do at place i, where `carried` is still to be put among the members from i on
 pub record Passing (list₀ : List ℕ) (count value : ℕ) (list : List ℕ) (carried i : ℕ) : Type 0 where

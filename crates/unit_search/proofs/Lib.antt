@@ -1,4 +1,5 @@
 pub mod Insertion
 pub mod Gathered
+pub mod Witnesses
 pub mod SearchSteps
 pub mod Branches

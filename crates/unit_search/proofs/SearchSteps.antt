@@ -1,9 +1,10 @@
 -- The search: what belongs to the list survives propagation, and the two ways to decide an atom together miss nothing.
-use mathlib.Core.Path.{_≡_, refl, sym, _∙_, subst}
+use mathlib.Core.Path.{_≡_, refl, sym, ap, _∙_, subst}
 use mathlib.Core.Bool.{Bool, true, false, not, true≢false, false≢true}
 use mathlib.Core.Logic.{_⊎_, inl, inr}
 use mathlib.Core.List.{List}
 use Prim.Native.Nat.{ℕ, _<_, _≤_, _^_}
+use native.Mathlib.Omega.{arith}
 use borrow.Author.Tests.{not-true, not-false}
 use Rattle.atoms.specs.Word.{ATOMS, Has, Apart, apart, _∩_, _∪_, atom}
 use Rattle.atoms.specs.Bounded.{Decides}
@@ -16,14 +17,22 @@ use Rattle.answer_sets.specs.State.{Completes, Narrows, undecided}
 use Rattle.answer_sets.specs.declared.state.State.{State}
 use Rattle.answer_sets.proofs.HalfDecided.{decided-cases}
 use Rattle.answer_sets.proofs.Narrows.{completes-back, overlap-none, with-up, with-dropped, without-up, without-dropped}
-use Rattle.learning.specs.Nogood.{Nogood, Within}
+use Rattle.learning.specs.Nogood.{Nogood, Within, Overlaps}
 use Rattle.learning.proofs.Nogoods.{nogood-stops}
 use Rattle.unit_search.specs.Listing.{Ordered, Inserted, Gathered, Grown}
+use Rattle.unit_search.specs.Branch.{withDropped, withUp}
+use Rattle.atoms.specs.Cuts.{CutOf}
+use Rattle.unit_search.specs.Witness.{Witnessed, met, none, Met, eitherOf}
+use Rattle.unit_search.specs.declared.witness.Witness.{Witness}
+use Rattle.unit_search.specs.declared.witness.Witness.the-variants.{Member, Nothing}
+use Rattle.unit_search.specs.declared.branch.Found.{Found}
 use Rattle.unit_steps.specs.Job.{joins, Belongs, Wanted, Offered}
 use Rattle.unit_steps.specs.declared.unit.Unit.{Unit}
 use Rattle.unit_steps.specs.Desk.{LaidOut}
 use Rattle.unit_steps.proofs.Desks.{wanted-desk, desk-wanted}
-use Rattle.unit_search.proofs.Gathered.{gathered-insert, gathered-same, gathered-iff, gathered-over, gathered-then}
+use Rattle.unit_search.proofs.Gathered.{gathered-insert, gathered-same, gathered-iff}
+use Rattle.unit_search.proofs.Witnesses.{cuts-iff, cuts-over, cuts-enough, cuts-then, same-cut, grown-for, witnessed-iff, witnessed-met}
+use Rattle.unit_search.proofs.Witnesses.{witnessed-more, witnessed-both}
 
 module _ (rules table counts heads : List ℕ) (unit : Unit) where
   -- the two statements, of this unit
@@ -47,64 +56,70 @@ module _ (rules table counts heads : List ℕ) (unit : Unit) where
 
   -- ---- one position
 
-  pub offer-none : (list : List ℕ) (count position : ℕ) → Ordered list count
-      → Decides (Belong position) false
-      → Gathered (Grown list count (Offer position)) list count
-  offer-none list count position o d =
-      gathered-same list count (Offer position) o
-      (λ x w. d .no refl (subst Belong (w .is) (w .belongs)))
-
-  pub offer-one : (list : List ℕ) (count position : ℕ) (after : List ℕ) (r : ℕ) → Ordered list count
-      → Belong position → Inserted list count position after r
-      → Gathered (Grown list count (Offer position)) after r
-  offer-one list count position after r o b i = gathered-iff into from (gathered-insert list count position after r o i)
+  pub offer-none : (list : List ℕ) (count shown position : ℕ) {e : State} {r : Found} → Ordered list count → Decides (Belong position) false
+      → r ≡ record { count = count; nogood = e; witness = Nothing } → Overlaps e
+      → Gathered (Grown list count (CutOf shown (Offer position))) list (r .count)
+      × (Witnessed (Offer position) (r .witness) × Overlaps (r .nogood))
+  offer-none list count shown position o d f k =
+      rw f (gathered-same list count (CutOf shown (Offer position)) o (λ x c. not-here (c .whole) (c .wanted)), (none not-here, k))
     where
-      into : (x : ℕ) → Grown list count (λ y. y ≡ position) x → Grown list count (Offer position) x
-      into x (inl m) = inl m
-      into x (inr e) = inr (record { is = e; belongs = subst Belong (sym e) b })
+      not-here : (M : ℕ) → ¬ Offer position M
+      not-here M w = d .no refl (subst Belong (w .is) (w .belongs))
 
-      from : (x : ℕ) → Grown list count (Offer position) x → Grown list count (λ y. y ≡ position) x
-      from x (inl m) = inl m
-      from x (inr w) = inr (w .is)
+  pub offer-one : (list : List ℕ) (count shown position : ℕ) (after : List ℕ) {cut n : ℕ} {e : State} {r : Found} → Ordered list count
+      → Belong position → cut ≡ position ∩ shown → Inserted list count cut after n
+      → r ≡ record { count = n; nogood = e; witness = Member position } → Overlaps e
+      → Gathered (Grown list count (CutOf shown (Offer position))) after (r .count)
+      × (Witnessed (Offer position) (r .witness) × Overlaps (r .nogood))
+  offer-one list count shown position after {cut} {n} o b c i f k =
+      rw f (gathered-iff (grown-for list count into) (grown-for list count from) (gathered-insert list count cut after n o i), (met here, k))
+    where
+      here : Offer position position
+      here = record { is = refl; belongs = b }
+
+      into : (x : ℕ) → x ≡ cut → CutOf shown (Offer position) x
+      into x e = record { whole = position; wanted = here; is = e ∙ c }
+
+      from : (x : ℕ) → CutOf shown (Offer position) x → x ≡ cut
+      from x w = w .is ∙ ap (λ (M : ℕ). M ∩ shown) (w .wanted .is) ∙ sym c
 
 -- ---- the search
 
+-- what is said of a node: what it adds to the list, and a member there
+abbrev Answered : List ℕ → ℕ → ℕ → (ℕ → Type 0) → List ℕ → ℕ → Witness → Type 0
+Answered list count shown Q after r w = Gathered (Grown list count (CutOf shown Q)) after r × (r ≤ LIST_WORDS → Witnessed Q w)
+
 module _ {rules table counts heads : List ℕ} {unit : Unit} where
-  -- of the same state
-  pub search-state : (list : List ℕ) (count : ℕ) {s t : State} {after : List ℕ} {r : ℕ} → s ≡ t
-      → Gathered (Grown list count (Wanted rules table counts heads unit s)) after r
-      → Gathered (Grown list count (Wanted rules table counts heads unit t)) after r
-  search-state list count {after = after} {r = r} e g =
-      subst (λ (x : State). Gathered (Grown list count (Wanted rules table counts heads unit x)) after r) e g
-
   -- after propagation the same positions are wanted
-  pub search-narrowed : (list : List ℕ) (count : ℕ) {s t : State} {after : List ℕ} {r : ℕ}
-      → Narrows (Belongs rules table counts heads unit) s t
-      → Gathered (Grown list count (Wanted rules table counts heads unit t)) after r
-      → Gathered (Grown list count (Wanted rules table counts heads unit s)) after r
-  search-narrowed list count {s} {t} n g = gathered-iff into from g
-    where
-      into : (x : ℕ) → Grown list count (Wanted rules table counts heads unit t) x → Grown list count (Wanted rules table counts heads unit s) x
-      into x (inl m) = inl m
-      into x (inr w) = inr (record { belongs = w .belongs; completes = completes-back n (w .completes) })
+  narrowed-back : {s t : State} → Narrows (Belongs rules table counts heads unit) s t → (M : ℕ) → Wanted rules table counts heads unit t M
+      → Wanted rules table counts heads unit s M
+  narrowed-back n M w = record { belongs = w .belongs; completes = completes-back n (w .completes) }
 
-      from : (x : ℕ) → Grown list count (Wanted rules table counts heads unit s) x → Grown list count (Wanted rules table counts heads unit t) x
-      from x (inl m) = inl m
-      from x (inr w) = inr (record { belongs = w .belongs; completes = n .keeps x (w .belongs) (w .completes) })
+  narrowed-keeps : {s t : State} → Narrows (Belongs rules table counts heads unit) s t → (M : ℕ) → Wanted rules table counts heads unit s M
+      → Wanted rules table counts heads unit t M
+  narrowed-keeps n M w = record { belongs = w .belongs; completes = n .keeps M (w .belongs) (w .completes) }
+
+  pub search-narrowed : (list : List ℕ) (count : ℕ) {shown : ℕ} {s t : State} {after : List ℕ} {r : ℕ} {w : Witness}
+      → Narrows (Belongs rules table counts heads unit) s t → Answered list count shown (Wanted rules table counts heads unit t) after r w
+      → Answered list count shown (Wanted rules table counts heads unit s) after r w
+  search-narrowed list count n a =
+      (cuts-iff list count (narrowed-back n) (narrowed-keeps n) (a .0), λ l. witnessed-iff (narrowed-back n) (narrowed-keeps n) (a .1 l))
 
   -- an overlap: nothing is wanted
-  pub search-clash : {list : List ℕ} {count : ℕ} {t : State} {r : Bool} → Ordered list count → r ≡ apart (t .up) (t .dropped)
-      → not r ≡ true → Gathered (Grown list count (Wanted rules table counts heads unit t)) list count
-  search-clash {list} {count} {t} {r} o e f =
-      gathered-same list count (Wanted rules table counts heads unit t) o
-      (λ x w. overlap-none {s = t} (decides-apart (t .up) (t .dropped) .no (sym e ∙ not-true r f)) (w .completes))
+  pub search-clash : {list : List ℕ} {count shown : ℕ} {t : State} {r : Bool} → Ordered list count → r ≡ apart (t .up) (t .dropped)
+      → not r ≡ true → Answered list count shown (Wanted rules table counts heads unit t) list count Nothing
+  search-clash {list} {count} {shown} {t} {r} o e f =
+      (gathered-same list count (CutOf shown (Wanted rules table counts heads unit t)) o (λ x c. nobody (c .whole) (c .wanted)), λ l. none nobody)
+    where
+      nobody : (M : ℕ) → ¬ Wanted rules table counts heads unit t M
+      nobody M w = overlap-none {s = t} (decides-apart (t .up) (t .dropped) .no (sym e ∙ not-true r f)) (w .completes)
 
   -- nothing undecided: only the atoms that are up can be wanted
-  pub search-leaf : (list : List ℕ) (count : ℕ) {t : State} {free : ℕ} {test : Bool} {after : List ℕ} {r : ℕ}
+  pub search-leaf : (list : List ℕ) (count : ℕ) {shown : ℕ} {t : State} {free : ℕ} {test : Bool} {after : List ℕ} {r : ℕ} {w : Witness}
       → test ≡ apart (t .up) (t .dropped) → not test ≡ false → free ≡ undecided (t .up) (t .dropped) → free ≡ 0
-      → Gathered (Grown list count (Offered rules table counts heads unit (t .up))) after r
-      → Gathered (Grown list count (Wanted rules table counts heads unit t)) after r
-  search-leaf list count {t} {test = test} e f u z g = gathered-iff into from g
+      → Answered list count shown (Offered rules table counts heads unit (t .up)) after r w
+      → Answered list count shown (Wanted rules table counts heads unit t) after r w
+  search-leaf list count {t = t} {test = test} e f u z a = (cuts-iff list count into from (a .0), λ l. witnessed-iff into from (a .1 l))
     where
       no-overlap : Apart (t .up) (t .dropped)
       no-overlap = decides-apart (t .up) (t .dropped) .yes (sym e ∙ not-false test f)
@@ -123,80 +138,67 @@ module _ {rules table counts heads : List ℕ} {unit : Unit} where
           go i h (inl p) = p
           go i h (inr p) = absurd (w .completes .no-dropped .none i p h)
 
-      into : (x : ℕ) → Grown list count (Offered rules table counts heads unit (t .up)) x
-          → Grown list count (Wanted rules table counts heads unit t) x
-      into x (inl m) = inl m
-      into x (inr w) =
-          inr
-          (record {
-            belongs = w .belongs;
-            completes = rw (w .is)
-                (record {
-                  has-up = record { each = λ i p. p };
-                  no-dropped = record { none = λ i p q. no-overlap .none i q p };
-                });
-          })
+      into : (M : ℕ) → Offered rules table counts heads unit (t .up) M → Wanted rules table counts heads unit t M
+      into M w = record {
+        belongs = w .belongs;
+        completes = rw (w .is)
+            (record {
+              has-up = record { each = λ i p. p };
+              no-dropped = record { none = λ i p q. no-overlap .none i q p };
+            });
+      }
 
-      from : (x : ℕ) → Grown list count (Wanted rules table counts heads unit t) x
-          → Grown list count (Offered rules table counts heads unit (t .up)) x
-      from x (inl m) = inl m
-      from x (inr w) = inr (record { is = whole x w; belongs = w .belongs })
+      from : (M : ℕ) → Wanted rules table counts heads unit t M → Offered rules table counts heads unit (t .up) M
+      from M w = record { is = whole M w; belongs = w .belongs }
 
   -- an atom is dropped first, and then it goes up
-  module _ (list₀ : List ℕ) (count₀ i : ℕ) {t : State} {list₁ : List ℕ} {count₁ x d : ℕ} (a : x ≡ atom i) (e : d ≡ t .dropped ∪ x)
-      (low : Gathered (Grown list₀ count₀ (Wanted rules table counts heads unit (record { up = t .up; dropped = d }))) list₁ count₁) where
-    dropped-completes : {N : ℕ} → Completes (record { up = t .up; dropped = d }) N → Completes t N
-    dropped-completes c = without-dropped t i (rw (e, a) at c)
+  module _ (list₀ : List ℕ) (count₀ i : ℕ) {shown : ℕ} {t low : State} {list₁ : List ℕ} {count₁ : ℕ} {v : Witness} (e : low ≡ withDropped t i)
+      (a : Answered list₀ count₀ shown (Wanted rules table counts heads unit low) list₁ count₁ v) where
+    lower-back : (M : ℕ) → Wanted rules table counts heads unit low M → Wanted rules table counts heads unit t M
+    lower-back M w = record { belongs = w .belongs; completes = without-dropped t i (rw e at (w .completes)) }
 
     -- too many already
-    pub search-over : LIST_WORDS < count₁ → Gathered (Grown list₀ count₀ (Wanted rules table counts heads unit t)) list₁ count₁
-    search-over l = gathered-over into l low
-      where
-        into : (x : ℕ) → Grown list₀ count₀ (Wanted rules table counts heads unit (record { up = t .up; dropped = d })) x
-            → Grown list₀ count₀ (Wanted rules table counts heads unit t) x
-        into x (inl m) = inl m
-        into x (inr w) = inr (record { belongs = w .belongs; completes = dropped-completes (w .completes) })
+    pub search-over : LIST_WORDS < count₁ → Answered list₀ count₀ shown (Wanted rules table counts heads unit t) list₁ count₁ v
+    search-over l = (cuts-over list₀ count₀ lower-back l (a .0), λ m. absurd (omega arith))
+
+    -- one was met, and all have its cut
+    pub search-enough : {left : ℕ} → count₁ ≤ LIST_WORDS → left ≡ undecided (t .up) (t .dropped) ∩ shown → left ≡ 0 → Met v
+        → Answered list₀ count₀ shown (Wanted rules table counts heads unit t) list₁ count₁ v
+    search-enough l o z m =
+        let q = witnessed-met m (a .1 l) in (
+          cuts-enough list₀ count₀ lower-back (m .member) q
+              (λ M w.
+              same-cut t shown o z M (m .member) (w .belongs .word) (q .belongs .word) (w .completes) (lower-back (m .member) q .completes))
+              (a .0),
+          λ k. witnessed-more lower-back m (a .1 l),
+        )
 
     -- no member completes the state, so that the other branch has none
     pub search-skip : {n : State} → Nogood (Belongs rules table counts heads unit) n → Within n t
-        → Gathered (Grown list₀ count₀ (Wanted rules table counts heads unit t)) list₁ count₁
-    search-skip g w = gathered-iff into from low
+        → Answered list₀ count₀ shown (Wanted rules table counts heads unit t) list₁ count₁ v
+    search-skip g k = (cuts-iff list₀ count₀ lower-back stopped (a .0), λ l. witnessed-iff lower-back stopped (a .1 l))
       where
-        into : (x : ℕ) → Grown list₀ count₀ (Wanted rules table counts heads unit (record { up = t .up; dropped = d })) x
-            → Grown list₀ count₀ (Wanted rules table counts heads unit t) x
-        into x (inl m) = inl m
-        into x (inr v) = inr (record { belongs = v .belongs; completes = dropped-completes (v .completes) })
+        stopped : (M : ℕ) → Wanted rules table counts heads unit t M → Wanted rules table counts heads unit low M
+        stopped M w = absurd (nogood-stops g k M (w .belongs) (w .completes))
 
-        from : (x : ℕ) → Grown list₀ count₀ (Wanted rules table counts heads unit t) x
-            → Grown list₀ count₀ (Wanted rules table counts heads unit (record { up = t .up; dropped = d })) x
-        from x (inl m) = inl m
-        from x (inr v) = absurd (nogood-stops g w x (v .belongs) (v .completes))
-
-    pub search-both : count₁ ≤ LIST_WORDS → {list₂ : List ℕ} {u count₂ : ℕ} → u ≡ t .up ∪ x
-        → Gathered (Grown list₁ count₁ (Wanted rules table counts heads unit (record { up = u; dropped = t .dropped }))) list₂ count₂
-        → Gathered (Grown list₀ count₀ (Wanted rules table counts heads unit t)) list₂ count₂
-    search-both l {u = u} f high =
-        gathered-then list₀ count₀ list₁ count₁
-        (λ N w. record { belongs = w .belongs; completes = dropped-completes (w .completes) })
-        (λ N w. record { belongs = w .belongs; completes = without-up t i (rw (f, a) at (w .completes)) })
-        (λ N w. split N w (has-dec N i)) l low high
+    pub search-both : count₁ ≤ LIST_WORDS → {high : State} {list₂ : List ℕ} {count₂ : ℕ} {u w : Witness} → high ≡ withUp t i
+        → w ≡ eitherOf v u → Answered list₁ count₁ shown (Wanted rules table counts heads unit high) list₂ count₂ u
+        → Answered list₀ count₀ shown (Wanted rules table counts heads unit t) list₂ count₂ w
+    search-both l {high} {u = u} f z b = (
+      cuts-then list₀ count₀ list₁ count₁ lower-back upper-back (λ M w. split M w (has-dec M i)) l (a .0) (b .0),
+      λ k. witnessed-both z lower-back upper-back (λ M w. split M w (has-dec M i)) (a .1 l) (b .1 k),
+    )
       where
-        split : (N : ℕ) → Wanted rules table counts heads unit t N → Dec (Has N i)
-            → Wanted rules table counts heads unit (record { up = t .up; dropped = d }) N
-            ⊎ Wanted rules table counts heads unit (record { up = u; dropped = t .dropped }) N
-        split N w (yes h) = inr (record { belongs = w .belongs; completes = rw (f, a) (with-up t i (w .completes) h) })
-        split N w (no h) = inl (record { belongs = w .belongs; completes = rw (e, a) (with-dropped t i (w .completes) h) })
+        upper-back : (M : ℕ) → Wanted rules table counts heads unit high M → Wanted rules table counts heads unit t M
+        upper-back M w = record { belongs = w .belongs; completes = without-up t i (rw f at (w .completes)) }
+
+        split : (M : ℕ) → Wanted rules table counts heads unit t M → Dec (Has M i)
+            → Wanted rules table counts heads unit low M ⊎ Wanted rules table counts heads unit high M
+        split M w (yes h) = inr (record { belongs = w .belongs; completes = rw f (with-up t i (w .completes) h) })
+        split M w (no h) = inl (record { belongs = w .belongs; completes = rw e (with-dropped t i (w .completes) h) })
 
 -- what is wanted through the desk is what is wanted
-pub search-desk : {rules table counts heads desk : List ℕ} {unit : Unit} → LaidOut rules heads unit desk → (list : List ℕ) (count : ℕ) {s : State}
-    {after : List ℕ} {r : ℕ} → Gathered (Grown list count (Wanted rules table counts desk unit s)) after r
-    → Gathered (Grown list count (Wanted rules table counts heads unit s)) after r
-search-desk {rules} {table} {counts} {heads} {desk} {unit} l list count {s} g = gathered-iff into from g
-  where
-    into : (x : ℕ) → Grown list count (Wanted rules table counts desk unit s) x → Grown list count (Wanted rules table counts heads unit s) x
-    into x (inl m) = inl m
-    into x (inr w) = inr (desk-wanted l table counts x w)
-
-    from : (x : ℕ) → Grown list count (Wanted rules table counts heads unit s) x → Grown list count (Wanted rules table counts desk unit s) x
-    from x (inl m) = inl m
-    from x (inr w) = inr (wanted-desk l table counts x w)
+pub search-desk : {rules table counts heads desk : List ℕ} {unit : Unit} → LaidOut rules heads unit desk → (list : List ℕ) (count : ℕ) {shown : ℕ}
+    {s : State} {after : List ℕ} {r : ℕ} → Gathered (Grown list count (CutOf shown (Wanted rules table counts desk unit s))) after r
+    → Gathered (Grown list count (CutOf shown (Wanted rules table counts heads unit s))) after r
+search-desk {table = table} {counts = counts} l list count g = cuts-iff list count (desk-wanted l table counts) (wanted-desk l table counts) g

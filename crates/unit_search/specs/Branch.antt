@@ -8,3 +8,7 @@ withDropped s i = record { up = s .up; dropped = s .dropped ∪ atom i }
 
 abbrev pub withUp : State → ℕ → State
 withUp s i = record { up = s .up ∪ atom i; dropped = s .dropped }
+
+-- what two states say together
+abbrev pub bothOf : State → State → State
+bothOf s t = record { up = s .up ∪ t .up; dropped = s .dropped ∪ t .dropped }

@@ -1,19 +1,11 @@
 -- Inner: a rising list in LIST_WORDS words, zeros behind it, and what is said of one that grows or has become too long.
 use mathlib.Core.Path.{_≡_}
-use mathlib.Core.Bool.{true, false}
-use mathlib.Core.List.{List, [], _∷_, _++_, List·Memᴰ}
+use mathlib.Core.List.{List, _++_, List·Memᴰ}
 use mathlib.Core.Logic.{_⊎_}
 use Prim.Native.Nat.{ℕ, _-_, _≤_}
-use lib.Dec.{eqb, ltb}
 use lib.ListN.{length, take, drop, replicate}
-use Rattle.atoms.specs.Rising.{Rising}
+use Rattle.atoms.specs.Rising.{Rising, insertInto}
 use Rattle.plan.specs.Limits.{LIST_WORDS, OVERFULL}
-
--- v put into its place in a rising list, unless it is there already
-unfoldable pub insertInto : ℕ → List ℕ → List ℕ
-insertInto v [] = v ∷ []
-insertInto v (x ∷ xs) =
-    elim (ltb v x) [ true ↦ v ∷ insertInto x xs | false ↦ elim (eqb v x) [ true ↦ x ∷ xs | false ↦ x ∷ insertInto v xs ] ]
 
 -- the words hold a rising list of `count` members and zeros behind it
 pub record Ordered (list : List ℕ) (count : ℕ) : Type 0 where

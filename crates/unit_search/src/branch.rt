@@ -1,5 +1,8 @@
 // Where a search stands, how it goes on from there, and what is left of two branches.
+use crate::witness::Witness;
 use answer_sets::State;
+use atoms::EVERY_ATOM;
+use atoms::tally::prefer;
 use learning::nogood::lies_within;
 use learning::nogood::resolve;
 use learning::store::learnt_pairs;
@@ -21,36 +24,41 @@ ghost use Rattle.learning.specs.Store.{MEMORY_WORDS};
 ghost use Rattle.unit_steps.specs.Desk.{DESK_WORDS};
 ghost use Rattle.unit_search.specs.Branch.{withDropped, withUp};
 
-// A node of the search: its unit, how many positions are listed so far, where propagation stands, and the state in which the atom was decided.
+// A node of the search: its unit, the atoms that show, how many positions are listed so far, where propagation stands, and the state in which
+// the atom was decided.
 pub struct Node {
     pub unit: Unit,
+    pub shown: u64,
     pub count: usize,
     pub front: Front,
     pub base: State,
 }
 
-// What was found below a node: how many positions are listed now, and a pair that no member completes.
+// What was found below a node: how many positions are listed now, a pair that no member completes, and a member there.
 pub struct Found {
     pub count: usize,
     pub nogood: State,
+    pub witness: Witness,
 }
 
 // What was found, put together.
-pub fn handed(count: usize, nogood: State) -> Found
-    ensures { λ r. ⌜ r ≡ record { count = count; nogood = nogood } ⌝ }
+pub fn handed(count: usize, nogood: State, witness: Witness) -> Found
+    ensures { λ r. ⌜ r ≡ record { count = count; nogood = nogood; witness = witness } ⌝ }
 {
-    Found { count, nogood }
+    Found {
+        count,
+        nogood,
+        witness,
+    }
 }
-
-const ALL: u64 = 0xffff_ffff_ffff_ffff;
 
 // The pair that names everything, which nothing completes.
 pub fn everything() -> State
     ensures { λ r. ⌜ Overlaps r ⌝ }
 {
     State {
-        up: ALL,
-        dropped: ALL,
+        up: EVERY_ATOM,
+        dropped: EVERY_ATOM,
     }
 }
 
@@ -67,7 +75,7 @@ pub fn contradiction(s: State) -> State
 }
 
 // The front in another state, with the steps that it wakes on the agenda.
-fn moved(desk: &[u64], f: Front, after: State) -> Front
+pub fn moved(desk: &[u64], f: Front, after: State) -> Front
     requires { ⌜ length (now desk) ≡ DESK_WORDS ⌝ }
     ensures { λ r. ⌜ r .state ≡ after ⌝ }
 {
@@ -120,12 +128,12 @@ fn near_atoms(memory: &[u64], s: State) -> u64
     atoms::union(s.up, s.dropped)
 }
 
-// The free atom to decide next: of those that stood most often in what was learnt.
-pub fn pick(rules: &[u64], which: u64, memory: &[u64], s: State, free: u64) -> usize
+// The free atom to decide next: of those that show, if there are any, and of these those that stood most often in what was learnt.
+pub fn pick(rules: &[u64], which: u64, memory: &[u64], s: State, free: u64, shown: u64) -> usize
     requires { ⌜ Lent (now rules) which × (MEMORY_WORDS ≤ length (now memory)) × (free ≡ 0 → ⊥) ⌝ }
     ensures { λ r. ⌜ Has free r × (r < ATOMS) ⌝ }
 {
-    let leading = leaders(memory, free);
+    let leading = leaders(memory, prefer(free, shown));
     choose(rules, which, s, leading, near_atoms(memory, s))
 }
 

@@ -57,7 +57,14 @@ fn descend(
     ensures falls { λ r. ⌜ ones (undecidedOf (r .state .up) (r .state .dropped)) < ones (undecidedOf (f .state .up) (f .state .dropped)) ⌝ }
 {
     let s = f.state;
-    let i = pick(rules, unit.rules, memory, s, undecided(s.up, s.dropped));
+    let i = pick(
+        rules,
+        unit.rules,
+        memory,
+        s,
+        undecided(s.up, s.dropped),
+        s.up,
+    );
     let below = lowered(desk, f, i);
     propagate(rules, table, counts, desk, unit, memory, filter, below)
 }

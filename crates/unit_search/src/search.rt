@@ -1,15 +1,17 @@
 // The search over undecided atoms.
+use crate::begin::begin;
 use crate::branch::Found;
 use crate::branch::Node;
 use crate::branch::contradiction;
-use crate::branch::everything;
 use crate::branch::handed;
 use crate::branch::lowered;
 use crate::branch::merged;
 use crate::branch::pick;
 use crate::branch::raised;
-use crate::dive::dive_ahead;
 use crate::member::offer;
+use crate::witness::Witness;
+use crate::witness::either;
+use crate::witness::is_enough;
 use answer_sets::State;
 use answer_sets::known::undecided;
 use learning::nogood::lies_within;
@@ -17,26 +19,29 @@ use learning::store::empty_store;
 use narrowing::loops::looped_atoms;
 use plan::LIST_WORDS;
 use unit_steps::Unit;
-use unit_steps::agenda::every_step;
 use unit_steps::desk::lay_out;
 use unit_steps::filter::copied;
 use unit_steps::filter::full_filter;
-use unit_steps::front::Front;
 use unit_steps::lift::blame;
 use unit_steps::lift::lift;
 use unit_steps::lift::span;
 use unit_steps::propagate::propagate;
+ghost use Prim.Native.Nat.{_≤_};
+ghost use Rattle.plan.specs.Limits.{LIST_WORDS};
 ghost use Rattle.learning.specs.Nogood.{Nogood};
 ghost use Rattle.learning.specs.Reason.{Remembers};
 ghost use Rattle.unit_search.specs.Listing.{Ordered, Gathered, Grown};
+ghost use Rattle.atoms.specs.Cuts.{CutOf};
+ghost use Rattle.unit_search.specs.Witness.{Witnessed};
 ghost use Rattle.unit_steps.specs.Filter.{Filtered};
 ghost use Rattle.unit_steps.specs.Desk.{Prepared};
 ghost use Rattle.unit_steps.specs.Job.{Belongs, Searchable, Wanted};
 
-// Adds to the list every position that belongs there and completes the node's state, of which the filter says which entries may be joined: the new
-// count, or OVERFULL where that is more than LIST_WORDS. The memory keeps what is learnt on the way. The pair that is handed back is completed by no
-// member; where it lies within the state that the first branch began from, the second branch has none.
-fn explore(
+// Adds to the list the cut of every position that belongs there and completes the node's state, of which the filter says which entries may be joined:
+// the new count, or OVERFULL where that is more than LIST_WORDS. Beside it stands a member that was met, or that there is none. The memory keeps what is
+// learnt on the way. The pair that is handed back is completed by no member; where it lies within the state that the first branch began from, the
+// second branch has none.
+pub fn explore(
     rules: &[u64],
     table: &[u64],
     counts: &[usize],
@@ -49,14 +54,17 @@ fn explore(
     requires { ⌜ Prepared (now rules) (now table) (now counts) (now desk) (node .unit) × Ordered (now list) (node .count)
         × Remembers (Belongs (now rules) (now table) (now counts) (now desk) (node .unit)) (now memory)
         × Filtered (now table) (now counts) (now desk) (node .unit .nearest) (node .front .state) (now filter) ⌝ }
-    ensures gathered { λ r. ⌜ Gathered (Grown (now (list .entry)) (node .count)
-        (Wanted (now (rules .entry)) (now (table .entry)) (now (counts .entry)) (now (desk .entry)) (node .unit) (node .front .state)))
+    ensures gathered { λ r. ⌜ Gathered (Grown (now (list .entry)) (node .count) (CutOf (node .shown)
+        (Wanted (now (rules .entry)) (now (table .entry)) (now (counts .entry)) (now (desk .entry)) (node .unit) (node .front .state))))
         (now (list .exit)) (r .count) ⌝ }
+    ensures witnessed { λ r. ⌜ (r .count ≤ LIST_WORDS → Witnessed
+        (Wanted (now (rules .entry)) (now (table .entry)) (now (counts .entry)) (now (desk .entry)) (node .unit) (node .front .state)) (r .witness)) ⌝ }
     ensures remembers { λ _. ⌜ Remembers (Belongs (now (rules .entry)) (now (table .entry)) (now (counts .entry)) (now (desk .entry)) (node .unit))
         (now (memory .exit)) ⌝ }
     ensures nogood { λ r. ⌜ Nogood (Belongs (now (rules .entry)) (now (table .entry)) (now (counts .entry)) (now (desk .entry)) (node .unit)) (r .nogood) ⌝ }
 {
     let unit = node.unit;
+    let shown = node.shown;
     let front = node.front;
     let base = node.base;
     let mut mine = copied(filter);
@@ -66,16 +74,26 @@ fn explore(
     if !atoms::are_apart(t.up, t.dropped) {
         let clash = contradiction(t);
         let nogood = lift(rules, table, counts, desk, unit, memory, way, clash);
-        return handed(node.count, nogood);
+        return handed(node.count, nogood, Witness::Nothing);
     }
     let free = undecided(t.up, t.dropped);
     if free == 0 {
-        let count = offer(rules, table, counts, desk, unit, list, node.count, t.up);
-        return handed(count, everything());
+        return offer(
+            rules,
+            table,
+            counts,
+            desk,
+            unit,
+            list,
+            node.count,
+            shown,
+            t.up,
+        );
     }
-    let i = pick(rules, unit.rules, memory, t, free);
+    let i = pick(rules, unit.rules, memory, t, free, shown);
     let lower = Node {
         unit,
+        shown,
         count: node.count,
         front: lowered(desk, f, i),
         base: t,
@@ -84,13 +102,18 @@ fn explore(
     if LIST_WORDS < first.count {
         return first;
     }
+    let met = first.witness;
+    if is_enough(met, atoms::cut(free, shown)) {
+        return first;
+    }
     let n = first.nogood;
     if lies_within(n, t) {
         let nogood = blame(rules, table, counts, desk, unit, memory, way, n);
-        return handed(first.count, nogood);
+        return handed(first.count, nogood, met);
     }
     let upper = Node {
         unit,
+        shown,
         count: first.count,
         front: raised(desk, f, i),
         base: t,
@@ -98,47 +121,45 @@ fn explore(
     let second = explore(rules, table, counts, desk, list, memory, &mine, upper);
     let left = merged(n, second.nogood, t, i);
     let nogood = blame(rules, table, counts, desk, unit, memory, way, left);
-    handed(second.count, nogood)
+    let other = second.witness;
+    handed(second.count, nogood, either(met, other))
 }
 
-// Adds to the list every position that belongs there and completes the state: the new count, or OVERFULL where that is more than LIST_WORDS.
+// Adds to the list the cut of every position that belongs there and completes the state: the new count, or OVERFULL where that is more than LIST_WORDS.
 pub fn search(
     rules: &[u64],
     table: &[u64],
     counts: &[usize],
     heads: &[u64],
     unit: Unit,
+    shown: u64,
     list: &mut [u64],
     count: usize,
     s: State,
 ) -> usize
     requires { ⌜ Searchable (now rules) (now table) (now counts) (now heads) unit × Ordered (now list) count ⌝ }
-    ensures { λ r. ⌜ Gathered (Grown (now (list .entry)) count
-        (Wanted (now (rules .entry)) (now (table .entry)) (now (counts .entry)) (now (heads .entry)) unit s)) (now (list .exit)) r ⌝ }
+    ensures { λ r. ⌜ Gathered (Grown (now (list .entry)) count (CutOf shown
+        (Wanted (now (rules .entry)) (now (table .entry)) (now (counts .entry)) (now (heads .entry)) unit s))) (now (list .exit)) r ⌝ }
 {
     let looped = looped_atoms(rules, unit.rules);
     let desk = lay_out(rules, heads, unit, looped);
     let mut memory = empty_store();
     let mut filter = full_filter(counts);
-    let front = Front {
-        state: s,
-        agenda: every_step(unit, looped),
-        top: 0,
-    };
-    let f = propagate(
+    let f = begin(
         rules,
         table,
         counts,
         &desk,
         unit,
+        looped,
         &mut memory,
         &mut filter,
-        front,
+        s,
     );
-    dive_ahead(rules, table, counts, &desk, unit, &mut memory, &filter, f);
     let base = f.state;
     let node = Node {
         unit,
+        shown,
         count,
         front: f,
         base,

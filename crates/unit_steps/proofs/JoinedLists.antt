@@ -53,7 +53,7 @@ joins-some table counts heads predecessors near M f j = record {
 pub joinable-some : {table counts heads : List ℕ} {predecessors near : ℕ} → near ⊆ predecessors
     → Joinable table counts heads predecessors → Joinable table counts heads near
 joinable-some f j = record {
-  table-long = j .table-long;
+  table-long = λ v h. j .table-long v (f .each v h);
   counts-long = j .counts-long;
   heads-long = j .heads-long;
   few = omega (arith, subset-le f, j .few);

@@ -5,9 +5,9 @@ use mathlib.Core.List.{List}
 use Prim.Native.Nat.{ℕ, _+_, _*_, _^_, _≤_, _<_}
 use lib.Dec.{eqb}
 use lib.ListN.{length, getD}
-use Rattle.atoms.specs.Word.{ATOMS, _⊆_, _∩_}
+use Rattle.atoms.specs.Word.{ATOMS, Has, _⊆_, _∩_}
 use Rattle.atoms.specs.Bounded.{allIn, someBelow}
-use Rattle.plan.specs.Limits.{MAX_UNITS, LIST_WORDS, LAST_LIST}
+use Rattle.plan.specs.Limits.{MAX_UNITS, LIST_WORDS}
 use Rattle.answer_sets.specs.Lent.{lent, Lent}
 use Rattle.answer_sets.specs.Test.{answerSet}
 use Rattle.answer_sets.specs.State.{Completes}
@@ -31,7 +31,7 @@ pub record Belongs (rules table counts heads : List ℕ) (unit : Unit) (M : ℕ)
 
 -- the lists of the direct predecessors, with their counts and head atoms, are there
 pub record Joinable (table counts heads : List ℕ) (predecessors : ℕ) : Type 0 where
-  pub table-long : LAST_LIST ≤ length table
+  pub table-long : (v : ℕ) → Has predecessors v → LIST_WORDS * v + LIST_WORDS ≤ length table
   pub counts-long : MAX_UNITS ≤ length counts
   pub heads-long : MAX_UNITS ≤ length heads
   pub few : predecessors < 2 ^ MAX_UNITS

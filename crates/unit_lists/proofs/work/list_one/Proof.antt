@@ -21,7 +21,7 @@ returns : tie.Need-returns
 returns c =
     let done = c .before .before in
     record {
-      list = done .search .last .1 .1 .1 .1 .1 .0;
+      list = done .search .last .1 .1 .1 .1 .1 .1 .0;
       count = done .search .result;
       gathered = rw (done .before .before .before .before .outside .ensures) at (done .search .ensures);
       word = start done .fits .within .fits;
@@ -34,7 +34,7 @@ returns-2 c =
     let stored = c .before .before in
     let few = stored .before .before .before in
     let done = few .before .before in
-    let list = done .search .last .1 .1 .1 .1 .1 .0 in
+    let list = done .search .last .1 .1 .1 .1 .1 .1 .0 in
     record {
       list = list;
       count = done .search .result;

@@ -1,4 +1,4 @@
--- The position is added where it belongs to the list.
+-- The position's cut is added where the position belongs to the list.
 use denote.Ref.{now}
 use borrow.Author.Tests.{not-true, not-false}
 use Rattle.unit_search.proofs.SearchSteps.{offer-none, offer-one}
@@ -8,22 +8,35 @@ use Rattle.unit_search.proofs.member.offer.Tie as tie
 
 returns : tie.Need-returns
 returns c =
-    let c7 = c .before .before .before .before .before .before .before in
-    let at = c7 .args in
-    offer-none (now (at .rules)) (now (at .table)) (now (at .counts)) (now (at .heads)) (at .unit) (now (at .list)) (at .count) (at .position)
-    (c7 .pre .1)
-    (rw (not-true (c .before .belongs .result) (c .if1 .taken)) at (c .before .belongs .ensures))
+    let test = c .before .before .before in
+    let start = test .before .before .before .before .before .before in
+    let at = start .args in
+    offer-none (now (at .rules)) (now (at .table)) (now (at .counts)) (now (at .heads)) (at .unit) (now (at .list)) (at .count) (at .shown) (at .position)
+    (start .pre .1) (rw (not-true (test .belongs .result) (c .before .before .if1 .taken)) at (test .belongs .ensures))
+    (c .handed .ensures) (c .before .everything .ensures)
 
 returns-2 : tie.Need-returns-2
 returns-2 c =
-    let c4 = c .before .before .before .before in
-    let c5 = c4 .before in
-    let c11 = c5 .before .before .before .before .before .before in
-    let at = c11 .args in
-    offer-one (now (at .rules)) (now (at .table)) (now (at .counts)) (now (at .heads)) (at .unit) (now (at .list)) (at .count) (at .position)
-    (c .before .before .insert .last .0) (c .before .before .insert .result)
-    (c11 .pre .1)
-    (c5 .belongs .ensures .yes (not-false (c5 .belongs .result) (c4 .if1 .left))) (c .before .before .insert .ensures)
+    let put = c .before .before .before .before in
+    let test = put .before .before .before .before in
+    let start = test .before .before .before .before .before .before in
+    let at = start .args in
+    offer-one (now (at .rules)) (now (at .table)) (now (at .counts)) (now (at .heads)) (at .unit) (now (at .list)) (at .count) (at .shown) (at .position)
+    (put .insert .last .0) (start .pre .1)
+    (test .belongs .ensures .yes (not-false (test .belongs .result) (put .before .before .before .if1 .left)))
+    (put .before .cut .ensures) (put .insert .ensures) (c .handed2 .ensures) (c .before .everything2 .ensures)
 
 pub offer-spec : {M : Type 1} → statement M
-offer-spec = tie.close (tie.spec (λ c κs. search needs) returns (λ c κs. search needs) (λ c. search needs) returns-2)
+offer-spec =
+    tie.close
+    (tie.spec
+    (λ c κs. search needs)
+    (λ c κs. search needs)
+    (λ c κs. search needs)
+    returns
+    (λ c κs. search needs)
+    (λ c κs. search needs)
+    (λ c κs. search needs)
+    (λ c κs. search needs)
+    (λ c. search needs)
+    returns-2)

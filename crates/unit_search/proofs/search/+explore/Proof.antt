@@ -16,16 +16,19 @@ use Rattle.learning.proofs.Reasons.{lifted-nogood, lifted-remembers}
 use Rattle.unit_steps.proofs.Filters.{filtered-lower, filtered-upper}
 use Rattle.unit_search.proofs.Gathered.{gathered-ordered}
 use Rattle.unit_search.proofs.Branches.{overlap-of, overlap-nogood, narrowed-le, found-as}
-use Rattle.unit_search.proofs.SearchSteps.{search-state, search-narrowed, search-clash, search-leaf, search-over, search-skip, search-both}
+use Rattle.unit_search.proofs.SearchSteps.{search-narrowed, search-clash, search-leaf, search-over, search-enough, search-skip, search-both}
+use Rattle.unit_search.proofs.Witnesses.{enough-met}
 use Rattle.unit_search.proofs.search.explore.Reads as explore′
 use Rattle.unit_search.proofs.search.explore.Kinds as explore-kinds
 use Rattle.unit_search.proofs.search.+explore.Lts-explore as explore-lts
 use Rattle.answer_sets.proofs.known.undecided.Reads as undecided-reads
 use Rattle.atoms.proofs.are_apart.Reads as are-apart-reads
+use Rattle.atoms.proofs.cut.Reads as cut-reads
 use Rattle.learning.proofs.nogood.lies_within.Reads as lies-within-reads
 use Rattle.unit_search.proofs.branch.contradiction.Reads as contradiction-reads
-use Rattle.unit_search.proofs.branch.everything.Reads as everything-reads
+use Rattle.unit_search.proofs.witness.either.Reads as either-reads
 use Rattle.unit_search.proofs.branch.handed.Reads as handed-reads
+use Rattle.unit_search.proofs.witness.is_enough.Reads as is-enough-reads
 use Rattle.unit_search.proofs.branch.lowered.Reads as lowered-reads
 use Rattle.unit_search.proofs.branch.merged.Reads as merged-reads
 use Rattle.unit_search.proofs.branch.pick.Reads as pick-reads
@@ -69,14 +72,16 @@ calls t = (
   undecided-reads.Learnt,
   offer-reads.Asked,
   offer-reads.Learnt,
-  everything-reads.Asked,
-  everything-reads.Learnt,
   pick-reads.Asked,
   pick-reads.Learnt,
   lowered-reads.Asked,
   lowered-reads.Learnt,
   explore-below t,
   explore′.Post,
+  cut-reads.Asked,
+  cut-reads.Learnt,
+  is-enough-reads.Asked,
+  is-enough-reads.Learnt,
   lies-within-reads.Asked,
   lies-within-reads.Learnt,
   blame-reads.Asked,
@@ -85,6 +90,8 @@ calls t = (
   raised-reads.Learnt,
   merged-reads.Asked,
   merged-reads.Learnt,
+  either-reads.Asked,
+  either-reads.Learnt,
 )
 
 module _ (t : ℕ) where
@@ -116,7 +123,7 @@ module _ (t : ℕ) where
   chosen c = c .before .before .before .before .before
 
   abbrev searched : Twice → Searched
-  searched c = c .before .before .before .before .before .before .before .before .before .before .before .before .before .before
+  searched c = c .before .before .before .before .before .before .before .before .before .before .before .before .before .before .before .before .before
 
   -- the chosen atom is undecided
   undecided-atom : (c : Chosen)
@@ -168,33 +175,33 @@ module _ (t : ℕ) where
 
   blame-requires : explore-lts.Need-blame-requires (calls t) (explore-at t) explore′.Post
   blame-requires c κs =
-      let s = c .before .before .before .before .before .before .before .before .before .before in
-      (start (narrowed (chosen s)) .pre .1 .0, s .explore .ensures .1 .0 .long)
+      let s = c .before .before .before .before .before .before .before .before .before .before .before .before .before in
+      (start (narrowed (chosen s)) .pre .1 .0, s .explore .ensures .1 .1 .0 .long)
 
   raised-requires : explore-lts.Need-raised-requires (calls t) (explore-at t) explore′.Post
   raised-requires c κs =
-      let k = chosen (c .before .before .before .before .before .before .before .before .before) in
+      let k = chosen (c .before .before .before .before .before .before .before .before .before .before .before .before) in
       (start (narrowed k) .pre .1 .0 .long, k .pick .ensures .1)
 
   upper-requires : explore-lts.Need-explore-requires-2 (calls t) (explore-at t) explore′.Post
   upper-requires c κs =
       let up = c .before .before .before in
-      let s = up .before .before .before .before .before .before .before .before .before .before in
+      let s = up .before .before .before .before .before .before .before .before .before .before .before .before .before in
       let k = chosen s in
       let n = narrowed k in
       let pre = start n .pre .1 in (
         rw (up .raised .ensures) (raise-falls _ _ refl (undecided-atom k) (no-more k) refl),
         (
           pre .0,
-          gathered-ordered (up .before .before .before .before .if3 .left) (s .explore .ensures .0),
-          s .explore .ensures .1 .0,
+          gathered-ordered (up .before .before .before .before .before .before .before .if3 .left) (s .explore .ensures .0),
+          s .explore .ensures .1 .1 .0,
           rw (up .raised .ensures) (filtered-upper _ _ refl (n .propagate .ensures .1 .0)),
         ),
       )
 
   blame-both-requires : explore-lts.Need-blame-requires-2 (calls t) (explore-at t) explore′.Post
   blame-both-requires c κs =
-      let s = c .before .before .before .before .before .before in (start (narrowed (chosen (searched s))) .pre .1 .0, s .explore2 .ensures .1 .0 .long)
+      let s = c .before .before .before .before .before .before in (start (narrowed (chosen (searched s))) .pre .1 .0, s .explore2 .ensures .1 .1 .0 .long)
 
   -- ---- what is handed back
 
@@ -213,64 +220,69 @@ module _ (t : ℕ) where
 
   decided : explore-lts.Need-returns-2 (calls t) (explore-at t) explore′.Post
   decided c =
-      let offered = c .before .before .before .before in
+      let offered = c .before .before in
       let free = offered .before .before .before in
       let n = free .before .before .before .before .before .before .before .before in
-      found-as (c .handed2 .ensures)
-      (search-narrowed (now (start n .args .list)) (start n .args .node .count) (n .propagate .ensures .0)
+      let told = search-narrowed (now (start n .args .list)) (start n .args .node .count) (n .propagate .ensures .0)
       (search-leaf (now (start n .args .list)) (start n .args .node .count) (free .before .before .are-apart .ensures) (free .before .if1 .left)
-      (free .undecided .ensures) (offered .before .before .if2 .taken) (offered .offer .ensures)))
-      (n .propagate .ensures .1 .1)
-      (overlap-nogood (c .before .everything .ensures))
+      (free .undecided .ensures) (offered .before .before .if2 .taken) (offered .offer .ensures .0, λ l. offered .offer .ensures .1 .0)) in
+      (told .0, (told .1, (n .propagate .ensures .1 .1, overlap-nogood (offered .offer .ensures .1 .1))))
 
   too-many : explore-lts.Need-returns-3 (calls t) (explore-at t) explore′.Post
   too-many c =
       let s = c .before .before .before .before .before .before in
       let k = chosen s in
-      let n = narrowed k in (
-        search-narrowed (now (start n .args .list)) (start n .args .node .count) (n .propagate .ensures .0)
-            (search-over (now (start n .args .list)) (start n .args .node .count) (k .pick .result) refl refl
-            (search-state (now (start n .args .list)) (start n .args .node .count)
-            (s .before .before .before .before .lowered .ensures) (s .explore .ensures .0))
-            (c .if3 .taken)),
-        s .explore .ensures .1,
-      )
+      let n = narrowed k in
+      let told = search-narrowed (now (start n .args .list)) (start n .args .node .count) (n .propagate .ensures .0)
+      (search-over (now (start n .args .list)) (start n .args .node .count) (k .pick .result) (s .before .before .before .before .lowered .ensures)
+      (s .explore .ensures .0, s .explore .ensures .1 .0) (c .if3 .taken)) in
+      (told .0, (told .1, s .explore .ensures .1 .1))
 
-  skipped : explore-lts.Need-returns-4 (calls t) (explore-at t) explore′.Post
+  one-met : explore-lts.Need-returns-4 (calls t) (explore-at t) explore′.Post
+  one-met c =
+      let s = c .before .before .before .before .before .before .before .before .before in
+      let k = chosen s in
+      let n = narrowed k in
+      let met = enough-met (s .explore .result .witness) (sym (c .before .is-enough .ensures) ∙ c .if4 .taken) in
+      let told = search-narrowed (now (start n .args .list)) (start n .args .node .count) (n .propagate .ensures .0)
+      (search-enough (now (start n .args .list)) (start n .args .node .count) (k .pick .result) (s .before .before .before .before .lowered .ensures)
+      (s .explore .ensures .0, s .explore .ensures .1 .0) (c .before .before .before .if3 .left)
+      (rw (k .before .before .before .undecided .ensures) at (c .before .before .cut .ensures)) (met .0) (met .1)) in
+      (told .0, (told .1, s .explore .ensures .1 .1))
+
+  skipped : explore-lts.Need-returns-5 (calls t) (explore-at t) explore′.Post
   skipped c =
       let blamed = c .before .before .before in
       let test = blamed .before .before .before in
-      let s = test .before .before .before .before .before .before .before .before in
+      let s = test .before .before .before .before .before .before .before .before .before .before .before in
       let k = chosen s in
       let n = narrowed k in
-      let known = s .explore .ensures .1 .0 in
-      let none = s .explore .ensures .1 .1 in
-      found-as (c .handed3 .ensures)
+      let known = s .explore .ensures .1 .1 .0 in
+      let none = s .explore .ensures .1 .1 .1 in
+      found-as (c .handed2 .ensures)
       (search-narrowed (now (start n .args .list)) (start n .args .node .count) (n .propagate .ensures .0)
-      (search-skip (now (start n .args .list)) (start n .args .node .count) (k .pick .result) refl refl
-      (search-state (now (start n .args .list)) (start n .args .node .count) (s .before .before .before .before .lowered .ensures) (s .explore .ensures .0))
-      none
-      (test .lies-within .ensures .yes (blamed .before .before .if4 .taken))))
+      (search-skip (now (start n .args .list)) (start n .args .node .count) (k .pick .result) (s .before .before .before .before .lowered .ensures)
+      (s .explore .ensures .0, s .explore .ensures .1 .0) none (test .lies-within .ensures .yes (blamed .before .before .if5 .taken))))
       (lifted-remembers known (blamed .blame .ensures) none)
       (lifted-nogood known (blamed .blame .ensures) none)
 
-  both-searched : explore-lts.Need-returns-5 (calls t) (explore-at t) explore′.Post
+  both-searched : explore-lts.Need-returns-6 (calls t) (explore-at t) explore′.Post
   both-searched c =
-      let blamed = c .before .before .before in
+      let blamed = c .before .before .before .before in
       let left = blamed .before .before in
       let h = left .before .before .before .before .before in
       let s = searched h in
       let k = chosen s in
       let n = narrowed k in
-      let known = h .explore2 .ensures .1 .0 in
-      let none = nogood-resolved (left .merged .ensures) (h .explore2 .ensures .1 .1) (s .explore .ensures .1 .1) in
-      found-as (c .handed4 .ensures)
+      let known = h .explore2 .ensures .1 .1 .0 in
+      let none = nogood-resolved (left .merged .ensures) (h .explore2 .ensures .1 .1 .1) (s .explore .ensures .1 .1 .1) in
+      found-as (c .handed3 .ensures)
       (search-narrowed (now (start n .args .list)) (start n .args .node .count) (n .propagate .ensures .0)
-      (search-both (now (start n .args .list)) (start n .args .node .count) (k .pick .result) refl refl
-      (search-state (now (start n .args .list)) (start n .args .node .count) (s .before .before .before .before .lowered .ensures) (s .explore .ensures .0))
-      (h .before .before .before .before .before .before .before .before .if3 .left) refl
-      (search-state (s .explore .last .1 .1 .1 .1 .0) (s .explore .result .count)
-      (h .before .before .before .before .raised .ensures) (h .explore2 .ensures .0))))
+      (search-both (now (start n .args .list)) (start n .args .node .count) (k .pick .result) (s .before .before .before .before .lowered .ensures)
+      (s .explore .ensures .0, s .explore .ensures .1 .0)
+      (h .before .before .before .before .before .before .before .before .before .before .before .if3 .left)
+      (h .before .before .before .before .raised .ensures)
+      (c .before .either .ensures) (h .explore2 .ensures .0, h .explore2 .ensures .1 .0)))
       (lifted-remembers known (blamed .blame2 .ensures) none)
       (lifted-nogood known (blamed .blame2 .ensures) none)
 
@@ -290,8 +302,6 @@ pub +explore-spec : {M : Type 1} → statement M
     (overlap t)
     (λ c κs. search needs)
     (offer-requires t)
-    (λ c κs. search needs)
-    (λ c κs. search needs)
     (λ c. search needs)
     (λ c. search needs)
     (decided t)
@@ -305,27 +315,37 @@ pub +explore-spec : {M : Type 1} → statement M
     s .explore .kept .1 .1 .1 .1 .1 .0 ∙ narrowed t (chosen t s) .propagate .kept .1 .1 .1 .1 .1 .0)
     (too-many t)
     (λ c κs. search needs)
+    (λ c κs. search needs)
+    (λ c. c .before .before .before .before .before .before .before .before .before .explore .kept .1 .1 .1 .1 .0)
+    (λ c.
+    let s = c .before .before .before .before .before .before .before .before .before in
+    s .explore .kept .1 .1 .1 .1 .1 .0 ∙ narrowed t (chosen t s) .propagate .kept .1 .1 .1 .1 .1 .0)
+    (one-met t)
+    (λ c κs. search needs)
     (blame-requires t)
     (λ c κs. search needs)
-    (λ c. c .before .before .before .before .before .before .before .before .before .before .before .before .before .before .explore .kept .1 .1 .1 .1 .0)
     (λ c.
-    let s = c .before .before .before .before .before .before .before .before .before .before .before .before .before .before in
+    c .before .before .before .before .before .before .before .before .before .before .before .before .before .before .before .before .before .explore .kept
+    .1 .1 .1 .1 .0)
+    (λ c.
+    let s = c .before .before .before .before .before .before .before .before .before .before .before .before .before .before .before .before .before in
     c .before .before .before .blame .kept .1 .1 .1 .1 .1 .0 ∙ s .explore .kept .1 .1 .1 .1 .1 .0 ∙ narrowed t (chosen t s) .propagate .kept .1 .1 .1 .1 .1 .0)
     (skipped t)
     (raised-requires t)
     (λ c.
-    let s = c .before .before .before .before .before .before .before .before .before .before .before .before .before in
+    let s = c .before .before .before .before .before .before .before .before .before .before .before .before .before .before .before .before in
     sym (narrowed t (chosen t s) .propagate .ensures .1 .0 .long))
     (upper-requires t)
     (λ c κs. chosen t (searched t (c .before .before .before .before)) .pick .ensures .1)
     (blame-both-requires t)
     (λ c κs. search needs)
+    (λ c κs. search needs)
     (λ c.
-    let h = c .before .before .before .before .before .before .before .before .before .before in
+    let h = c .before .before .before .before .before .before .before .before .before .before .before in
     h .explore2 .kept .1 .1 .1 .1 .0 ∙ searched t h .explore .kept .1 .1 .1 .1 .0)
     (λ c.
-    let h = c .before .before .before .before .before .before .before .before .before .before in
+    let h = c .before .before .before .before .before .before .before .before .before .before .before in
     let s = searched t h in
-    c .before .before .before .blame2 .kept .1 .1 .1 .1 .1 .0 ∙ h .explore2 .kept .1 .1 .1 .1 .1 .0 ∙ s .explore .kept .1 .1 .1 .1 .1 .0
+    c .before .before .before .before .blame2 .kept .1 .1 .1 .1 .1 .0 ∙ h .explore2 .kept .1 .1 .1 .1 .1 .0 ∙ s .explore .kept .1 .1 .1 .1 .1 .0
     ∙ narrowed t (chosen t s) .propagate .kept .1 .1 .1 .1 .1 .0)
     (both-searched t)

@@ -10,45 +10,42 @@ use borrow.Author.Needs.{needs}
 use Rattle.unit_search.proofs.search.search.Statement.{statement}
 use Rattle.unit_search.proofs.search.search.Tie as tie
 
+abbrev entry : tie.After-lay-out → tie.Start
+entry c = c .before .before .before .before .before .before .before
+
+abbrev laid : tie.After-begin → tie.After-lay-out
+laid c = c .before .before .before .before .before .before
+
 lay-out-requires : tie.Need-lay-out-requires
 lay-out-requires c κs =
     let pre = c .before .before .before .before .before .before .pre .0 in
     (pre .rules-lent, pre .joinable .heads-long, joinable-some (pre .near) (pre .joinable) .few)
 
-propagate-requires : tie.Need-propagate-requires
-propagate-requires c κs =
-    let laid = c .before .before .before .before .before .before in
-    let ready = prepared (laid .lay-out .ensures) (laid .before .before .before .before .before .before .before .pre .0) in (
+begin-requires : tie.Need-begin-requires
+begin-requires c κs =
+    let full = c .before .before .before in
+    let desk = full .before .before in
+    let ready = prepared (desk .lay-out .ensures) (entry desk .pre .0) in (
       ready,
-      remembers-empty (c .before .before .before .before .before .empty-store .ensures),
-      full-filtered _ _ _ _ _ _ (joinable-some (ready .searchable .near) (ready .searchable .joinable))
-          (c .before .before .before .before .full-filter .ensures),
-    )
-
-dive-requires : tie.Need-dive-ahead-requires
-dive-requires c κs =
-    let told = c .before .before .before .before .before in
-    let laid = told .before .before .before .before .before .before .before in (
-      prepared (laid .lay-out .ensures) (laid .before .before .before .before .before .before .before .pre .0),
-      told .propagate .ensures .1 .1,
-      told .propagate .ensures .1 .0,
+      remembers-empty (full .before .empty-store .ensures),
+      full-filtered _ _ _ _ _ _ (joinable-some (ready .searchable .near) (ready .searchable .joinable)) (full .full-filter .ensures),
     )
 
 explore-requires : tie.Need-explore-requires
 explore-requires c κs =
-    let dived = c .before .before .before .before .before .before in
-    let told = dived .before .before .before .before .before .before in
-    let laid = told .before .before .before .before .before .before .before in
-    let pre = laid .before .before .before .before .before .before .before .pre in
-    (prepared (laid .lay-out .ensures) (pre .0), pre .1, dived .dive-ahead .ensures, told .propagate .ensures .1 .0)
+    let begun = c .before .before .before .before .before .before .before in
+    let desk = laid begun in
+    let pre = entry desk .pre in
+    (prepared (desk .lay-out .ensures) (pre .0), pre .1, begun .begin .ensures .1 .1, begun .begin .ensures .1 .0)
 
 returns : tie.Need-returns
 returns c =
-    let told = c .before .before .before .before .before .before .before .before .before .before .before .before .before .before .before .before in
-    let laid = told .before .before .before .before .before .before .before in
-    let at = laid .before .before .before .before .before .before .before .args in
-    search-desk (laid .lay-out .ensures) (now (at .list)) (at .count)
-    (search-narrowed (now (at .list)) (at .count) (told .propagate .ensures .0) (c .before .before .before .explore .ensures .0))
+    let done = c .before .before .before in
+    let begun = done .before .before .before .before .before .before .before .before in
+    let desk = laid begun in
+    let at = entry desk .args in
+    search-desk (desk .lay-out .ensures) (now (at .list)) (at .count)
+    (search-narrowed (now (at .list)) (at .count) (begun .begin .ensures .0) (done .explore .ensures .0, done .explore .ensures .1 .0) .0)
 
 pub search-spec : {M : Type 1} → statement M
 search-spec =
@@ -58,18 +55,11 @@ search-spec =
     lay-out-requires
     (λ c κs. search needs)
     (λ c κs. search needs)
-    (λ c κs. search needs)
     (λ c. search needs)
     (λ c. search needs)
     (λ c. search needs)
-    propagate-requires
-    (λ c. search needs)
-    (λ c. search needs)
-    (λ c. search needs)
-    dive-requires
-    (λ c.
-    let laid = c .before .before .before .before .before .before .before .before .before .before .before .before .before .before .before .before in
-    sym (laid .lay-out .ensures .long))
+    begin-requires
+    (λ c. sym (laid (c .before .before .before .before) .lay-out .ensures .long))
     (λ c. search needs)
     (λ c. search needs)
     explore-requires

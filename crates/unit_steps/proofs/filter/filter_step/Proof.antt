@@ -2,8 +2,17 @@
 use Rattle.narrowing.proofs.NumberedSteps.{numbered-by}
 use Rattle.unit_steps.proofs.Filters.{step-narrows, step-filtered}
 use borrow.Author.Needs.{needs}
+use native.Mathlib.Omega.{arith}
 use Rattle.unit_steps.proofs.filter.filter_step.Statement.{statement}
 use Rattle.unit_steps.proofs.filter.filter_step.Tie as tie
+
+join-step-requires : tie.Need-join-step-requires
+join-step-requires c κs =
+    let test = c .before .before .before in
+    let start = test .before .before .before .before .before .before in (
+      start .pre .0 .table-long (start .args .v) (numbered-by _ _ (test .before .single .ensures) (test .are-apart .ensures) (c .before .before .if1 .left)),
+      omega (arith, start .pre .1, start .pre .2 .long),
+    )
 
 returns-2 : tie.Need-returns-2
 returns-2 c =
@@ -26,6 +35,6 @@ filter-step-spec =
     (λ c. search needs)
     (λ c. search needs)
     (λ c. search needs)
-    (λ c κs. search needs)
+    join-step-requires
     (λ c. search needs)
     returns-2)

@@ -53,7 +53,9 @@ shared-slice-read-cut c = omega (arith, inside (c .before .before), c .before .b
 contains-requires : tie.Need-contains-requires Inv-loop μ-loop
 contains-requires c κs =
     let c9 = c .before .before .before .before .before .before .before .before .before in
-    omega (arith, inside (c .before .before .before), c9 .pre, c9 .pre .small (c .before .before .before .lowest .result) (inside (c .before .before .before)))
+    let low = c .before .before .before in
+    let v = low .lowest .result in
+    omega (arith, c9 .pre .table-long v (low .before .before .loop .inv .0 .each v (low .lowest .ensures .0 .here)), c9 .pre .small v (inside low))
 
 abbrev start : tie.After-contains Inv-loop μ-loop → tie.Start Inv-loop μ-loop
 start c = c .before .before .before .before .before .before .before .before .before .before
