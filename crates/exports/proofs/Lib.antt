@@ -3,3 +3,4 @@ pub mod Spots
 pub mod HostCodes
 pub mod CommonWords
 pub mod ReadingCodes
+pub mod NextCodes

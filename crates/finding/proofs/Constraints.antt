@@ -1,0 +1,154 @@
+-- Fewer constraints have no fewer answer sets, and so the greedy pass is right.
+use mathlib.Core.Path.{_≡_, refl, sym, ap, _∙_, subst}
+use mathlib.Core.Bool.{true}
+use mathlib.Core.Logic.{_⊎_, inl, inr}
+use mathlib.Core.List.{List}
+use Prim.Native.Nat.{ℕ, _^_, _≤_, _<_}
+use native.Mathlib.Omega.{arith}
+use native.Mathlib.Decide.{ℕ-discrete}
+use Rattle.atoms.specs.Word.{ATOMS, Has, _⊆_, _∪_, _∖_, atom, Lowest}
+use Rattle.atoms.proofs.Sets.{has-none, has-left, has-right, union-cases, has-without, without-left, without-right, has-atom, atom-only, has-dec}
+use Rattle.atoms.proofs.Sets.{subset-refl, subset-trans, subset-le, union-fits}
+use Rattle.atoms.proofs.Tests.{decided-true}
+use Rattle.answer_sets.specs.Lent.{lent, Lent}
+use Rattle.answer_sets.proofs.Judged.{decides-answer-set}
+use Rattle.answer_sets.proofs.Support.{fewer-constraints}
+use Rattle.unit_search.specs.Witness.{Witnessed}
+use Rattle.unit_search.specs.declared.witness.Witness.{Witness}
+use Rattle.unit_search.specs.declared.witness.Witness.the-variants.{Member, Nothing}
+use Rattle.unit_search.proofs.Witnesses.{witnessed-iff}
+use Rattle.finding.specs.Whole.{Settled, Fitting}
+use Rattle.finding.proofs.Leasts.{met-as, none-as, nobody}
+use Rattle.finding.specs.Few.{Constraints, NoneSettled, OneSettled, Tried, drops, keeps, Going, done, tries, Blamed}
+
+module _ {rules : List ℕ} {facts : ℕ} (headed : ℕ) where
+  -- said of words of constraints
+  pub settled-fewer : (more fewer : ℕ) → headed ∪ more < 2 ^ ATOMS → headed ∪ fewer < 2 ^ ATOMS → fewer ⊆ more → Constraints rules more
+      → OneSettled rules (headed ∪ more) facts → OneSettled rules (headed ∪ fewer) facts
+  settled-fewer more fewer w v f c o = record {
+    member = o .member;
+    settled = record {
+      word = o .settled .word;
+      answers = decided-true (decides-answer-set (lent rules) (headed ∪ fewer) facts (o .member) v)
+          (fewer-constraints wider split (decides-answer-set (lent rules) (headed ∪ more) facts (o .member) w .yes (o .settled .answers)));
+    };
+  }
+    where
+      wider : headed ∪ fewer ⊆ headed ∪ more
+      wider = record { each = λ i h. go i (union-cases headed fewer h) }
+        where
+          go : (i : ℕ) → Has headed i ⊎ Has fewer i → Has (headed ∪ more) i
+          go i (inl h) = has-left headed more h
+          go i (inr h) = has-right headed more (f .each i h)
+
+      split : (r : ℕ) → Has (headed ∪ more) r → Has (headed ∪ fewer) r ⊎ (lent rules .head r ≡ 0)
+      split r h = go (union-cases headed more h)
+        where
+          go : Has headed r ⊎ Has more r → Has (headed ∪ fewer) r ⊎ (lent rules .head r ≡ 0)
+          go (inl k) = inl (has-left headed fewer k)
+          go (inr k) = inr (c .headless r k)
+
+-- ---- the loop
+
+-- what is held, where those of `rest` are still to be tried
+pub record Held (rules : List ℕ) (headed constraints facts held rest : ℕ) : Type 0 where
+  pub going : (r : ℕ) → Going rules headed facts rest held r → Going rules headed facts constraints constraints r
+  pub within : held ⊆ constraints
+  pub untried : rest ⊆ held
+  pub none : NoneSettled rules (headed ∪ held) facts
+  pub each : (c : ℕ) → Has held c → ¬ Has rest c → OneSettled rules (headed ∪ (held ∖ atom c)) facts
+
+pub held-start : {rules : List ℕ} {headed constraints facts : ℕ} → NoneSettled rules (headed ∪ constraints) facts
+    → Held rules headed constraints facts constraints constraints
+held-start n = record { going = λ r g. g; within = subset-refl; untried = subset-refl; none = n; each = λ c h m. absurd (m h) }
+
+pub held-end : {rules : List ℕ} {headed constraints facts held rest : ℕ} → Held rules headed constraints facts held rest → rest ≡ 0
+    → Blamed rules headed constraints facts held
+held-end {rules} {headed} {constraints} {facts} {held} h e = record {
+  greedy = h .going held (rw e done);
+  within = h .within;
+  none = h .none;
+  each = λ c k. h .each c k (λ m. has-none (rw e at m));
+}
+
+module _ {rules : List ℕ} {headed constraints facts held rest c : ℕ} (cs : Constraints rules constraints)
+    (fits : (w : ℕ) → w ⊆ constraints → headed ∪ w < 2 ^ ATOMS) (h : Held rules headed constraints facts held rest) (low : Lowest rest c) where
+  other : {rest′ : ℕ} → rest′ ≡ rest ∖ atom c → (d : ℕ) → ¬ Has rest′ d → ¬ (c ≡ d) → ¬ Has rest d
+  other e d m n k = m (rw e (has-without rest (atom c) k (λ q. n (atom-only c q))))
+
+  pub held-step : {next rest′ : ℕ} → Tried rules headed held facts c next → rest′ ≡ rest ∖ atom c → Held rules headed constraints facts next rest′
+  held-step {next} {rest′} t e = go t
+    where
+      goes : (r : ℕ) → Going rules headed facts rest′ next r → Going rules headed facts constraints constraints r
+      goes r g = h .going r (tries low t (rw e at g))
+
+      go : Tried rules headed held facts c next → Held rules headed constraints facts next rest′
+      go (drops q n) = record {
+        going = goes;
+        within = rw q (subset-trans (record { each = λ i k. without-left held (atom c) k }) (h .within));
+        untried = rw q (rw e (record {
+          each = λ i k. has-without held (atom c) (h .untried .each i (without-left rest (atom c) k)) (without-right rest (atom c) k);
+        }));
+        none = rw q n;
+        each = λ d k m.
+            let here : Has (held ∖ atom c) d = rw q at k in
+            rw q
+            (settled-fewer headed (held ∖ atom d) ((held ∖ atom c) ∖ atom d) (fits (held ∖ atom d) (within-some d))
+            (fits ((held ∖ atom c) ∖ atom d) (within-both d))
+            (record {
+              each = λ i p.
+                  has-without held (atom d) (without-left held (atom c) (without-left (held ∖ atom c) (atom d) p)) (without-right (held ∖ atom c) (atom d) p);
+            })
+            (record { headless = λ r p. cs .headless r (h .within .each r (without-left held (atom d) p)) })
+            (h .each d (without-left held (atom c) here) (other e d m (λ x. without-right held (atom c) here (subst (Has (atom c)) x (has-atom c))))));
+      }
+        where
+          within-some : (d : ℕ) → held ∖ atom d ⊆ constraints
+          within-some d = record { each = λ i p. h .within .each i (without-left held (atom d) p) }
+
+          within-both : (d : ℕ) → (held ∖ atom c) ∖ atom d ⊆ constraints
+          within-both d = record { each = λ i p. h .within .each i (without-left held (atom c) (without-left (held ∖ atom c) (atom d) p)) }
+      go (keeps q o) = record {
+        going = goes;
+        within = rw q (h .within);
+        untried = rw q (rw e (record { each = λ i k. h .untried .each i (without-left rest (atom c) k) }));
+        none = rw q (h .none);
+        each = λ d k m. rw q (kept d (rw q at k) m (ℕ-discrete c d));
+      }
+        where
+          kept : (d : ℕ) → Has held d → ¬ Has rest′ d → Dec (c ≡ d) → OneSettled rules (headed ∪ (held ∖ atom d)) facts
+          kept d k m (yes x) = subst (λ (y : ℕ). OneSettled rules (headed ∪ (held ∖ atom y)) facts) x o
+          kept d k m (no x) = h .each d k (other e d m x)
+
+-- ---- the questions
+
+pub lent-some : {rules : List ℕ} (headed held others : ℕ) {which : ℕ} → others ⊆ held → which ≡ headed ∪ others → Lent rules (headed ∪ held)
+    → Lent rules which
+lent-some headed held others f e l = rw e (record { each = λ r h. l .each r (go r (union-cases headed others h)) })
+  where
+    go : (r : ℕ) → Has headed r ⊎ Has others r → Has (headed ∪ held) r
+    go r (inl h) = has-left headed held h
+    go r (inr h) = has-right headed held (f .each r h)
+
+pub others-within : (held c : ℕ) {others : ℕ} → others ≡ held ∖ atom c → others ⊆ held
+others-within held c e = rw e (record { each = λ i h. without-left held (atom c) h })
+
+pub any-asked : {rules : List ℕ} {which facts : ℕ} {w : Witness} → Witnessed (Fitting rules which facts (record { up = 0; dropped = 0 })) w
+    → Witnessed (Settled rules which facts) w
+any-asked k = witnessed-iff (λ M f. f .settled) (λ M s. record {
+  settled = s;
+  completes = record {
+    has-up = record { each = λ i h. absurd (has-none h) };
+    no-dropped = record { none = λ i h. absurd (has-none h) };
+  };
+}) k
+
+module _ {rules : List ℕ} {headed held facts c others which : ℕ} (o : others ≡ held ∖ atom c) (e : which ≡ headed ∪ others) where
+  pub tried-keeps : {w : Witness} {M : ℕ} → w ≡ Member M → Witnessed (Settled rules which facts) w → Tried rules headed held facts c held
+  tried-keeps {M = M} q k = keeps refl (rw (← o) (rw (← e) (record { member = M; settled = met-as q k })))
+
+  pub tried-drops : {w : Witness} → w ≡ Nothing → Witnessed (Settled rules which facts) w → Tried rules headed held facts c others
+  tried-drops q k = drops o (rw (← o) (rw (← e) (record { nobody = nobody (none-as q k) })))
+
+pub words-fit : (headed constraints : ℕ) → headed < 2 ^ ATOMS → constraints < 2 ^ ATOMS → (w : ℕ) → w ⊆ constraints → headed ∪ w < 2 ^ ATOMS
+words-fit headed constraints l m w f = union-fits headed w ATOMS l (let k : w ≤ constraints = subset-le f in omega arith)

@@ -1,0 +1,4 @@
+pub mod Wholes
+pub mod Leasts
+pub mod Constraints
+pub mod Walks

@@ -1,0 +1,82 @@
+-- A walk from the start to the end yields the rising list of all, and nothing else.
+use mathlib.Core.Path.{_≡_, refl, sym, ap₂, subst}
+use mathlib.Core.Logic.{_↔_, _⊎_, inl, inr}
+use mathlib.Core.List.{List, [], _∷_, List·Memᴰ, List·Memᴰ·head, List·Memᴰ·tail, List·Memᴰ·not-nil, List·Memᴰ·cases-cons}
+use Prim.Native.Nat.{ℕ, _≤_, _<_}
+use native.Mathlib.Omega.{arith}
+use native.Mathlib.Decide.{ℕ-discrete}
+use Rattle.atoms.specs.Rising.{Rising, rising-nil, rising-cons}
+use Rattle.atoms.proofs.Rising.{above-at, above-intro}
+use Rattle.unit_search.specs.declared.witness.Witness.{Witness}
+use Rattle.unit_search.specs.declared.witness.Witness.the-variants.{Member, Nothing}
+use Rattle.finding.specs.Least.{Behind, from-start, above, LeastOf, least, none as no-least}
+use Rattle.finding.specs.Walk.{Walk, ends, goes}
+use Rattle.finding.specs.declared.least.From.{From}
+use Rattle.finding.specs.declared.least.From.the-variants.{Start, Above}
+
+-- what is above one that is behind is behind
+behind-more : {from : From} {M N : ℕ} → Behind from M → M < N → Behind from N
+behind-more from-start l = from-start
+behind-more {M = M} {N = N} (above {p} k) l = above {M = N} (trans k l)
+  where
+    trans : p < M → M < N → p < N
+    trans x y = omega arith
+
+above-of : {M N : ℕ} → Behind (Above M) N → M < N
+above-of (above l) = l
+
+-- the rising list of all with Q is a walk
+pub walk-of : {Q : ℕ → Type 0} (from : From) (xs : List ℕ) → Rising xs → ((M : ℕ) → List·Memᴰ M xs → Q M × Behind from M)
+    → ((M : ℕ) → Q M → Behind from M → List·Memᴰ M xs) → Walk Q from xs
+walk-of from [] r f g = ends (no-least (λ N q. List·Memᴰ·not-nil (g N (q .0) (q .1))))
+walk-of {Q} from (x ∷ xs) (rising-cons a r) f g = goes (least here (λ N q. low N (List·Memᴰ·cases-cons (g N (q .0) (q .1)))))
+    (walk-of (Above x) xs r (λ N m. (f N (List·Memᴰ·tail m) .0, above (above-at a N m)))
+    (λ N q b. behind N (above-of b) (List·Memᴰ·cases-cons (g N q (behind-more (here .1) (above-of b))))))
+  where
+    here : Q x × Behind from x
+    here = f x (List·Memᴰ·head refl)
+
+    low : (N : ℕ) → (N ≡ x) ⊎ List·Memᴰ N xs → x ≤ N
+    low N (inl e) = omega arith
+    low N (inr m) = omega (arith, above-at a N m)
+
+    behind : (N : ℕ) → x < N → (N ≡ x) ⊎ List·Memᴰ N xs → List·Memᴰ N xs
+    behind N l (inl e) = absurd (omega arith)
+    behind N l (inr m) = m
+
+-- and there is no other
+pub walk-only : {Q : ℕ → Type 0} {from : From} {xs ys : List ℕ} → Walk Q from xs → Walk Q from ys → xs ≡ ys
+walk-only (ends p) (ends q) = refl
+walk-only {Q} {from} (ends (no-least n)) (goes (least q l) w) = absurd (n _ q)
+walk-only (goes (least q l) w) (ends (no-least n)) = absurd (n _ q)
+walk-only {Q} (goes {M = M} {Ms = Ms} (least p k) v) (goes {M = N} {Ms = Ns} (least q l) w) =
+    let e : M ≡ N = same (k N q) (l M p) in
+    ap₂ _∷_ e (walk-only v (subst (λ (x : ℕ). Walk Q (Above x) Ns) (sym e) w))
+  where
+    same : {a b : ℕ} → a ≤ b → b ≤ a → a ≡ b
+    same x y = omega arith
+
+-- a walk has all with Q that are behind its start, and no others
+walk-each : {Q : ℕ → Type 0} {from : From} {xs : List ℕ} → Walk Q from xs → (N : ℕ) → List·Memᴰ N xs → Q N × Behind from N
+walk-each (ends p) N m = absurd (List·Memᴰ·not-nil m)
+walk-each {Q} {from} (goes {M = M} {Ms = Ms} (least p k) w) N m = go (List·Memᴰ·cases-cons m) (walk-each w N)
+  where
+    go : (N ≡ M) ⊎ List·Memᴰ N Ms → (List·Memᴰ N Ms → Q N × Behind (Above M) N) → Q N × Behind from N
+    go (inl e) rest = subst (λ (x : ℕ). Q x × Behind from x) (sym e) p
+    go (inr n) rest = let q = rest n in (q .0, behind-more (p .1) (above-of (q .1)))
+
+pub walk-at : {Q : ℕ → Type 0} {from : From} {xs : List ℕ} → Walk Q from xs → (N : ℕ) → List·Memᴰ N xs → Q N
+walk-at w N m = walk-each w N m .0
+
+pub walk-has : {Q : ℕ → Type 0} {from : From} {xs : List ℕ} → Walk Q from xs → (N : ℕ) → Q N → Behind from N → List·Memᴰ N xs
+walk-has (ends (no-least n)) N q b = absurd (n N (q, b))
+walk-has (goes {M = M} {Ms = Ms} (least p k) w) N q b = go (ℕ-discrete N M) (k N (q, b)) (λ l. walk-has w N q (above l))
+  where
+    go : Dec (N ≡ M) → M ≤ N → (M < N → List·Memᴰ N Ms) → List·Memᴰ N (M ∷ Ms)
+    go (yes e) l rest = List·Memᴰ·head e
+    go (no n) l rest = List·Memᴰ·tail (rest (omega arith))
+
+-- and it rises
+pub walk-rising : {Q : ℕ → Type 0} {from : From} {xs : List ℕ} → Walk Q from xs → Rising xs
+walk-rising (ends p) = rising-nil
+walk-rising {Q} (goes {M = M} {Ms = Ms} l w) = rising-cons (above-intro M Ms (λ y m. above-of (walk-each w y m .1))) (walk-rising w)

@@ -1,0 +1,16 @@
+-- The least number with a property behind a place (document 02, S-8).
+use Prim.Native.Nat.{ℕ, _≤_, _<_}
+use Rattle.unit_search.specs.declared.witness.Witness.{Witness}
+use Rattle.unit_search.specs.declared.witness.Witness.the-variants.{Member, Nothing}
+use Rattle.finding.specs.declared.least.From.{From}
+use Rattle.finding.specs.declared.least.From.the-variants.{Start, Above}
+
+-- "either "from the start" or a position": every position is behind the start, and those strictly above p are behind p
+pub data Behind : From → ℕ → Type 0 where
+  from-start : {M : ℕ} → Behind Start M
+  above : {p M : ℕ} → p < M → Behind (Above p) M
+
+-- "the least", or that there is none
+pub data LeastOf (Q : ℕ → Type 0) : Witness → Type 0 where
+  least : {M : ℕ} → Q M → ((N : ℕ) → Q N → M ≤ N) → LeastOf Q (Member M)
+  none : ((N : ℕ) → ¬ Q N) → LeastOf Q Nothing

@@ -1,0 +1,53 @@
+// The few constraints that leave a program without answer sets.
+use crate::ask::ask;
+use crate::ask::desk_of;
+use crate::ask::root_of;
+use answer_sets::State;
+use learning::store::empty_store;
+use unit_search::witness::Witness;
+ghost use Prim.Native.Nat.{_<_};
+ghost use Rattle.atoms.specs.Word.{ATOMS, _∪_};
+ghost use Rattle.answer_sets.specs.Lent.{Lent};
+ghost use Rattle.finding.specs.Whole.{Settled};
+ghost use Rattle.finding.specs.Few.{Constraints, NoneSettled, Tried, Blamed};
+ghost use Rattle.unit_search.specs.Witness.{Witnessed};
+
+// An answer set of the program, or that there is none.
+pub fn any(rules: &[u64], which: u64, facts: u64) -> Witness
+    requires { ⌜ Lent (now rules) which ⌝ }
+    ensures { λ r. ⌜ Witnessed (Settled (now (rules .entry)) which facts) r ⌝ }
+{
+    let desk = desk_of(rules, which, facts);
+    let mut memory = empty_store();
+    let root = root_of(rules, &desk, &mut memory, which, facts);
+    let nothing = State { up: 0, dropped: 0 };
+    ask(rules, &desk, &mut memory, which, facts, root, nothing)
+}
+
+// What is held of these where rule c is tried: all but c, if that leaves no answer set.
+fn try_without(rules: &[u64], headed: u64, held: u64, facts: u64, c: usize) -> u64
+    requires { ⌜ Lent (now rules) (headed ∪ held) × (c < ATOMS) ⌝ }
+    ensures { λ r. ⌜ Tried (now (rules .entry)) headed held facts c r ⌝ }
+{
+    let others = atoms::drop(held, c);
+    let found = any(rules, atoms::union(headed, others), facts);
+    match found {
+        Witness::Member(_) => held,
+        Witness::Nothing => others,
+    }
+}
+
+// Going up by rule number, each constraint without which there still is no answer set is dropped: what is held.
+pub fn few_constraints(rules: &[u64], headed: u64, constraints: u64, facts: u64) -> u64
+    requires { ⌜ Lent (now rules) (headed ∪ constraints) × Constraints (now rules) constraints × NoneSettled (now rules) (headed ∪ constraints) facts ⌝ }
+    ensures { λ r. ⌜ Blamed (now (rules .entry)) headed constraints facts r ⌝ }
+{
+    let mut held = constraints;
+    let mut rest = constraints;
+    while rest != 0 {
+        let c = atoms::lowest(rest);
+        held = try_without(rules, headed, held, facts, c);
+        rest = atoms::drop(rest, c);
+    }
+    held
+}

@@ -1,0 +1,80 @@
+-- "Going from the start to the end yields, on every plan that the unit work also finishes, just its last list" (document 02, S-8).
+use mathlib.Core.Path.{_≡_, sym, subst}
+use mathlib.Core.Logic.{_↔_}
+use mathlib.Core.List.{List, List·Memᴰ}
+use Prim.Native.Nat.{ℕ, suc}
+use native.Mathlib.Omega.{arith}
+use Rattle.atoms.specs.Rising.{Rising, members}
+use Rattle.atoms.proofs.Tests.{decided-true}
+use Rattle.atoms.proofs.Sets.{subset-le}
+use Rattle.atoms.proofs.Rising.{rising-ext, members-at, members-has, members-rising}
+use Rattle.plan.specs.Record.{Fitting}
+use Rattle.plan.specs.declared.record.Plan.{Plan}
+use Rattle.plan.specs.declared.fault.Outcome.the-variants.{Accepted}
+use Rattle.reading.specs.Reading.{reading}
+use Rattle.reading.specs.declared.reader.Reading.{Reading}
+use Rattle.reading.proofs.Limits.{record-fits}
+use Rattle.judge.specs.Settled.{Settles, settled}
+use Rattle.judge.proofs.Settled.{decides-settled}
+use Rattle.unit_lists.specs.Demands.{lastIn, ListsAll}
+use Rattle.unit_lists.specs.Promised.{Promised}
+use Rattle.unit_lists.specs.declared.listing.Listing.{Listing}
+use Rattle.unit_lists.proofs.Demand1.{lays-read, lays-accepted, listable-lists}
+use Rattle.unit_search.specs.declared.witness.Witness.the-variants.{Member, Nothing}
+use Rattle.finding.specs.Least.{Behind, from-start, LeastOf, least, none}
+use Rattle.finding.specs.Walk.{Walk, ends as walk-ends, goes as walk-goes}
+use Rattle.finding.specs.declared.least.From.{From}
+use Rattle.finding.specs.declared.least.From.the-variants.{Start}
+use Rattle.finding.proofs.Walks.{walk-of, walk-at, walk-has, walk-rising}
+use Rattle.stepping.specs.Followed.{Follows, position, none-left, headed, followed}
+use Rattle.stepping.specs.Walk.{Walked, ends, goes}
+use Rattle.stepping.specs.declared.Next.the-variants.{Position, NoneLeft}
+use Rattle.stepping.proofs.Nexts.{follows-only, found-follows, none-follows, settled-within, followed-follows}
+
+-- ---- a walk by results is a walk along the answer sets
+
+follows-found : {p : Plan} {from : From} {M : ℕ} → Follows p from (Position M) → LeastOf (λ N. Settles p N × Behind from N) (Member M)
+follows-found (position s b l) = least (s, b) (λ N q. l N (q .0) (q .1))
+
+follows-none : {p : Plan} {from : From} → Follows p from NoneLeft → LeastOf (λ N. Settles p N × Behind from N) Nothing
+follows-none (none-left n) = none (λ N q. n N (q .0) (q .1))
+
+module _ (bytes : List ℕ) (accepted : reading bytes .outcome ≡ Accepted) where
+  walked-walk : {from : From} {xs : List ℕ} → Walked bytes from xs → Walk (Settles (reading bytes .plan)) from xs
+  walked-walk {from} (ends e) = walk-ends (follows-none (subst (Follows (reading bytes .plan) from) e (followed-follows bytes from accepted)))
+  walked-walk {from} (goes e w) =
+      walk-goes (follows-found (subst (Follows (reading bytes .plan) from) e (followed-follows bytes from accepted))) (walked-walk w)
+
+  walk-walked : {from : From} {xs : List ℕ} → Walk (Settles (reading bytes .plan)) from xs → Walked bytes from xs
+  walk-walked {from} (walk-ends l) = ends (follows-only (followed-follows bytes from accepted) (none-follows l))
+  walk-walked {from} (walk-goes l w) = goes (follows-only (followed-follows bytes from accepted) (found-follows l)) (walk-walked w)
+
+-- ---- there is a walk, whatever the units and however many answer sets
+
+all-walked : (p : Plan) → Fitting p → Walk (Settles p) Start (members (settled p) (suc (headed p)))
+all-walked p f =
+    walk-of Start (members (settled p) (suc (headed p))) (members-rising (settled p) (suc (headed p)))
+    (λ M m. (decides-settled p M f .yes (members-at (settled p) (suc (headed p)) M m .1), from-start))
+    (λ M q b. members-has (settled p) (suc (headed p)) M (omega (arith, subset-le (settled-within p M q))) (decided-true (decides-settled p M f) q))
+
+pub walk-there : (bytes : List ℕ) → reading bytes .outcome ≡ Accepted → (xs : List ℕ) × Walked bytes Start xs
+walk-there bytes e =
+    (members (settled (reading bytes .plan)) (suc (headed (reading bytes .plan))), walk-walked bytes e (all-walked (reading bytes .plan) (record-fits bytes)))
+
+-- ---- every walk is the last list
+
+walk-members : (p : Plan) {xs : List ℕ} → Walk (Settles p) Start xs → (M : ℕ) → List·Memᴰ M xs ↔ Settles p M
+walk-members p w M = (walk-at w M, λ q. walk-has w M q from-start)
+
+walk-yields : {p : Plan} {r : Listing} {table xs : List ℕ} → ListsAll p r table → Walk (Settles p) Start xs → xs ≡ lastIn r table
+walk-yields {p} {r} {table} {xs} l w =
+    let all = walk-members p w in
+    rising-ext xs (lastIn r table) (walk-rising w) (l .rising) (λ X m. l .members X .1 (all X .0 m)) (λ X m. all X .1 (l .members X .0 m))
+
+pub walk-is-last : (bytes table : List ℕ) {r : Listing} {table′ : List ℕ} → Promised bytes table r table′ → r .outcome ≡ Accepted → {xs : List ℕ}
+    → Walked bytes Start xs → xs ≡ lastIn r table′
+walk-is-last bytes table {r} {table′} h e w =
+    let k = h .demand-1 .accepts .0 e in
+    let lists : ListsAll (reading bytes .plan) r table′ =
+    subst (λ (x : Reading). ListsAll (x .plan) r table′) (sym (lays-read (k .1 .1 .lays))) (listable-lists (h .demand-3) (k .1 .1) (k .0)) in
+    walk-yields lists (walked-walk bytes (lays-accepted (k .1 .1 .lays)) w)

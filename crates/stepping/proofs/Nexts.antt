@@ -1,0 +1,154 @@
+-- The next answer set: there is just one result that follows, the definition computes it, and so does what was found.
+use mathlib.Core.Path.{_≡_, refl, sym, ap, _∙_, subst}
+use mathlib.Core.Bool.{Bool, true, false}
+use mathlib.Core.Logic.{_⊎_, inl, inr}
+use mathlib.Core.List.{List}
+use Prim.Native.Nat.{ℕ, suc, _≤_, _<_}
+use native.Mathlib.Omega.{arith}
+use native.Mathlib.Decide.{decLt}
+use lib.Dec.{ltb}
+use borrow.Author.Tests.{ltb-true, ltb-false, lt-ltb}
+use Rattle.atoms.specs.Word.{Has, _⊆_, _∪_, below}
+use Rattle.atoms.specs.Bounded.{Decides, unionIn}
+use Rattle.atoms.specs.Collected.{lowest}
+use Rattle.atoms.proofs.Tests.{test-cases, decides, decided-true, decided-false, not-both}
+use Rattle.atoms.proofs.Sets.{has-left, has-right, has-below, subset-le}
+use Rattle.atoms.proofs.Bounded.{union-has}
+use Rattle.atoms.proofs.Collected.{lowest-here, lowest-least}
+use Rattle.answer_sets.specs.Lent.{lent}
+use Rattle.plan.specs.Record.{Fitting}
+use Rattle.plan.specs.declared.record.Plan.{Plan}
+use Rattle.plan.specs.declared.fault.Fault.{Fault}
+use Rattle.plan.specs.declared.fault.Outcome.{Outcome}
+use Rattle.plan.specs.declared.fault.Outcome.the-variants.{Accepted, Refused as RefusedWith}
+use Rattle.reading.specs.Reading.{reading}
+use Rattle.reading.specs.declared.reader.Reading.{Reading}
+use Rattle.reading.proofs.Limits.{record-fits}
+use Rattle.judge.specs.Settled.{Settles, settled}
+use Rattle.judge.proofs.Settled.{Headed, settled-headed, decides-settled}
+use Rattle.unit_lists.proofs.Answers.{not-accepted}
+use Rattle.unit_search.specs.declared.witness.Witness.{Witness}
+use Rattle.unit_search.specs.declared.witness.Witness.the-variants.{Member, Nothing}
+use Rattle.finding.specs.Least.{LeastOf, least, none, Behind, from-start, above}
+use Rattle.finding.specs.declared.least.From.{From}
+use Rattle.finding.specs.declared.least.From.the-variants.{Start, Above}
+use Rattle.stepping.specs.Followed.{Follows, position, none-left, headed, behind, settledBehind, nextIn, followed, Followed}
+use Rattle.stepping.specs.declared.Next.{Next}
+use Rattle.stepping.specs.declared.Next.the-variants.{Position, NoneLeft, Refused}
+
+-- ---- one result follows
+
+pub follows-only : {p : Plan} {from : From} {a b : Next} → Follows p from a → Follows p from b → a ≡ b
+follows-only (position {M = M} s b l) (position {M = N} t c k) = ap Position (same (l N t c) (k M s b))
+  where
+    same : {x y : ℕ} → x ≤ y → y ≤ x → x ≡ y
+    same h g = omega arith
+follows-only (position {M = M} s b l) (none-left n) = absurd (n M s b)
+follows-only (none-left n) (position {M = M} s b l) = absurd (n M s b)
+follows-only (none-left n) (none-left m) = refl
+
+-- what was found follows
+pub found-follows : {p : Plan} {from : From} {M : ℕ} → LeastOf (λ N. Settles p N × Behind from N) (Member M) → Follows p from (Position M)
+found-follows (least q l) = position (q .0) (q .1) (λ N s b. l N (s, b))
+
+pub none-follows : {p : Plan} {from : From} → LeastOf (λ N. Settles p N × Behind from N) Nothing → Follows p from NoneLeft
+none-follows (none n) = none-left (λ N s b. n N (s, b))
+
+-- ---- the definition computes it
+
+-- an answer set has only atoms that are given or in heads
+pub settled-within : (p : Plan) (M : ℕ) → Settles p M → M ⊆ headed p
+settled-within p M s = record { each = λ i h. go i (settled-headed p M i s h) }
+  where
+    heads : ℕ → ℕ
+    heads r = lent (p .rules) .head r
+
+    go : (i : ℕ) → Headed p i → Has (headed p) i
+    go i (inl h) = has-left (p .given) (unionIn (p .«rule_count») (below (p .«rule_count»)) heads) h
+    go i (inr t) =
+        has-right (p .given) (unionIn (p .«rule_count») (below (p .«rule_count»)) heads)
+        (union-has (p .«rule_count») (below (p .«rule_count»)) heads (t .0) i (t .1) (has-below (p .«rule_count») (t .0) (t .1)) (t .2))
+
+behind-decided : (from : From) (M : ℕ) → Decides (Behind from M) (behind from M)
+behind-decided Start M = decides true (λ _. from-start) (λ _. refl)
+behind-decided (Above p) M = decides (ltb p M) (λ e. above (ltb-true p M e)) back
+  where
+    back : Behind (Above p) M → ltb p M ≡ true
+    back (above l) = lt-ltb p M l
+
+module _ (p : Plan) (fits : Fitting p) (from : From) where
+  settled-behind : (M : ℕ) → Decides (Settles p M × Behind from M) (settledBehind p from M)
+  settled-behind M = go (behind from M) (behind-decided from M)
+    where
+      go : (b : Bool) → Decides (Behind from M) b → Decides (Settles p M × Behind from M) (elim b [ true ↦ settled p M | false ↦ false ])
+      go true d = decides (settled p M) (λ e. (decides-settled p M fits .yes e, d .yes refl)) (λ q. decided-true (decides-settled p M fits) (q .0))
+      go false d = decides false (λ e. absurd (not-both e refl)) (λ q. absurd (d .no refl (q .1)))
+
+  pub next-in-follows : Follows p from (nextIn p from)
+  unfolding nextIn
+  next-in-follows = go (ltb M top) refl
+    where
+      top : ℕ
+      top = suc (headed p)
+
+      M : ℕ
+      M = lowest top (settledBehind p from)
+
+      lower : (N : ℕ) → N < M → ¬ (Settles p N × Behind from N)
+      lower N l q = not-both (decided-true (settled-behind N) q) (lowest-least top (settledBehind p from) N l)
+
+      go : (b : Bool) → ltb M top ≡ b → Follows p from (elim b [ true ↦ Position M | false ↦ NoneLeft ])
+      go true e =
+          let q = settled-behind M .yes (lowest-here top (settledBehind p from) (ltb-true M top e)) in
+          position (q .0) (q .1) (λ N s b. least-one N (decLt N M) (s, b))
+        where
+          least-one : (N : ℕ) → Dec (N < M) → Settles p N × Behind from N → M ≤ N
+          least-one N (yes l) q = absurd (lower N l q)
+          least-one N (no l) q = omega arith
+      go false e = none-left (λ N s b.
+          let within = subset-le (settled-within p N s) in
+          lower N (omega (arith, ltb-false M top e)) (s, b))
+
+-- ---- for the bytes of a plan
+
+pub followed-refused : (bytes : List ℕ) (from : From) (f : Fault) → reading bytes .outcome ≡ RefusedWith f → followed bytes from ≡ Refused f
+unfolding followed
+followed-refused bytes from f e = rw (e, followed)
+
+pub followed-accepted : (bytes : List ℕ) (from : From) → reading bytes .outcome ≡ Accepted → followed bytes from ≡ nextIn (reading bytes .plan) from
+unfolding followed
+followed-accepted bytes from e = rw (e, followed)
+
+pub followed-follows : (bytes : List ℕ) (from : From) → reading bytes .outcome ≡ Accepted → Follows (reading bytes .plan) from (followed bytes from)
+followed-follows bytes from e = rw (followed-accepted bytes from e) (next-in-follows (reading bytes .plan) (record-fits bytes) from)
+
+-- ---- the results of the code, from what reading gave
+
+module _ (bytes : List ℕ) (from : From) {r : Reading} (read : r ≡ reading bytes) where
+  outcome-is : {o : Outcome} → r .outcome ≡ o → reading bytes .outcome ≡ o
+  outcome-is e = sym (ap (λ (x : Reading). x .outcome) read) ∙ e
+
+  pub refused-followed : {f : Fault} → r .outcome ≡ RefusedWith f → Followed bytes from (Refused f)
+  refused-followed {f} e = record {
+    is = sym (followed-refused bytes from f (outcome-is e));
+    refused = λ g o. sym (followed-refused bytes from f (outcome-is e)) ∙ followed-refused bytes from g o;
+    follows = λ a. absurd (not-accepted f (sym a ∙ outcome-is e));
+  }
+
+  accepted-followed : {x : Next} → r .outcome ≡ Accepted → Follows (r .plan) from x → Followed bytes from x
+  accepted-followed {x} e k = record {
+    is = follows-only here (followed-follows bytes from (outcome-is e));
+    refused = λ f o. absurd (not-accepted f (sym (outcome-is e) ∙ o));
+    follows = λ _. here;
+  }
+    where
+      here : Follows (reading bytes .plan) from x
+      here = subst (λ (y : Reading). Follows (y .plan) from x) read k
+
+  pub position-followed : {w : Witness} {M : ℕ} → r .outcome ≡ Accepted → w ≡ Member M → LeastOf (λ N. Settles (r .plan) N × Behind from N) w
+      → Followed bytes from (Position M)
+  position-followed e q l = accepted-followed e (found-follows (rw q at l))
+
+  pub none-followed : {w : Witness} → r .outcome ≡ Accepted → w ≡ Nothing → LeastOf (λ N. Settles (r .plan) N × Behind from N) w
+      → Followed bytes from NoneLeft
+  none-followed e q l = accepted-followed e (none-follows (rw q at l))

@@ -1,0 +1,63 @@
+-- One position after the other (document 02, S-8): "Given a plan and either "from the start" or a position, return the least answer set above
+-- it, or that none is left. .. It has the reading refusals only."
+use mathlib.Core.Path.{_≡_}
+use mathlib.Core.Bool.{Bool, true, false}
+use mathlib.Core.List.{List}
+use Prim.Native.Nat.{ℕ, suc, _≤_}
+use lib.Dec.{ltb}
+use Rattle.atoms.specs.Word.{_∪_, below}
+use Rattle.atoms.specs.Bounded.{unionIn}
+use Rattle.atoms.specs.Collected.{lowest}
+use Rattle.answer_sets.specs.Lent.{lent}
+use Rattle.plan.specs.Faults.{refusalCode}
+use Rattle.plan.specs.declared.fault.Fault.{Fault}
+use Rattle.plan.specs.declared.fault.Outcome.the-variants.{Accepted, Refused as RefusedWith}
+use Rattle.plan.specs.declared.record.Plan.{Plan}
+use Rattle.reading.specs.Reading.{reading}
+use Rattle.judge.specs.Settled.{Settles, settled}
+use Rattle.finding.specs.Least.{Behind}
+use Rattle.finding.specs.declared.least.From.{From}
+use Rattle.finding.specs.declared.least.From.the-variants.{Start, Above}
+use Rattle.stepping.specs.declared.Next.{Next}
+use Rattle.stepping.specs.declared.Next.the-variants.{Position, NoneLeft, Refused}
+
+-- "the least answer set above it, or that none is left": N is any number
+pub data Follows (p : Plan) (from : From) : Next → Type 0 where
+  position : {M : ℕ} → Settles p M → Behind from M → ((N : ℕ) → Settles p N → Behind from N → M ≤ N) → Follows p from (Position M)
+  none-left : ((N : ℕ) → Settles p N → ¬ Behind from N) → Follows p from NoneLeft
+
+-- the atoms that may be up: those that are given, and those in heads
+abbrev pub headed : Plan → ℕ
+headed p = p .given ∪ unionIn (p .«rule_count») (below (p .«rule_count»)) (λ r. lent (p .rules) .head r)
+
+-- `Behind`, computed
+abbrev pub behind : From → ℕ → Bool
+behind Start M = true
+behind (Above p) M = ltb p M
+
+-- an answer set that is behind, computed
+abbrev pub settledBehind : Plan → From → ℕ → Bool
+settledBehind p from M = elim (behind from M) [ true ↦ settled p M | false ↦ false ]
+
+-- the lowest such number; none is above the word of the atoms that may be up
+unfoldable pub nextIn : Plan → From → Next
+nextIn p from =
+    let M = lowest (suc (headed p)) (settledBehind p from) in
+    elim (ltb M (suc (headed p))) [ true ↦ Position M | false ↦ NoneLeft ]
+
+-- the same for the bytes of a plan
+unfoldable pub followed : List ℕ → From → Next
+followed bytes from =
+    elim (reading bytes .outcome) [ RefusedWith f ↦ Refused f | Accepted ↦ nextIn (reading bytes .plan) from ]
+
+-- the result is that; the fault that reading found, and otherwise the next answer set of the whole program
+pub record Followed (bytes : List ℕ) (from : From) (r : Next) : Type 0 where
+  pub is : r ≡ followed bytes from
+  pub refused : (f : Fault) → reading bytes .outcome ≡ RefusedWith f → r ≡ Refused f
+  pub follows : reading bytes .outcome ≡ Accepted → Follows (reading bytes .plan) from r
+
+-- the result as one number, beside the position
+abbrev pub code : Next → ℕ
+code (Position M) = 1
+code NoneLeft = 0
+code (Refused f) = refusalCode f
