@@ -67,6 +67,21 @@ uint64_t lucarnecress_list(const uint8_t *plan, size_t plan_length, uint64_t *ta
 /* Judges one position: LUCARNECRESS_SETTLED, LUCARNECRESS_NOT_SETTLED, or the code of a refusal in reading. */
 uint64_t lucarnecress_judge(const uint8_t *plan, size_t plan_length, uint64_t position);
 
+/* ---- one position after the other -------------------------------------------------------------------------------------------- */
+
+#define LUCARNECRESS_NONE_LEFT 0u
+#define LUCARNECRESS_FOUND 1u
+
+/* Finds the least settled position of all, as an unsigned number. Gives LUCARNECRESS_FOUND with the position in found[0], as far as there is
+ * room; words behind it are left alone. Or gives LUCARNECRESS_NONE_LEFT, or the code of a refusal in reading, with nothing written. Units and
+ * edges are not looked at, and there may be any number of positions. */
+uint64_t lucarnecress_first(const uint8_t *plan, size_t plan_length, uint64_t *found, size_t found_length);
+
+/* Finds the least settled position above this one, which need not be settled itself, and gives what lucarnecress_first gives. From the first
+ * position on, each call with what the last one found, until none is left, meets every settled position once, rising. Above 0 is not
+ * from the start: where 0 is settled, only lucarnecress_first finds it. */
+uint64_t lucarnecress_next(const uint8_t *plan, size_t plan_length, uint64_t position, uint64_t *found, size_t found_length);
+
 /* ---- sheets ------------------------------------------------------------------------------------------------------------------ */
 
 #define LUCARNECRESS_SHEET_BYTES 4366u /* no sheet is longer */

@@ -27,6 +27,17 @@ need_cc() {
     exit 2
 }
 
+# Makes sure that there is clingo; on a Debian machine without it, root installs it.
+need_clingo() {
+    command -v clingo >/dev/null && return
+    if [ "$(id -u)" = 0 ] && command -v apt-get >/dev/null; then
+        { apt-get update && apt-get install -y gringo; } >&2
+    fi
+    command -v clingo >/dev/null && return
+    echo "clingo is missing: install it, on Debian as root with: apt-get update && apt-get install -y gringo" >&2
+    exit 2
+}
+
 # build_program SOURCE OUTPUT [OPTIONS]: one program by rustc alone; no other package is needed.
 build_program() {
     local source="$1" output="$2"

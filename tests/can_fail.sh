@@ -208,6 +208,44 @@ with_mistake "a short table is noticed after reading" \
         return'
 with_mistake "upper-case digits" '{:016x}' '{:016X}'
 
+# One position after the other
+with_mistake "walk: at least for above" 'position > passed' 'position >= passed'
+with_mistake "walk: from the start as above 0" 'From::Start => true' 'From::Start => position > 0'
+with_mistake "walk: above as signed numbers" 'position > passed' 'position as i64 > passed as i64'
+with_mistake "walk: any member for the least" \
+    'ahead.find(|&position| is_answer_set(&plan.rules, facts, position))' \
+    'ahead.by_ref().filter(|&position| is_answer_set(&plan.rules, facts, position)).min_by_key(|position| position.reverse_bits())'
+with_mistake "walk: the next set that satisfies the rules" \
+    'ahead.find(|&position| is_answer_set(&plan.rules, facts, position))' \
+    'ahead.find(|&position| is_model(plan.rules.iter(), facts, position))'
+with_mistake "walk: refused for its graph" \
+    'let facts = plan.given_atoms();' 'check_graph(&plan)?;
+    let facts = plan.given_atoms();'
+with_mistake "walk: refused for a given atom in a head" \
+    'let facts = plan.given_atoms();' 'check_graph(&plan).or_else(|refusal| if refusal.number == 16 { Err(refusal) } else { Ok(()) })?;
+    let facts = plan.given_atoms();'
+with_mistake "walk: refused for more than 256 positions" \
+    'let facts = plan.given_atoms();' 'list(bytes, TABLE_WORDS).map_or_else(|refusal| if refusal.number == 15 { Err(refusal) } else { Ok(()) }, |_| Ok(()))?;
+    let facts = plan.given_atoms();'
+with_mistake "walk: stops after 256" \
+    'let mut ahead = sets_to_try(&plan.rules, facts).filter(' \
+    'let mut ahead = answer_sets(&plan.rules, facts).into_iter().take(LIST_WORDS).filter('
+with_mistake "walk: given atoms are no facts" 'let facts = plan.given_atoms();' 'let facts = 0;'
+with_mistake "walk: nothing is above what is not settled" \
+    'let facts = plan.given_atoms();' 'let facts = plan.given_atoms();
+    if matches!(from, From::Above(passed) if !is_answer_set(&plan.rules, facts, passed & head_atoms(&plan.rules))) {
+        return Ok(None);
+    }'
+with_mistake "walk: nothing is found where there is no room" 'u64::from(position.is_some())' 'u64::from(position.is_some() && !found.is_empty())'
+with_mistake "walk: a word is cleared where none is left" \
+    'if let (Ok(Some(position)), Some(word)) = (next, found.first_mut()) {
+        *word = position;' 'if let (Ok(position), Some(word)) = (next, found.first_mut()) {
+        *word = position.unwrap_or(0);'
+with_mistake "walk: every lent word is written" \
+    'if let (Ok(Some(position)), Some(word)) = (next, found.first_mut()) {
+        *word = position;' 'if let Ok(Some(position)) = next {
+        found.fill(position);'
+
 # Questions
 with_mistake "a repeat is counted once" \
     'list.iter().filter(|&&position| fits' \

@@ -20,10 +20,12 @@ mod table_tally;
 mod tally;
 mod text;
 mod valid_plans;
+mod walks;
 
 use generator::Case;
 use lister::{Listing, Plan, Refusal, COUNTS, TABLE_WORDS};
 use random::Random;
+use samples::Sample;
 use tally::Tally;
 
 const DEFAULT_COUNT: u64 = 20_000;
@@ -32,22 +34,17 @@ const DEFAULT_SEED: u64 = 1;
 /// Up to so many atoms in heads every set of them is tried.
 const FEW_ATOMS: u32 = 14;
 
+/// Up to so many where the plan is refused: ten choices have twenty, and 1,024 positions.
+const TEN_CHOICES: u32 = 20;
+
 type Outcome = Result<Listing, Refusal>;
 
 fn main() {
     let (count, seed) = (argument(1, DEFAULT_COUNT), argument(2, DEFAULT_SEED));
     let mut tally = Tally::default();
     for sample in samples::all() {
-        let is_asked = samples::by_force(sample.name) || std::env::var_os("LIBRARY_BY_FORCE").is_none();
-        let checked = samples::check_text(&sample).and_then(|_| match is_asked {
-            true => compare_sheet(&sample.plan, &sample.sheet),
-            false => Ok(()),
-        });
-        let case = Case { family: "sample plans", plan: sample.plan, table_words: TABLE_WORDS, many_atoms: true };
-        let compared = checked.and_then(|_| match samples::by_force(sample.name) {
-            true => compare(&case, &mut Random::for_case(seed, 0), &mut tally),
-            false => Ok(()),
-        });
+        let case = Case { family: "sample plans", plan: sample.plan.clone(), table_words: TABLE_WORDS, many_atoms: true };
+        let compared = compare_sample(&sample, &case, seed, &mut tally);
         tally.note(&case, compared.map_err(|difference| format!("{}: {}", sample.name, difference)));
     }
     let cases = (0..).map(|number| (number, generator::case(seed, number)));
@@ -73,15 +70,45 @@ fn is_small(plan: &Plan) -> bool {
     lister::head_atoms(&plan.rules).count_ones() <= FEW_ATOMS
 }
 
+/// A sample's text and sheet and, where the lister can list it, everything else; it is walked from its start to its end.
+fn compare_sample(sample: &Sample, case: &Case, seed: u64, tally: &mut Tally) -> Result<(), String> {
+    let by_force = samples::by_force(sample.name);
+    samples::check_text(sample)?;
+    if !by_force && std::env::var_os("LIBRARY_BY_FORCE").is_some() {
+        return Ok(());
+    }
+    compare_sheet(&sample.plan, &sample.sheet)?;
+    if !by_force {
+        return walks::compare_whole(&sample.plan, &samples::positions(sample), tally);
+    }
+    compare(case, &mut Random::for_case(seed, 0), tally)?;
+    match lister::read(&sample.plan) {
+        Ok(plan) => walks::compare_whole(&sample.plan, &lister::answer_sets(&plan.rules, plan.given_atoms()), tally),
+        Err(_) => Ok(()),
+    }
+}
+
 /// Everything the library says of one plan, or the first difference.
 fn compare(case: &Case, random: &mut Random, tally: &mut Tally) -> Result<(), String> {
     let outcome = lister::list(&case.plan, TABLE_WORDS);
+    let settled = settled_positions(&case.plan, &outcome);
     tally.tables.note(&case.plan, &outcome);
     compare_table(case, &outcome, tally)?;
     compare_sheet(&case.plan, &lister::sheet(&outcome))?;
     check_lister(&case.plan, &outcome, tally)?;
-    positions::compare(case, &outcome, random, tally)?;
+    positions::compare(case, &outcome, settled.as_deref().unwrap_or_default(), random, tally)?;
+    walks::compare(&case.plan, &outcome, settled.as_deref(), random, tally)?;
     questions::compare(&outcome, random, tally)
+}
+
+/// All settled positions, rising, where they are known; a refused graph does not hide them, nor do more than 256.
+fn settled_positions(bytes: &[u8], outcome: &Outcome) -> Option<Vec<u64>> {
+    if let Ok(listing) = outcome {
+        return Some(listing.last.clone());
+    }
+    let plan = lister::read(bytes).ok()?;
+    let is_tried = lister::head_atoms(&plan.rules).count_ones() <= TEN_CHOICES;
+    is_tried.then(|| lister::answer_sets(&plan.rules, plan.given_atoms()))
 }
 
 /// Result, table and counts, with a lent table that holds a pattern before.

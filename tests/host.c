@@ -147,6 +147,53 @@ static void check_judge(void)
     same("judge, no bytes", refusal(LUCARNECRESS_TRUNCATED, 0), lucarnecress_judge(plan_p, 0, 0));
 }
 
+/* One position after the other, from the start to the end of plan P, then from other positions. */
+static void check_walk(void)
+{
+    uint64_t found[] = {99, 99};
+    same("first", LUCARNECRESS_FOUND, lucarnecress_first(plan_p, sizeof plan_p, found, 2));
+    same("first, its position", settled[0], found[0]);
+    same("first, behind", 99, found[1]);
+    same("next", LUCARNECRESS_FOUND, lucarnecress_next(plan_p, sizeof plan_p, settled[0], found, 2));
+    same("next, its position", settled[1], found[0]);
+    same("next, behind", 99, found[1]);
+    found[0] = 99;
+    same("next, none left", LUCARNECRESS_NONE_LEFT, lucarnecress_next(plan_p, sizeof plan_p, settled[1], found, 2));
+    same("next, above the greatest word", LUCARNECRESS_NONE_LEFT, lucarnecress_next(plan_p, sizeof plan_p, UINT64_MAX, found, 2));
+    same("next, none left: nothing written", 99, found[0]);
+    same("next, above what is not settled", LUCARNECRESS_FOUND, lucarnecress_next(plan_p, sizeof plan_p, 0x3, found, 1));
+    same("next, above what is not settled: its position", settled[1], found[0]);
+    same("next, above 0", LUCARNECRESS_FOUND, lucarnecress_next(plan_p, sizeof plan_p, 0, found, 1));
+    same("next, above 0: its position", settled[0], found[0]);
+    found[0] = 99;
+    same("first, no room", LUCARNECRESS_FOUND, lucarnecress_first(plan_p, sizeof plan_p, found, 0));
+    same("next, no room", LUCARNECRESS_FOUND, lucarnecress_next(plan_p, sizeof plan_p, 0, found, 0));
+    same("first and next, no room: nothing written", 99, found[0]);
+}
+
+/* The edges of a walk: position 0, a graph that a list would refuse, a plan without a position, and plans that cannot be read. */
+static void check_walk_edges(void)
+{
+    static const uint8_t end_only[] = {0x00};
+    static const uint8_t odd_loop[] = {0x01, 1, 0, 0, 0, 0, 0, 0, 0, 0, 0, 0, 0, 0, 0, 0, 0, 1, 0, 0, 0, 0, 0, 0, 0, 0x00};
+    uint64_t found[] = {99, 99};
+    same("first, position 0", LUCARNECRESS_FOUND, lucarnecress_first(end_only, sizeof end_only, found, 2));
+    same("first, position 0: written", 0, found[0]);
+    found[0] = 99;
+    same("next, above 0 is not from the start", LUCARNECRESS_NONE_LEFT, lucarnecress_next(end_only, sizeof end_only, 0, found, 2));
+    same("first, no graph", LUCARNECRESS_FOUND, lucarnecress_first(unseen_plan(), UNSEEN_LENGTH, found, 2));
+    same("first, no graph: its position", settled[0], found[0]);
+    same("next, no graph", LUCARNECRESS_FOUND, lucarnecress_next(unseen_plan(), UNSEEN_LENGTH, settled[0], found, 2));
+    same("next, no graph: its position", settled[1], found[0]);
+    found[0] = 99;
+    same("first, none", LUCARNECRESS_NONE_LEFT, lucarnecress_first(odd_loop, sizeof odd_loop, found, 2));
+    same("first, no bytes", refusal(LUCARNECRESS_TRUNCATED, 0), lucarnecress_first(plan_p, 0, found, 2));
+    same("first, no END", refusal(LUCARNECRESS_TRUNCATED, sizeof plan_p - 1), lucarnecress_first(plan_p, sizeof plan_p - 1, found, 2));
+    same("next, no END", refusal(LUCARNECRESS_TRUNCATED, sizeof plan_p - 1),
+         lucarnecress_next(plan_p, sizeof plan_p - 1, settled[0], found, 2));
+    same("first and next, nothing written", 99, found[0]);
+}
+
 static void check_sheet(void)
 {
     static const char sheet_p[] = "positions 2\n0000000000000002\n0000000000000005\n";
@@ -239,8 +286,8 @@ static void check_codes(void)
     same("spot of a code", 9, LUCARNECRESS_SPOT(code));
 }
 
-static void (*const checks[])(void) = {check_list,     check_judge,   check_sheet, check_count, check_common,
-                                       check_readings, check_largest, check_codes, check_tables};
+static void (*const checks[])(void) = {check_list,   check_judge,    check_walk,    check_walk_edges, check_sheet, check_count,
+                                       check_common, check_readings, check_largest, check_codes,      check_tables};
 
 int main(void)
 {

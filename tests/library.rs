@@ -1,6 +1,6 @@
 //! The proved library behind its C interface: declarations and safe wrappers.
 
-use crate::lister::COUNTS;
+use crate::lister::{From, COUNTS};
 
 /// A sheet never needs more bytes than this.
 const SHEET_BYTES: usize = 5000;
@@ -16,6 +16,8 @@ extern "C" {
         counts_len: usize,
     ) -> u64;
     fn lucarnecress_judge(plan: *const u8, plan_len: usize, position: u64) -> u64;
+    fn lucarnecress_first(plan: *const u8, plan_len: usize, found: *mut u64, found_len: usize) -> u64;
+    fn lucarnecress_next(plan: *const u8, plan_len: usize, position: u64, found: *mut u64, found_len: usize) -> u64;
     fn lucarnecress_sheet(plan: *const u8, plan_len: usize, sheet: *mut u8, sheet_len: usize) -> u64;
     fn lucarnecress_reading_number(reading: u16) -> u64;
     fn lucarnecress_reading_of(number: u64) -> u64;
@@ -36,6 +38,15 @@ pub fn list(plan: &[u8], table: &mut [u64], counts: &mut [u64; COUNTS]) -> u64 {
 /// 1 for settled, 0 for not settled, or the code of a refusal.
 pub fn judge(plan: &[u8], position: u64) -> u64 {
     unsafe { lucarnecress_judge(plan.as_ptr(), plan.len(), position) }
+}
+
+/// 1 with the least position of all, or above one, in the lent words; 0 if none is left, or the code of a refusal.
+pub fn next(plan: &[u8], from: From, found: &mut [u64]) -> u64 {
+    let (words, room) = (found.as_mut_ptr(), found.len());
+    match from {
+        From::Start => unsafe { lucarnecress_first(plan.as_ptr(), plan.len(), words, room) },
+        From::Above(position) => unsafe { lucarnecress_next(plan.as_ptr(), plan.len(), position, words, room) },
+    }
 }
 
 /// The sheet's bytes; a length beyond the buffer is reported as it is.

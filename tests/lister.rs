@@ -149,11 +149,12 @@ fn is_model<'a>(mut rules: impl Iterator<Item = &'a Rule>, facts: u64, set: u64)
 
 /// All answer sets of the rules with these atoms added as facts, rising.
 pub fn answer_sets(rules: &[Rule], facts: u64) -> Vec<u64> {
-    // An atom in no head (a fact counts as one) is never up.
-    subsets(head_atoms(rules) & !facts)
-        .map(|chosen| chosen | facts)
-        .filter(|&position| is_answer_set(rules, facts, position))
-        .collect()
+    sets_to_try(rules, facts).filter(|&position| is_answer_set(rules, facts, position)).collect()
+}
+
+/// All sets that have the facts and no atom in no head (a fact counts as one), rising: another set is never an answer set.
+fn sets_to_try(rules: &[Rule], facts: u64) -> impl Iterator<Item = u64> {
+    subsets(head_atoms(rules) & !facts).map(move |chosen| chosen | facts)
 }
 
 // ---- Reading --------------------------------------------------------------------------------
@@ -558,6 +559,49 @@ pub fn sheet(outcome: &Result<Listing, Refusal>) -> String {
         }
         Err(refusal) => format!("refused {} at {}\n", refusal.number, refusal.spot),
     }
+}
+
+// ---- One position after the other: document 02, S-8 ------------------------------------------
+
+/// Where a walk goes on.
+#[derive(Clone, Copy, Debug)]
+pub enum From {
+    Start,
+    Above(u64),
+}
+
+impl From {
+    /// Is the position still ahead? From the start every one is, 0 too; otherwise those above, as unsigned numbers.
+    pub fn is_ahead(self, position: u64) -> bool {
+        match self {
+            From::Start => true,
+            From::Above(passed) => position > passed,
+        }
+    }
+}
+
+/// The least answer set of the whole program, with the given atoms as facts, that is still ahead; nothing if none is left. Only the reading
+/// place can refuse.
+pub fn next(bytes: &[u8], from: From) -> Result<Option<u64>, Refusal> {
+    let plan = read(bytes)?;
+    let facts = plan.given_atoms();
+    // They rise, so the first that is found is the least.
+    let mut ahead = sets_to_try(&plan.rules, facts).filter(|&position| from.is_ahead(position));
+    Ok(ahead.find(|&position| is_answer_set(&plan.rules, facts, position)))
+}
+
+/// The same where the answer sets are known.
+pub fn next_of(answer_sets: &[u64], from: From) -> Option<u64> {
+    answer_sets.iter().copied().filter(|&position| from.is_ahead(position)).min()
+}
+
+/// The reply of a walk's step: 1 with the position in the first of the lent words, as far as there is room, 0 if none is left, or the code of
+/// the refusal.
+pub fn hand_out(next: Result<Option<u64>, Refusal>, found: &mut [u64]) -> u64 {
+    if let (Ok(Some(position)), Some(word)) = (next, found.first_mut()) {
+        *word = position;
+    }
+    next.map_or_else(Refusal::code, |position| u64::from(position.is_some()))
 }
 
 // ---- Questions over a list: document 02, S-2 ------------------------------------------------

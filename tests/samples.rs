@@ -50,6 +50,7 @@ samples!(
     "given-in-heads",
     "given-keys",
     "inner-list-wider",
+    "nine-points",
     "plan-p",
     "plan-p-without-edge",
     "several-in-no-unit",
@@ -67,6 +68,11 @@ samples!(
 /// Can the lister list the sample?
 pub fn by_force(name: &str) -> bool {
     !NOT_BY_FORCE.contains(&name)
+}
+
+/// The positions of a sample's sheet.
+pub fn positions(sample: &Sample) -> Vec<u64> {
+    sample.sheet.lines().skip(1).map(|line| u64::from_str_radix(line, 16).expect("a position in hexadecimal")).collect()
 }
 
 /// The text gives the bytes, the bytes survive the way to text and back, and the lister agrees, where it can list the plan.

@@ -5,11 +5,15 @@
 mod lister;
 mod packed;
 
-use lister::{Refusal, COUNTS};
+use lister::{From, Refusal, COUNTS};
+use std::cell::RefCell;
 use std::slice;
 
 /// Up to so many atoms in a position every subset of it is tried.
 const FEW_UP: u32 = 14;
+
+/// Up to so many atoms in heads every set of them is tried.
+const FEW_ATOMS: u32 = 14;
 
 #[no_mangle]
 pub unsafe extern "C" fn lucarnecress_list(
@@ -39,6 +43,51 @@ pub unsafe extern "C" fn lucarnecress_judge(plan: *const u8, plan_len: usize, po
         }
     }
     lister::judge(plan, position).map_or_else(Refusal::code, u64::from)
+}
+
+#[no_mangle]
+pub unsafe extern "C" fn lucarnecress_first(plan: *const u8, plan_len: usize, found: *mut u64, found_len: usize) -> u64 {
+    let next = next(slice::from_raw_parts(plan, plan_len), From::Start);
+    lister::hand_out(next, slice::from_raw_parts_mut(found, found_len))
+}
+
+#[no_mangle]
+pub unsafe extern "C" fn lucarnecress_next(
+    plan: *const u8,
+    plan_len: usize,
+    position: u64,
+    found: *mut u64,
+    found_len: usize,
+) -> u64 {
+    let next = next(slice::from_raw_parts(plan, plan_len), From::Above(position));
+    lister::hand_out(next, slice::from_raw_parts_mut(found, found_len))
+}
+
+/// The next position of a plan.
+fn next(plan: &[u8], from: From) -> Result<Option<u64>, Refusal> {
+    let rules = lister::read(plan).map_or(Vec::new(), |plan| plan.rules);
+    if lister::head_atoms(&rules).count_ones() > FEW_ATOMS {
+        // Many sets to try: an accepted plan's last list knows.
+        if let Some(last) = last_list(plan) {
+            return Ok(lister::next_of(&last, from));
+        }
+    }
+    lister::next(plan, from)
+}
+
+thread_local! {
+    /// The plan that was listed last, and its last list: a walk asks for one plan again and again.
+    static LISTED: RefCell<(Vec<u8>, Option<Vec<u64>>)> = RefCell::default();
+}
+
+fn last_list(plan: &[u8]) -> Option<Vec<u64>> {
+    LISTED.with(|listed| {
+        let mut listed = listed.borrow_mut();
+        if listed.0 != plan {
+            *listed = (plan.to_vec(), lister::list(plan, lister::TABLE_WORDS).ok().map(|listing| listing.last));
+        }
+        listed.1.clone()
+    })
 }
 
 #[no_mangle]

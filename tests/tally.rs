@@ -12,6 +12,7 @@ pub struct Tally {
     pub failed: u64,
     pub whole_programs: u64,
     pub tables: TableTally,
+    pub walks: WalkTally,
     settled: u64,
     not_settled: u64,
     positions_refused: u64,
@@ -22,6 +23,41 @@ pub struct Tally {
     refused: BTreeMap<u64, u64>,
     families: BTreeMap<&'static str, u64>,
     readings: BTreeMap<&'static str, u64>,
+}
+
+/// The steps of walks from position to position.
+#[derive(Default)]
+pub struct WalkTally {
+    /// Walks from the start to the end, and the most positions of one.
+    pub ended: u64,
+    pub longest: usize,
+    found: u64,
+    none_left: u64,
+    refused: u64,
+    plans: BTreeMap<&'static str, u64>,
+}
+
+impl WalkTally {
+    /// Counts a plan whose settled positions are known, by what a list says of it.
+    pub fn note_plan(&mut self, outcome: &Outcome, settled: &[u64]) {
+        let kind = match outcome {
+            Ok(_) => "listed",
+            Err(refusal) if refusal.number == 15 => "a list too long",
+            Err(_) => "graph refused",
+        };
+        *self.plans.entry(kind).or_default() += 1;
+        if settled.len() > LIST_WORDS {
+            *self.plans.entry("more than 256 positions").or_default() += 1;
+        }
+    }
+
+    pub fn note(&mut self, next: &Result<Option<u64>, Refusal>) {
+        match next {
+            Ok(Some(_)) => self.found += 1,
+            Ok(None) => self.none_left += 1,
+            Err(_) => self.refused += 1,
+        }
+    }
 }
 
 impl Tally {
@@ -88,6 +124,11 @@ impl Tally {
             "single positions: {} settled, {} not settled, {} refused",
             self.settled, self.not_settled, self.positions_refused
         );
+        println!(
+            "steps from position to position: {} found one, {} none left, {} refused; {} walks to the end, the longest of {}",
+            self.walks.found, self.walks.none_left, self.walks.refused, self.walks.ended, self.walks.longest
+        );
+        println!("plans walked: {}", listed(&self.walks.plans));
         println!("questions over lists: {} counted, {} times too many", self.questions, self.questions_refused);
         println!("last list against all answer sets of the whole program: {} plans", self.whole_programs);
         println!("readings: {}", listed(&self.readings));

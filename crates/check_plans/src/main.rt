@@ -32,6 +32,7 @@ fn show_sheets() {
     show(b"given-in-heads.plan");
     show(b"given-keys.plan");
     show(b"inner-list-wider.plan");
+    show(b"nine-points.plan");
     show(b"plan-p.plan");
     show(b"plan-p-without-edge.plan");
     show(b"several-in-no-unit.plan");
