@@ -9,14 +9,7 @@ set -e
 cd "$(dirname "$0")/.."
 . tests/build.sh
 need_rustc
-
-if ! command -v clingo >/dev/null; then
-    if [ "$(id -u)" != 0 ] || ! command -v apt-get >/dev/null; then
-        echo "clingo is missing: install it, on Debian as root with: apt-get update && apt-get install -y gringo" >&2
-        exit 2
-    fi
-    apt-get update && apt-get install -y gringo
-fi
+need_clingo
 
 command -v valgrind >/dev/null || echo "valgrind is missing: nodes are not counted" >&2
 
