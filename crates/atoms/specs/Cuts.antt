@@ -5,7 +5,7 @@ use Prim.Native.Nat.{ℕ}
 use Rattle.atoms.specs.Word.{_∩_}
 use Rattle.atoms.specs.Rising.{insertInto}
 
--- x is what shows of a wanted position
+-- "cut to shown atoms": x is what shows of a wanted position
 pub record CutOf (shown : ℕ) (Wanted : ℕ → Type 0) (x : ℕ) : Type 0 where
   pub whole : ℕ
   pub wanted : Wanted whole

@@ -3,7 +3,7 @@ use mathlib.Core.Path.{_≡_, refl}
 use mathlib.Core.List.{List, [], _∷_, _++_, map}
 use Prim.Native.Nat.{ℕ}
 use lib.ListN.{replicate}
-use Rattle.atoms.specs.Word.{has, apart, subset, _∩_, _∪_, _∖_, atom, below}
+use Rattle.atoms.specs.Word.{EVERY_ATOM, has, apart, subset, _∩_, _∪_, _∖_, atom, below}
 use Rattle.atoms.specs.Bounded.{unionIn, wordBelow}
 use Rattle.atoms.specs.Collected.{lowest, lowestOf}
 use Rattle.plan.specs.Limits.{FIRST_RULE}
@@ -40,6 +40,8 @@ tabled given words n units m predecessors =
       «unit_count» = m;
       predecessors = predecessors;
       «edge_count» = 0;
+      shown = EVERY_ATOM;
+      «show_count» = 0;
     }
 
 abbrev giving : ℕ → List ℕ → ℕ → List ℕ → ℕ → List ℕ → Plan

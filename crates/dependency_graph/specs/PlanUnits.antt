@@ -18,6 +18,7 @@ unitsOf p = record {
   unit = λ u. getD (p .units) u 0;
   predecessors = λ u. getD (p .predecessors) u 0;
   given = p .given;
+  shown = p .shown;
 }
 
 -- H(v) and Hp(v) of each unit v of the plan

@@ -7,7 +7,8 @@ use Rattle.answer_sets.specs.Program.{Program}
 
 -- Rules and units by number. `looks r` is the word of the atoms that the rest of rule r's body looks at: its negative
 -- atoms and the inputs of the tables it uses.
--- `given` are the atoms that a plan gives: "facts of the whole program" (02, S-1).
+-- `given` are the atoms that a plan gives: "facts of the whole program" (02, S-1); `shown` are those that
+-- its last list shows (S-11).
 pub record Units : Type 0 where
   pub program : Program
   pub looks : ℕ → ℕ
@@ -16,6 +17,7 @@ pub record Units : Type 0 where
   pub unit : ℕ → ℕ
   pub predecessors : ℕ → ℕ
   pub given : ℕ
+  pub shown : ℕ
 
 -- "A unit is a set of rules": unit u holds rule r
 pub record Holds (S : Units) (u r : ℕ) : Type 0 where

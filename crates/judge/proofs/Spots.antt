@@ -8,7 +8,8 @@ use native.Mathlib.Omega.{arith}
 use lib.ListN.{length, drop, length-drop}
 use Rattle.plan.specs.Faults.{spot}
 use Rattle.plan.specs.Record.{emptyPlan}
-use Rattle.reading.specs.Commands.{Kind, given, table, rule, usage, unit, edge, end, Row, operandRows, rows, firstFit, ofKind, carrying, kindOf, commandAt}
+use Rattle.reading.specs.Commands.{Kind, given, table, rule, usage, unit, edge, show, end, kindOf, carrying, commandAt}
+use Rattle.reading.specs.Commands.{Row, operandRows, rows, firstFit, ofKind}
 use Rattle.reading.specs.Reading.{Step, onward, ended, stepOf, reading, commandBytes}
 use Rattle.reading.proofs.Commands.{known-command, unknown-command, adds, step-when, Leads}
 use Rattle.reading.proofs.Walk.{walk-keeps}
@@ -48,6 +49,7 @@ operand-rows-by p at rule operands = (omega arith, (omega arith, tt))
 operand-rows-by p at usage operands = (omega arith, tt)
 operand-rows-by p at unit operands = (omega arith, tt)
 operand-rows-by p at edge operands = (omega arith, tt)
+operand-rows-by p at show operands = tt
 operand-rows-by p at end operands = (omega arith, tt)
 
 rows-by : (p : Plan) (at : ℕ) (k : Kind) (operands : List ℕ) → RowsBy (at + 1) (rows p at k operands)

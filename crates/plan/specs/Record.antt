@@ -1,7 +1,7 @@
 -- The record of a plan, and how each command adds to it.
 use Prim.Native.Nat.{ℕ, _+_, _*_, _≤_}
 use lib.ListN.{getD, set, replicate}
-use Rattle.atoms.specs.Word.{_∪_, atom}
+use Rattle.atoms.specs.Word.{EVERY_ATOM, _∪_, atom}
 use Rattle.plan.specs.Limits.{MAX_TABLES, MAX_RULES, MAX_UNITS, CONTACT_WORDS, RULE_WORDS, FIRST_RULE, USES, PROGRAM_WORDS}
 use Rattle.plan.specs.declared.record.Plan.{Plan}
 
@@ -11,7 +11,7 @@ pub record Fitting (p : Plan) : Type 0 where
   pub rules-fit : p .«rule_count» ≤ MAX_RULES
   pub units-fit : p .«unit_count» ≤ MAX_UNITS
 
--- the record of no commands: all zero
+-- the record of no commands: all zero, and S-11: "without it all 64 atoms show"
 unfoldable pub emptyPlan : Plan
 emptyPlan =
     record {
@@ -25,6 +25,8 @@ emptyPlan =
       «unit_count» = 0;
       predecessors = replicate {A = ℕ} MAX_UNITS 0;
       «edge_count» = 0;
+      shown = EVERY_ATOM;
+      «show_count» = 0;
     }
 
 -- S-1: "the record of a read plan carries them": the GIVEN
@@ -41,6 +43,8 @@ withGiven p word =
       «unit_count» = p .«unit_count»;
       predecessors = p .predecessors;
       «edge_count» = p .«edge_count»;
+      shown = p .shown;
+      «show_count» = p .«show_count»;
     }
 
 -- S-4: "TABLEs .., numbered from 0 as they come": one TABLE more
@@ -57,6 +61,8 @@ withTable p inputs truth =
       «unit_count» = p .«unit_count»;
       predecessors = p .predecessors;
       «edge_count» = p .«edge_count»;
+      shown = p .shown;
+      «show_count» = p .«show_count»;
     }
 
 -- "Rules and units are numbered from 0 as they come": one RULE more
@@ -76,6 +82,8 @@ withRule p head positive negative =
       «unit_count» = p .«unit_count»;
       predecessors = p .predecessors;
       «edge_count» = p .«edge_count»;
+      shown = p .shown;
+      «show_count» = p .«show_count»;
     }
 
 -- S-4: "0 for must be true or 1 for must be false": the bit of a rule's uses for this table and sign
@@ -100,6 +108,8 @@ withUse p r table sign =
       «unit_count» = p .«unit_count»;
       predecessors = p .predecessors;
       «edge_count» = p .«edge_count»;
+      shown = p .shown;
+      «show_count» = p .«show_count»;
     }
 
 -- one UNIT more
@@ -116,6 +126,8 @@ withUnit p word =
       «unit_count» = p .«unit_count» + 1;
       predecessors = p .predecessors;
       «edge_count» = p .«edge_count»;
+      shown = p .shown;
+      «show_count» = p .«show_count»;
     }
 
 -- "Edge (u,v) says that unit u depends on unit v, a direct predecessor of u": one EDGE more
@@ -132,4 +144,24 @@ withEdge p u v =
       «unit_count» = p .«unit_count»;
       predecessors = set (p .predecessors) u (getD (p .predecessors) u 0 ∪ atom v);
       «edge_count» = p .«edge_count» + 1;
+      shown = p .shown;
+      «show_count» = p .«show_count»;
+    }
+
+-- S-11: "SHOW (0x08) has one word and may stand once": the SHOW
+unfoldable pub withShow : Plan → ℕ → Plan
+withShow p word =
+    record {
+      given = p .given;
+      «given_count» = p .«given_count»;
+      rules = p .rules;
+      «table_count» = p .«table_count»;
+      «rule_count» = p .«rule_count»;
+      «use_count» = p .«use_count»;
+      units = p .units;
+      «unit_count» = p .«unit_count»;
+      predecessors = p .predecessors;
+      «edge_count» = p .«edge_count»;
+      shown = word;
+      «show_count» = 1;
     }

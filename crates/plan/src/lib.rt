@@ -30,6 +30,7 @@ pub use record::empty_plan;
 pub use record::with_edge;
 pub use record::with_given;
 pub use record::with_rule;
+pub use record::with_show;
 pub use record::with_table;
 pub use record::with_unit;
 pub use record::with_use;

@@ -8,12 +8,12 @@ use crate::limits::RULE_WORDS;
 use crate::limits::USES;
 ghost use mathlib.Core.Path.{_≡_};
 ghost use Prim.Native.Nat.{_<_, _+_, _^_};
-ghost use Rattle.plan.specs.Record.{emptyPlan, withGiven, withTable, withRule, withUse, withUnit, withEdge};
+ghost use Rattle.plan.specs.Record.{emptyPlan, withGiven, withTable, withRule, withUse, withUnit, withEdge, withShow};
 ghost use Rattle.plan.specs.Limits.{MAX_RULES as Limits·MAX_RULES, MAX_TABLES as Limits·MAX_TABLES, MAX_UNITS as Limits·MAX_UNITS};
 
 const PROGRAM_WORDS: usize = FIRST_RULE + RULE_WORDS * MAX_RULES;
 
-// A read plan: its given atoms, its contact tables (two words each: inputs, truth) and behind their room its rules (four words each:
+// A read plan: its given atoms and those that show, its contact tables (two words each: inputs, truth) and behind their room its rules (four words each:
 // head, positive, negative, uses), its units and edges, zeros behind. Bit t of a rule's uses says that table t must be true, bit
 // MAX_TABLES + t that it must be false; bit v of predecessors[u] is the edge (u, v). The counts say how many commands of each kind
 // were read.
@@ -28,6 +28,8 @@ pub struct Plan {
     pub unit_count: usize,
     pub predecessors: [u64; MAX_UNITS],
     pub edge_count: usize,
+    pub shown: u64,
+    pub show_count: usize,
 }
 
 // The record of no commands.
@@ -45,6 +47,8 @@ pub fn empty_plan() -> Plan
         unit_count: 0,
         predecessors: [0; MAX_UNITS],
         edge_count: 0,
+        shown: atoms::EVERY_ATOM,
+        show_count: 0,
     }
 }
 
@@ -124,5 +128,15 @@ pub fn with_edge(read: Plan, u: u8, v: u8) -> Plan
     let mut next = read;
     next.predecessors[from] = atoms::union(next.predecessors[from], atoms::single(to));
     next.edge_count = count + 1;
+    next
+}
+
+// The record with the SHOW.
+pub fn with_show(read: Plan, word: u64) -> Plan
+    ensures { λ r. ⌜ r ≡ withShow read word ⌝ }
+{
+    let mut next = read;
+    next.shown = word;
+    next.show_count = 1;
     next
 }

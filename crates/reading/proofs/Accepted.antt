@@ -11,7 +11,7 @@ use Rattle.atoms.proofs.Lists.{getD-tabulate}
 use Rattle.plan.specs.Limits.{MAX_UNITS}
 use Rattle.plan.specs.Record.{emptyPlan}
 use Rattle.reading.specs.Words.{WORD_BYTES, WORD_VALUES}
-use Rattle.reading.specs.Commands.{Kind, given, table, rule, usage, unit, edge, end, byteOf, operandBytes}
+use Rattle.reading.specs.Commands.{Kind, given, table, rule, usage, unit, edge, show, end, byteOf, operandBytes}
 use Rattle.reading.specs.Reading.{reading, commandBytes}
 use Rattle.reading.specs.Layout.{Contents, endBytes, commands, predecessorsOf, recordOf, IsByte, All, GoodTable, GoodRule, Within, IsPlan}
 use Rattle.reading.proofs.Numbers.{all-drop, word-fits}
@@ -35,6 +35,7 @@ sized rule s long b = (word-fits s 0 (omega arith) b, (word-fits s WORD_BYTES (o
 sized unit s long b = word-fits s 0 (omega arith) b
 sized usage s long b = tt
 sized edge s long b = tt
+sized show s long b = word-fits s 0 (omega arith) b
 sized end s long b = tt
 
 -- what is asked of the elements beyond what `Held` has
@@ -43,6 +44,7 @@ pub record Good (c : Contents) : Type 0 where
   pub good-tables : All GoodTable (c .tables)
   pub good-rules : All GoodRule (c .rules)
   pub good-units : All (λ word. word < 2 ^ length (c .rules)) (c .units)
+  pub good-shown : All (λ word. word < WORD_VALUES) (c .shown)
 
 good-with : (c : Contents) (k : Kind) (x : Element k) → Sized k x → Fits c k x → Good c → Good (with c k x)
 unfolding recordOf
@@ -52,6 +54,7 @@ good-with c given w z f g =
       good-tables = g .good-tables;
       good-rules = g .good-rules;
       good-units = g .good-units;
+      good-shown = g .good-shown;
     }
 good-with c table t z f g =
     let good : GoodTable t = record { inputs-fit = z .0; truth-fits = z .1; few-inputs = f .right .0; rows-there = f .right .1 } in
@@ -60,6 +63,7 @@ good-with c table t z f g =
       good-tables = all-snoc GoodTable (c .tables) t (g .good-tables) good;
       good-rules = g .good-rules;
       good-units = g .good-units;
+      good-shown = g .good-shown;
     }
 good-with c rule r z f g =
     let good : GoodRule r = record { head-fits = z .0; positive-fits = z .1 .0; negative-fits = z .1 .1; some-word = f .right .0; none-shared = f .right .1 } in
@@ -68,18 +72,40 @@ good-with c rule r z f g =
       good-tables = g .good-tables;
       good-rules = all-snoc GoodRule (c .rules) r (g .good-rules) good;
       good-units = rw (empty (c .units) (omega (arith, f .in-place .on-time))) tt;
+      good-shown = g .good-shown;
     }
 good-with c usage x z f g =
-    record { good-given = g .good-given; good-tables = g .good-tables; good-rules = g .good-rules; good-units = g .good-units }
+    record {
+      good-given = g .good-given;
+      good-tables = g .good-tables;
+      good-rules = g .good-rules;
+      good-units = g .good-units;
+      good-shown = g .good-shown;
+    }
 good-with c unit w z f g =
     record {
       good-given = g .good-given;
       good-tables = g .good-tables;
       good-rules = g .good-rules;
       good-units = all-snoc (λ y. y < 2 ^ length (c .rules)) (c .units) w (g .good-units) (f .right);
+      good-shown = g .good-shown;
     }
 good-with c edge e z f g =
-    record { good-given = g .good-given; good-tables = g .good-tables; good-rules = g .good-rules; good-units = g .good-units }
+    record {
+      good-given = g .good-given;
+      good-tables = g .good-tables;
+      good-rules = g .good-rules;
+      good-units = g .good-units;
+      good-shown = g .good-shown;
+    }
+good-with c show w z f g =
+    record {
+      good-given = g .good-given;
+      good-tables = g .good-tables;
+      good-rules = g .good-rules;
+      good-units = g .good-units;
+      good-shown = all-snoc (λ y. y < WORD_VALUES) (c .shown) w (g .good-shown) z;
+    }
 good-with c end x z f g = g
 
 -- ---- reading on
@@ -125,7 +151,7 @@ module _ (whole : List ℕ) where
       record {
         contents = nothing;
         held = held-none;
-        good = record { good-given = tt; good-tables = tt; good-rules = tt; good-units = tt };
+        good = record { good-given = tt; good-tables = tt; good-rules = tt; good-units = tt; good-shown = tt };
         record-is = sym record-none;
         bytes-are = refl;
         placed = refl;
@@ -142,6 +168,7 @@ module _ (whole : List ℕ) where
         most-uses = h .few .few-uses;
         most-units = h .few .few-units;
         most-edges = few-edges (r .contents) h;
+        one-shown = h .few .few-shown;
         good-given = r .good .good-given;
         good-tables = r .good .good-tables;
         good-rules = r .good .good-rules;
@@ -150,6 +177,7 @@ module _ (whole : List ℕ) where
         good-units = r .good .good-units;
         good-edges = h .good-edges;
         no-repeat = h .no-repeat;
+        good-shown = r .good .good-shown;
       }
 
   read-ended : (p : Plan) (at : ℕ) (s : List ℕ) → Read whole p at s → s ≡ endBytes → IsPlan whole p

@@ -10,7 +10,7 @@ use native.Mathlib.Decide.{decLt}
 use lib.Dec.{eqb, ltb, leb}
 use borrow.Author.Tests.{leb-true, eqb-true, ne-eqb, ltb-true, ltb-false, lt-ltb, le-ltb}
 use Rattle.atoms.proofs.Tests.{bool-ext, and-true}
-use Rattle.reading.specs.Commands.{Kind, given, table, rule, usage, unit, edge, end, byteOf, kindAmong, kinds, kindOf, orderOf}
+use Rattle.reading.specs.Commands.{Kind, given, table, rule, usage, unit, edge, show, end, byteOf, kindAmong, kinds, kindOf, orderOf}
 use Rattle.reading.specs.Commands.{earliestBehind, count, countBehind, late}
 use Rattle.plan.specs.declared.record.Plan.{Plan}
 
@@ -24,6 +24,7 @@ kind-of-byte rule = refl
 kind-of-byte usage = refl
 kind-of-byte unit = refl
 kind-of-byte edge = refl
+kind-of-byte show = refl
 kind-of-byte end = refl
 
 -- what a byte names is listed, and has that byte

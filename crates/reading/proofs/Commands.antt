@@ -13,7 +13,7 @@ use lib.Dec.{eqb}
 use borrow.Author.Tests.{eqb-true, ltb-false, leb-false, le-ltb, not-false}
 use Rattle.plan.specs.Limits.{MAX_TABLES, MAX_RULES, MAX_USES, MAX_UNITS}
 use Rattle.plan.specs.Record.{emptyPlan}
-use Rattle.reading.specs.Commands.{Kind, given, table, rule, usage, unit, edge, end, byteOf, kinds, kindOf, operandBytes, orderOf, carrying}
+use Rattle.reading.specs.Commands.{Kind, given, table, rule, usage, unit, edge, show, end, byteOf, kinds, kindOf, operandBytes, orderOf, carrying}
 use Rattle.reading.specs.Commands.{countBehind, late, full, Row, kindRows, operandRows, rows, firstFit, ofKind, commandAt}
 use Rattle.reading.proofs.CommandKinds.{kind-of-byte, kind-byte, byte-own, no-kind}
 use Rattle.reading.specs.Reading.{Step, onward, ended, stepOf, accepted, refused}
@@ -158,6 +158,7 @@ step-is p rule operands = refl
 step-is p usage operands = refl
 step-is p unit operands = refl
 step-is p edge operands = refl
+step-is p show operands = refl
 step-is p end operands = refl
 
 module _ (p : Plan) (k : Kind) (operands : List ℕ) where

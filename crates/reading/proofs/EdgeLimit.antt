@@ -1,7 +1,7 @@
--- "every reading fault, a 241st EDGE .. included": behind MAX_EDGES edges none is new, so a further EDGE is 8, or 2 where it is cut short.
+-- "every reading fault, a 241st EDGE .. included": behind MAX_EDGES edges and no SHOW none is new, so a further EDGE is 8, or 2 where it is cut short.
 use mathlib.Core.Path.{_≡_, refl, ap, _∙_}
 use mathlib.Core.List.{List, [], _∷_, _++_}
-use mathlib.Core.Bool.{true}
+use mathlib.Core.Bool.{true, false}
 use Prim.Native.Nat.{ℕ, _≤_, _<_}
 use native.Mathlib.Omega.{arith}
 use native.Mathlib.Decide.{decLt}
@@ -10,7 +10,7 @@ use borrow.Author.Tests.{lt-ltb, le-ltb}
 use Rattle.atoms.proofs.Tests.{decided, decided-true}
 use Rattle.plan.specs.Limits.{MAX_EDGES}
 use Rattle.plan.specs.Faults.{RefusedBy}
-use Rattle.reading.specs.Commands.{edge, byteOf, operandBytes, late, badEdge, ofKind, commandAt}
+use Rattle.reading.specs.Commands.{edge, byteOf, kinds, operandBytes, orderOf, countBehind, late, badEdge, ofKind, commandAt}
 use Rattle.reading.specs.Reading.{stepOf, reading, refused}
 use Rattle.reading.specs.Layout.{UnitPair, Contents, commands, recordOf, GoodEdge, Within}
 use Rattle.reading.specs.Refusals.{NoNewEdge, no-such-u, no-such-v, to-itself, repeated}
@@ -27,7 +27,7 @@ use Rattle.reading.specs.declared.reader.Reading.{Reading}
 use Rattle.reading.specs.declared.command.Command.{Command}
 use Rattle.reading.specs.declared.command.Command.the-variants.{Fault as Faulty}
 
-module _ (c : Contents) (w : Within c) (all : length (c .edges) ≡ MAX_EDGES) where
+module _ (c : Contents) (w : Within c) (all : length (c .edges) ≡ MAX_EDGES) (unshown : c .shown ≡ []) where
   few : Few c
   few = few-within w
 
@@ -60,6 +60,7 @@ module _ (c : Contents) (w : Within c) (all : length (c .edges) ≡ MAX_EDGES) w
                   few-rules = w .most-rules;
                   few-uses = w .most-uses;
                   few-units = w .most-units;
+                  few-shown = w .one-shown;
                   good-uses = w .good-uses;
                 };
             no-use-again = w .no-use-again;
@@ -72,6 +73,10 @@ module _ (c : Contents) (w : Within c) (all : length (c .edges) ≡ MAX_EDGES) w
       go (no new) = absurd (omega (arith, few-edges (more new) (held new), length-snoc (c .edges) e))
 
   module _ (more : List ℕ) where
+    in-time : late (recordOf c) (orderOf edge) ≡ false
+    unfolding late recordOf
+    in-time = le-ltb 0 (countBehind (recordOf c) (orderOf edge) kinds) (omega (arith, ap length unshown))
+
     abbrev at : ℕ
     at = length (commands c)
 
@@ -84,15 +89,15 @@ module _ (c : Contents) (w : Within c) (all : length (c .edges) ≡ MAX_EDGES) w
     edge-there x e = known-command (recordOf c) at (byteOf edge) more edge (kind-of-byte edge) ∙ e
 
     pub edge-refused : operandBytes edge ≤ length more → RefusedBy (reading (commands c ++ (byteOf edge ∷ more)) .outcome) 8 at
-    unfolding ofKind late
+    unfolding ofKind
     edge-refused long =
         let e : UnitPair = record { u = getD more 0 0; v = getD more 1 0 } in
         let bad : badEdge (recordOf c) (e .u) (e .v) ≡ true = decided-true (decides-bad c few e) (no-new-edge e) in
-        let fault = edge-there (Faulty (BadEdge at)) (simp (le-ltb _ _ long, bad)) in
+        let fault = edge-there (Faulty (BadEdge at)) (simp (in-time, le-ltb _ _ long, bad)) in
         record { fault = BadEdge at; is = ap (λ (r : Reading). r .outcome) (refused-there (BadEdge at) fault); number-is = refl; spot-is = refl }
 
     pub cut-edge-refused : length more < operandBytes edge → RefusedBy (reading (commands c ++ (byteOf edge ∷ more)) .outcome) 2 at
-    unfolding ofKind late
+    unfolding ofKind
     cut-edge-refused short =
-        let fault = edge-there (Faulty (Truncated at)) (simp (lt-ltb _ _ short)) in
+        let fault = edge-there (Faulty (Truncated at)) (simp (in-time, lt-ltb _ _ short)) in
         record { fault = Truncated at; is = ap (λ (r : Reading). r .outcome) (refused-there (Truncated at) fault); number-is = refl; spot-is = refl }

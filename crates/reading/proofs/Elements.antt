@@ -16,12 +16,12 @@ use Rattle.atoms.proofs.Lists.{padded-snoc, getD-tabulate}
 use Rattle.atoms.proofs.Sets.{decides-has, decides-apart}
 use Rattle.atoms.proofs.Tests.{decided-true, decided-false, not-both, decides-and, decides-not, decides-equal}
 use Rattle.plan.specs.Limits.{MAX_TABLES, MAX_RULES, MAX_USES, MAX_UNITS, MAX_EDGES, MAX_INPUTS}
-use Rattle.plan.specs.Record.{usesAt, emptyPlan, withGiven, withTable, withRule, withUse, withUnit, withEdge}
+use Rattle.plan.specs.Record.{usesAt, emptyPlan, withGiven, withTable, withRule, withUse, withUnit, withEdge, withShow}
 use Rattle.reading.specs.Words.{WORD_BYTES, WORD_VALUES, wordAt}
-use Rattle.reading.specs.Commands.{Kind, given, table, rule, usage, unit, edge, end, byteOf, operandBytes, carrying, operandRows}
+use Rattle.reading.specs.Commands.{Kind, given, table, rule, usage, unit, edge, show, end, byteOf, operandBytes, carrying, operandRows}
 use Rattle.reading.specs.Commands.{emptyRule, contradictory, badUse, absentRule, badEdge}
 use Rattle.reading.specs.Layout.{TableWords, RuleWords, TableUse, UnitPair, Contents, wordBytes, givenBytes, tableBytes, ruleBytes, useBytes}
-use Rattle.reading.specs.Layout.{unitBytes, edgeBytes, commands, wordOf, usesOf, ruleWords, predecessorsOf, recordOf, IsByte, All, Distinct}
+use Rattle.reading.specs.Layout.{unitBytes, edgeBytes, showBytes, commands, wordOf, usesOf, ruleWords, predecessorsOf, recordOf, IsByte, All, Distinct}
 use Rattle.reading.specs.Layout.{GoodUse, GoodEdge, Within}
 use Rattle.reading.specs.Reading.{commandBytes}
 use Rattle.reading.proofs.Numbers.{length-bytes, word-behind, word-bytes}
@@ -42,19 +42,28 @@ Element rule = RuleWords
 Element usage = TableUse
 Element unit = ℕ
 Element edge = UnitPair
+Element show = ℕ
 Element end = Unit {0}
 
 abbrev pub nothing : Contents
-nothing = record { given = []; tables = []; rules = []; uses = []; units = []; edges = [] }
+nothing = record { given = []; tables = []; rules = []; uses = []; units = []; edges = []; shown = [] }
 
 -- the lists with one element more
 abbrev pub with : Contents → (k : Kind) → Element k → Contents
-with c given w = record { given = c .given ++ (w ∷ []); tables = c .tables; rules = c .rules; uses = c .uses; units = c .units; edges = c .edges }
-with c table t = record { given = c .given; tables = c .tables ++ (t ∷ []); rules = c .rules; uses = c .uses; units = c .units; edges = c .edges }
-with c rule r = record { given = c .given; tables = c .tables; rules = c .rules ++ (r ∷ []); uses = c .uses; units = c .units; edges = c .edges }
-with c usage x = record { given = c .given; tables = c .tables; rules = c .rules; uses = c .uses ++ (x ∷ []); units = c .units; edges = c .edges }
-with c unit w = record { given = c .given; tables = c .tables; rules = c .rules; uses = c .uses; units = c .units ++ (w ∷ []); edges = c .edges }
-with c edge e = record { given = c .given; tables = c .tables; rules = c .rules; uses = c .uses; units = c .units; edges = c .edges ++ (e ∷ []) }
+with c given w =
+    record { given = c .given ++ (w ∷ []); tables = c .tables; rules = c .rules; uses = c .uses; units = c .units; edges = c .edges; shown = c .shown }
+with c table t =
+    record { given = c .given; tables = c .tables ++ (t ∷ []); rules = c .rules; uses = c .uses; units = c .units; edges = c .edges; shown = c .shown }
+with c rule r =
+    record { given = c .given; tables = c .tables; rules = c .rules ++ (r ∷ []); uses = c .uses; units = c .units; edges = c .edges; shown = c .shown }
+with c usage x =
+    record { given = c .given; tables = c .tables; rules = c .rules; uses = c .uses ++ (x ∷ []); units = c .units; edges = c .edges; shown = c .shown }
+with c unit w =
+    record { given = c .given; tables = c .tables; rules = c .rules; uses = c .uses; units = c .units ++ (w ∷ []); edges = c .edges; shown = c .shown }
+with c edge e =
+    record { given = c .given; tables = c .tables; rules = c .rules; uses = c .uses; units = c .units; edges = c .edges ++ (e ∷ []); shown = c .shown }
+with c show w =
+    record { given = c .given; tables = c .tables; rules = c .rules; uses = c .uses; units = c .units; edges = c .edges; shown = c .shown ++ (w ∷ []) }
 with c end x = c
 
 -- ---- operands
@@ -67,6 +76,7 @@ operandsOf rule r = wordBytes (r .head) ++ (wordBytes (r .positive) ++ wordBytes
 operandsOf usage x = x .rule ∷ x .table ∷ x .sign ∷ []
 operandsOf unit w = wordBytes w
 operandsOf edge e = e .u ∷ e .v ∷ []
+operandsOf show w = wordBytes w
 operandsOf end x = []
 
 -- the element that the bytes spell
@@ -77,6 +87,7 @@ elementAt rule s = record { head = wordAt 0 s; positive = wordAt WORD_BYTES s; n
 elementAt usage s = record { rule = getD s 0 0; table = getD s 1 0; sign = getD s 2 0 }
 elementAt unit s = wordAt 0 s
 elementAt edge s = record { u = getD s 0 0; v = getD s 1 0 }
+elementAt show s = wordAt 0 s
 elementAt end s = tt
 
 word-long : (w : ℕ) → length (wordBytes w) ≡ WORD_BYTES
@@ -90,6 +101,7 @@ operands-long rule r =
 operands-long usage x = refl
 operands-long unit w = word-long w
 operands-long edge e = refl
+operands-long show w = word-long w
 operands-long end x = refl
 
 -- the word's bytes at n
@@ -122,6 +134,7 @@ written-again unit s long b = rw (word-bytes s 0 (omega arith) b) (word-more s 0
 written-again edge [] long b = absurd (omega arith)
 written-again edge (x ∷ []) long b = absurd (omega arith)
 written-again edge (x ∷ y ∷ s) long b = refl
+written-again show s long b = rw (word-bytes s 0 (omega arith) b) (word-more s 0)
 written-again end s long b = refl
 
 -- ---- what fits behind the lists
@@ -134,6 +147,7 @@ Sized rule r = (r .head < WORD_VALUES) × ((r .positive < WORD_VALUES) × (r .ne
 Sized usage x = Unit {0}
 Sized unit w = w < WORD_VALUES
 Sized edge e = Unit {0}
+Sized show w = w < WORD_VALUES
 Sized end x = Unit {0}
 
 -- rows 18, 6, 21, 19, 7 and 8
@@ -144,6 +158,7 @@ Right c rule r = (¬ ((r .head ≡ 0) × ((r .positive ≡ 0) × (r .negative �
 Right c usage x = GoodUse (length (c .rules)) (length (c .tables)) x × ¬ List·Memᴰ x (c .uses)
 Right c unit w = w < 2 ^ length (c .rules)
 Right c edge e = GoodEdge (length (c .units)) e × ¬ List·Memᴰ e (c .edges)
+Right c show w = Unit {0}
 Right c end x = Unit {0}
 
 -- what holds of the lists of every record that is read
@@ -153,6 +168,7 @@ pub record Few (c : Contents) : Type 0 where
   pub few-rules : length (c .rules) ≤ MAX_RULES
   pub few-uses : length (c .uses) ≤ MAX_USES
   pub few-units : length (c .units) ≤ MAX_UNITS
+  pub few-shown : length (c .shown) ≤ 1
   pub good-uses : All (GoodUse (length (c .rules)) (length (c .tables))) (c .uses)
 
 pub few-within : {c : Contents} → Within c → Few c
@@ -163,6 +179,7 @@ few-within w =
       few-rules = w .most-rules;
       few-uses = w .most-uses;
       few-units = w .most-units;
+      few-shown = w .one-shown;
       good-uses = w .good-uses;
     }
 
@@ -200,6 +217,7 @@ read-again rule r rest g =
 read-again usage x rest g = refl
 read-again unit w rest g = word-behind [] 0 w rest refl g
 read-again edge e rest g = refl
+read-again show w rest g = word-behind [] 0 w rest refl g
 read-again end x rest g = refl
 
 pub decides-empty : (h b n : ℕ) → Decides (((h ≡ 0) × (b ≡ 0)) × (n ≡ 0)) (emptyRule h b n)
@@ -252,6 +270,7 @@ module _ (c : Contents) (at : ℕ) (s : List ℕ) (few : Few c) where
         record { from-there = new .from-there; to-there = new .to-there; apart = new .apart },
         λ m. not-both (decided-true (decides-has _ _) (member-has (c .edges) e m)) absent,
       )
+  passed-right show h = tt
   passed-right end h = tt
 
   pub right-passed : (k : Kind) → adds k ≡ true → Right c k (elementAt k s) → Passed (operandRows (recordOf c) at k s)
@@ -282,6 +301,7 @@ module _ (c : Contents) (at : ℕ) (s : List ℕ) (few : Few c) where
       let t = g .0 in
       let absent : has (predecessorsOf (c .edges) (e .u)) (e .v) ≡ false = decided-false (decides-has _ _) (λ h. g .1 (has-member (c .edges) e h)) in
       (simp (lt-leb _ _ (t .from-there), lt-leb _ _ (t .to-there), ne-eqb _ _ (t .apart), row-is c few (e .u) (t .from-there), absent), tt)
+  right-passed show a g = tt
   right-passed end a g = absurd (true≢false (sym a))
 
 -- ---- the lists, one element more
@@ -298,6 +318,7 @@ held-with c given w h f =
             few-rules = f .few .few-rules;
             few-uses = f .few .few-uses;
             few-units = f .few .few-units;
+            few-shown = f .few .few-shown;
             good-uses = f .few .good-uses;
           };
       no-use-again = h .no-use-again;
@@ -314,6 +335,7 @@ held-with c table t h f =
             few-rules = f .few .few-rules;
             few-uses = f .few .few-uses;
             few-units = f .few .few-units;
+            few-shown = f .few .few-shown;
             good-uses = rw (empty (c .uses) (omega (arith, f .in-place .on-time))) tt;
           };
       no-use-again = h .no-use-again;
@@ -330,6 +352,7 @@ held-with c rule r h f =
             few-rules = more;
             few-uses = f .few .few-uses;
             few-units = f .few .few-units;
+            few-shown = f .few .few-shown;
             good-uses = rw (empty (c .uses) (omega (arith, f .in-place .on-time))) tt;
           };
       no-use-again = h .no-use-again;
@@ -346,6 +369,7 @@ held-with c usage x h f =
             few-rules = f .few .few-rules;
             few-uses = more;
             few-units = f .few .few-units;
+            few-shown = f .few .few-shown;
             good-uses = all-snoc (GoodUse (length (c .rules)) (length (c .tables))) (c .uses) x (f .few .good-uses) (f .right .0);
           };
       no-use-again = distinct-snoc (c .uses) x (h .no-use-again) (f .right .1);
@@ -362,6 +386,7 @@ held-with c unit w h f =
             few-rules = f .few .few-rules;
             few-uses = f .few .few-uses;
             few-units = more;
+            few-shown = f .few .few-shown;
             good-uses = f .few .good-uses;
           };
       no-use-again = h .no-use-again;
@@ -377,11 +402,29 @@ held-with c edge e h f =
             few-rules = f .few .few-rules;
             few-uses = f .few .few-uses;
             few-units = f .few .few-units;
+            few-shown = f .few .few-shown;
             good-uses = f .few .good-uses;
           };
       no-use-again = h .no-use-again;
       good-edges = all-snoc (GoodEdge (length (c .units))) (c .edges) e (h .good-edges) (f .right .0);
       no-repeat = distinct-snoc (c .edges) e (h .no-repeat) (f .right .1);
+    }
+held-with c show w h f =
+    let more : length (c .shown ++ (w ∷ [])) ≤ 1 = omega (arith, length-snoc (c .shown) w, f .in-place .on-time) in
+    record {
+      few =
+          record {
+            few-given = f .few .few-given;
+            few-tables = f .few .few-tables;
+            few-rules = f .few .few-rules;
+            few-uses = f .few .few-uses;
+            few-units = f .few .few-units;
+            few-shown = more;
+            good-uses = f .few .good-uses;
+          };
+      no-use-again = h .no-use-again;
+      good-edges = h .good-edges;
+      no-repeat = h .no-repeat;
     }
 held-with c end x h f = h
 
@@ -395,6 +438,7 @@ held-none =
             few-rules = omega arith;
             few-uses = omega arith;
             few-units = omega arith;
+            few-shown = omega arith;
             good-uses = tt;
           };
       no-use-again = tt;
@@ -425,6 +469,7 @@ commands-with c given w t a h =
       empty (c .uses) (omega arith),
       empty (c .units) (omega arith),
       empty (c .edges) (omega arith),
+      empty (c .shown) (omega arith),
       flat-snoc givenBytes (c .given) w,
     )
     (simp (append-nil, append-assoc))
@@ -435,18 +480,30 @@ commands-with c table x t a h =
       empty (c .uses) (omega arith),
       empty (c .units) (omega arith),
       empty (c .edges) (omega arith),
+      empty (c .shown) (omega arith),
       flat-snoc tableBytes (c .tables) x,
     )
     (simp (append-nil, append-assoc))
 commands-with c rule r t a h =
     let behind = h .on-time in
-    rw (empty (c .uses) (omega arith), empty (c .units) (omega arith), empty (c .edges) (omega arith), flat-snoc ruleBytes (c .rules) r)
+    rw (
+      empty (c .uses) (omega arith),
+      empty (c .units) (omega arith),
+      empty (c .edges) (omega arith),
+      empty (c .shown) (omega arith),
+      flat-snoc ruleBytes (c .rules) r,
+    )
     (simp (append-nil, append-assoc))
 commands-with c usage x t a h =
     let behind = h .on-time in
-    rw (empty (c .units) (omega arith), empty (c .edges) (omega arith), flat-snoc useBytes (c .uses) x) (simp (append-nil, append-assoc))
-commands-with c unit w t a h = rw (empty (c .edges) (omega (arith, h .on-time)), flat-snoc unitBytes (c .units) w) (simp (append-nil, append-assoc))
-commands-with c edge e t a h = rw (flat-snoc edgeBytes (c .edges) e) (simp append-assoc)
+    rw (empty (c .units) (omega arith), empty (c .edges) (omega arith), empty (c .shown) (omega arith), flat-snoc useBytes (c .uses) x)
+    (simp (append-nil, append-assoc))
+commands-with c unit w t a h =
+    let behind = h .on-time in
+    rw (empty (c .edges) (omega arith), empty (c .shown) (omega arith), flat-snoc unitBytes (c .units) w) (simp (append-nil, append-assoc))
+commands-with c edge e t a h =
+    rw (empty (c .shown) (omega (arith, h .on-time)), flat-snoc edgeBytes (c .edges) e) (simp (append-nil, append-assoc))
+commands-with c show w t a h = rw (flat-snoc showBytes (c .shown) w) (simp append-assoc)
 commands-with c end x t a h = absurd (true≢false (sym a))
 
 pub commands-longer : (c : Contents) (k : Kind) (x : Element k) → adds k ≡ true → InPlace (recordOf c) k
@@ -462,8 +519,8 @@ record-none = refl
 
 same-plan : {p q : Plan} → p .given ≡ q .given → p .«given_count» ≡ q .«given_count» → p .rules ≡ q .rules → p .«table_count» ≡ q .«table_count»
     → p .«rule_count» ≡ q .«rule_count» → p .«use_count» ≡ q .«use_count» → p .units ≡ q .units → p .«unit_count» ≡ q .«unit_count»
-    → p .predecessors ≡ q .predecessors → p .«edge_count» ≡ q .«edge_count» → p ≡ q
-same-plan g n a t b u c d e f =
+    → p .predecessors ≡ q .predecessors → p .«edge_count» ≡ q .«edge_count» → p .shown ≡ q .shown → p .«show_count» ≡ q .«show_count» → p ≡ q
+same-plan g n a t b u c d e f x y =
     λ i. record {
       given = g i;
       «given_count» = n i;
@@ -475,37 +532,42 @@ same-plan g n a t b u c d e f =
       «unit_count» = d i;
       predecessors = e i;
       «edge_count» = f i;
+      shown = x i;
+      «show_count» = y i;
     }
 
 -- the record of the lists with one element more
 pub record-with : (c : Contents) (k : Kind) (s : List ℕ) → Fits c k (elementAt k s) → grown (recordOf c) k s ≡ recordOf (with c k (elementAt k s))
-unfolding recordOf withGiven withTable withRule withUse withUnit withEdge carrying
+unfolding recordOf withGiven withTable withRule withUse withUnit withEdge withShow carrying
 record-with c given s f =
     let first = empty (c .given) (omega (arith, f .in-place .on-time)) in
-    same-plan (rw first) (rw first) refl refl refl refl refl refl refl refl
+    same-plan (rw first) (rw first) refl refl refl refl refl refl refl refl refl refl
 record-with c table s f =
     let t : TableWords = elementAt table s in
     let e = tables-snoc (c .tables) t _ (table-room (f .in-place)) in
-    same-plan refl refl e (sym (length-snoc (c .tables) t)) refl refl refl refl refl refl
+    same-plan refl refl e (sym (length-snoc (c .tables) t)) refl refl refl refl refl refl refl refl
 record-with c rule s f =
     let r : RuleWords = elementAt rule s in
     let whole = table-words-long (c .tables) (f .few .few-tables) in
     let unused = empty (c .uses) (omega (arith, f .in-place .on-time)) in
     let e = rules-snoc (tableWords (c .tables)) (c .uses) (c .rules) r whole (rule-room (f .in-place)) unused in
-    same-plan refl refl e refl (sym (length-snoc (c .rules) r)) refl refl refl refl refl
+    same-plan refl refl e refl (sym (length-snoc (c .rules) r)) refl refl refl refl refl refl refl
 record-with c usage s f =
     let x : TableUse = elementAt usage s in
     let whole = table-words-long (c .tables) (f .few .few-tables) in
     let e = uses-snoc (c .uses) x (tableWords (c .tables)) (c .rules) whole (f .few .few-rules) (f .right .0 .rule-there) in
-    same-plan refl refl e refl refl (sym (length-snoc (c .uses) x)) refl refl refl refl
+    same-plan refl refl e refl refl (sym (length-snoc (c .uses) x)) refl refl refl refl refl refl
 record-with c unit s f =
     let w : ℕ = elementAt unit s in
     let e = padded-snoc MAX_UNITS (c .units) (length (c .units)) w refl (unit-room (f .in-place)) in
-    same-plan refl refl refl refl refl refl e (sym (length-snoc (c .units) w)) refl refl
+    same-plan refl refl refl refl refl refl e (sym (length-snoc (c .units) w)) refl refl refl refl
 record-with c edge s f =
     let x : UnitPair = elementAt edge s in
     let e = rows-snoc (c .edges) x (omega (arith, f .right .0 .from-there, f .few .few-units)) in
-    same-plan refl refl refl refl refl refl refl refl e (sym (length-snoc (c .edges) x))
+    same-plan refl refl refl refl refl refl refl refl e (sym (length-snoc (c .edges) x)) refl refl
+record-with c show s f =
+    let first = empty (c .shown) (omega (arith, f .in-place .on-time)) in
+    same-plan refl refl refl refl refl refl refl refl refl refl (rw first) (rw first)
 record-with c end s f = refl
 
 -- one command more, behind the record of the lists

@@ -29,7 +29,7 @@ use Rattle.plan.specs.declared.fault.Outcome.the-variants.{Refused}
 use Rattle.reading.specs.declared.reader.Progress.{Progress}
 use Rattle.reading.specs.declared.reader.Reading.{Reading}
 use Rattle.reading.specs.declared.command.Command.{Command}
-use Rattle.reading.specs.declared.command.Command.the-variants.{Given, Table, Rule, Use, Unit as UnitOf, Edge, End, Fault as Faulty}
+use Rattle.reading.specs.declared.command.Command.the-variants.{Given, Table, Rule, Use, Unit as UnitOf, Edge, Show, End, Fault as Faulty}
 
 -- ---- the order of kinds
 
@@ -160,12 +160,13 @@ tag-order p (Rule head positive negative) = refl
 tag-order p (Use r t sign) = refl
 tag-order p (UnitOf word) = refl
 tag-order p (Edge u v) = refl
+tag-order p (Show word) = refl
 tag-order p End = refl
 tag-order p (Faulty f) = refl
 
 -- all tags but one: what is known of a command that is none of that kind
 abbrev tagsBut : ℕ → List ℕ
-tagsBut t = but (0 ∷ 1 ∷ 2 ∷ 3 ∷ 4 ∷ 5 ∷ 6 ∷ 7 ∷ [])
+tagsBut t = but (0 ∷ 1 ∷ 2 ∷ 3 ∷ 4 ∷ 5 ∷ 6 ∷ 7 ∷ 8 ∷ [])
   where
     but : List ℕ → List ℕ
     but [] = []
@@ -187,7 +188,7 @@ passed-by k next bytes r R o n =
       same = R .same;
     }
 
--- behind all EDGEs stands END or a fault
+-- behind all EDGEs and the SHOW stands END or a fault
 module _ (bytes : List ℕ) (r : Progress) (R : Reached end bytes r) where
   at-end : (x : Command) → OneOf (tagsBut FAULT) (tagOf the-type x) → orderOf end ≤ orderOf (kindOfStep (stepOf (r .plan) x)) → x ≡ End
   at-end (Given word) o h = absurd (omega arith)
@@ -196,6 +197,7 @@ module _ (bytes : List ℕ) (r : Progress) (R : Reached end bytes r) where
   at-end (Use r t sign) o h = absurd (omega arith)
   at-end (UnitOf word) o h = absurd (omega arith)
   at-end (Edge u v) o h = absurd (omega arith)
+  at-end (Show word) o h = absurd (omega arith)
   at-end End o h = refl
   at-end (Faulty f) o h = absurd (miss (tagsBut FAULT) FAULT tt o)
 

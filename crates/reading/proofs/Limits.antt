@@ -5,9 +5,9 @@ use mathlib.Core.List.{List, [], _∷_}
 use Prim.Native.Nat.{ℕ, suc, _≤_, _<_}
 use native.Mathlib.Omega.{arith}
 use lib.ListN.{getD}
-use Rattle.plan.specs.Record.{Fitting, emptyPlan, withGiven, withTable, withRule, withUse, withUnit, withEdge}
+use Rattle.plan.specs.Record.{Fitting, emptyPlan, withGiven, withTable, withRule, withUse, withUnit, withEdge, withShow}
 use Rattle.reading.specs.Words.{BYTE_VALUES}
-use Rattle.reading.specs.Commands.{Kind, given, table, rule, usage, unit, edge, end, carrying, count}
+use Rattle.reading.specs.Commands.{Kind, given, table, rule, usage, unit, edge, show, end, carrying, count}
 use Rattle.reading.specs.Reading.{reading}
 use Rattle.reading.specs.Layout.{IsByte, All}
 use Rattle.reading.proofs.Commands.{table-room, rule-room, unit-room, Unstopped, adds, grown, Leads}
@@ -30,7 +30,7 @@ pub record Grown (p q : Plan) (k : Kind) : Type 0 where
   pub few-edges : q .«edge_count» ≤ suc (p .«edge_count»)
 
 grown-so : (p : Plan) (at : ℕ) (s : List ℕ) (k : Kind) → adds k ≡ true → (u : Unstopped k p at s) → Grown p (grown p k (u .operands)) k
-unfolding withGiven withTable withRule withUse withUnit withEdge carrying
+unfolding withGiven withTable withRule withUse withUnit withEdge withShow carrying
 grown-so p at s given a u = record { fitting = fits-still refl refl refl; some = omega arith; few-edges = omega arith }
 grown-so p at s table a u =
     let room = table-room (u .in-place) in
@@ -55,6 +55,7 @@ grown-so p at s unit a u =
       few-edges = omega arith;
     }
 grown-so p at s edge a u = record { fitting = fits-still refl refl refl; some = omega arith; few-edges = omega arith }
+grown-so p at s show a u = record { fitting = fits-still refl refl refl; some = omega arith; few-edges = omega arith }
 grown-so p at s end a u = absurd (true≢false (sym a))
 
 pub leads-grown : (p q : Plan) (at : ℕ) (s : List ℕ) (k : Kind) → Leads k p at s q → Grown p q k

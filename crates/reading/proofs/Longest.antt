@@ -1,4 +1,4 @@
--- "The longest plan has 2,465 bytes", 9 more with a GIVEN, and 1,296 more with all TABLEs and USEs: no layout within the limits is longer,
+-- "The longest plan has 2,465 bytes", 9 more with a GIVEN, 1,296 more with all TABLEs and USEs, and 9 more with a SHOW: no layout within the limits is longer,
 -- and one has as many.
 use mathlib.Core.Path.{_≡_, refl, ap, _∙_}
 use mathlib.Core.List.{List, [], _∷_, flatMap}
@@ -9,9 +9,9 @@ use lib.Count.{ones-le}
 use lib.ListN.{length, replicate, length-append}
 use Rattle.atoms.proofs.Sets.{has-none}
 use Rattle.plan.specs.Limits.{MAX_TABLES, MAX_RULES, MAX_USES, MAX_UNITS, MAX_EDGES}
-use Rattle.reading.specs.Commands.{given, table, rule, usage, unit, edge}
+use Rattle.reading.specs.Commands.{given, table, rule, usage, unit, edge, show}
 use Rattle.reading.specs.Reading.{commandBytes, LONGEST_PLAN}
-use Rattle.reading.specs.Layout.{givenBytes, tableBytes, ruleBytes, useBytes, unitBytes, edgeBytes, TableUse, Contents, commands, layout, All}
+use Rattle.reading.specs.Layout.{givenBytes, tableBytes, ruleBytes, useBytes, unitBytes, edgeBytes, showBytes, TableUse, Contents, commands, layout, All}
 use Rattle.reading.specs.Layout.{GoodTable, GoodRule, GoodUse, Within}
 use Rattle.reading.proofs.Elements.{operands-long}
 use Rattle.reading.proofs.Lists.{listBelow, below-long, below-all, below-distinct}
@@ -31,6 +31,7 @@ pub commands-long : (c : Contents)
     + commandBytes usage * length (c .uses)
     + commandBytes unit * length (c .units)
     + commandBytes edge * length (c .edges)
+    + commandBytes show * length (c .shown)
 unfolding commands
 commands-long c =
     simp length-append
@@ -42,12 +43,13 @@ commands-long c =
       elements-long useBytes (commandBytes usage) (λ x. refl) (c .uses),
       elements-long unitBytes (commandBytes unit) (λ u. ap suc (operands-long unit u)) (c .units),
       elements-long edgeBytes (commandBytes edge) (λ e. refl) (c .edges),
+      elements-long showBytes (commandBytes show) (λ w. ap suc (operands-long show w)) (c .shown),
     ))
 
 pub layout-at-most : (c : Contents) → Within c → length (layout c) ≤ LONGEST_PLAN
 layout-at-most c w =
     simp length-append
-    (omega (arith, commands-long c, w .one-given, w .most-tables, w .most-rules, w .most-uses, w .most-units, w .most-edges))
+    (omega (arith, commands-long c, w .one-given, w .most-tables, w .most-rules, w .most-uses, w .most-units, w .most-edges, w .one-shown))
 
 -- ---- one that is so long
 
@@ -70,7 +72,7 @@ use-own i j e =
     halves : (m n : ℕ) → m / 2 ≡ n / 2 → m % 2 ≡ n % 2 → m ≡ n
     halves m n p q = omega arith
 
--- a GIVEN, and as many tables, rules, uses, units and edges as there may be
+-- a GIVEN, a SHOW, and as many tables, rules, uses, units and edges as there may be
 longest : Contents
 longest =
     record {
@@ -80,6 +82,7 @@ longest =
       uses = listBelow useAt MAX_USES;
       units = replicate {A = ℕ} MAX_UNITS 0;
       edges = edgesBelow MAX_EDGES;
+      shown = 0 ∷ [];
     }
 
 longest-within : Within longest
@@ -92,6 +95,7 @@ longest-within =
       most-uses = omega (arith, below-long useAt MAX_USES);
       most-units = omega arith;
       most-edges = omega (arith, edges-long MAX_EDGES);
+      one-shown = omega arith;
       good-given = (omega arith, tt);
       good-tables = all-replicate GoodTable MAX_TABLES _
           (record {
@@ -113,6 +117,7 @@ longest-within =
       good-units = all-replicate (λ word. word < 2 ^ MAX_RULES) MAX_UNITS 0 (omega arith);
       good-edges = edges-good MAX_EDGES (omega arith);
       no-repeat = edges-distinct MAX_EDGES;
+      good-shown = (omega arith, tt);
     }
 
 pub longest-there : (c : Contents) × Within c × (length (layout c) ≡ LONGEST_PLAN)
@@ -120,5 +125,5 @@ unfolding longest
 longest-there =
     (longest, longest-within, simp length-append (omega (arith, commands-long longest, below-long useAt MAX_USES, edges-long MAX_EDGES)))
 
-pub longest-bytes : LONGEST_PLAN ≡ 3770
+pub longest-bytes : LONGEST_PLAN ≡ 3779
 longest-bytes = refl

@@ -1,6 +1,6 @@
 -- The first DECIDING_BYTES bytes decide what reading gives. The place of a command follows from how many commands of each kind the record
--- has, so every command that is read ends in time; and a command shows its fault within three bytes more. So each command is the same with
--- what lies behind cut off.
+-- has, so every command that is read ends in time; and a command shows its fault within three bytes more, behind a SHOW within two. So each command
+-- is the same with what lies behind cut off.
 use mathlib.Core.Path.{_≡_, refl, ap, sym, _∙_, subst}
 use mathlib.Core.List.{List, [], _∷_, _++_, flatMap}
 use mathlib.Core.Bool.{Bool, true, false}
@@ -14,7 +14,7 @@ use lib.Seq.{take-nil, take-take, getD-take}
 use borrow.Author.Tests.{lt-ltb, le-ltb}
 use Rattle.plan.specs.Record.{emptyPlan}
 use Rattle.reading.specs.Words.{WORD_BYTES, number, wordAt}
-use Rattle.reading.specs.Commands.{Kind, given, table, rule, usage, unit, edge, end, kindOf, operandBytes, carrying, Row, kindRows}
+use Rattle.reading.specs.Commands.{Kind, given, table, rule, usage, unit, edge, show, end, kindOf, operandBytes, carrying, Row, kindRows}
 use Rattle.reading.specs.Commands.{operandRows, firstFit, ofKind, commandAt}
 use Rattle.reading.specs.Reading.{ended, stepOf, walk, reading, accepted, refused, commandBytes, DECIDING_BYTES}
 use Rattle.reading.specs.Layout.{Contents, commands, recordOf}
@@ -84,6 +84,7 @@ module _ (p : Plan) (at m : ℕ) (s : List ℕ) where
   operands-kept usage h = rw (getD-take m s 0 0 (omega arith), getD-take m s 1 0 (omega arith), getD-take m s 2 0 (omega arith))
   operands-kept unit h = rw (word-kept 0 m s (omega arith))
   operands-kept edge h = rw (getD-take m s 0 0 (omega arith), getD-take m s 1 0 (omega arith))
+  operands-kept show h = rw (word-kept 0 m s (omega arith))
   operands-kept end h = rw (some-kept m s h)
 
   kind-kept : (k : Kind) → (InPlace p k → looksAt k ≤ m) → operandBytes k ≤ looksAt k → ofKind p at k (take m s) ≡ ofKind p at k s
@@ -108,11 +109,11 @@ record Cut (n : ℕ) (result : Reading) (p : Plan) (at : ℕ) (s : List ℕ) : T
   same : walk p at 0 (take (n - at) s) ≡ result
 
 module _ (n : ℕ) (long : DECIDING_BYTES ≤ n) where
-  -- behind all commands there may be, a third byte is kept
-  all-there : (c : Contents) → Held c → length (commands c) + suc (looksAt edge) ≤ n
+  -- behind all commands there may be, a second byte is kept
+  all-there : (c : Contents) → Held c → length (commands c) + suc (looksAt end) ≤ n
   all-there c h =
       let f = h .few in
-      omega (arith, commands-long c, f .few-given, f .few-tables, f .few-rules, f .few-uses, f .few-units, few-edges c h)
+      omega (arith, commands-long c, f .few-given, f .few-tables, f .few-rules, f .few-uses, f .few-units, f .few-shown, few-edges c h)
 
   -- what a command that is in place looks at is kept
   near : (c : Contents) → Held c → (k : Kind) → InPlace (recordOf c) k → length (commands c) + suc (looksAt k) ≤ n
@@ -123,19 +124,24 @@ module _ (n : ℕ) (long : DECIDING_BYTES ≤ n) where
   near c h usage i = omega (arith, commands-long c, i .on-time, use-room i, h .few .few-given, h .few .few-tables, h .few .few-rules)
   near c h unit i =
       omega (arith, commands-long c, i .on-time, unit-room i, h .few .few-given, h .few .few-tables, h .few .few-rules, h .few .few-uses)
-  near c h edge i = all-there c h
-  near c h end i = omega (arith, all-there c h)
+  near c h edge i =
+      let f = h .few in
+      omega (arith, commands-long c, i .on-time, f .few-given, f .few-tables, f .few-rules, f .few-uses, f .few-units, few-edges c h)
+  near c h show i =
+      let f = h .few in
+      omega (arith, commands-long c, i .on-time, f .few-given, f .few-tables, f .few-rules, f .few-uses, f .few-units, few-edges c h)
+  near c h end i = all-there c h
 
   module _ (result : Reading) (p : Plan) (at : ℕ) (s : List ℕ) (cut : Cut n result p at s) where
     near-by : (k : Kind) → InPlace p k → at + suc (looksAt k) ≤ n
     near-by k i = rw (cut .placed) (near (cut .contents) (cut .held) k (rw (cut .record-is) at i))
 
     kept : commandAt p at (take (n - at) s) ≡ commandAt p at s
-    kept = go (n - at) (omega (arith, near-by edge (record { on-time = omega arith; room = refl }))) s
+    kept = go (n - at) (omega (arith, near-by end (record { on-time = omega arith; room = refl }))) s
       where
         go : (m : ℕ) → m + at ≡ n → (t : List ℕ) → commandAt p at (take m t) ≡ commandAt p at t
         go m left [] = ap (commandAt p at) (take-nil m)
-        go zero left (b ∷ t) = absurd (omega (arith, near-by edge (record { on-time = omega arith; room = refl })))
+        go zero left (b ∷ t) = absurd (omega (arith, near-by end (record { on-time = omega arith; room = refl })))
         go (suc m) left (b ∷ t) = by-kind (kindOf b) refl
           where
             by-kind : (x : Option Kind) → kindOf b ≡ x → commandAt p at (b ∷ take m t) ≡ commandAt p at (b ∷ t)

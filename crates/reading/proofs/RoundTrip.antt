@@ -13,10 +13,10 @@ use lib.Seq.{drop-at}
 use borrow.Author.Tests.{le-ltb, lt-leb}
 use Rattle.plan.specs.Limits.{MAX_TABLES, MAX_RULES, MAX_USES, MAX_UNITS, MAX_EDGES}
 use Rattle.reading.specs.Words.{WORD_VALUES}
-use Rattle.reading.specs.Commands.{Kind, given, table, rule, usage, unit, edge, end, byteOf, operandBytes, carrying, late, rows, ofKind, commandAt}
+use Rattle.reading.specs.Commands.{Kind, given, table, rule, usage, unit, edge, show, end, byteOf, operandBytes, carrying, late, rows, ofKind, commandAt}
 use Rattle.reading.specs.Reading.{onward, ended, stepOf, walk, reading, accepted, commandBytes}
-use Rattle.reading.specs.Layout.{TableWords, RuleWords, TableUse, UnitPair, Contents, givenBytes, tableBytes, ruleBytes, useBytes, unitBytes}
-use Rattle.reading.specs.Layout.{edgeBytes, endBytes, commands, layout, recordOf, All, Distinct, GoodTable, GoodRule, GoodUse, GoodEdge, Within}
+use Rattle.reading.specs.Layout.{TableWords, RuleWords, TableUse, UnitPair, Contents, givenBytes, tableBytes, ruleBytes, useBytes, unitBytes, edgeBytes}
+use Rattle.reading.specs.Layout.{showBytes, endBytes, commands, layout, recordOf, All, Distinct, GoodTable, GoodRule, GoodUse, GoodEdge, Within}
 use Rattle.reading.proofs.Commands.{Passed, none-fits, known-command, in-place-passed, adds, step-when}
 use Rattle.reading.proofs.CommandKinds.{kind-of-byte}
 use Rattle.reading.proofs.Walk.{walk-on, walk-ended}
@@ -137,22 +137,25 @@ end-step p at = ap (stepOf p) (read-as p at end [] (refl, (refl, (refl, (refl, t
 
 module _ (c : Contents) (w : Within c) where
   given-only : List ℕ → Contents
-  given-only d = record { given = d; tables = []; rules = []; uses = []; units = []; edges = [] }
+  given-only d = record { given = d; tables = []; rules = []; uses = []; units = []; edges = []; shown = [] }
 
   tables-too : List TableWords → Contents
-  tables-too d = record { given = c .given; tables = d; rules = []; uses = []; units = []; edges = [] }
+  tables-too d = record { given = c .given; tables = d; rules = []; uses = []; units = []; edges = []; shown = [] }
 
   rules-too : List RuleWords → Contents
-  rules-too d = record { given = c .given; tables = c .tables; rules = d; uses = []; units = []; edges = [] }
+  rules-too d = record { given = c .given; tables = c .tables; rules = d; uses = []; units = []; edges = []; shown = [] }
 
   uses-too : List TableUse → Contents
-  uses-too d = record { given = c .given; tables = c .tables; rules = c .rules; uses = d; units = []; edges = [] }
+  uses-too d = record { given = c .given; tables = c .tables; rules = c .rules; uses = d; units = []; edges = []; shown = [] }
 
   units-too : List ℕ → Contents
-  units-too d = record { given = c .given; tables = c .tables; rules = c .rules; uses = c .uses; units = d; edges = [] }
+  units-too d = record { given = c .given; tables = c .tables; rules = c .rules; uses = c .uses; units = d; edges = []; shown = [] }
 
   edges-too : List UnitPair → Contents
-  edges-too d = record { given = c .given; tables = c .tables; rules = c .rules; uses = c .uses; units = c .units; edges = d }
+  edges-too d = record { given = c .given; tables = c .tables; rules = c .rules; uses = c .uses; units = c .units; edges = d; shown = [] }
+
+  shown-too : List ℕ → Contents
+  shown-too d = record { given = c .given; tables = c .tables; rules = c .rules; uses = c .uses; units = c .units; edges = c .edges; shown = d }
 
   given-taken : Takes (recordOf nothing) (flatMap givenBytes (c .given)) (recordOf (given-only (c .given)))
   unfolding recordOf given-only
@@ -166,6 +169,7 @@ module _ (c : Contents) (w : Within c) where
               few-rules = omega arith;
               few-uses = omega arith;
               few-units = omega arith;
+              few-shown = omega arith;
               good-uses = tt;
             };
         in-place = record { on-time = omega (arith, f .0); room = refl };
@@ -185,6 +189,7 @@ module _ (c : Contents) (w : Within c) where
               few-rules = omega arith;
               few-uses = omega arith;
               few-units = omega arith;
+              few-shown = omega arith;
               good-uses = tt;
             };
         in-place = record { on-time = omega arith; room = lt-leb _ _ (f .0) };
@@ -204,6 +209,7 @@ module _ (c : Contents) (w : Within c) where
               few-rules = omega (arith, f .0);
               few-uses = omega arith;
               few-units = omega arith;
+              few-shown = omega arith;
               good-uses = tt;
             };
         in-place = record { on-time = omega arith; room = lt-leb _ _ (f .0) };
@@ -224,6 +230,7 @@ module _ (c : Contents) (w : Within c) where
               few-rules = w .most-rules;
               few-uses = omega (arith, f .room);
               few-units = omega arith;
+              few-shown = omega arith;
               good-uses = f .all-good;
             };
         in-place = record { on-time = omega arith; room = lt-leb _ _ (f .room) };
@@ -244,6 +251,7 @@ module _ (c : Contents) (w : Within c) where
               few-rules = w .most-rules;
               few-uses = w .most-uses;
               few-units = omega (arith, f .0);
+              few-shown = omega arith;
               good-uses = w .good-uses;
             };
         in-place = record { on-time = omega arith; room = lt-leb _ _ (f .0) };
@@ -251,7 +259,7 @@ module _ (c : Contents) (w : Within c) where
       }) (omega (arith, f .1)))
       (c .units) [] (few-follow MAX_UNITS (λ x. x < 2 ^ length (c .rules)) (c .units) [] (omega (arith, w .most-units)) (w .good-units))
 
-  edges-taken : Takes (recordOf (units-too (c .units))) (flatMap edgeBytes (c .edges)) (recordOf c)
+  edges-taken : Takes (recordOf (units-too (c .units))) (flatMap edgeBytes (c .edges)) (recordOf (edges-too (c .edges)))
   unfolding recordOf units-too edges-too
   edges-taken =
       let Good = GoodEdge (length (c .units)) in
@@ -264,6 +272,7 @@ module _ (c : Contents) (w : Within c) where
               few-rules = w .most-rules;
               few-uses = w .most-uses;
               few-units = w .most-units;
+              few-shown = omega arith;
               good-uses = w .good-uses;
             };
         in-place = record { on-time = omega arith; room = refl };
@@ -271,9 +280,32 @@ module _ (c : Contents) (w : Within c) where
       }) tt)
       (c .edges) [] (new-follow MAX_EDGES Good (c .edges) [] (omega (arith, w .most-edges)) tt (λ x m k. List·Memᴰ·not-nil k) (w .no-repeat) (w .good-edges))
 
+  shown-taken : Takes (recordOf (edges-too (c .edges))) (flatMap showBytes (c .shown)) (recordOf c)
+  unfolding recordOf edges-too shown-too
+  shown-taken =
+      group-takes showBytes (λ d. recordOf (shown-too d)) (λ d x. (length d < 1) × (x < WORD_VALUES))
+      (λ d x f. one-takes (shown-too d) show x refl (record {
+        few =
+            record {
+              few-given = w .one-given;
+              few-tables = w .most-tables;
+              few-rules = w .most-rules;
+              few-uses = w .most-uses;
+              few-units = w .most-units;
+              few-shown = omega (arith, f .0);
+              good-uses = w .good-uses;
+            };
+        in-place = record { on-time = omega (arith, f .0); room = refl };
+        right = tt;
+      }) (f .1))
+      (c .shown) [] (few-follow 1 (λ x. x < WORD_VALUES) (c .shown) [] (omega (arith, w .one-shown)) (w .good-shown))
+
   commands-taken : Takes (recordOf nothing) (commands c) (recordOf c)
   unfolding commands
-  commands-taken = takes-both given-taken (takes-both tables-taken (takes-both rules-taken (takes-both uses-taken (takes-both units-taken edges-taken))))
+  commands-taken =
+      takes-both given-taken
+      (takes-both tables-taken
+      (takes-both rules-taken (takes-both uses-taken (takes-both units-taken (takes-both edges-taken shown-taken)))))
 
   -- behind the commands of lists within the limits reading goes on with their record
   pub commands-read : (rest : List ℕ) → reading (commands c ++ rest) ≡ walk (recordOf c) (length (commands c)) 0 rest

@@ -22,7 +22,7 @@ use Rattle.plan.specs.Limits.{MAX_UNITS}
 use Rattle.plan.specs.Record.{usesAt}
 use Rattle.plan.specs.Faults.{number, spot, TableRow, FirstFit}
 use Rattle.reading.specs.Words.{WORD_BYTES, wordAt}
-use Rattle.reading.specs.Commands.{Kind, given, table, rule, usage, unit, edge, end, byteOf, kindOf, operandBytes, orderOf, earliestBehind}
+use Rattle.reading.specs.Commands.{Kind, given, table, rule, usage, unit, edge, show, end, byteOf, kindOf, operandBytes, orderOf, earliestBehind}
 use Rattle.reading.specs.Commands.{carrying, kinds, count, countBehind, late, full}
 use Rattle.reading.specs.Commands.{emptyRule, contradictory, badTable, badUse, absentRule, badEdge, Row, operandRows, rows, firstFit, ofKind, commandAt}
 use Rattle.reading.specs.Layout.{RuleWords, TableUse, UnitPair, Contents, predecessorsOf, recordOf, IsByte, All}
@@ -135,6 +135,7 @@ module _ (c : Contents) (few : Few c) where
   count-of usage = refl
   count-of unit = refl
   count-of edge = refl
+  count-of show = refl
   count-of end = refl
 
   decides-full : (k : Kind) → Decides (Full c k) (full (recordOf c) k)
@@ -145,6 +146,7 @@ module _ (c : Contents) (few : Few c) where
   decides-full usage = decides-le _ _
   decides-full unit = decides-le _ _
   decides-full edge = record { yes = λ e. true≢false (sym e); no = λ e x. x }
+  decides-full show = record { yes = λ e. true≢false (sym e); no = λ e x. x }
   decides-full end = record { yes = λ e. true≢false (sym e); no = λ e x. x }
 
   decides-bad-use : (x : TableUse) → Decides (NoNewUse c x) (badUse (recordOf c) (x .rule) (x .table) (x .sign))
@@ -401,6 +403,7 @@ module _ (c : Contents) (few : Few c) (operands : List ℕ) where
     ownRows at k usage = row 19 (WrongUse c (byteOf k ∷ operands)) at ∷ []
     ownRows at k unit = row 7 (NamesAbsentRule c (byteOf k ∷ operands)) at ∷ []
     ownRows at k edge = row 8 (WrongEdge c (byteOf k ∷ operands)) at ∷ []
+    ownRows at k show = []
     ownRows at k end = row 9 (BytesAfterEnd (byteOf k ∷ operands)) (suc at) ∷ []
 
     -- those of another kind do not fit
@@ -414,6 +417,7 @@ module _ (c : Contents) (few : Few c) (operands : List ℕ) where
     other-skipped at k usage e a = skips (λ (w : WrongUse c (byteOf k ∷ operands)). other usage k e (w .is)) a
     other-skipped at k unit e a = skips (λ (n : NamesAbsentRule c (byteOf k ∷ operands)). other unit k e (n .is)) a
     other-skipped at k edge e a = skips (λ (w : WrongEdge c (byteOf k ∷ operands)). other edge k e (w .is)) a
+    other-skipped at k show e a = a
     other-skipped at k end e a = skips (λ (b : BytesAfterEnd (byteOf k ∷ operands)). other end k e (b .is)) a
 
     -- those of its own kind are decided
@@ -426,6 +430,7 @@ module _ (c : Contents) (few : Few c) (operands : List ℕ) where
     own-decided at usage long a = meets (meet refl refl (use-decided long)) (λ e. a)
     own-decided at unit long a = meets (meet refl refl (absent-decided long)) (λ e. a)
     own-decided at edge long a = meets (meet refl refl (edge-decided long)) (λ e. a)
+    own-decided at show long a = a
     own-decided at end long a = meets (meet refl (add-one at) end-decided) (λ e. a)
 
     -- the rows of a list of kinds, in which k stands once
@@ -463,7 +468,7 @@ module _ (c : Contents) (few : Few c) (operands : List ℕ) where
 
     -- the kinds in the order of their rows
     abbrev byRows : List Kind
-    byRows = rule ∷ table ∷ usage ∷ unit ∷ edge ∷ end ∷ given ∷ []
+    byRows = rule ∷ table ∷ usage ∷ unit ∷ edge ∷ end ∷ given ∷ show ∷ []
 
     agree : (at : ℕ) (k : Kind) → Agree (rows (recordOf c) at k operands) (readingPlace c at (byteOf k ∷ operands))
     agree at k = kind-rows at k (λ long. own-once at k long byRows (each-kind (λ j. once j byRows) refl k))

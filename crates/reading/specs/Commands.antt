@@ -13,14 +13,14 @@ use Rattle.plan.specs.Limits.{MAX_TABLES, MAX_RULES, MAX_USES, MAX_UNITS, MAX_I
 use Rattle.plan.specs.Record.{wantedBit, usesAt}
 use Rattle.plan.specs.declared.record.Plan.{Plan}
 use Rattle.reading.specs.declared.command.Command.{Command}
-use Rattle.reading.specs.declared.command.Command.the-variants.{Given, Table, Rule, Use, Unit as UnitOf, Edge, End, Fault as Faulty}
+use Rattle.reading.specs.declared.command.Command.the-variants.{Given, Table, Rule, Use, Unit as UnitOf, Edge, Show, End, Fault as Faulty}
 use Rattle.plan.specs.declared.fault.Fault.{Fault}
 use Rattle.plan.specs.declared.fault.Fault.the-variants.{Truncated, UnknownCommand, OutOfOrder, TooMany}
 use Rattle.plan.specs.declared.fault.Fault.the-variants.{EmptyRule, ContradictoryBody, BadTable, BadUse, AbsentRule, BadEdge, TrailingBytes}
 
--- column "command", GIVEN of document 02, S-1, and TABLE and USE of S-4
+-- column "command", GIVEN of document 02, S-1, TABLE and USE of S-4, and SHOW of S-11
 pub data Kind : Type 0 where
-  given table rule usage unit edge end : Kind
+  given table rule usage unit edge show end : Kind
 
 -- column "byte"
 abbrev pub byteOf : Kind → ℕ
@@ -30,6 +30,7 @@ byteOf rule = 0x01
 byteOf usage = 0x06
 byteOf unit = 0x02
 byteOf edge = 0x03
+byteOf show = 0x08
 byteOf end = 0x00
 
 -- "One byte names a command"
@@ -39,7 +40,7 @@ kindAmong (kind ∷ kinds) b = elim (eqb b (byteOf kind)) [ true ↦ some kind |
 
 -- all kinds
 abbrev pub kinds : List Kind
-kinds = given ∷ table ∷ rule ∷ usage ∷ unit ∷ edge ∷ end ∷ []
+kinds = given ∷ table ∷ rule ∷ usage ∷ unit ∷ edge ∷ show ∷ end ∷ []
 
 unfoldable pub kindOf : ℕ → Option Kind
 kindOf b = kindAmong kinds b
@@ -56,10 +57,11 @@ operandBytes rule = RULE_OPERAND_WORDS * WORD_BYTES
 operandBytes usage = 3
 operandBytes unit = WORD_BYTES
 operandBytes edge = 2
+operandBytes show = WORD_BYTES
 operandBytes end = 0
 
 -- "All RULEs come first, then UNITs, then EDGEs, then END": the groups' order; GIVEN stands "before all RULEs", TABLEs "before RULEs, after
--- GIVEN", USE "after RULEs, before UNITs"
+-- GIVEN", USE "after RULEs, before UNITs", SHOW "just before END"
 abbrev pub orderOf : Kind → ℕ
 orderOf given = 0
 orderOf table = 1
@@ -67,9 +69,10 @@ orderOf rule = 2
 orderOf usage = 3
 orderOf unit = 4
 orderOf edge = 5
-orderOf end = 6
+orderOf show = 6
+orderOf end = 7
 
--- the earliest kind that may come behind a command of this kind: GIVEN "may stand once", a group goes on
+-- the earliest kind that may come behind a command of this kind: GIVEN and SHOW "may stand once", a group goes on
 abbrev pub earliestBehind : Kind → Kind
 earliestBehind given = table
 earliestBehind table = table
@@ -77,9 +80,10 @@ earliestBehind rule = rule
 earliestBehind usage = usage
 earliestBehind unit = unit
 earliestBehind edge = edge
+earliestBehind show = end
 earliestBehind end = end
 
--- "A command is one of four kinds carrying its operands": of seven, with GIVEN, TABLE and USE
+-- "A command is one of four kinds carrying its operands": of eight, with GIVEN, TABLE, USE and SHOW
 unfoldable pub carrying : Kind → List ℕ → Command
 carrying given operands = Given (wordAt 0 operands)
 carrying table operands = Table (wordAt 0 operands) (wordAt WORD_BYTES operands)
@@ -87,6 +91,7 @@ carrying rule operands = Rule (wordAt 0 operands) (wordAt WORD_BYTES operands) (
 carrying usage operands = Use (getD operands 0 0) (getD operands 1 0) (getD operands 2 0)
 carrying unit operands = UnitOf (wordAt 0 operands)
 carrying edge operands = Edge (getD operands 0 0) (getD operands 1 0)
+carrying show operands = Show (wordAt 0 operands)
 carrying end operands = End
 
 -- how many commands of the kind are read
@@ -97,6 +102,7 @@ count p rule = p .«rule_count»
 count p usage = p .«use_count»
 count p unit = p .«unit_count»
 count p edge = p .«edge_count»
+count p show = p .«show_count»
 count p end = 0
 
 -- how many commands are read behind which none of this group may come
@@ -105,7 +111,8 @@ countBehind p group [] = 0
 countBehind p group (j ∷ js) =
     elim (ltb group (orderOf (earliestBehind j))) [ true ↦ count p j + countBehind p group js | false ↦ countBehind p group js ]
 
--- "command out of group order": there is a command behind which it may not come; "a second or late GIVEN is 4"
+-- "command out of group order": there is a command behind which it may not come; "a second or late GIVEN is 4";
+-- S-11: "After SHOW every known command but END is 4."
 unfoldable pub late : Plan → ℕ → Bool
 late p group = ltb 0 (countBehind p group kinds)
 
@@ -118,6 +125,7 @@ full p rule = leb MAX_RULES (p .«rule_count»)
 full p usage = leb MAX_USES (p .«use_count»)
 full p unit = leb MAX_UNITS (p .«unit_count»)
 full p edge = false
+full p show = false
 full p end = false
 
 -- "RULE with three zero words"
@@ -168,6 +176,7 @@ operandRows p at rule operands =
 operandRows p at usage operands = row (badUse p (getD operands 0 0) (getD operands 1 0) (getD operands 2 0)) (BadUse at) ∷ []
 operandRows p at unit operands = row (absentRule p (wordAt 0 operands)) (AbsentRule at) ∷ []
 operandRows p at edge operands = row (badEdge p (getD operands 0 0) (getD operands 1 0)) (BadEdge at) ∷ []
+operandRows p at show operands = []
 operandRows p at end operands = row (ltb 0 (length operands)) (TrailingBytes (at + 1)) ∷ []
 
 -- the rows that a command of each kind can meet, from top to bottom; row 2 stands between the two

@@ -7,7 +7,7 @@ use lib.Count.{ones}
 use lib.Dec.{eqb}
 use lib.ListN.{length, getD}
 use Rattle.atoms.specs.Lists.{padded, tabulate}
-use Rattle.atoms.specs.Word.{Has, Apart, _∪_, atom}
+use Rattle.atoms.specs.Word.{EVERY_ATOM, Has, Apart, _∪_, atom}
 use Rattle.reading.specs.Words.{WORD_BYTES, BYTE_VALUES, WORD_VALUES}
 use Rattle.plan.specs.Limits.{MAX_TABLES, MAX_RULES, MAX_USES, MAX_UNITS, MAX_EDGES, MAX_INPUTS, FIRST_RULE, RULE_WORDS}
 use Rattle.plan.specs.Record.{wantedBit}
@@ -66,6 +66,10 @@ unitBytes word = 0x02 ∷ wordBytes word
 abbrev pub edgeBytes : UnitPair → List ℕ
 edgeBytes e = 0x03 ∷ e .u ∷ e .v ∷ []
 
+-- S-11: "SHOW (0x08) has one word"
+abbrev pub showBytes : ℕ → List ℕ
+showBytes word = 0x08 ∷ wordBytes word
+
 abbrev pub endBytes : List ℕ
 endBytes = 0x00 ∷ []
 
@@ -77,15 +81,17 @@ pub record Contents : Type 0 where
   pub uses : List TableUse
   pub units : List ℕ
   pub edges : List UnitPair
+  pub shown : List ℕ
 
 -- GIVEN "before all RULEs", TABLEs "before RULEs, after GIVEN", USE "after RULEs, before UNITs", "All RULEs come first, then UNITs, then
--- EDGEs": every command but END
+-- EDGEs", SHOW "just before END": every command but END
 unfoldable pub commands : Contents → List ℕ
 commands c =
     flatMap givenBytes (c .given)
     ++ (flatMap tableBytes (c .tables)
     ++ (flatMap ruleBytes (c .rules)
-    ++ (flatMap useBytes (c .uses) ++ (flatMap unitBytes (c .units) ++ flatMap edgeBytes (c .edges)))))
+    ++ (flatMap useBytes (c .uses)
+    ++ (flatMap unitBytes (c .units) ++ (flatMap edgeBytes (c .edges) ++ flatMap showBytes (c .shown))))))
 
 -- "then END"
 abbrev pub layout : Contents → List ℕ
@@ -126,6 +132,8 @@ recordOf c =
       «unit_count» = length (c .units);
       predecessors = tabulate MAX_UNITS (predecessorsOf (c .edges));
       «edge_count» = length (c .edges);
+      shown = getD (c .shown) 0 EVERY_ATOM;
+      «show_count» = length (c .shown);
     }
 
 abbrev pub IsByte : ℕ → Type 0
@@ -166,7 +174,7 @@ pub record GoodEdge (n : ℕ) (e : UnitPair) : Type 0 where
   pub to-there : e .v < n
   pub apart : ¬ (e .u ≡ e .v)
 
--- what a plan may hold: column "most", GIVEN once, and rows 6, 21, 18, 19, 7 and 8 of the fault table
+-- what a plan may hold: column "most", GIVEN and SHOW once, and rows 6, 21, 18, 19, 7 and 8 of the fault table
 pub record Within (c : Contents) : Type 0 where
   pub one-given : length (c .given) ≤ 1
   pub most-tables : length (c .tables) ≤ MAX_TABLES
@@ -174,6 +182,7 @@ pub record Within (c : Contents) : Type 0 where
   pub most-uses : length (c .uses) ≤ MAX_USES
   pub most-units : length (c .units) ≤ MAX_UNITS
   pub most-edges : length (c .edges) ≤ MAX_EDGES
+  pub one-shown : length (c .shown) ≤ 1
   pub good-given : All (λ word. word < WORD_VALUES) (c .given)
   pub good-tables : All GoodTable (c .tables)
   pub good-rules : All GoodRule (c .rules)
@@ -182,6 +191,7 @@ pub record Within (c : Contents) : Type 0 where
   pub good-units : All (λ word. word < 2 ^ length (c .rules)) (c .units)
   pub good-edges : All (GoodEdge (length (c .units))) (c .edges)
   pub no-repeat : Distinct (c .edges)
+  pub good-shown : All (λ word. word < WORD_VALUES) (c .shown)
 
 -- the bytes are the layout of lists within the limits, and the record is theirs
 pub record IsPlan (bytes : List ℕ) (plan : Plan) : Type 0 where

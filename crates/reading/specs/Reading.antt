@@ -2,11 +2,11 @@
 use mathlib.Core.List.{List, [], _∷_}
 use Prim.Native.Nat.{ℕ, zero, suc, _+_, _*_}
 use Rattle.plan.specs.Limits.{MAX_TABLES, MAX_RULES, MAX_USES, MAX_UNITS, MAX_EDGES}
-use Rattle.plan.specs.Record.{emptyPlan, withGiven, withTable, withRule, withUse, withUnit, withEdge}
-use Rattle.reading.specs.Commands.{Kind, given, table, rule, usage, unit, edge, end, operandBytes, commandAt}
+use Rattle.plan.specs.Record.{emptyPlan, withGiven, withTable, withRule, withUse, withUnit, withEdge, withShow}
+use Rattle.reading.specs.Commands.{Kind, given, table, rule, usage, unit, edge, show, end, operandBytes, commandAt}
 use Rattle.plan.specs.declared.record.Plan.{Plan}
 use Rattle.reading.specs.declared.command.Command.{Command}
-use Rattle.reading.specs.declared.command.Command.the-variants.{Given, Table, Rule, Use, Unit as UnitOf, Edge, End, Fault as Faulty}
+use Rattle.reading.specs.declared.command.Command.the-variants.{Given, Table, Rule, Use, Unit as UnitOf, Edge, Show, End, Fault as Faulty}
 use Rattle.plan.specs.declared.fault.Fault.{Fault}
 use Rattle.plan.specs.declared.fault.Outcome.the-variants.{Accepted, Refused}
 use Rattle.reading.specs.declared.reader.Reading.{Reading}
@@ -34,6 +34,7 @@ stepOf p (Rule head positive negative) = onward rule (withRule p head positive n
 stepOf p (Use r t sign) = onward usage (withUse p r t sign)
 stepOf p (UnitOf word) = onward unit (withUnit p word)
 stepOf p (Edge u v) = onward edge (withEdge p u v)
+stepOf p (Show word) = onward show (withShow p word)
 stepOf p End = ended (accepted p)
 stepOf p (Faulty f) = ended (refused f)
 
@@ -51,18 +52,20 @@ walk p at zero (b ∷ rest) =
 unfoldable pub reading : List ℕ → Reading
 reading bytes = walk emptyPlan 0 0 bytes
 
--- GIVEN "may stand once", "At most 16 tables and 256 USEs", "RULE 64, UNIT 16, EDGE 240": the bytes of as many commands before END as there
+-- GIVEN and SHOW "may stand once", "At most 16 tables and 256 USEs", "RULE 64, UNIT 16, EDGE 240": the bytes of as many commands before END as there
 -- may be
 abbrev MOST_BEFORE_END : ℕ
 MOST_BEFORE_END =
     commandBytes given + commandBytes table * MAX_TABLES + commandBytes rule * MAX_RULES + commandBytes usage * MAX_USES
     + commandBytes unit * MAX_UNITS
     + commandBytes edge * MAX_EDGES
+    + commandBytes show
 
--- "The longest plan has 2,465 bytes", 9 more with a GIVEN, and 1,296 more with all TABLEs and USEs
+-- "The longest plan has 2,465 bytes", 9 more with a GIVEN, 1,296 more with all TABLEs and USEs, and 9 more with a SHOW
 abbrev pub LONGEST_PLAN : ℕ
 LONGEST_PLAN = MOST_BEFORE_END + commandBytes end
 
--- "every reading fault, a 241st EDGE and bytes after END included, shows within 2,467", and as many more
+-- "every reading fault, a 241st EDGE and bytes after END included, shows within 2,467", and as many more; behind a SHOW it shows within one
+-- byte after END
 abbrev pub DECIDING_BYTES : ℕ
-DECIDING_BYTES = MOST_BEFORE_END + commandBytes edge
+DECIDING_BYTES = LONGEST_PLAN + 1

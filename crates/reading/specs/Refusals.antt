@@ -1,5 +1,5 @@
 -- What reading accepts and refuses, said of a plan's lists and their layout alone: the reader, its record and its steps are not spoken of.
--- Document 01, "Faults, by where they are found", place "reading"; document 02, S-1, S-4 and S-6.
+-- Document 01, "Faults, by where they are found", place "reading"; document 02, S-1, S-4, S-6 and S-11.
 use mathlib.Core.Path.{_≡_}
 use mathlib.Core.List.{List, [], _∷_, _++_, List·Memᴰ}
 use mathlib.Core.Logic.{_↔_}
@@ -10,7 +10,7 @@ use Rattle.atoms.specs.Word.{Has}
 use Rattle.plan.specs.Limits.{MAX_TABLES, MAX_RULES, MAX_USES, MAX_UNITS, MAX_INPUTS}
 use Rattle.plan.specs.Faults.{RefusedBy, TableRow, FirstFit}
 use Rattle.reading.specs.Words.{WORD_VALUES}
-use Rattle.reading.specs.Commands.{Kind, given, table, rule, usage, unit, edge, end, byteOf, operandBytes, orderOf, earliestBehind}
+use Rattle.reading.specs.Commands.{Kind, given, table, rule, usage, unit, edge, show, end, byteOf, operandBytes, orderOf, earliestBehind}
 use Rattle.reading.specs.Layout.{TableWords, RuleWords, TableUse, UnitPair, Contents, tableBytes, ruleBytes, useBytes, unitBytes, edgeBytes}
 use Rattle.reading.specs.Layout.{endBytes, commands, layout, Within}
 use Rattle.plan.specs.declared.fault.Outcome.{Outcome}
@@ -31,6 +31,7 @@ countOf c rule = length (c .rules)
 countOf c usage = length (c .uses)
 countOf c unit = length (c .units)
 countOf c edge = length (c .edges)
+countOf c show = length (c .shown)
 countOf c end = 0
 
 -- 3: "unknown command byte"
@@ -40,7 +41,8 @@ pub record UnknownByte (rest : List ℕ) : Type 0 where
   pub is : rest ≡ byte ∷ behind
   pub names-none : (kind : Kind) → ¬ (byte ≡ byteOf kind)
 
--- 4: "command out of group order", a command being there behind which it may not come; "a second or late GIVEN is 4"
+-- 4: "command out of group order", a command being there behind which it may not come; "a second or late GIVEN is 4",
+-- "After SHOW every known command but END is 4"
 pub record OutOfGroupOrder (c : Contents) (rest : List ℕ) : Type 0 where
   pub kind : Kind
   pub begins : Begins kind rest
@@ -56,6 +58,7 @@ Full c rule = MAX_RULES ≤ length (c .rules)
 Full c usage = MAX_USES ≤ length (c .uses)
 Full c unit = MAX_UNITS ≤ length (c .units)
 Full c edge = ⊥
+Full c show = ⊥
 Full c end = ⊥
 
 pub record OneTooMany (c : Contents) (rest : List ℕ) : Type 0 where

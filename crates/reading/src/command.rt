@@ -1,7 +1,7 @@
 // What one command of a plan is.
 use plan::Fault;
 
-// "A command is one of four kinds carrying its operands", of seven with GIVEN, TABLE and USE, or the fault that stopped it.
+// "A command is one of four kinds carrying its operands", of eight with GIVEN, TABLE, USE and SHOW, or the fault that stopped it.
 pub enum Command {
     Given(u64),
     Table {
@@ -20,6 +20,7 @@ pub enum Command {
     },
     Unit(u64),
     Edge(u8, u8),
+    Show(u64),
     End,
     Fault(Fault),
 }

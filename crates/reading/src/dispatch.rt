@@ -8,6 +8,7 @@ use crate::edge::read_edge;
 use crate::end::read_end;
 use crate::given::read_given;
 use crate::rule::read_rule;
+use crate::show::read_show;
 use crate::table::read_table;
 use crate::unit::read_unit;
 use crate::usage::read_use;
@@ -26,6 +27,8 @@ const USE: u8 = 0x06;
 const UNIT: u8 = 0x02;
 
 const EDGE: u8 = 0x03;
+
+const SHOW: u8 = 0x08;
 
 const END: u8 = 0x00;
 
@@ -46,6 +49,7 @@ pub fn read_command(plan: &[u8], at: usize, read: Plan) -> Command
         USE => read_use(operands, at, read),
         UNIT => read_unit(operands, at, read),
         EDGE => read_edge(operands, at, read),
+        SHOW => read_show(operands, at, read),
         END => read_end(operands, at, read),
         _ => Command::Fault(Fault::UnknownCommand(at)),
     }

@@ -3,6 +3,8 @@ ghost use mathlib.Core.Path.{_≡_};
 ghost use Rattle.reading.specs.Commands.{ofKind, edge, badEdge};
 ghost use Rattle.plan.specs.Record.{Fitting};
 use crate::command::Command;
+use crate::order::EDGE_GROUP;
+use crate::order::is_late;
 use plan::Fault;
 use plan::Plan;
 
@@ -36,6 +38,9 @@ pub fn read_edge(operands: &[u8], at: usize, read: Plan) -> Command
     requires { ⌜ Fitting read ⌝ }
     ensures { λ r. ⌜ r ≡ ofKind read at edge (now (operands .entry)) ⌝ }
 {
+    if is_late(EDGE_GROUP, read) {
+        return Command::Fault(Fault::OutOfOrder(at));
+    }
     if operands.len() < EDGE_OPERANDS {
         return Command::Fault(Fault::Truncated(at));
     }

@@ -1,4 +1,4 @@
-// Reading a plan: from its bytes to the record of its given atoms, contact tables, rules, uses, units and edges, or the first fault.
+// Reading a plan: from its bytes to the record of its given atoms, contact tables, rules, uses, units, edges and shown atoms, or the first fault.
 mod command;
 mod dispatch;
 mod edge;
@@ -7,6 +7,7 @@ mod given;
 mod order;
 mod reader;
 mod rule;
+mod show;
 mod table;
 mod unit;
 mod usage;

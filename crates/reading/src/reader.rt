@@ -1,7 +1,7 @@
-// Reading a plan from the left: a GIVEN, then TABLEs, RULEs, USEs, UNITs, EDGEs, then END. Any of these but END may be missing.
+// Reading a plan from the left: a GIVEN, then TABLEs, RULEs, USEs, UNITs, EDGEs, a SHOW, then END. Any of these but END may be missing.
 ghost use mathlib.Core.Path.{_≡_};
 ghost use Rattle.plan.specs.Record.{Fitting};
-ghost use Rattle.reading.specs.Commands.{table, rule, usage, unit, edge, end};
+ghost use Rattle.reading.specs.Commands.{table, rule, usage, unit, edge, show, end};
 ghost use Rattle.reading.specs.Progress.{placeAt, Reached};
 ghost use Rattle.reading.specs.Reading.{reading};
 ghost use Rattle.reading.specs.Refusals.{ReadingJudged};
@@ -10,6 +10,7 @@ use crate::dispatch::read_command;
 use crate::edge::EDGE_BYTES;
 use crate::given::GIVEN_BYTES;
 use crate::rule::RULE_BYTES;
+use crate::show::SHOW_BYTES;
 use crate::table::TABLE_BYTES;
 use crate::unit::UNIT_BYTES;
 use crate::usage::USE_BYTES;
@@ -19,6 +20,7 @@ use plan::empty_plan;
 use plan::with_edge;
 use plan::with_given;
 use plan::with_rule;
+use plan::with_show;
 use plan::with_table;
 use plan::with_unit;
 use plan::with_use;
@@ -139,7 +141,7 @@ fn read_units(bytes: &[u8], from: Progress) -> Progress
 // The place behind all EDGEs.
 fn read_edges(bytes: &[u8], from: Progress) -> Progress
     requires { ⌜ Reached edge (now bytes) from ⌝ }
-    ensures { λ r. ⌜ Reached end (now (bytes .entry)) r ⌝ }
+    ensures { λ r. ⌜ Reached show (now (bytes .entry)) r ⌝ }
 {
     let mut progress = from;
     loop {
@@ -153,6 +155,20 @@ fn read_edges(bytes: &[u8], from: Progress) -> Progress
     }
 }
 
+// The place behind the SHOW, if there is one.
+fn read_shows(bytes: &[u8], from: Progress) -> Progress
+    requires { ⌜ Reached show (now bytes) from ⌝ }
+    ensures { λ r. ⌜ Reached end (now (bytes .entry)) r ⌝ }
+{
+    let command = from.command;
+    let Command::Show(word) = command else {
+        return from;
+    };
+    let taken = with_show(from.plan, word);
+    let at = from.at;
+    place(bytes, taken, at + SHOW_BYTES)
+}
+
 // The record of the plan, or its first fault from the left.
 pub fn read_plan(plan: &[u8]) -> Reading
     ensures read { λ r. ⌜ r ≡ reading (now (plan .entry)) ⌝ }
@@ -164,9 +180,10 @@ pub fn read_plan(plan: &[u8]) -> Reading
     let uses = read_uses(plan, rules);
     let units = read_units(plan, uses);
     let edges = read_edges(plan, units);
-    let command = edges.command;
+    let shows = read_shows(plan, edges);
+    let command = shows.command;
     let Command::Fault(fault) = command else {
-        let read = edges.plan;
+        let read = shows.plan;
         return Reading {
             outcome: Outcome::Accepted,
             plan: read,

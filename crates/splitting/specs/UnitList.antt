@@ -28,6 +28,7 @@ withLast S = record {
   unit = λ u. elim (eqb u (S .units)) [ true ↦ 0 | false ↦ S .unit u ];
   predecessors = λ u. elim (eqb u (S .units)) [ true ↦ below (S .units) | false ↦ S .predecessors u ];
   given = S .given;
+  shown = S .shown;
 }
 
 -- each predecessor that a unit names is there
@@ -51,3 +52,9 @@ pub record Agree (S T : Units) (u : ℕ) : Type 0 where
   pub given : S .given ≡ T .given
   pub here : SameUnit S T u
   pub reached : (w : ℕ) → Path S u w → SameUnit S T w
+
+-- "Plans agree on the last list only with the same SHOW." (02, S-11)
+pub record AgreeLast (S T : Units) : Type 0 where
+  pub units : S .units ≡ T .units
+  pub shown : S .shown ≡ T .shown
+  pub agree : Agree (withLast S) (withLast T) (S .units)

@@ -1,6 +1,6 @@
 -- `read_command` meets its contract: the byte at `at` picks the kind, and the part behind it is what `commandAt` calls the operands.
 use Rattle.reading.proofs.Commands.{no-byte-there, kind-there, no-kind-there}
-use Rattle.reading.specs.Commands.{given, table, rule, usage, unit, edge, end}
+use Rattle.reading.specs.Commands.{given, table, rule, usage, unit, edge, show, end}
 use borrow.Author.Needs.{needs}
 use Rattle.reading.proofs.dispatch.read_command.Statement.{statement}
 use Rattle.reading.proofs.dispatch.read_command.Tie as tie
@@ -27,19 +27,23 @@ returns-7 : tie.Need-returns-7
 returns-7 c = kind-there _ _ _ (c .before .before .before .before .if1 .left) edge _ (c .before .match .keys6) (c .read-edge .ensures)
 
 returns-8 : tie.Need-returns-8
-returns-8 c = kind-there _ _ _ (c .before .before .before .before .if1 .left) end _ (c .before .match .keys7) (c .read-end .ensures)
+returns-8 c = kind-there _ _ _ (c .before .before .before .before .if1 .left) show _ (c .before .match .keys7) (c .read-show .ensures)
 
 returns-9 : tie.Need-returns-9
-returns-9 c =
+returns-9 c = kind-there _ _ _ (c .before .before .before .before .if1 .left) end _ (c .before .match .keys8) (c .read-end .ensures)
+
+returns-10 : tie.Need-returns-10
+returns-10 c =
     let none = c .match .rest in
     no-kind-there _ _ _ (c .before .before .before .if1 .left)
     (elim [
-      | given ↦ none .0 .0 .0 .0 .0 .0 .1
-      | table ↦ none .0 .0 .0 .0 .0 .1
-      | rule ↦ none .0 .0 .0 .0 .1
-      | usage ↦ none .0 .0 .0 .1
-      | unit ↦ none .0 .0 .1
-      | edge ↦ none .0 .1
+      | given ↦ none .0 .0 .0 .0 .0 .0 .0 .1
+      | table ↦ none .0 .0 .0 .0 .0 .0 .1
+      | rule ↦ none .0 .0 .0 .0 .0 .1
+      | usage ↦ none .0 .0 .0 .0 .1
+      | unit ↦ none .0 .0 .0 .1
+      | edge ↦ none .0 .0 .1
+      | show ↦ none .0 .1
       | end ↦ none .1
     ])
 
@@ -60,6 +64,7 @@ read-command-spec =
     (λ c κs. search needs)
     (λ c κs. search needs)
     (λ c κs. search needs)
+    (λ c κs. search needs)
     returns-2
     returns-3
     returns-4
@@ -67,4 +72,5 @@ read-command-spec =
     returns-6
     returns-7
     returns-8
-    returns-9)
+    returns-9
+    returns-10)

@@ -1,4 +1,4 @@
--- `read_plan` meets its contract: behind all EDGEs stands END or a fault. What `reading` gives is judged by `reading-judged`.
+-- `read_plan` meets its contract: behind all EDGEs and the SHOW stands END or a fault. What `reading` gives is judged by `reading-judged`.
 use mathlib.Core.Path.{_≡_, sym, subst}
 use mathlib.Core.List.{List}
 use Prim.Native.Nat.{ℕ}
@@ -18,8 +18,8 @@ use Rattle.reading.proofs.reader.read_plan.Tie as tie
 promised : {bytes : List ℕ} → All IsByte bytes → {r : Reading} → r ≡ reading bytes → (r ≡ reading bytes) × ReadingJudged bytes (r .outcome)
 promised {bytes} small e = (e, subst (λ (x : Reading). ReadingJudged bytes (x .outcome)) (sym e) (reading-judged bytes small))
 
-abbrev known : tie.After-read-edges → tie.After-shared-slice-known
-known c = c .before .before .before .before .before .before
+abbrev known : tie.After-read-shows → tie.After-shared-slice-known
+known c = c .before .before .before .before .before .before .before
 
 -- the plan's bytes are bytes
 bytes : (c : tie.After-shared-slice-known) → All IsByte (now (c .before .args .plan))
@@ -27,19 +27,20 @@ bytes c = all-bytes (now (c .before .args .plan)) (λ i. c .shared-slice-known .
 
 returns : tie.Need-returns
 returns c =
-    let edges = c .before .before in
-    promised (bytes (known edges)) (accepted-here _ _ (edges .read-edges .ensures) (c .before .match .keys2))
+    let shows = c .before .before in
+    promised (bytes (known shows)) (accepted-here _ _ (shows .read-shows .ensures) (c .before .match .keys2))
 
 returns-2 : tie.Need-returns-2
 returns-2 c =
     let fault = c .before .before in
-    let edges = fault .before .before in
-    promised (bytes (known edges)) (refused-here _ _ (edges .read-edges .ensures) _ _ (fault .command .given .1) (c .empty-plan .ensures))
+    let shows = fault .before .before in
+    promised (bytes (known shows)) (refused-here _ _ (shows .read-shows .ensures) _ _ (fault .command .given .1) (c .empty-plan .ensures))
 
 pub read-plan-spec : {M : Type 1} → statement M
 read-plan-spec =
     tie.close
     (tie.spec
+    (λ c κs. search needs)
     (λ c κs. search needs)
     (λ c κs. search needs)
     (λ c κs. search needs)
