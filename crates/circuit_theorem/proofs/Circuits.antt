@@ -1,5 +1,6 @@
 -- Circuits 2 to 11 of document 01 and plan P, from their bytes: the definitions give the outcomes and the last lists that the
--- paper has. And plan P with a contact table (02, S-4) in place of the second rule's positive body.
+-- paper has. And plan P with a contact table (02, S-4) in place of the second rule's positive body, and plans with a
+-- SHOW (02, S-11).
 use Prim.Native.Nat.{ℕ}
 use mathlib.Core.Path.{_≡_, refl}
 use mathlib.Core.List.{List, [], _∷_, _++_, map}
@@ -9,16 +10,17 @@ use Rattle.plan.specs.Limits.{LAST_LIST, LAST_COUNT, TABLE_WORDS}
 use Rattle.atoms.specs.Word.{has, subset, apart, _∩_, _∪_, _∖_, atom, below}
 use Rattle.atoms.specs.Bounded.{allBelow, someBelow, wordBelow, unionIn}
 use Rattle.atoms.specs.Collected.{lowest, lowestOf}
-use Rattle.atoms.specs.Rising.{members}
+use Rattle.atoms.specs.Rising.{members, insertInto}
+use Rattle.atoms.specs.Cuts.{cutList}
 use Rattle.atoms.specs.Lists.{padded, tabulate}
 use Rattle.contact_tables.specs.Table.{place, row as tableRow, answer as said}
 use Rattle.answer_sets.specs.Lent.{tableOf, asks, useHolds, usesHold, usedInputs, lent}
 use Rattle.answer_sets.specs.Test.{body, satisfies, satisfiesAll, kept, keptIf, someSmaller, answerSet}
 use Rattle.reading.specs.Words.{number, wordAt}
-use Rattle.plan.specs.Record.{emptyPlan, withTable, withRule, withUse, withUnit, withEdge}
+use Rattle.plan.specs.Record.{emptyPlan, withTable, withRule, withUse, withUnit, withEdge, withShow}
 use Rattle.reading.specs.Commands.{kindOf, carrying, late, emptyRule, contradictory, badTable, badUse, absentRule, badEdge, ofKind, commandAt}
 use Rattle.reading.specs.Reading.{walk, reading}
-use Rattle.plan.specs.declared.fault.Fault.the-variants.{Cycle, NonmonotonicUnseen, MonotonicUnseen}
+use Rattle.plan.specs.declared.fault.Fault.the-variants.{UnknownCommand, OutOfOrder, Cycle, NonmonotonicUnseen, MonotonicUnseen}
 use Rattle.plan.specs.declared.fault.Outcome.{Outcome}
 use Rattle.plan.specs.declared.fault.Outcome.the-variants.{Accepted, Refused}
 use Rattle.dependency_graph.specs.Heads.{through, reachVia, reach, own, heads, inputHeads}
@@ -53,6 +55,9 @@ unit r = 2 ∷ word r
 abbrev edge : ℕ → ℕ → List ℕ
 edge u v = 3 ∷ u ∷ v ∷ []
 
+abbrev show : ℕ → List ℕ
+show w = 8 ∷ word w
+
 abbrev end : List ℕ
 end = 0 ∷ []
 
@@ -63,7 +68,9 @@ diamond = edge 1 0 ++ (edge 2 0 ++ (edge 3 1 ++ (edge 3 2 ++ end)))
 abbrev pub circuit-2 : List ℕ
 circuit-2 = rule 3 0 0 ++ (unit 1 ++ end)
 
--- circuits 2 to 11, plan P, and P without its EDGE; P with a table that is true where atom 0 is up, with either sign, and without its EDGE
+-- circuits 2 to 11, plan P, and P without its EDGE; P with a table that is true where atom 0 is up, with either sign, and without its EDGE;
+-- two facts on pairs that show atoms 0 and 1 alone, and no atom; circuit 4 that shows no atom; P that shows atoms 1 and 2; a second SHOW, an EDGE
+-- and an unknown byte behind a SHOW
 abbrev pub plans : List (List ℕ)
 plans =
     circuit-2
@@ -81,6 +88,13 @@ plans =
     ∷ (table 1 2 ++ (rule 3 0 0 ++ (rule 4 0 0 ++ (wants 1 0 0 ++ (unit 1 ++ (unit 2 ++ (edge 1 0 ++ end)))))))
     ∷ (table 1 2 ++ (rule 3 0 0 ++ (rule 4 0 0 ++ (wants 1 0 1 ++ (unit 1 ++ (unit 2 ++ (edge 1 0 ++ end)))))))
     ∷ (table 1 2 ++ (rule 3 0 0 ++ (rule 4 0 0 ++ (wants 1 0 0 ++ (unit 1 ++ (unit 2 ++ end))))))
+    ∷ (rule 3 0 0 ++ (rule 12 0 0 ++ (unit 3 ++ (show 3 ++ end))))
+    ∷ (rule 3 0 0 ++ (rule 12 0 0 ++ (unit 3 ++ (show 0 ++ end))))
+    ∷ (rule 1 0 1 ++ (unit 1 ++ (show 0 ++ end)))
+    ∷ (rule 3 0 0 ++ (rule 4 1 0 ++ (unit 1 ++ (unit 2 ++ (edge 1 0 ++ (show 6 ++ end))))))
+    ∷ (show 3 ++ (show 3 ++ end))
+    ∷ (unit 0 ++ (unit 0 ++ (show 3 ++ (edge 0 1 ++ end))))
+    ∷ (show 3 ++ (7 ∷ end))
     ∷ []
 
 abbrev pub results : List (Outcome × List ℕ)
@@ -100,19 +114,26 @@ results =
     ∷ (Accepted, 2 ∷ 5 ∷ [])
     ∷ (Accepted, 1 ∷ 6 ∷ [])
     ∷ (Refused (NonmonotonicUnseen 1), [])
+    ∷ (Accepted, 1 ∷ 2 ∷ [])
+    ∷ (Accepted, 0 ∷ [])
+    ∷ (Accepted, [])
+    ∷ (Accepted, 2 ∷ 4 ∷ [])
+    ∷ (Refused (OutOfOrder 9), [])
+    ∷ (Refused (OutOfOrder 27), [])
+    ∷ (Refused (UnknownCommand 9), [])
     ∷ []
 
 -- what `answer` gives for the bytes and a table of zeros: its outcome, and "the words from 4,096 on, as many as the last count says"
-unfoldable pub shown : List ℕ → Outcome × List ℕ
-shown bytes =
+unfoldable pub answered : List ℕ → Outcome × List ℕ
+answered bytes =
     let a = answer bytes (replicate {A = ℕ} TABLE_WORDS 0) in (a .outcome, take (getD (a .counts) LAST_COUNT 0) (drop LAST_LIST (a .table)))
 
 -- the results of all of them; and of circuit 2: "Position 3 isn't settled."
-pub circuits : (map shown plans ≡ results) × (judged circuit-2 3 ≡ NotSettled)
-unfolding judged shown answer tableOutcome reading walk commandAt ofKind kindOf carrying late emptyRule contradictory absentRule badEdge badTable
-    badUse emptyPlan withTable withRule withUse withUnit withEdge number wordAt unlessRefused workFrom noCounts tableWith countsWith listAt runs
-    padded tabulate lastList unitList inList isInput members allBelow someBelow wordBelow unionIn twiceBelow heads inputHeads own reach reachVia
-    through withLast unitsOf lent usesHold useHolds tableOf asks usedInputs said tableRow place ones answerSet someSmaller satisfiesAll satisfies body
+pub circuits : (map answered plans ≡ results) × (judged circuit-2 3 ≡ NotSettled)
+unfolding judged answered answer tableOutcome reading walk commandAt ofKind kindOf carrying late emptyRule contradictory absentRule badEdge badTable
+    badUse emptyPlan withTable withRule withUse withUnit withEdge withShow number wordAt unlessRefused workFrom noCounts tableWith countsWith listAt runs
+    padded tabulate lastList cutList insertInto unitList inList isInput members allBelow someBelow wordBelow unionIn twiceBelow heads inputHeads own reach
+    reachVia through withLast unitsOf lent usesHold useHolds tableOf asks usedInputs said tableRow place ones answerSet someSmaller satisfiesAll satisfies body
     kept keptIf has subset apart _∩_ _∪_ _∖_ atom below verdict row givenInHead ruleInNoUnit headedRuleInSeveral cycle nonmonotonicUnseen
     monotonicUnseen nonmonotonicUnseenIn monotonicSeenIn seen unseenHeads lowestOf lowest workingOrder orderFrom nextUnit ready
 circuits = (refl, refl)

@@ -1,12 +1,12 @@
--- A walk from the start to the end yields the rising list of all, and nothing else.
-use mathlib.Core.Path.{_≡_, refl, sym, ap₂, subst}
+-- A walk from the start to the end: the rising list of all is one, and each has all and nothing else.
+use mathlib.Core.Path.{_≡_, refl, sym, subst}
 use mathlib.Core.Logic.{_↔_, _⊎_, inl, inr}
 use mathlib.Core.List.{List, [], _∷_, List·Memᴰ, List·Memᴰ·head, List·Memᴰ·tail, List·Memᴰ·not-nil, List·Memᴰ·cases-cons}
 use Prim.Native.Nat.{ℕ, _≤_, _<_}
 use native.Mathlib.Omega.{arith}
 use native.Mathlib.Decide.{ℕ-discrete}
 use Rattle.atoms.specs.Rising.{Rising, rising-nil, rising-cons}
-use Rattle.atoms.proofs.Rising.{above-at, above-intro}
+use Rattle.atoms.proofs.Rising.{above-at}
 use Rattle.unit_search.specs.declared.witness.Witness.{Witness}
 use Rattle.unit_search.specs.declared.witness.Witness.the-variants.{Member, Nothing}
 use Rattle.finding.specs.Least.{Behind, from-start, above, LeastOf, least, none as no-least}
@@ -44,29 +44,14 @@ walk-of {Q} from (x ∷ xs) (rising-cons a r) f g = goes (least here (λ N q. lo
     behind N l (inl e) = absurd (omega arith)
     behind N l (inr m) = m
 
--- and there is no other
-pub walk-only : {Q : ℕ → Type 0} {from : From} {xs ys : List ℕ} → Walk Q from xs → Walk Q from ys → xs ≡ ys
-walk-only (ends p) (ends q) = refl
-walk-only {Q} {from} (ends (no-least n)) (goes (least q l) w) = absurd (n _ q)
-walk-only (goes (least q l) w) (ends (no-least n)) = absurd (n _ q)
-walk-only {Q} (goes {M = M} {Ms = Ms} (least p k) v) (goes {M = N} {Ms = Ns} (least q l) w) =
-    let e : M ≡ N = same (k N q) (l M p) in
-    ap₂ _∷_ e (walk-only v (subst (λ (x : ℕ). Walk Q (Above x) Ns) (sym e) w))
-  where
-    same : {a b : ℕ} → a ≤ b → b ≤ a → a ≡ b
-    same x y = omega arith
-
 -- a walk has all with Q that are behind its start, and no others
-walk-each : {Q : ℕ → Type 0} {from : From} {xs : List ℕ} → Walk Q from xs → (N : ℕ) → List·Memᴰ N xs → Q N × Behind from N
-walk-each (ends p) N m = absurd (List·Memᴰ·not-nil m)
-walk-each {Q} {from} (goes {M = M} {Ms = Ms} (least p k) w) N m = go (List·Memᴰ·cases-cons m) (walk-each w N)
-  where
-    go : (N ≡ M) ⊎ List·Memᴰ N Ms → (List·Memᴰ N Ms → Q N × Behind (Above M) N) → Q N × Behind from N
-    go (inl e) rest = subst (λ (x : ℕ). Q x × Behind from x) (sym e) p
-    go (inr n) rest = let q = rest n in (q .0, behind-more (p .1) (above-of (q .1)))
-
 pub walk-at : {Q : ℕ → Type 0} {from : From} {xs : List ℕ} → Walk Q from xs → (N : ℕ) → List·Memᴰ N xs → Q N
-walk-at w N m = walk-each w N m .0
+walk-at (ends p) N m = absurd (List·Memᴰ·not-nil m)
+walk-at {Q} (goes {M = M} {Ms = Ms} (least p k) w) N m = go (List·Memᴰ·cases-cons m) (walk-at w N)
+  where
+    go : (N ≡ M) ⊎ List·Memᴰ N Ms → (List·Memᴰ N Ms → Q N) → Q N
+    go (inl e) rest = subst Q (sym e) (p .0)
+    go (inr n) rest = rest n
 
 pub walk-has : {Q : ℕ → Type 0} {from : From} {xs : List ℕ} → Walk Q from xs → (N : ℕ) → Q N → Behind from N → List·Memᴰ N xs
 walk-has (ends (no-least n)) N q b = absurd (n N (q, b))
@@ -75,8 +60,3 @@ walk-has (goes {M = M} {Ms = Ms} (least p k) w) N q b = go (ℕ-discrete N M) (k
     go : Dec (N ≡ M) → M ≤ N → (M < N → List·Memᴰ N Ms) → List·Memᴰ N (M ∷ Ms)
     go (yes e) l rest = List·Memᴰ·head e
     go (no n) l rest = List·Memᴰ·tail (rest (omega arith))
-
--- and it rises
-pub walk-rising : {Q : ℕ → Type 0} {from : From} {xs : List ℕ} → Walk Q from xs → Rising xs
-walk-rising (ends p) = rising-nil
-walk-rising {Q} (goes {M = M} {Ms = Ms} l w) = rising-cons (above-intro M Ms (λ y m. above-of (walk-each w y m .1))) (walk-rising w)

@@ -11,6 +11,7 @@ use Rattle.plan.specs.declared.fault.Outcome.{Outcome}
 use Rattle.plan.specs.declared.fault.Outcome.the-variants.{Accepted, Refused}
 use Rattle.atoms.specs.Word.{below}
 use Rattle.atoms.specs.Rising.{Rising}
+use Rattle.atoms.specs.Cuts.{CutOf}
 use Rattle.answer_sets.specs.AnswerSet.{AnswerSet}
 use Rattle.answer_sets.specs.Lent.{lent}
 use Rattle.reading.specs.Layout.{Contents, recordOf, IsByte, All}
@@ -34,10 +35,10 @@ sheetOf a = sheetFor (a .outcome) (a .counts) (a .table)
 abbrev pub SHEET_BYTES : ℕ
 SHEET_BYTES = 14 + lineLength * LIST_WORDS
 
--- the positions of a plan's sheet: the answer sets of all its rules as one set, with its given atoms as facts, each once, rising
+-- the positions of a plan's sheet: what shows of the answer sets of all its rules as one set, with its given atoms as facts, each once, rising
 pub record Positions (p : Plan) (ws : List ℕ) : Type 0 where
   pub rising : Rising ws
-  pub members : (M : ℕ) → List·Memᴰ M ws ↔ AnswerSet (lent (p .rules)) (below (p .«rule_count»)) (p .given) M
+  pub members : (X : ℕ) → List·Memᴰ X ws ↔ CutOf (p .shown) (AnswerSet (lent (p .rules)) (below (p .«rule_count»)) (p .given)) X
 
 -- what a sheet says: of a plan that is listed its positions, one line each, and of any other its first fault
 pub record Says (bytes table sheet : List ℕ) : Type 0 where

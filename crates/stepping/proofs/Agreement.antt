@@ -1,13 +1,16 @@
--- "Going from the start to the end yields, on every plan that the unit work also finishes, just its last list" (document 02, S-8).
+-- "Going from the start to the end yields, on every plan that the unit work also finishes, just its last list" (document 02, S-8); with a SHOW the
+-- "agreement is then between its results cut, sorted and freed of repeats, and the last list" (S-11).
 use mathlib.Core.Path.{_≡_, sym, subst}
 use mathlib.Core.Logic.{_↔_}
 use mathlib.Core.List.{List, List·Memᴰ}
 use Prim.Native.Nat.{ℕ, suc}
 use native.Mathlib.Omega.{arith}
-use Rattle.atoms.specs.Rising.{Rising, members}
+use Rattle.atoms.specs.Rising.{members}
+use Rattle.atoms.specs.Cuts.{cutList}
 use Rattle.atoms.proofs.Tests.{decided-true}
 use Rattle.atoms.proofs.Sets.{subset-le}
 use Rattle.atoms.proofs.Rising.{rising-ext, members-at, members-has, members-rising}
+use Rattle.atoms.proofs.Cuts.{cut-rising, cut-of-list}
 use Rattle.plan.specs.Record.{Fitting}
 use Rattle.plan.specs.declared.record.Plan.{Plan}
 use Rattle.plan.specs.declared.fault.Outcome.the-variants.{Accepted}
@@ -25,7 +28,7 @@ use Rattle.finding.specs.Least.{Behind, from-start, LeastOf, least, none}
 use Rattle.finding.specs.Walk.{Walk, ends as walk-ends, goes as walk-goes}
 use Rattle.finding.specs.declared.least.From.{From}
 use Rattle.finding.specs.declared.least.From.the-variants.{Start}
-use Rattle.finding.proofs.Walks.{walk-of, walk-at, walk-has, walk-rising}
+use Rattle.finding.proofs.Walks.{walk-of, walk-at, walk-has}
 use Rattle.stepping.specs.Followed.{Follows, position, none-left, headed, followed}
 use Rattle.stepping.specs.Walk.{Walked, ends, goes}
 use Rattle.stepping.specs.declared.Next.the-variants.{Position, NoneLeft}
@@ -61,18 +64,20 @@ pub walk-there : (bytes : List ℕ) → reading bytes .outcome ≡ Accepted → 
 walk-there bytes e =
     (members (settled (reading bytes .plan)) (suc (headed (reading bytes .plan))), walk-walked bytes e (all-walked (reading bytes .plan) (record-fits bytes)))
 
--- ---- every walk is the last list
+-- ---- every walk, cut, is the last list
 
 walk-members : (p : Plan) {xs : List ℕ} → Walk (Settles p) Start xs → (M : ℕ) → List·Memᴰ M xs ↔ Settles p M
 walk-members p w M = (walk-at w M, λ q. walk-has w M q from-start)
 
-walk-yields : {p : Plan} {r : Listing} {table xs : List ℕ} → ListsAll p r table → Walk (Settles p) Start xs → xs ≡ lastIn r table
+walk-yields : {p : Plan} {r : Listing} {table xs : List ℕ} → ListsAll p r table → Walk (Settles p) Start xs
+    → cutList (p .shown) xs ≡ lastIn r table
 walk-yields {p} {r} {table} {xs} l w =
-    let all = walk-members p w in
-    rising-ext xs (lastIn r table) (walk-rising w) (l .rising) (λ X m. l .members X .1 (all X .0 m)) (λ X m. all X .1 (l .members X .0 m))
+    let cuts = cut-of-list (p .shown) xs (walk-members p w) in
+    rising-ext (cutList (p .shown) xs) (lastIn r table) (cut-rising (p .shown) xs) (l .rising) (λ X m. l .members X .1 (cuts X .0 m))
+    (λ X m. cuts X .1 (l .members X .0 m))
 
 pub walk-is-last : (bytes table : List ℕ) {r : Listing} {table′ : List ℕ} → Promised bytes table r table′ → r .outcome ≡ Accepted → {xs : List ℕ}
-    → Walked bytes Start xs → xs ≡ lastIn r table′
+    → Walked bytes Start xs → cutList (reading bytes .plan .shown) xs ≡ lastIn r table′
 walk-is-last bytes table {r} {table′} h e w =
     let k = h .demand-1 .accepts .0 e in
     let lists : ListsAll (reading bytes .plan) r table′ =

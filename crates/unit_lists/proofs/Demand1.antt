@@ -33,13 +33,13 @@ use Rattle.dependency_graph.specs.Check.{verdict, Right, passes, row-16, row-10
 use Rattle.dependency_graph.specs.Order.{InOrder, all-done, next, workingOrder}
 use Rattle.dependency_graph.proofs.Order.{order-right, order-one}
 use Rattle.dependency_graph.proofs.Verdicts.{verdict-right, verdict-only, passes-of-verdict}
-use Rattle.splitting.specs.UnitList.{withLast}
+use Rattle.splitting.specs.UnitList.{Listed}
 use Rattle.unit_lists.specs.Lists.{unitList, lastList}
 use Rattle.unit_lists.specs.Table.{listAt, tableOf, countsOf, cleared, noCounts}
 use Rattle.unit_lists.specs.Answer.{Answer, refuse, unlessRefused, unitWork, afterGraph, answer}
 use Rattle.unit_lists.specs.Handed.{Handed}
 use Rattle.unit_lists.specs.Work.{Holding}
-use Rattle.unit_lists.specs.Demands.{ListOf, Long, Fits, FirstLong, here, later, last, ListsAll, Demand3}
+use Rattle.unit_lists.specs.Demands.{Shown, ListOf, Long, Fits, FirstLong, here, later, last, ListsAll, Demand3}
 use Rattle.unit_lists.specs.Demand1.{unitsIn, Lays, Listable, AllListed, FirstFault, table-place, reading-place, graph-place, unit-work, LeftBy, Demand1}
 use Rattle.unit_lists.specs.declared.listing.Listing.{Listing}
 use Rattle.unit_lists.proofs.HeldLists.{cleared-behind, held-count, held-padded, held-word, held-long, held-behind}
@@ -51,10 +51,10 @@ use Rattle.unit_lists.proofs.Demand3.{Worked, too-long, all-fit, few, w
 -- ---- small laws
 
 -- a list that fits is not above 256, so none is the first that is
-fits-not-long : {S : Units} {u : ℕ} → Fits S u → Long S u → ⊥
+fits-not-long : {Member : ℕ → Type 0} → Fits Member → Long Member → ⊥
 fits-not-long f l = omega (arith, ap length (list-once (f .is) (l .is)), f .at-most, l .above)
 
-none-long : {S : Units} {done : ℕ} {us : List ℕ} {w : ℕ} → ((u : ℕ) → u < S .units → Fits S u) → Fits (withLast S) (S .units) → InOrder S done us
+none-long : {S : Units} {done : ℕ} {us : List ℕ} {w : ℕ} → ((u : ℕ) → u < S .units → Fits (Listed S u)) → Fits (Shown S) → InOrder S done us
     → FirstLong S us w → ⊥
 none-long f k (all-done d) (last l) = fits-not-long k l
 none-long f k (next {u = u} below r low o) (here l) = fits-not-long (f u below) l
@@ -130,8 +130,8 @@ listable-lists {r = r} {table′ = table′} demand k long =
     subst (λ (x : Reading). ListsAll (x .plan) r table′) (lays-read (k .lays))
     (d .otherwise
     (λ u f.
-    none-long (subst (λ (T : Units). (v : ℕ) → v < T .units → Fits T v) e (k .unit-fits))
-    (subst (λ (T : Units). Fits (withLast T) (T .units)) e (k .last-fits)) (d .in-order) f))
+    none-long (subst (λ (T : Units). (v : ℕ) → v < T .units → Fits (Listed T v)) e (k .unit-fits))
+    (subst (λ (T : Units). Fits (Shown T)) e (k .last-fits)) (d .in-order) f))
 
 laid : {bytes : List ℕ} → All IsByte bytes → reading bytes .outcome ≡ Accepted → (c : Contents) × Lays bytes c
 laid {bytes} all e = let p = accepted-is-plan bytes all e in (p .contents, record { within = p .within; bytes-are = p .bytes-are })
@@ -266,11 +266,11 @@ module _ (bytes table : List ℕ) (all : All IsByte bytes) where
             record {
               lays = c .1;
               passes = subst Passes same (p .passes);
-              unit-fits = subst (λ (T : Units). (u : ℕ) → u < T .units → Fits T u) same
+              unit-fits = subst (λ (T : Units). (u : ℕ) → u < T .units → Fits (Listed T u)) same
                   (λ u l.
                   fits-iff (unit-list-is bytes table all p u l) .1
                   (subst (λ (xs : List ℕ). length xs ≤ LIST_WORDS) (list-there S u most l) (held .small u)));
-              last-fits = subst (λ (T : Units). Fits (withLast T) (T .units)) same
+              last-fits = subst (λ (T : Units). Fits (Shown T)) same
                   (fits-iff (last-list-is bytes table all p) .1
                   (subst (λ (xs : List ℕ). length xs ≤ LIST_WORDS) (list-last S) (held .small LAST_COUNT)));
             },
@@ -287,9 +287,9 @@ module _ (bytes table : List ℕ) (all : All IsByte bytes) where
         let most = few bytes table all p in
         record {
           lists = listAt S;
-          unit-list = λ u l. subst (ListOf S u) (sym (list-there S u most l)) (unit-list-is bytes table all p u l);
+          unit-list = λ u l. subst (ListOf (Listed S u)) (sym (list-there S u most l)) (unit-list-is bytes table all p u l);
           no-unit = λ i l k. list-absent S i (λ q. omega arith) l;
-          last-list = subst (ListOf (withLast S) (S .units)) (sym (list-last S)) (last-list-is bytes table all p);
+          last-list = subst (ListOf (Shown S)) (sym (list-last S)) (last-list-is bytes table all p);
           counted = held-count held;
           member = held-word held;
           zero-behind = λ i j l k m. held-padded held i j l m ∙ padded-behind LIST_WORDS (listAt S i) j k m;

@@ -9,6 +9,8 @@ use native.Mathlib.Decide.{ℕ-discrete, decLt}
 use lib.ListN.{length}
 use Rattle.atoms.specs.Word.{below}
 use Rattle.atoms.specs.Rising.{Rising}
+use Rattle.atoms.specs.Cuts.{CutOf}
+use Rattle.atoms.proofs.Cuts.{cut-for}
 use Rattle.answer_sets.specs.AnswerSet.{AnswerSet}
 use Rattle.answer_sets.specs.Lent.{lent}
 use Rattle.plan.specs.Limits.{MAX_UNITS, LIST_WORDS, TABLE_WORDS, LAST_COUNT}
@@ -24,14 +26,14 @@ use Rattle.dependency_graph.specs.PlanUnits.{unitsOf}
 use Rattle.dependency_graph.proofs.Order.{order-right, order-each, order-only}
 use Rattle.dependency_graph.proofs.PlanUnits.{looks-only}
 use Rattle.dependency_graph.proofs.Verdicts.{verdict-of-passes}
-use Rattle.splitting.specs.UnitList.{withLast}
+use Rattle.splitting.specs.UnitList.{Listed}
 use Rattle.splitting.proofs.Last.{last-list}
 use Rattle.unit_lists.specs.Lists.{unitList, lastList}
 use Rattle.unit_lists.specs.Table.{listAt, tableOf, countsOf, cleared}
 use Rattle.unit_lists.specs.Answer.{Answer, refuse, workFrom, unitWork, answer}
 use Rattle.unit_lists.specs.Handed.{Handed}
 use Rattle.unit_lists.specs.Work.{Holding}
-use Rattle.unit_lists.specs.Demands.{ListOf, FirstLong, here, later, last, ListsAll, Complete, Demand3}
+use Rattle.unit_lists.specs.Demands.{Shown, ListOf, FirstLong, here, later, last, ListsAll, Complete, Demand3}
 use Rattle.unit_lists.specs.declared.listing.Listing.{Listing}
 use Rattle.unit_lists.proofs.HeldLists.{held-count, held-list}
 use Rattle.unit_lists.proofs.WorkedUnits.{list-there, list-absent, list-last}
@@ -43,8 +45,8 @@ use Rattle.unit_lists.proofs.Enumerations.{long-iff, fits-iff, unit-lis
 
 -- the computing lists of these units, and the last one, are lists by meaning
 pub record Enumerated (S : Units) (us : List ℕ) : Type 0 where
-  pub each : (u : ℕ) → List·Memᴰ u us → ListOf S u (unitList S u)
-  pub last-one : ListOf (withLast S) (S .units) (lastList S)
+  pub each : (u : ℕ) → List·Memᴰ u us → ListOf (Listed S u) (unitList S u)
+  pub last-one : ListOf (Shown S) (lastList S)
 
 -- what unit work comes to
 pub data Worked (S : Units) (table us : List ℕ) : Type 0 where
@@ -53,7 +55,7 @@ pub data Worked (S : Units) (table us : List ℕ) : Type 0 where
       → workFrom S table us ≡ record { outcome = Accepted; counts = countsOf S; table = tableOf S table } → Worked S table us
 
 module _ {S : Units} (table : List ℕ) where
-  first : {v : ℕ} {vs : List ℕ} → Enumerated S (v ∷ vs) → ListOf S v (unitList S v)
+  first : {v : ℕ} {vs : List ℕ} → Enumerated S (v ∷ vs) → ListOf (Listed S v) (unitList S v)
   first {v} e = e .each v (List·Memᴰ·head refl)
 
   rest : {v : ℕ} {vs : List ℕ} → Enumerated S (v ∷ vs) → Enumerated S vs
@@ -122,10 +124,10 @@ module _ (bytes table : List ℕ) (all : All IsByte bytes) (passed : Passed byte
     last-one = last-list-of S (passed .passes) (passed .passes .given-free) (plan-clean bytes all (passed .reads)) (record-fits bytes .rules-fit);
   }
 
-  pub unit-list-is : (u : ℕ) → u < S .units → ListOf S u (unitList S u)
+  pub unit-list-is : (u : ℕ) → u < S .units → ListOf (Listed S u) (unitList S u)
   unit-list-is u l = enumerated .each u (order-each S (passed .passes .acyclic) u l)
 
-  pub last-list-is : ListOf (withLast S) (S .units) (lastList S)
+  pub last-list-is : ListOf (Shown S) (lastList S)
   last-list-is = enumerated .last-one
 
   pub answer-is : answer bytes table ≡ unitWork S table
@@ -166,12 +168,13 @@ module _ (bytes table : List ℕ) (all : All IsByte bytes) (passed : Passed byte
         let sets = last-list S (passed .passes) (looks-only p) (passed .passes .given-free) (plan-clean bytes all (passed .reads)) in
         record {
           accepted = e;
-          units = λ u l. subst (ListOf S u) (sym (held-list k u (omega (arith, few)) ∙ list-there S u few l)) (unit-list-is u l);
+          units = λ u l. subst (ListOf (Listed S u)) (sym (held-list k u (omega (arith, few)) ∙ list-there S u few l)) (unit-list-is u l);
           rising = subst Rising (sym last) (enumerated .last-one .rising);
-          members = λ M.
-              subst (λ (l : List ℕ). List·Memᴰ M l ↔ AnswerSet (lent (p .rules)) (below (p .«rule_count»)) (p .given) M) (sym last) (
-                λ m. sets M .0 (enumerated .last-one .members M .0 m),
-                λ a. enumerated .last-one .members M .1 (sets M .1 a),
+          members = λ X.
+              subst (λ (l : List ℕ). List·Memᴰ X l ↔ CutOf (p .shown) (AnswerSet (lent (p .rules)) (below (p .«rule_count»)) (p .given)) X)
+              (sym last) (
+                λ m. cut-for (λ M. sets M .0) (enumerated .last-one .members X .0 m),
+                λ a. enumerated .last-one .members X .1 (cut-for (λ M. sets M .1) a),
               );
           counted = ap length (held-list k LAST_COUNT (omega arith)) ∙ sym (held-count k LAST_COUNT (omega arith));
         }

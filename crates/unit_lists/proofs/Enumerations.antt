@@ -6,39 +6,45 @@ use Prim.Native.Nat.{ℕ, _≤_, _<_}
 use native.Mathlib.Omega.{arith}
 use lib.ListN.{length}
 use Rattle.atoms.proofs.Rising.{rising-ext}
+use Rattle.atoms.proofs.Cuts.{cut-rising, cut-of-list}
 use Rattle.plan.specs.Limits.{MAX_RULES, LIST_WORDS}
 use Rattle.dependency_graph.specs.Units.{Units, GivenFree}
 use Rattle.dependency_graph.specs.Graph.{Passes}
-use Rattle.splitting.specs.UnitList.{Clean, withLast}
+use Rattle.splitting.specs.UnitList.{Listed, Clean, withLast}
 use Rattle.splitting.proofs.Last.{last-passes, last-free}
 use Rattle.unit_lists.specs.Lists.{unitList, lastList}
-use Rattle.unit_lists.specs.Demands.{ListOf, Long, Fits}
+use Rattle.unit_lists.specs.Demands.{Shown, ListOf, Long, Fits}
 use Rattle.unit_lists.proofs.Decided.{unit-list-at, unit-list-has}
 use Rattle.unit_lists.proofs.Joined.{unit-list-rising}
 
-pub list-once : {S : Units} {u : ℕ} {xs ys : List ℕ} → ListOf S u xs → ListOf S u ys → xs ≡ ys
+pub list-once : {Member : ℕ → Type 0} {xs ys : List ℕ} → ListOf Member xs → ListOf Member ys → xs ≡ ys
 list-once {xs = xs} {ys = ys} a b =
     rising-ext xs ys (a .rising) (b .rising) (λ M m. b .members M .1 (a .members M .0 m)) (λ M m. a .members M .1 (b .members M .0 m))
 
-pub long-iff : {S : Units} {u : ℕ} {xs : List ℕ} → ListOf S u xs → Long S u ↔ (LIST_WORDS < length xs)
+pub long-iff : {Member : ℕ → Type 0} {xs : List ℕ} → ListOf Member xs → Long Member ↔ (LIST_WORDS < length xs)
 long-iff {xs = xs} a = (
   λ l. subst (λ (ys : List ℕ). LIST_WORDS < length ys) (list-once (l .is) a) (l .above),
   λ l. record { list = xs; is = a; above = l },
 )
 
-pub fits-iff : {S : Units} {u : ℕ} {xs : List ℕ} → ListOf S u xs → Fits S u ↔ (length xs ≤ LIST_WORDS)
+pub fits-iff : {Member : ℕ → Type 0} {xs : List ℕ} → ListOf Member xs → Fits Member ↔ (length xs ≤ LIST_WORDS)
 fits-iff {xs = xs} a = (
   λ l. subst (λ (ys : List ℕ). length ys ≤ LIST_WORDS) (list-once (l .is) a) (l .at-most),
   λ l. record { list = xs; is = a; at-most = l },
 )
 
 module _ (S : Units) (pass : Passes S) (free : GivenFree S) (small : S .rules ≤ MAX_RULES) where
-  pub unit-list-of : (u : ℕ) → u < S .units → ListOf S u (unitList S u)
+  pub unit-list-of : (u : ℕ) → u < S .units → ListOf (Listed S u) (unitList S u)
   unit-list-of u l = record {
     rising = unit-list-rising S u;
     members = λ M. (unit-list-at S pass free small u M l, unit-list-has S pass free small u M l);
   }
 
-pub last-list-of : (S : Units) → Passes S → GivenFree S → Clean S → S .rules ≤ MAX_RULES → ListOf (withLast S) (S .units) (lastList S)
+pub last-list-of : (S : Units) → Passes S → GivenFree S → Clean S → S .rules ≤ MAX_RULES → ListOf (Shown S) (lastList S)
 unfolding lastList withLast
-last-list-of S pass free clean small = unit-list-of (withLast S) (last-passes S clean pass) (last-free S free) small (S .units) (omega arith)
+last-list-of S pass free clean small =
+    let all = unit-list-of (withLast S) (last-passes S clean pass) (last-free S free) small (S .units) (omega arith) in
+    record {
+      rising = cut-rising (S .shown) (unitList (withLast S) (S .units));
+      members = cut-of-list (S .shown) (unitList (withLast S) (S .units)) (all .members);
+    }

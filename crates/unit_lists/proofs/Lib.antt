@@ -14,4 +14,5 @@ pub mod Demand2
 pub mod Demand3
 pub mod Agreement
 pub mod Demand1
+pub mod ShownAtoms
 pub mod Promised

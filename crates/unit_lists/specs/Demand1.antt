@@ -16,8 +16,8 @@ use Rattle.dependency_graph.specs.PlanUnits.{unitsOf}
 use Rattle.dependency_graph.specs.Graph.{Passes}
 use Rattle.dependency_graph.specs.Check.{Right}
 use Rattle.dependency_graph.specs.Order.{InOrder}
-use Rattle.splitting.specs.UnitList.{withLast}
-use Rattle.unit_lists.specs.Demands.{ListOf, Fits, FirstLong}
+use Rattle.splitting.specs.UnitList.{Listed}
+use Rattle.unit_lists.specs.Demands.{Shown, ListOf, Fits, FirstLong}
 use Rattle.unit_lists.specs.declared.listing.Listing.{Listing}
 
 -- the units of a plan's lists
@@ -33,15 +33,15 @@ pub record Lays (bytes : List ℕ) (c : Contents) : Type 0 where
 pub record Listable (bytes : List ℕ) (c : Contents) : Type 0 where
   pub lays : Lays bytes c
   pub passes : Passes (unitsIn c)
-  pub unit-fits : (u : ℕ) → u < unitsIn c .units → Fits (unitsIn c) u
-  pub last-fits : Fits (withLast (unitsIn c)) (unitsIn c .units)
+  pub unit-fits : (u : ℕ) → u < unitsIn c .units → Fits (Listed (unitsIn c) u)
+  pub last-fits : Fits (Shown (unitsIn c))
 
 -- "all its lists and counts, with every word of the lent table fixed" (01, The lent table)
 pub record AllListed (S : Units) (table : List ℕ) (r : Listing) (table′ : List ℕ) : Type 0 where
   pub lists : ℕ → List ℕ
-  pub unit-list : (u : ℕ) → u < S .units → ListOf S u (lists u)
+  pub unit-list : (u : ℕ) → u < S .units → ListOf (Listed S u) (lists u)
   pub no-unit : (i : ℕ) → S .units ≤ i → i < LAST_COUNT → lists i ≡ []
-  pub last-list : ListOf (withLast S) (S .units) (lists LAST_COUNT)
+  pub last-list : ListOf (Shown S) (lists LAST_COUNT)
   pub counted : (i : ℕ) → i < COUNTS → getD (r .counts) i 0 ≡ length (lists i)
   pub member : (i j : ℕ) → i < COUNTS → j < length (lists i) → getD table′ (LIST_WORDS * i + j) 0 ≡ getD (lists i) j 0
   pub zero-behind : (i j : ℕ) → i < COUNTS → length (lists i) ≤ j → j < LIST_WORDS → getD table′ (LIST_WORDS * i + j) 0 ≡ 0

@@ -7,6 +7,7 @@ use lib.ListN.{length, take, drop, getD}
 use Rattle.atoms.specs.Word.{below}
 use Rattle.atoms.specs.Rising.{Rising}
 use Rattle.atoms.specs.Collected.{Least}
+use Rattle.atoms.specs.Cuts.{CutOf}
 use Rattle.answer_sets.specs.AnswerSet.{AnswerSet}
 use Rattle.answer_sets.specs.Lent.{lent}
 use Rattle.reading.specs.Reading.{reading}
@@ -47,29 +48,33 @@ pub record Demand2 (bytes table : List ℕ) (r : Listing) : Type 0 where
 
 -- ---- demand 3: the last list
 
--- the members of u's list, each once, rising
-pub record ListOf (S : Units) (u : ℕ) (list : List ℕ) : Type 0 where
-  pub rising : Rising list
-  pub members : (M : ℕ) → List·Memᴰ M list ↔ Listed S u M
+-- what the last list holds: "the answer sets cut to shown atoms" (02, S-11), as members of the one more unit's list
+abbrev pub Shown : Units → ℕ → Type 0
+Shown S = CutOf (S .shown) (Listed (withLast S) (S .units))
 
--- "list above 256": u's list has more members
-pub record Long (S : Units) (u : ℕ) : Type 0 where
+-- the members, each once, rising
+pub record ListOf (Member : ℕ → Type 0) (list : List ℕ) : Type 0 where
+  pub rising : Rising list
+  pub members : (M : ℕ) → List·Memᴰ M list ↔ Member M
+
+-- "list above 256": there are more members
+pub record Long (Member : ℕ → Type 0) : Type 0 where
   pub list : List ℕ
-  pub is : ListOf S u list
+  pub is : ListOf Member list
   pub above : LIST_WORDS < length list
 
--- it has not
-pub record Fits (S : Units) (u : ℕ) : Type 0 where
+-- there are not
+pub record Fits (Member : ℕ → Type 0) : Type 0 where
   pub list : List ℕ
-  pub is : ListOf S u list
+  pub is : ListOf Member list
   pub at-most : length list ≤ LIST_WORDS
 
 -- "first such unit in working order": u's list is the first above 256 along these units; the last list, whose number is the count of
--- units, comes after all
+-- units, comes after all: "refusal 15 for the last list counts cut positions" (02, S-11)
 pub data FirstLong (S : Units) : List ℕ → ℕ → Type 0 where
-  here : {u : ℕ} {us : List ℕ} → Long S u → FirstLong S (u ∷ us) u
-  later : {u w : ℕ} {us : List ℕ} → Fits S u → FirstLong S us w → FirstLong S (u ∷ us) w
-  last : Long (withLast S) (S .units) → FirstLong S [] (S .units)
+  here : {u : ℕ} {us : List ℕ} → Long (Listed S u) → FirstLong S (u ∷ us) u
+  later : {u w : ℕ} {us : List ℕ} → Fits (Listed S u) → FirstLong S us w → FirstLong S (u ∷ us) w
+  last : Long (Shown S) → FirstLong S [] (S .units)
 
 -- "The list of unit i starts at word 256·i", as many words as its count says
 abbrev pub listIn : Listing → List ℕ → ℕ → List ℕ
@@ -79,13 +84,14 @@ listIn r table i = take (getD (r .counts) i 0) (drop (LIST_WORDS * i) table)
 abbrev pub lastIn : Listing → List ℕ → List ℕ
 lastIn r table = take (getD (r .counts) LAST_COUNT 0) (drop LAST_LIST table)
 
--- each unit's list is in its place; the last list holds every answer set of all the plan's rules as one set, with its given atoms as facts, once
--- each, rising, and nothing else; the last count is their number
+-- each unit's list is in its place; the last list holds what shows of every answer set of all the plan's rules as one set, with its given atoms as
+-- facts, once each, rising, and nothing else; the last count is their number
 pub record ListsAll (p : Plan) (r : Listing) (table : List ℕ) : Type 0 where
   pub accepted : r .outcome ≡ Accepted
-  pub units : (u : ℕ) → u < p .«unit_count» → ListOf (unitsOf p) u (listIn r table u)
+  pub units : (u : ℕ) → u < p .«unit_count» → ListOf (Listed (unitsOf p) u) (listIn r table u)
   pub rising : Rising (lastIn r table)
-  pub members : (M : ℕ) → List·Memᴰ M (lastIn r table) ↔ AnswerSet (lent (p .rules)) (below (p .«rule_count»)) (p .given) M
+  pub members : (X : ℕ)
+      → List·Memᴰ X (lastIn r table) ↔ CutOf (p .shown) (AnswerSet (lent (p .rules)) (below (p .«rule_count»)) (p .given)) X
   pub counted : length (lastIn r table) ≡ getD (r .counts) LAST_COUNT 0
 
 -- in the working order, refusal 15 exactly at the first list above 256, and otherwise all answer sets

@@ -5,6 +5,7 @@ use Prim.Native.Nat.{ℕ, zero, suc}
 use Rattle.atoms.specs.Word.{_∩_, below, subset}
 use Rattle.atoms.specs.Bounded.{allIn, someBelow}
 use Rattle.atoms.specs.Rising.{members}
+use Rattle.atoms.specs.Cuts.{cutList}
 use Rattle.answer_sets.specs.Test.{answerSet}
 use Rattle.dependency_graph.specs.Units.{Units}
 use Rattle.dependency_graph.specs.Heads.{reach, heads, inputHeads}
@@ -32,6 +33,7 @@ inList S (suc depth) u M =
 unfoldable pub unitList : Units → ℕ → List ℕ
 unitList S u = members (inList S (suc (reach S u)) u) (suc (heads S u))
 
--- "The last list is that of one more unit, with no rules and an edge to every unit"
+-- "The last list is that of one more unit, with no rules and an edge to every unit"; it holds, "once each and rising, the answer sets cut
+-- to shown atoms" (02, S-11)
 unfoldable pub lastList : Units → List ℕ
-lastList S = unitList (withLast S) (S .units)
+lastList S = cutList (S .shown) (unitList (withLast S) (S .units))

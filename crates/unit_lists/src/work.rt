@@ -157,7 +157,7 @@ fn last_unit(plan: Plan, head_atoms: HeadAtoms) -> Unit
     }
 }
 
-// The last list, where all units are listed. Whether it fits.
+// The last list, where all units are listed: what shows of its members. Whether it fits.
 fn list_last(plan: Plan, head_atoms: HeadAtoms, table: &mut [u64], counts: &mut [usize]) -> bool
     requires { ⌜ Setting plan «head_atoms» × ListsThere (unitsOf plan) (λ v. v < plan .«unit_count») (now table) (now counts) ⌝ }
     ensures { λ r. ⌜ MembersStored (lastList (unitsOf plan)) LAST_COUNT
@@ -171,7 +171,7 @@ fn list_last(plan: Plan, head_atoms: HeadAtoms, table: &mut [u64], counts: &mut 
         unit,
         plan.given,
         unit.inputs,
-        atoms::EVERY_ATOM,
+        plan.shown,
         LAST_COUNT,
         table,
         counts,

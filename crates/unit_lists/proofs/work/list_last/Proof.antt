@@ -8,7 +8,7 @@ use Rattle.plan.specs.Limits.{MAX_UNITS, PROGRAM_WORDS, LAST_COUNT}
 use Rattle.dependency_graph.specs.PlanUnits.{unitsOf}
 use Rattle.splitting.specs.UnitList.{withLast}
 use Rattle.unit_lists.specs.Lists.{lastList}
-use Rattle.unit_lists.proofs.Joined.{Listable, searchable, unit-stored}
+use Rattle.unit_lists.proofs.Joined.{Listable, searchable, cuts-stored}
 use Rattle.unit_lists.proofs.LastUnit.{last-listable, heads-of-last}
 use Rattle.unit_lists.proofs.work.list_last.Statement.{statement}
 use Rattle.unit_lists.proofs.work.list_last.Tie as tie
@@ -40,7 +40,7 @@ unfolding lastList unitsOf withLast
 returns c =
     let done = c .before .before .before .before in
     let told = done .before .before .before .before .before .before .before in
-    unit-stored (listable told) (told .last-unit .ensures) (told .last-unit .result .inputs) LAST_COUNT
+    cuts-stored (listable told) (told .last-unit .ensures) (told .last-unit .result .inputs) (start told .args .t1 .shown) LAST_COUNT
     (told .last-unit .ensures .inputs-are ∙ heads-of-last (unitsOf (start told .args .t1))) (done .list-one .ensures)
 
 pub list-last-spec : {M : Type 1} → statement M
