@@ -54,7 +54,8 @@ enum {
 #define LUCARNECRESS_LAST_COUNT 16u    /* where the count of the last list stands */
 
 /* Lists a plan. The lists go into the table, rising, with zeros behind each; the counts say how many positions each has. Counts are
- * written as far as there is room. Gives 0, or the code of the refusal: then all counts are 0, and the table is as it was, or for
+ * written as far as there is room. The last list has the positions cut to the atoms that the plan shows (SHOW), each cut once; unit lists are
+ * not cut. Gives 0, or the code of the refusal: then all counts are 0, and the table is as it was, or for
  * LUCARNECRESS_LONG_LIST its first LUCARNECRESS_TABLE_WORDS words are 0. */
 uint64_t lucarnecress_list(const uint8_t *plan, size_t plan_length, uint64_t *table, size_t table_length, uint64_t *counts,
                            size_t counts_length);
@@ -64,7 +65,8 @@ uint64_t lucarnecress_list(const uint8_t *plan, size_t plan_length, uint64_t *ta
 #define LUCARNECRESS_NOT_SETTLED 0u
 #define LUCARNECRESS_SETTLED 1u
 
-/* Judges one position: LUCARNECRESS_SETTLED, LUCARNECRESS_NOT_SETTLED, or the code of a refusal in reading. */
+/* Judges one position with all its atoms, whatever the plan shows: LUCARNECRESS_SETTLED, LUCARNECRESS_NOT_SETTLED, or the code of a refusal in
+ * reading. */
 uint64_t lucarnecress_judge(const uint8_t *plan, size_t plan_length, uint64_t position);
 
 /* ---- one position after the other -------------------------------------------------------------------------------------------- */

@@ -196,7 +196,7 @@ impl Groups {
         let uses = rules + draft.rules.len();
         let units = uses + draft.uses.len();
         let edges = units + draft.units.len();
-        Groups { tables, rules, uses, units, edges, end: edges + draft.edges.len() }
+        Groups { tables, rules, uses, units, edges, end: edges + draft.edges.len() + usize::from(draft.shown.is_some()) }
     }
 }
 
@@ -205,6 +205,9 @@ pub fn broken_reading(random: &mut Random) -> Vec<u8> {
     let mut draft = if random.chance(30) { large_draft(random) } else { sound_draft(random) };
     if random.chance(50) {
         draft.given.get_or_insert(0);
+    }
+    if random.chance(50) {
+        draft.shown.get_or_insert(random.word());
     }
     let groups = Groups::of(&draft);
     let mut commands = draft.commands();
@@ -246,7 +249,7 @@ fn break_reading(random: &mut Random, draft: &Draft, groups: &Groups, commands: 
     let (units, rules) = (draft.units.len() as u8, draft.rules.len());
     let edge = (random.byte() % 20, random.byte() % 20);
     let any_word = random.word() >> random.below(64);
-    let (first, last, command) = match random.below(22) {
+    let (first, last, command) = match random.below(26) {
         0 => (0, groups.end, vec![random.byte()]),
         1 => (groups.rules, groups.uses, encode::rule(0, 0, 0)),
         2 => (groups.units, groups.edges, encode::unit(any_word)),
@@ -266,7 +269,9 @@ fn break_reading(random: &mut Random, draft: &Draft, groups: &Groups, commands: 
         16 => (groups.rules, groups.uses, encode::rule(0, any_word | 1, any_word | 3)),
         17 => (groups.rules, groups.end, encode::rule(any_word, any_word, any_word)),
         18..=20 => (groups.tables, groups.tables, encode::given(any_word)),
-        _ => (groups.end + 1, groups.end + 1, vec![random.pick(&[0, 1, 2, 3, 4, 5, 6, 9]); random.between(1, 30)]),
+        21 => (0, groups.end, encode::show(any_word)),
+        22..=24 => (groups.end, groups.end, encode::show(any_word)),
+        _ => (groups.end + 1, groups.end + 1, vec![random.pick(&[0, 1, 2, 3, 4, 5, 6, 8, 9]); random.between(1, 30)]),
     };
     let place = random.between(first, last).min(commands.len());
     commands.insert(place, command);

@@ -189,7 +189,37 @@ with_mistake "15 for many inputs" \
     'if list.len() > LIST_WORDS {' 'if list.len() > LIST_WORDS || inputs(given, predecessors).len() > LIST_WORDS {'
 with_mistake "the highest unit is worked first" \
     '(0..count).find(|&unit| is_ready' '(0..count).rev().find(|&unit| is_ready'
-with_mistake "15 at the last list names unit 16" '&[], &every_unit, count)' '&[], &every_unit, MAX_UNITS)'
+with_mistake "15 at the last list names unit 16" 'at_most_256(plan.cut(&uncut), count)' 'at_most_256(plan.cut(&uncut), 16)'
+with_mistake "SHOW: the last list is not cut" 'position & self.shown_atoms()' '*position'
+with_mistake "SHOW: cut positions are not sorted and freed of repeats" '        cut.sort_unstable();
+        cut.dedup();
+        cut' '        cut'
+with_mistake "SHOW: 15 counts uncut positions" 'at_most_256(plan.cut(&uncut), count)' 'at_most_256(uncut.clone(), count).map(|list| plan.cut(&list))'
+with_mistake "SHOW: unit lists are cut" \
+    'let list = unit_list(plan.given_atoms(), &plan.unit_rules(unit), &predecessors, unit)?;' \
+    'let list = plan.cut(&unit_list(plan.given_atoms(), &plan.unit_rules(unit), &predecessors, unit)?);'
+with_mistake "SHOW: 15 counts cut positions of a unit" \
+    'let list = unit_list(plan.given_atoms(), &plan.unit_rules(unit), &predecessors, unit)?;' \
+    'let mut list = members(plan.given_atoms(), &plan.unit_rules(unit), &predecessors);
+        at_most_256(plan.cut(&list), unit)?;
+        list.truncate(LIST_WORDS);'
+with_mistake "SHOW: lists are cut before they are joined" \
+    'let uncut = members(plan.given_atoms(), &[], &every_unit);' \
+    'let cut: Vec<Done> = every_unit.iter().map(|unit| Done { atoms: unit.atoms, list: plan.cut(&unit.list) }).collect();
+    let uncut = members(plan.given_atoms() & plan.shown_atoms(), &[], &cut.iter().collect::<Vec<_>>());'
+with_mistake "SHOW: 0 is listed without an answer set" 'cut.sort_unstable();' 'cut.extend(self.shown.map(|_| 0));
+        cut.sort_unstable();'
+with_mistake "SHOW: given atoms are not cut" 'position & self.shown_atoms()' 'position & (self.shown_atoms() | self.given_atoms())'
+with_mistake "SHOW: a single position is cut" 'let given = plan.given_atoms();
+    Ok(' 'let (given, position) = (plan.given_atoms(), position & plan.shown_atoms());
+    Ok('
+with_mistake "SHOW: the sheet is not cut" 'listing.last.iter().map(|position| format!' 'listing.uncut.iter().map(|position| format!'
+with_mistake "SHOW: without it nothing shows" 'self.shown.unwrap_or(!0)' 'self.shown.unwrap_or(0)'
+with_mistake "SHOW: a second one is taken" '|| kind == Kind::Show && plan.shown.is_some() ||' '||'
+with_mistake "SHOW: EDGE may stand behind it" 'if kind < group ||' 'if kind < group && !(kind == Kind::Edge && group == Kind::Show) ||'
+with_mistake "SHOW: it may stand before EDGEs" '        group = kind;' '        group = if kind == Kind::Show { group } else { kind };'
+with_mistake "SHOW: unknown" '            0x08 => Some(Kind::Show),
+' ''
 
 # Table and sheet
 with_mistake "a count one too high" 'counts[place] = list.len() as u64;' 'counts[place] = list.len() as u64 + 1;'

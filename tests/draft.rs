@@ -22,6 +22,8 @@ pub struct Draft {
     /// One word for each unit, bit i for rule i.
     pub units: Vec<u64>,
     pub edges: Vec<(usize, usize)>,
+    /// The word of SHOW, if the plan has one.
+    pub shown: Option<u64>,
 }
 
 impl Draft {
@@ -145,7 +147,8 @@ impl Draft {
         let rules = random.permutation(self.rules.len());
         let units = random.permutation(self.units.len());
         let given = self.given.map(|word| moved_bits(word, &atoms));
-        let mut draft = Draft { given, edges: Vec::new(), ..self.clone() };
+        let shown = self.shown.map(|word| moved_bits(word, &atoms));
+        let mut draft = Draft { given, shown, edges: Vec::new(), ..self.clone() };
         let tables = random.permutation(self.tables.len());
         for (table, &words) in self.tables.iter().enumerate() {
             draft.tables[tables[table]] = moved_table(words, &atoms);
@@ -172,8 +175,9 @@ impl Draft {
         let uses = uses.map(|[rule, table, sign]| encode::use_of(rule, table, sign));
         let units = self.units.iter().map(|&unit| encode::unit(unit));
         let edges = self.edges.iter().map(|&(u, v)| encode::edge(u as u8, v as u8));
+        let shown = self.shown.iter().map(|&atoms| encode::show(atoms));
         let front = given.chain(tables).chain(rules).chain(uses);
-        front.chain(units).chain(edges).chain(std::iter::once(encode::end())).collect()
+        front.chain(units).chain(edges).chain(shown).chain(std::iter::once(encode::end())).collect()
     }
 
     pub fn bytes(&self) -> Vec<u8> {

@@ -6,6 +6,7 @@ pub const RULE: u8 = 0x01;
 pub const USE: u8 = 0x06;
 pub const UNIT: u8 = 0x02;
 pub const EDGE: u8 = 0x03;
+pub const SHOW: u8 = 0x08;
 pub const END: u8 = 0x00;
 
 pub fn given(atoms: u64) -> Vec<u8> {
@@ -31,6 +32,10 @@ pub fn unit(rules: u64) -> Vec<u8> {
 
 pub fn edge(u: u8, v: u8) -> Vec<u8> {
     vec![EDGE, u, v]
+}
+
+pub fn show(atoms: u64) -> Vec<u8> {
+    command(SHOW, &[atoms])
 }
 
 pub fn end() -> Vec<u8> {

@@ -4,6 +4,7 @@ use crate::broken_plans as broken;
 use crate::draft::Draft;
 use crate::lister::TABLE_WORDS;
 use crate::random::Random;
+use crate::shown_plans as shown;
 use crate::stop_plans as stops;
 use crate::table_plans as tables;
 use crate::valid_plans as valid;
@@ -44,6 +45,11 @@ static FAMILIES: &[Family] = &[
     family("full size", 10, Draw::Valid(valid::full_size)),
     family("given atoms", 70, Draw::Valid(valid::given_atoms)),
     family("given atoms, many in heads", 10, Draw::ManyAtoms(valid::given_among_many)),
+    family("shown atoms", 80, Draw::Valid(shown::shown_atoms)),
+    family("shown atoms, many in heads", 15, Draw::ManyAtoms(shown::shown_among_many)),
+    family("relays with helpers", 40, Draw::Valid(shown::helpers)),
+    family("over 256 positions until cut", 12, Draw::ManyAtoms(shown::long_until_cut)),
+    family("unit list too long, cut list not", 6, Draw::ManyAtoms(shown::unit_list_too_long)),
     family("contradicting constraints", 80, Draw::Valid(stops::contradicting_constraints)),
     family("pigeonholes", 40, Draw::Valid(stops::pigeonholes)),
     family("contradicting parities", 50, Draw::Valid(stops::contradicting_parities)),

@@ -118,6 +118,35 @@ static void check_tables(void)
     same("tables, sheet, refused bytes", 0, (uint64_t)(memcmp(sheet, sheet_bad_use, sizeof sheet_bad_use - 1) != 0));
 }
 
+/* Plan P that shows relays 1 and 2 alone: its last list and sheet are cut, unit lists and single positions are not. */
+#define SHOW_BYTES 9u
+
+static void check_shown(void)
+{
+    static const char sheet_shown[] = "positions 2\n0000000000000002\n0000000000000004\n";
+    static const uint8_t show[SHOW_BYTES + 1] = {0x08, 0x06};
+    static uint64_t table[LUCARNECRESS_TABLE_WORDS];
+    uint64_t counts[LUCARNECRESS_COUNTS];
+    uint8_t sheet[LUCARNECRESS_SHEET_BYTES];
+    uint8_t plan[sizeof plan_p + 2 * SHOW_BYTES];
+    memcpy(plan, plan_p, sizeof plan_p - 1);
+    memcpy(plan + sizeof plan_p - 1, show, sizeof show);
+    same("shown, list", 0,
+         lucarnecress_list(plan, sizeof plan_p + SHOW_BYTES, table, LUCARNECRESS_TABLE_WORDS, counts, LUCARNECRESS_COUNTS));
+    same("shown, list, last count", 2, counts[LUCARNECRESS_LAST_COUNT]);
+    same("shown, list, first position", 0x2, table[LUCARNECRESS_LAST_LIST]);
+    same("shown, list, second position", 0x4, table[LUCARNECRESS_LAST_LIST + 1]);
+    same("shown, list, unit 0", 0x1, table[0]);
+    same("shown, judge, settled", LUCARNECRESS_SETTLED, lucarnecress_judge(plan, sizeof plan_p + SHOW_BYTES, settled[1]));
+    same("shown, judge, its cut", LUCARNECRESS_NOT_SETTLED, lucarnecress_judge(plan, sizeof plan_p + SHOW_BYTES, 0x4));
+    same("shown, sheet, length", sizeof sheet_shown - 1,
+         lucarnecress_sheet(plan, sizeof plan_p + SHOW_BYTES, sheet, sizeof sheet));
+    same("shown, sheet, bytes", 0, (uint64_t)(memcmp(sheet, sheet_shown, sizeof sheet_shown - 1) != 0));
+    memcpy(plan + sizeof plan_p - 1 + SHOW_BYTES, show, sizeof show);
+    same("shown, a second SHOW", refusal(LUCARNECRESS_OUT_OF_ORDER, sizeof plan_p - 1 + SHOW_BYTES),
+         lucarnecress_judge(plan, sizeof plan, settled[0]));
+}
+
 static void check_list(void)
 {
     static uint64_t table[LUCARNECRESS_TABLE_WORDS + 1];
@@ -286,8 +315,8 @@ static void check_codes(void)
     same("spot of a code", 9, LUCARNECRESS_SPOT(code));
 }
 
-static void (*const checks[])(void) = {check_list,   check_judge,    check_walk,    check_walk_edges, check_sheet, check_count,
-                                       check_common, check_readings, check_largest, check_codes,      check_tables};
+static void (*const checks[])(void) = {check_list,   check_judge,    check_walk,    check_walk_edges, check_sheet,  check_count,
+                                       check_common, check_readings, check_largest, check_codes,      check_tables, check_shown};
 
 int main(void)
 {

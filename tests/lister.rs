@@ -172,6 +172,8 @@ pub struct Plan {
     pub units: Vec<u64>,
     /// (u, v): unit u depends on unit v.
     pub edges: Vec<(usize, usize)>,
+    /// The word of SHOW, if there is one.
+    pub shown: Option<u64>,
 }
 
 /// The kinds of command, in the order of their groups.
@@ -183,6 +185,7 @@ enum Kind {
     Use,
     Unit,
     Edge,
+    Show,
     End,
 }
 
@@ -196,6 +199,7 @@ impl Kind {
             0x04 => Some(Kind::Given),
             0x05 => Some(Kind::Table),
             0x06 => Some(Kind::Use),
+            0x08 => Some(Kind::Show),
             _ => None,
         }
     }
@@ -204,7 +208,7 @@ impl Kind {
         match self {
             Kind::Rule => 24,
             Kind::Table => 16,
-            Kind::Given | Kind::Unit => 8,
+            Kind::Given | Kind::Unit | Kind::Show => 8,
             Kind::Use => 3,
             Kind::Edge => 2,
             Kind::End => 0,
@@ -224,7 +228,7 @@ pub fn read(bytes: &[u8]) -> Result<Plan, Refusal> {
             Some(kind) => kind,
             None => return refuse(3, offset),
         };
-        if kind < group || kind == Kind::Given && plan.given.is_some() {
+        if kind < group || kind == Kind::Show && plan.shown.is_some() || kind == Kind::Given && plan.given.is_some() {
             return refuse(4, offset);
         }
         if plan.has_all(kind) {
@@ -252,14 +256,27 @@ impl Plan {
         self.given.unwrap_or(0)
     }
 
-    /// Is the most of this kind already there? A second GIVEN is out of order (row 4), and a 241st EDGE is a fault by itself (row 8).
+    /// The atoms that the last list shows: all without a SHOW.
+    pub fn shown_atoms(&self) -> u64 {
+        self.shown.unwrap_or(!0)
+    }
+
+    /// The positions cut to the shown atoms, rising, each once.
+    pub fn cut(&self, positions: &[u64]) -> Vec<u64> {
+        let mut cut: Vec<u64> = positions.iter().map(|position| position & self.shown_atoms()).collect();
+        cut.sort_unstable();
+        cut.dedup();
+        cut
+    }
+
+    /// Is the most of this kind already there? A second GIVEN or SHOW is out of order (row 4), and a 241st EDGE is a fault by itself (row 8).
     fn has_all(&self, kind: Kind) -> bool {
         match kind {
             Kind::Table => self.tables.len() == MAX_TABLES,
             Kind::Rule => self.rules.len() == MAX_RULES,
             Kind::Use => self.uses.len() == MAX_USES,
             Kind::Unit => self.units.len() == MAX_UNITS,
-            Kind::Given | Kind::Edge | Kind::End => false,
+            Kind::Given | Kind::Edge | Kind::Show | Kind::End => false,
         }
     }
 
@@ -272,8 +289,14 @@ impl Plan {
             Kind::Use => self.take_use([operands[0], operands[1], operands[2]]),
             Kind::Unit => self.take_unit(operands),
             Kind::Edge => self.take_edge(operands),
+            Kind::Show => self.take_show(operands),
             Kind::End => None,
         }
+    }
+
+    fn take_show(&mut self, operands: &[u8]) -> Option<u64> {
+        self.shown = Some(word(operands));
+        None
     }
 
     fn take_given(&mut self, operands: &[u8]) -> Option<u64> {
@@ -433,6 +456,8 @@ impl Plan {
 #[derive(Clone, Debug, PartialEq, Eq)]
 pub struct Listing {
     pub units: Vec<Vec<u64>>,
+    /// The members of the one more unit's list, with all atoms.
+    pub uncut: Vec<u64>,
     pub last: Vec<u64>,
 }
 
@@ -457,15 +482,25 @@ pub fn work_units(plan: &Plan) -> Result<Listing, Refusal> {
     }
     // The last list is that of one more unit, with no rules and an edge to every unit.
     let every_unit: Vec<&Done> = done.iter().flatten().collect();
-    let last = unit_list(plan.given_atoms(), &[], &every_unit, count)?;
-    Ok(Listing { units: done.into_iter().flatten().map(|unit| unit.list).collect(), last })
+    let uncut = members(plan.given_atoms(), &[], &every_unit);
+    let last = at_most_256(plan.cut(&uncut), count)?;
+    Ok(Listing { units: done.into_iter().flatten().map(|unit| unit.list).collect(), uncut, last })
 }
 
 /// The rising list of a unit by its rules and its predecessors' lists, refused above 256 members.
 fn unit_list(given: u64, rules: &[Rule], predecessors: &[&Done], unit: usize) -> Result<Vec<u64>, Refusal> {
+    at_most_256(members(given, rules, predecessors), unit)
+}
+
+/// The same, however many.
+fn members(given: u64, rules: &[Rule], predecessors: &[&Done]) -> Vec<u64> {
     let mut list: Vec<u64> = inputs(given, predecessors).iter().flat_map(|&input| answer_sets(rules, input)).collect();
     list.sort_unstable();
     list.dedup();
+    list
+}
+
+fn at_most_256(list: Vec<u64>, unit: usize) -> Result<Vec<u64>, Refusal> {
     if list.len() > LIST_WORDS {
         return refuse(15, unit);
     }

@@ -47,6 +47,6 @@ fn expected(case: &Case, plan: &Plan, outcome: &Outcome, position: u64) -> Optio
     if has_stray_atom || (position & !given).count_ones() <= FEW_UP {
         return Some(lister::judge(&case.plan, position));
     }
-    // The last list of an accepted plan is that of all answer sets.
-    outcome.as_ref().ok().map(|listing| Ok(listing.last.contains(&position)))
+    // The last list of an accepted plan, uncut, is that of all answer sets.
+    outcome.as_ref().ok().map(|listing| Ok(listing.uncut.contains(&position)))
 }

@@ -39,7 +39,7 @@ pub unsafe extern "C" fn lucarnecress_judge(plan: *const u8, plan_len: usize, po
     if position.count_ones() > FEW_UP {
         // Too many subsets to try: an accepted plan's last list knows.
         if let Ok(listing) = lister::list(plan, lister::TABLE_WORDS) {
-            return u64::from(listing.last.contains(&position));
+            return u64::from(listing.uncut.contains(&position));
         }
     }
     lister::judge(plan, position).map_or_else(Refusal::code, u64::from)
@@ -84,7 +84,7 @@ fn last_list(plan: &[u8]) -> Option<Vec<u64>> {
     LISTED.with(|listed| {
         let mut listed = listed.borrow_mut();
         if listed.0 != plan {
-            *listed = (plan.to_vec(), lister::list(plan, lister::TABLE_WORDS).ok().map(|listing| listing.last));
+            *listed = (plan.to_vec(), lister::list(plan, lister::TABLE_WORDS).ok().map(|listing| listing.uncut));
         }
         listed.1.clone()
     })

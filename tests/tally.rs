@@ -2,6 +2,7 @@
 
 use crate::generator::Case;
 use crate::lister::{Refusal, LIST_WORDS};
+use crate::shown_tally::ShownTally;
 use crate::table_tally::TableTally;
 use crate::Outcome;
 use std::collections::BTreeMap;
@@ -13,6 +14,7 @@ pub struct Tally {
     pub whole_programs: u64,
     pub tables: TableTally,
     pub walks: WalkTally,
+    pub shown: ShownTally,
     settled: u64,
     not_settled: u64,
     positions_refused: u64,
@@ -119,6 +121,7 @@ impl Tally {
         println!("accepted: {}, of these with 256 positions: {}", self.accepted, self.full_lists);
         println!("refused, by number: {}", listed(&self.refused));
         self.tables.print();
+        self.shown.print();
         println!("of each: result, table with the words behind it, counts, sheet");
         println!(
             "single positions: {} settled, {} not settled, {} refused",

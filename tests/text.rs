@@ -6,6 +6,7 @@
 //!     use 1 0 true                 (rule, table; or false, or another sign byte as a number)
 //!     unit 0 1                     (rule numbers)
 //!     edge 1 0
+//!     show 0 1                     (atoms)
 //!     end
 //!     bytes 0a ff                  (any bytes, in hexadecimal)
 //!
@@ -41,6 +42,7 @@ fn line_to_bytes(line: &str) -> Option<Vec<u8>> {
         }
         "unit" => Some(encode::unit(set(operands.iter().copied())?)),
         "edge" if operands.len() == 2 => Some(encode::edge(operands[0].parse().ok()?, operands[1].parse().ok()?)),
+        "show" => Some(encode::show(set(operands.iter().copied())?)),
         "end" if operands.is_empty() => Some(encode::end()),
         "bytes" => operands.iter().map(|byte| u8::from_str_radix(byte, 16).ok()).collect(),
         _ => None,
@@ -116,6 +118,7 @@ fn command_to_line(bytes: &[u8]) -> Option<(String, usize)> {
         }
         encode::UNIT => Some((format!("unit {}", numbers(word(0)?, " ")).trim_end().to_string(), 9)),
         encode::EDGE => Some((format!("edge {} {}", bytes.get(1)?, bytes.get(2)?), 3)),
+        encode::SHOW => Some((format!("show {}", numbers(word(0)?, " ")).trim_end().to_string(), 9)),
         encode::END => Some(("end".to_string(), 1)),
         _ => None,
     }

@@ -15,7 +15,7 @@ fn write_number(label: &[u8], number: u64) {
     io::print_decimal(STDOUT_FILENO, number);
 }
 
-// Writes the word of GIVEN and how many tables and uses there are, if any, and how many rules, units and edges, if the plan reads.
+// Writes the words of GIVEN and SHOW and how many tables and uses there are, if any, and how many rules, units and edges, if the plan reads.
 fn write_counts(plan: &[u8]) {
     let reading = reading::read_plan(plan);
     let outcome = reading.outcome;
@@ -35,6 +35,9 @@ fn write_counts(plan: &[u8]) {
     }
     write_number(b" units ", read.unit_count as u64);
     write_number(b" edges ", read.edge_count as u64);
+    if 0 < read.show_count {
+        write_number(b" shown ", read.shown);
+    }
 }
 
 // Writes a refusal as the sheet has it: its number and its spot.

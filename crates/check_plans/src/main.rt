@@ -41,13 +41,22 @@ fn show_sheets() {
     show(b"several-on-cycles.plan");
     show(b"several-positive-unseen.plan");
     show(b"several-table-inputs-unseen.plan");
+    show(b"show-few-of-many.plan");
+    show(b"show-hides-given.plan");
+    show(b"show-nothing.plan");
+    show(b"show-nothing-of-none.plan");
+    show(b"show-physical-relays.plan");
+    show(b"show-still-too-long.plan");
+    show(b"show-then-edge.plan");
+    show(b"show-two-of-sixteen.plan");
+    show(b"show-unit-too-long.plan");
     show(b"table-holds-itself.plan");
     show(b"table-in-inner-unit.plan");
     show(b"table-not-as-rules.plan");
     show(b"tables-in-two-units.plan");
 }
 
-// Single positions of some of them. Units, edges and the graph play no part in the answer.
+// Single positions of some of them. Units, edges, the graph and the atoms that show play no part in the answer.
 fn judge_positions() {
     ask(b"circuit-01-end-only.plan", 0);
     ask(b"circuit-01-end-only.plan", 1);
@@ -66,13 +75,16 @@ fn judge_positions() {
     ask(b"circuit-10-unseen-negation.plan", 2);
     ask(b"circuit-11-cycle.plan", 0);
     ask(b"several-table-inputs-unseen.plan", 0x5);
+    ask(b"show-physical-relays.plan", 0x1);
+    ask(b"show-physical-relays.plan", 0x5);
     ask(b"table-holds-itself.plan", 0x5);
     ask(b"table-holds-itself.plan", 0x1);
     ask(b"table-not-as-rules.plan", 0x3);
     ask(b"table-not-as-rules.plan", 0);
 }
 
-// Plans that read: a rule that is in no unit is judged all the same, a GIVEN stands first, then TABLEs, and the longest plan has all 64 rules as facts.
+// Plans that read: a rule that is in no unit is judged all the same, a GIVEN stands first, then TABLEs, a SHOW last, and the longest plan has all 64 rules
+// as facts.
 fn whole_plans() {
     ask(b"reading/rule-in-no-unit.plan", 1);
     ask(b"reading/given.plan", 0);
@@ -84,6 +96,10 @@ fn whole_plans() {
     ask(b"reading/table-of-six-inputs.plan", 0);
     ask(b"reading/row-31-of-five-inputs.plan", 0);
     ask(b"reading/use-of-the-other-sign.plan", 1);
+    ask(b"reading/show.plan", 1);
+    ask(b"reading/show.plan", 0);
+    ask(b"reading/show-of-no-atoms.plan", 0);
+    ask(b"reading/show-behind-edge.plan", 0);
     ask(b"reading/longest.plan", 0xffff_ffff_ffff_ffff);
     ask(b"reading/longest.plan", 0x7fff_ffff_ffff_ffff);
 }
@@ -98,6 +114,8 @@ fn cut_short() {
     ask(b"reading/table-cut-short.plan", 0);
     ask(b"reading/use-cut-short.plan", 0);
     ask(b"reading/edge-cut-short.plan", 0);
+    ask(b"reading/show-cut-short.plan", 0);
+    ask(b"reading/show-and-no-end.plan", 0);
 }
 
 // Fault 3: unknown command byte.
@@ -105,6 +123,7 @@ fn unknown() {
     ask(b"reading/unknown-byte.plan", 0);
     ask(b"reading/unknown-byte-behind-unit.plan", 0);
     ask(b"reading/command-nine.plan", 0);
+    ask(b"reading/unknown-byte-behind-show.plan", 0);
 }
 
 // Fault 4: a second or late GIVEN.
@@ -129,6 +148,18 @@ fn misplaced_table() {
     ask(b"reading/use-behind-unit.plan", 0);
     ask(b"reading/use-behind-edge-cut-short.plan", 0);
     ask(b"reading/257th-use-behind-unit.plan", 0);
+}
+
+// Fault 4: a second SHOW, and what may not stand behind one.
+fn misplaced_show() {
+    ask(b"reading/second-show.plan", 0);
+    ask(b"reading/second-show-cut-short.plan", 0);
+    ask(b"reading/edge-behind-show.plan", 0);
+    ask(b"reading/edge-behind-show-cut-short.plan", 0);
+    ask(b"reading/241st-edge-behind-show.plan", 0);
+    ask(b"reading/unit-behind-show.plan", 0);
+    ask(b"reading/given-behind-show.plan", 0);
+    ask(b"reading/rule-behind-show.plan", 0);
 }
 
 // Fault 4: another command out of group order.
@@ -221,6 +252,8 @@ fn behind_end() {
     ask(b"reading/plan-p-and-two-bytes.plan", 0);
     ask(b"reading/rule-behind-end.plan", 0);
     ask(b"reading/given-behind-end.plan", 0);
+    ask(b"reading/show-behind-end.plan", 0);
+    ask(b"reading/byte-behind-show-and-end.plan", 0);
     ask(b"reading/unknown-byte-behind-end.plan", 0);
 }
 
@@ -239,6 +272,7 @@ fn main() {
     unknown();
     misplaced_given();
     misplaced_table();
+    misplaced_show();
     out_of_order();
     too_many();
     empty_rule();

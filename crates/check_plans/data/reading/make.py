@@ -33,6 +33,10 @@ def edge(u, v):
     return bytes([3, u, v])
 
 
+def show(atoms=0):
+    return b"\x08" + word(atoms)
+
+
 END = b"\x00"
 FACT = rule(head=1)
 TWO_UNITS = unit() + unit()
@@ -56,7 +60,11 @@ PLANS = {
     "table-of-six-inputs": table(inputs=0x3F, truth=2**64 - 1) + END,
     "row-31-of-five-inputs": table(inputs=0x1F << 59, truth=1 << 31) + END,
     "use-of-the-other-sign": KEY_AND_FACT + rule(head=2) + use(1, 0, 0) + use(1, 0, 1) + END,
-    "longest": given() + ALL_TABLES + b"".join(rule(1 << i) for i in range(64)) + ALL_USES + unit(2**64 - 1) + unit() * 15 + EDGES + END,
+    "show": FACT + unit(1) + show(2) + END,
+    "show-of-no-atoms": show() + END,
+    "show-behind-edge": TWO_UNITS + edge(1, 0) + show(1 << 63) + END,
+    "longest": given() + ALL_TABLES + b"".join(rule(1 << i) for i in range(64)) + ALL_USES + unit(2**64 - 1) + unit() * 15 + EDGES
+    + show() + END,
 
     "no-end": FACT,
     "rule-without-operands": b"\x01",
@@ -66,10 +74,13 @@ PLANS = {
     "table-cut-short": KEY[:-1],
     "use-cut-short": KEY_AND_FACT + use(0, 0, 0)[:-1],
     "edge-cut-short": TWO_UNITS + edge(1, 0)[:-1],
+    "show-cut-short": FACT + show(1)[:-1],
+    "show-and-no-end": TWO_UNITS + show(1),
 
     "unknown-byte": b"\xff" + END,
     "unknown-byte-behind-unit": FACT + unit(1) + b"\x07",
     "command-nine": b"\x09" + word(1) + END,
+    "unknown-byte-behind-show": show(1) + b"\xff" + END,
 
     "second-given": given(1) + given(1) + END,
     "second-given-cut-short": given() + b"\x04",
@@ -87,6 +98,14 @@ PLANS = {
     "use-behind-unit": KEY_AND_FACT + unit(1) + use(0, 0, 0) + END,
     "use-behind-edge-cut-short": KEY_AND_FACT + TWO_UNITS + edge(1, 0) + b"\x06",
     "257th-use-behind-unit": ALL_BUT_UNITS + unit() + use(0, 0, 1) + END,
+    "second-show": show(1) + show(1) + END,
+    "second-show-cut-short": show() + b"\x08",
+    "edge-behind-show": TWO_UNITS + show(1) + edge(1, 0) + END,
+    "edge-behind-show-cut-short": TWO_UNITS + show(1) + b"\x03",
+    "241st-edge-behind-show": ALL_UNITS + EDGES + show(1) + edge(0, 1) + END,
+    "unit-behind-show": show(1) + unit() + END,
+    "given-behind-show": show(1) + given(2) + END,
+    "rule-behind-show": show(1) + FACT + END,
     "rule-behind-unit": FACT + unit(1) + FACT + END,
     "rule-behind-edge": TWO_UNITS + edge(1, 0) + FACT + END,
     "unit-behind-edge": TWO_UNITS + edge(1, 0) + unit() + END,
@@ -151,6 +170,8 @@ PLANS = {
     "plan-p-and-two-bytes": PLAN_P + b"\x07\x07",
     "rule-behind-end": END + FACT,
     "given-behind-end": END + given(1),
+    "show-behind-end": END + show(1),
+    "byte-behind-show-and-end": show(1) + END + END,
     "unknown-byte-behind-end": END + b"\xff",
 
     "5000-ends": END * 5000,
