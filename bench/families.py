@@ -22,6 +22,7 @@ class Plan:
     def __init__(self):
         self.tables = []
         self.rules = []
+        self.shown = None
         self.atoms = 0
         self.units = 1
 
@@ -58,6 +59,10 @@ class Plan:
         self.rule([b], negative=[a])
         return a, b
 
+    def show(self, atoms):
+        """Only these atoms show: positions that are alike on them are one."""
+        self.shown = tuple(atoms)
+
     def fits(self):
         uses = sum(len(rule[3]) for rule in self.rules)
         return (
@@ -90,6 +95,8 @@ class Plan:
         for unit in range(self.units):
             commands.append(struct.pack("<BQ", 2, word(i for i, rule in enumerate(self.rules) if rule[4] == unit)))
         commands += [bytes([3, u, v]) for u, v in self.edges()]
+        if self.shown is not None:
+            commands.append(struct.pack("<BQ", 8, word(self.shown)))
         return b"".join(commands) + b"\0"
 
     def clingo_text(self):
@@ -97,7 +104,9 @@ class Plan:
         for number, (inputs, truth) in enumerate(self.tables):
             lines += [clingo_row(number, inputs, row) for row, answer in enumerate(truth) if answer]
         lines += [clingo_rule(*rule[:4]) for rule in self.rules]
-        if self.tables:
+        if self.shown is not None:
+            lines = ["% --project=show", "#show."] + lines + ["#show a%d/0." % atom for atom in self.shown]
+        elif self.tables:
             lines += ["#show a%d/0." % atom for atom in range(self.atoms)]
         return "".join(line + "\n" for line in lines)
 
@@ -458,6 +467,51 @@ def odd_and_even_tables(size):
     return plan
 
 
+def add_helper(plan, number):
+    """A choice of one of two helpers, two of them to a unit."""
+    if number % 2 == 0:
+        plan.next_unit()
+    return plan.choice()
+
+
+def free_helpers(size):
+    """Four keys that show, and `size` helpers that do not, each free: every shown position has 2^size uncut ones."""
+    plan = Plan()
+    plan.show(itertools.chain(*[plan.choice() for _ in range(4)]))
+    for i in range(size):
+        add_helper(plan, i)
+    return plan
+
+
+def helpers_of_keys(size):
+    """The same where each helper is chosen for a key that is up and for one that is not, so that every unit looks at the keys."""
+    plan = Plan()
+    keys = [plan.choice() for _ in range(4)]
+    plan.show(itertools.chain(*keys))
+    for i in range(size):
+        if i % 2 == 0:
+            plan.next_unit()
+        pair = plan.atom(), plan.atom()
+        for contact_up in keys[i % 4]:
+            plan.rule(pair, [contact_up])
+    return plan
+
+
+def relays_of_helpers(size):
+    """`size` free helpers in eight units, and in each a relay that is up where all helpers of its unit are. The relays show: 256 positions, and
+    2^size uncut ones."""
+    plan = Plan()
+    relays = []
+    for i in range(8):
+        if i:
+            plan.next_unit()
+        helpers = [plan.choice()[0] for _ in range(i, size, 8)]
+        relays.append(plan.atom())
+        plan.rule([relays[-1]], helpers)
+    plan.show(relays)
+    return plan
+
+
 def majority(size):
     """Eight keys and `size` voters, each up where three of five earlier relays are or more; the last voter must be up."""
     plan = Plan()
@@ -512,6 +566,9 @@ FAMILIES = {
     odd_and_even_tables: range(6, 17, 2),
     majority: range(2, 17, 3),
     decoder: range(1, 7),
+    free_helpers: range(0, 25, 4),
+    helpers_of_keys: range(0, 25, 4),
+    relays_of_helpers: range(8, 25, 4),
 }
 
 

@@ -1,8 +1,8 @@
 //! measure SETTLE CLINGO NODES OUTPUT FOLDER..: whole-process times of both programs on the same plans.
 //!
 //! Each NAME.plan of the folders is given to SETTLE on standard input, and NAME.lp, the same
-//! program, to `CLINGO -n 257`. Runs of the two alternate, and with those of another settle that the environment's BEFORE may
-//! name. NODES counts the nodes of the search, untimed.
+//! program, to `CLINGO -n 257` with the options that its first line names. Runs of the two alternate, and with those of another
+//! settle that the environment's BEFORE may name. NODES counts the nodes of the search, untimed.
 //! The table is written as Markdown.
 
 mod timing;
@@ -57,10 +57,18 @@ impl Programs {
     }
 
     fn clingo(&self, plan: &Path) -> Command {
+        let program = plan.with_extension("lp");
         let mut command = Command::new(&self.clingo);
-        command.args(["-n", "257"]).arg(plan.with_extension("lp")).stdin(Stdio::null());
+        command.args(["-n", "257"]).args(options(&program)).arg(program).stdin(Stdio::null());
         command
     }
+}
+
+/// The options that a first line `% --..` of clingo's program asks for.
+fn options(program: &Path) -> Vec<String> {
+    let text = fs::read_to_string(program).expect("clingo's program cannot be read");
+    let first = text.lines().next().and_then(|line| line.strip_prefix("% --"));
+    first.map_or(Vec::new(), |options| format!("--{}", options).split_whitespace().map(String::from).collect())
 }
 
 // ---- Measuring -------------------------------------------------------------------------------
