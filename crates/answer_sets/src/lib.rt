@@ -6,12 +6,14 @@ pub mod rule;
 pub mod rule_pass;
 pub mod smaller;
 mod state;
-mod truth;
+pub mod truth;
 mod uses;
 
+pub use position::Judged;
 pub use position::has_smaller;
 pub use position::is_answer_set;
 pub use position::judge_position;
+pub use position::judge_set;
 pub use position::lent_numbers;
 pub use state::State;
 pub use state::Truth;

@@ -9,19 +9,43 @@ ghost use Prim.Native.Nat.{min};
 ghost use Rattle.answer_sets.specs.Lent.{lent, Lent, numbered};
 ghost use Rattle.answer_sets.specs.Test.{SubsetTested, answerSet};
 
+// Whether a position is an answer set, and if it is none, a smaller set that shows it, if one was found. Nothing is promised of that one.
+pub struct Judged {
+    pub answers: bool,
+    pub smaller: u64,
+}
+
 // Whether the position is an answer set of the rules numbered in `which` with the facts added.
+pub fn judge_set(rules: &[u64], which: u64, facts: u64, position: u64) -> Judged
+    requires { ⌜ Lent (now rules) which ⌝ }
+    ensures { λ r. ⌜ r .answers ≡ answerSet (lent (now (rules .entry))) which facts position ⌝ }
+{
+    if !atoms::is_subset(facts, position) {
+        return Judged {
+            answers: false,
+            smaller: position,
+        };
+    }
+    let kept = kept_rules(rules, which, position);
+    if !all_satisfied(rules, kept, position) {
+        return Judged {
+            answers: false,
+            smaller: position,
+        };
+    }
+    let smaller = some_smaller(rules, kept, facts, position);
+    Judged {
+        answers: !smaller.found,
+        smaller: smaller.set,
+    }
+}
+
+// The same, told alone.
 pub fn is_answer_set(rules: &[u64], which: u64, facts: u64, position: u64) -> bool
     requires { ⌜ Lent (now rules) which ⌝ }
     ensures { λ r. ⌜ r ≡ answerSet (lent (now (rules .entry))) which facts position ⌝ }
 {
-    if !atoms::is_subset(facts, position) {
-        return false;
-    }
-    let kept = kept_rules(rules, which, position);
-    if !all_satisfied(rules, kept, position) {
-        return false;
-    }
-    !some_smaller(rules, kept, facts, position)
+    judge_set(rules, which, facts, position).answers
 }
 
 // The lesser of two numbers.
@@ -44,7 +68,7 @@ pub fn lent_numbers(rules: &[u64], n: usize, which: u64) -> u64
 pub fn has_smaller(rules: &[u64], n: usize, kept: u64, facts: u64, position: u64) -> bool
     ensures { λ r. ⌜ SubsetTested (lent (now (rules .entry))) (numbered (now (rules .entry)) n kept) facts position r ⌝ }
 {
-    some_smaller(rules, lent_numbers(rules, n, kept), facts, position)
+    some_smaller(rules, lent_numbers(rules, n, kept), facts, position).found
 }
 
 // The answer-set test over the n rules lent. Bits with no rule are ignored.

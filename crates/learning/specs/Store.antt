@@ -14,7 +14,7 @@ abbrev pub PAIRS : ℕ
 PAIRS = 194
 
 abbrev pub MEMORY_WORDS : ℕ
-MEMORY_WORDS = 603
+MEMORY_WORDS = 604
 
 -- how many steps the trail has
 abbrev pub STEPS : ℕ

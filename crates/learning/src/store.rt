@@ -14,7 +14,8 @@ pub const COPIES: usize = 66;
 
 pub const PAIRS: usize = RING + COPIES;
 
-// Behind the pairs stands advice: where the ring is written next, the trail's steps, and a tally of how often each atom stood in what was learnt.
+// Behind the pairs stands advice: where the ring is written next, the trail's steps, the atoms that a failed test showed to be unfounded, and a tally
+// of how often each atom stood in what was learnt.
 const PLACE: usize = 2 * PAIRS;
 
 pub const TRAIL: usize = PLACE + 1;
@@ -23,7 +24,9 @@ pub const STEPS: usize = 66;
 
 pub const STEP_WORDS: usize = 3;
 
-pub const SCORES: usize = TRAIL + STEP_WORDS * STEPS;
+pub const UNFOUNDED: usize = TRAIL + STEP_WORDS * STEPS;
+
+pub const SCORES: usize = UNFOUNDED + 1;
 
 // Sixteen binary places count up to 65,535.
 const SCORE_PLACES: usize = 16;

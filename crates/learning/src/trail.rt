@@ -5,6 +5,7 @@ use crate::store::SCORES;
 use crate::store::STEP_WORDS;
 use crate::store::STEPS;
 use crate::store::TRAIL;
+use crate::store::UNFOUNDED;
 use crate::store::learnt_pairs;
 use crate::store::note;
 use answer_sets::State;
@@ -67,6 +68,21 @@ pub fn decided_since(memory: &[u64], at: usize, which: u64) -> u64
 {
     let before = read_step(memory, at).before;
     atoms::without(atoms::without(which, before.up), before.dropped)
+}
+
+// Notes the atoms that a full position has beyond a smaller set, which the test of the position found.
+pub fn note_unfounded(memory: &mut [u64], which: u64)
+    requires { ⌜ MEMORY_WORDS ≤ length (now memory) ⌝ }
+    ensures { λ _. ⌜ SamePairs (now (memory .entry)) (now (memory .exit)) ⌝ }
+{
+    note(memory, UNFOUNDED, which);
+}
+
+// The atoms so noted last.
+pub fn noted_unfounded(memory: &[u64]) -> u64
+    requires { ⌜ MEMORY_WORDS ≤ length (now memory) ⌝ }
+{
+    memory[UNFOUNDED]
 }
 
 // Notes that these atoms stood in what was learnt.

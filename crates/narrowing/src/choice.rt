@@ -1,4 +1,5 @@
-// Which undecided atom is decided next: one that stands in most live rules. Any would be right; this one leaves little to search.
+// Which undecided atom is decided next, one that stands in most live rules, and in which phase it is tried first. Any would be right; this one
+// leaves little to search.
 use answer_sets::State;
 use answer_sets::Truth;
 use answer_sets::known::body_known;
@@ -28,6 +29,34 @@ fn is_spent(rules: &[u64], rule: usize, s: State) -> bool
         Truth::Fails => true,
         Truth::Open => false,
     }
+}
+
+// A head is wide with this many atoms left.
+const WIDE: usize = 3;
+
+// Whether the rule has a wide head and is not spent: then dropping one head atom tells little.
+fn is_wide(rules: &[u64], rule: usize, s: State) -> bool
+    requires { ⌜ IsLent (now rules) rule ⌝ }
+{
+    if is_spent(rules, rule, s) {
+        return false;
+    }
+    WIDE <= atoms::count(atoms::without(head(rules, rule), s.dropped))
+}
+
+// Whether one of the rules is wide.
+pub fn some_wide(rules: &[u64], which: u64, s: State) -> bool
+    requires { ⌜ Lent (now rules) which ⌝ }
+{
+    let mut rest = which;
+    while rest != 0 {
+        let rule = atoms::lowest(rest);
+        if is_wide(rules, rule, s) {
+            return true;
+        }
+        rest = atoms::drop(rest, rule);
+    }
+    false
 }
 
 // Counts the free atoms of a rule that is not spent: among the first where the rule has a near atom, and else among the others.

@@ -1,15 +1,18 @@
-// The founded step: relays that only hold each other up are down.
-use crate::live::live_rules;
+// The founded step: relays that only hold each other up are down. The closure that finds them is advice: what it leaves out is dropped where the
+// rules can do without it.
+use crate::unfounded::drop_unfounded;
 use answer_sets::State;
+use answer_sets::known::body_known;
 use answer_sets::rule::head;
 use answer_sets::rule::negative_body;
 use answer_sets::rule::positive_body;
+use answer_sets::truth::is_failure;
+use atoms::ATOMS;
 ghost use Prim.Native.Nat.{_<_};
 ghost use Rattle.atoms.specs.Word.{ATOMS};
 ghost use Rattle.answer_sets.specs.Lent.{IsLent, Lent};
 ghost use Rattle.answer_sets.specs.State.{Narrows};
 ghost use Rattle.narrowing.specs.Inputs.{AnswersInputs};
-ghost use Rattle.narrowing.specs.Founded.{Closed, ClosedAll, Sharp, Shuts, Turn, Round, Founded};
 
 // The founded atoms so far; the up head atoms of rules that wait, of which one is taken in at a standstill; and the rules that may still add atoms.
 pub struct Closure {
@@ -18,19 +21,24 @@ pub struct Closure {
     pub left: u64,
 }
 
-// The closure after a rule whose positive atoms are founded: its head atoms are, or of those that are up the one; with more than one up it waits.
+// The closure after a rule whose positive atoms are founded and whose body does not fail: its head atoms are, or of those that are up the one; with
+// more than one up it waits.
 fn found_by(rules: &[u64], rule: usize, s: State, c: Closure) -> Closure
     requires { ⌜ IsLent (now rules) rule × (rule < ATOMS) ⌝ }
-    ensures shuts { λ r. ⌜ Shuts (now (rules .entry)) s c r ⌝ }
-    ensures closes { λ r. ⌜ Turn (Closed (now (rules .entry)) rule s) c r ⌝ }
-    ensures sharp { λ r. ⌜ Sharp (now (rules .entry)) rule s (c .found) (r .found) ⌝ }
 {
     if !atoms::is_subset(positive_body(rules, rule), c.found) {
         return c;
     }
+    let left = atoms::drop(c.left, rule);
+    if is_failure(body_known(rules, rule, s.up, s.dropped)) {
+        return Closure {
+            found: c.found,
+            waiting: c.waiting,
+            left,
+        };
+    }
     let head = head(rules, rule);
     let up = atoms::cut(head, s.up);
-    let left = atoms::drop(c.left, rule);
     if up == 0 {
         let barred = atoms::union(negative_body(rules, rule), s.dropped);
         return Closure {
@@ -61,16 +69,14 @@ fn found_by(rules: &[u64], rule: usize, s: State, c: Closure) -> Closure
 }
 
 // The same for all rules left, one after the other.
-fn found_by_all(rules: &[u64], s: State, found: u64, left: u64) -> Closure
-    requires { ⌜ Lent (now rules) left ⌝ }
-    ensures shuts { λ r. ⌜ Shuts (now (rules .entry)) s (record { found = found; waiting = 0; left = left }) r ⌝ }
-    ensures closes { λ r. ⌜ Turn (ClosedAll (now (rules .entry)) left s) (record { found = found; waiting = 0; left = left }) r ⌝ }
+fn found_by_all(rules: &[u64], which: u64, s: State, before: Closure) -> Closure
+    requires { ⌜ Lent (now rules) which ⌝ }
 {
-    let mut rest = left;
+    let mut rest = atoms::cut(which, before.left);
     let mut c = Closure {
-        found,
+        found: before.found,
         waiting: 0,
-        left,
+        left: before.left,
     };
     while rest != 0 {
         let rule = atoms::lowest(rest);
@@ -81,11 +87,10 @@ fn found_by_all(rules: &[u64], s: State, found: u64, left: u64) -> Closure
 }
 
 // The closure after one round; where that would add no atom, with one that a rule waits for.
-fn found_round(rules: &[u64], s: State, c: Closure) -> Closure
-    requires { ⌜ Lent (now rules) (c .left) ⌝ }
-    ensures { λ r. ⌜ Round (now (rules .entry)) s c r ⌝ }
+fn found_round(rules: &[u64], which: u64, s: State, c: Closure) -> Closure
+    requires { ⌜ Lent (now rules) which ⌝ }
 {
-    let d = found_by_all(rules, s, c.found, c.left);
+    let d = found_by_all(rules, which, s, c);
     if d.found != c.found {
         return d;
     }
@@ -99,22 +104,26 @@ fn found_round(rules: &[u64], s: State, c: Closure) -> Closure
     }
 }
 
-// The atoms that are founded on those of the start: rounds until one adds nothing.
+// The atoms that are founded on those of the start: rounds until one adds nothing. Nothing is promised of them.
 fn founded_atoms(rules: &[u64], which: u64, s: State, start: u64) -> u64
     requires { ⌜ Lent (now rules) which ⌝ }
-    ensures { λ r. ⌜ Founded (now (rules .entry)) which s start r ⌝ }
 {
+    let mut found = start;
     let mut c = Closure {
         found: start,
         waiting: 0,
         left: which,
     };
-    let mut next = found_round(rules, s, c);
-    while next.found != c.found {
-        c = next;
-        next = found_round(rules, s, c);
+    let mut rounds = 0;
+    while rounds < ATOMS {
+        c = found_round(rules, which, s, c);
+        if c.found == found {
+            return found;
+        }
+        found = c.found;
+        rounds += 1;
     }
-    c.found
+    found
 }
 
 // The founded step: what is not founded on the inputs is dropped.
@@ -122,11 +131,7 @@ pub fn founded_step(rules: &[u64], which: u64, inputs: u64, s: State) -> State
     requires { ⌜ Lent (now rules) which ⌝ }
     ensures { λ t. ⌜ Narrows (AnswersInputs (now (rules .entry)) which inputs) s t ⌝ }
 {
-    let live = live_rules(rules, which, s);
     let start = atoms::without(inputs, s.dropped);
-    let found = founded_atoms(rules, live, s, start);
-    State {
-        up: s.up,
-        dropped: atoms::union(s.dropped, atoms::outside(found)),
-    }
+    let found = founded_atoms(rules, which, s, start);
+    drop_unfounded(rules, which, inputs, atoms::outside(found), s)
 }

@@ -2,9 +2,9 @@
 pub mod backers;
 pub mod choice;
 pub mod founded_step;
-pub mod live;
 pub mod loops;
 pub mod marks;
 pub mod steps;
 pub mod support_step;
+pub mod unfounded;
 pub mod woken;

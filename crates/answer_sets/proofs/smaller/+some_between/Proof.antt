@@ -170,9 +170,10 @@ module _ (t : ℕ) where
   up-found c =
       let up = c .before in
       let single = up .before .before in
-      between-narrow (passed (unchanged (single .before)) .rule-pass .ensures)
+      rw (c .if4 .taken)
+      (between-narrow (passed (unchanged (single .before)) .rule-pass .ensures)
       (branch-yes (single .before .lowest .result) (up .before .union .ensures) (single .single .ensures) (up .some-between2 .ensures)
-      (c .if4 .taken))
+      (c .if4 .taken)))
 
   dropped-requires : some-between-lts.Need-some-between-requires-3 (calls t) (some-between-at t) some-between.Post
   dropped-requires c κs =

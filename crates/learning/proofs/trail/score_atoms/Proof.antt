@@ -9,7 +9,7 @@ use Rattle.learning.proofs.trail.score_atoms.Tie as tie
 
 -- where the tally begins, and how many words it has
 abbrev SCORES : ℕ
-SCORES = 587
+SCORES = 588
 
 abbrev SCORE_PLACES : ℕ
 SCORE_PLACES = 16

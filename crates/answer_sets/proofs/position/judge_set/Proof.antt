@@ -4,8 +4,8 @@ use Rattle.answer_sets.specs.Lent.{Lent}
 use Rattle.answer_sets.proofs.Cases.{no-facts, no-model, model-judged}
 use Rattle.answer_sets.proofs.Lent.{lent-kept}
 use borrow.Author.Needs.{needs}
-use Rattle.answer_sets.proofs.position.is_answer_set.Statement.{statement}
-use Rattle.answer_sets.proofs.position.is_answer_set.Tie as tie
+use Rattle.answer_sets.proofs.position.judge_set.Statement.{statement}
+use Rattle.answer_sets.proofs.position.judge_set.Tie as tie
 
 abbrev start : tie.After-kept-rules → tie.Start
 start c = c .before .before .before .before
@@ -24,12 +24,13 @@ returns-2 c =
 
 returns-3 : tie.Need-returns-3
 returns-3 c =
-    let k = c .before .before .before in
+    let smaller = c .before in
+    let k = smaller .before .before .before in
     model-judged _ _ _ _ (k .before .before .is-subset .ensures) (k .before .if1 .left) (k .kept-rules .ensures)
-    (c .before .before .all-satisfied .ensures) (c .before .if2 .left) (c .some-smaller .ensures .computed)
+    (smaller .before .before .all-satisfied .ensures) (smaller .before .if2 .left) (smaller .some-smaller .ensures .computed)
 
-pub is-answer-set-spec : {M : Type 1} → statement M
-is-answer-set-spec =
+pub judge-set-spec : {M : Type 1} → statement M
+judge-set-spec =
     tie.close
     (tie.spec
     (λ c κs. search needs)

@@ -1,0 +1,115 @@
+-- Unfounded atoms: by what a rule can do without them, and that an answer set has none.
+use mathlib.Core.Path.{_≡_, sym, subst}
+use mathlib.Core.Bool.{true, false}
+use mathlib.Core.Logic.{_⊎_, inl, inr}
+use mathlib.Core.List.{List}
+use Prim.Native.Nat.{ℕ}
+use Rattle.atoms.specs.Word.{Has, _∩_, _∪_, _∖_, apart}
+use Rattle.atoms.proofs.Sets.{cut-left, cut-right, has-left, union-cases, has-without, without-left, without-right}
+use Rattle.atoms.proofs.Sets.{shared-atom, apart-of-cut, decides-apart}
+use Rattle.answer_sets.specs.AnswerSet.{ReductModel}
+use Rattle.answer_sets.specs.Lent.{lent, negative}
+use Rattle.answer_sets.specs.State.{Completes, Narrows}
+use Rattle.answer_sets.specs.Known.{BodySays}
+use Rattle.answer_sets.specs.declared.state.State.{State}
+use Rattle.answer_sets.specs.declared.state.Truth.{Truth}
+use Rattle.answer_sets.specs.declared.state.Truth.the-variants.{Fails}
+use Rattle.answer_sets.proofs.Support.{least}
+use Rattle.answer_sets.proofs.Narrows.{down-narrows}
+use Rattle.answer_sets.proofs.Parts.{known-fails, completes-known}
+use Rattle.answer_sets.proofs.Bodies.{negative-down}
+use Rattle.narrowing.specs.Inputs.{AnswersInputs}
+use Rattle.narrowing.specs.Unfounded.{Spares, Unfounded}
+
+-- ---- one rule
+
+module _ (rules : List ℕ) (r x : ℕ) (s : State) where
+  -- without them a completion has none of them and no dropped atom
+  lacks : (M : ℕ) → Completes s M → (i : ℕ) → Has (M ∖ x) i → Has (s .dropped) i ⊎ Has x i → ⊥
+  lacks M c i m (inl d) = c .no-dropped .none i d (without-left M x m)
+  lacks M c i m (inr h) = without-right M x m h
+
+  -- it has none of them in its head, but for those it wants dropped
+  pub spares-head : (own : ℕ) → own ≡ lent rules .head r ∖ negative rules r → apart own x ≡ true → Spares rules r x s
+  spares-head own e f = record {
+    other = λ M c b n a h m. (
+      a,
+      h,
+      has-without M x m
+          (λ i. decides-apart own x .yes f .none a
+          (subst (λ (w : ℕ). Has w a) (sym e) (has-without (lent rules .head r) (negative rules r) h (λ q. negative-down rules r M b a q m))) i),
+    );
+  }
+
+  -- its body wants one of them up, or a dropped atom
+  pub spares-positive : (positive barred : ℕ) → positive ≡ lent rules .positive r → barred ≡ s .dropped ∪ x → apart positive barred ≡ false → Spares rules r x s
+  spares-positive positive barred e g f =
+      let k = shared-atom positive barred (λ q. decides-apart positive barred .no f (apart-of-cut positive barred q)) in
+      let h = subst (λ (w : ℕ). Has w (k .0)) e (k .1) in
+      record {
+        other = λ M c b n a _ m.
+            absurd
+            (lacks M c (k .0) (n .positive-up .each (k .0) h) (union-cases (s .dropped) x (subst (λ (w : ℕ). Has w (k .0)) g (k .2))));
+      }
+
+  -- another head atom is up
+  pub spares-up : (others : ℕ) → others ≡ lent rules .head r ∖ x → apart others (s .up) ≡ false → Spares rules r x s
+  spares-up others e f =
+      let k = shared-atom others (s .up) (λ q. decides-apart others (s .up) .no f (apart-of-cut others (s .up) q)) in
+      let h = subst (λ (w : ℕ). Has w (k .0)) e (k .1) in
+      record {
+        other = λ M c b n a _ m. (
+          k .0,
+          without-left (lent rules .head r) x h,
+          has-without M x (c .has-up .each (k .0) (k .2)) (without-right (lent rules .head r) x h),
+        );
+      }
+
+  -- its body fails
+  pub spares-failed : {t : Truth} → BodySays rules r (s .up) (s .dropped) t → t ≡ Fails → Spares rules r x s
+  spares-failed k e = record { other = λ M c b n a h m. absurd (known-fails rules r (s .up) (s .dropped) k M (completes-known c) e b) }
+
+  -- its body fails without them
+  pub spares-without : (up dropped : ℕ) {t : Truth} → up ≡ s .up ∖ x → dropped ≡ s .dropped ∪ x → BodySays rules r up dropped t → t ≡ Fails
+      → Spares rules r x s
+  spares-without up dropped f g k e = record {
+    other = λ M c b n a h m. absurd (known-fails rules r up dropped k (M ∖ x) (completes-known (fewer M c)) e n);
+  }
+    where
+      fewer : (M : ℕ) → Completes s M → Completes (record { up = up; dropped = dropped }) (M ∖ x)
+      fewer M c = record {
+        has-up = record {
+          each = λ i h.
+              let u = subst (λ (w : ℕ). Has w i) f h in
+              has-without M x (c .has-up .each i (without-left (s .up) x u)) (without-right (s .up) x u);
+        };
+        no-dropped = record { none = λ i h m. lacks M c i m (union-cases (s .dropped) x (subst (λ (w : ℕ). Has w i) g h)) };
+      }
+
+-- ---- the step
+
+-- an answer set without them has its inputs and satisfies its kept rules, so that it is the answer set
+pub unfounded-narrows : (rules : List ℕ) (which inputs all barred x dropped : ℕ) (s : State) → barred ≡ inputs ∪ s .dropped → x ≡ all ∖ barred
+    → Unfounded rules which x s → dropped ≡ s .dropped ∪ x → Narrows (AnswersInputs rules which inputs) s (record { up = s .up; dropped = dropped })
+unfounded-narrows rules which inputs all barred x dropped s b e u d =
+    rw d
+    (down-narrows s x
+    (λ M a c. record {
+      none = λ i h m.
+          without-right M x (least (lent rules) which (M ∩ inputs) M (a .answer) (M ∖ x) (record { each = λ j k. without-left M x k }) (model M a c) .each i m)
+          h;
+    }))
+  where
+    no-input : (i : ℕ) → Has inputs i → ¬ Has x i
+    no-input i h k =
+        without-right all barred (subst (λ (w : ℕ). Has w i) e k) (subst (λ (w : ℕ). Has w i) (sym b) (has-left inputs (s .dropped) h))
+
+    model : (M : ℕ) → AnswersInputs rules which inputs M → Completes s M → ReductModel (lent rules) which (M ∩ inputs) M (M ∖ x)
+    model M a c = record {
+      facts-up = record { each = λ i h. has-without M x (cut-left M inputs h) (no-input i (cut-right M inputs h)) };
+      each = λ r k. record {
+        head-up = λ n.
+            let t = a .answer .model .each r k .head-up (k .holds) in
+            u .each r (k .numbered) .other M c (k .holds) n (t .0) (t .1) (t .2);
+      };
+    }

@@ -1,0 +1,34 @@
+-- What is left are rules of the word. The measure is how many are left.
+use lib.Count.{ones}
+use Rattle.atoms.specs.Word.{_⊆_}
+use Rattle.atoms.proofs.Sets.{subset-refl}
+use Rattle.atoms.proofs.Counts.{taken-less, taken-within}
+use Rattle.atoms.proofs.TakenNumbers.{taken-lent}
+use borrow.Author.Needs.{needs}
+use Rattle.narrowing.proofs.choice.some_wide.Statement.{statement}
+use Rattle.narrowing.proofs.choice.some_wide.Tie as tie
+
+abbrev Inv-loop : tie.InvT-loop
+Inv-loop rules which s rest₀ rest = rest ⊆ which
+
+abbrev μ-loop : tie.MeasureT-loop
+μ-loop rules which s rest₀ rest = ones rest
+
+is-wide-requires : tie.Need-is-wide-requires Inv-loop μ-loop
+is-wide-requires c κs =
+    let at = c .before .before in at .before .before .pre .each _ (taken-lent (at .loop .inv) (c .lowest .ensures .0))
+
+pub some-wide-spec : {M : Type 1} → statement M
+some-wide-spec =
+    tie.close
+    (tie.spec
+    Inv-loop
+    μ-loop
+    (λ c. subset-refl)
+    (λ c κs. c .loop-test .taken)
+    is-wide-requires
+    (λ c. search needs)
+    (λ c κs. c .before .before .lowest .ensures .1)
+    (λ c. taken-less (c .before .before .before .lowest .ensures .0) (c .drop .ensures))
+    (λ c. taken-within (c .before .before .before .before .before .loop .inv) (c .before .before .before .lowest .ensures .0) (c .drop .ensures))
+    (λ c. search needs))
