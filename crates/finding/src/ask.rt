@@ -6,6 +6,7 @@ use unit_search::begin::begin;
 use unit_search::find::find;
 use unit_search::witness::Witness;
 use unit_steps::Unit;
+use unit_steps::agenda::every_step;
 use unit_steps::desk::DESK_WORDS;
 use unit_steps::desk::lay_out;
 use unit_steps::filter::full_filter;
@@ -55,16 +56,21 @@ pub fn root_of(rules: &[u64], desk: &[u64], memory: &mut [u64], which: u64, fact
         up: facts,
         dropped: 0,
     };
+    let unit = whole(which, facts);
+    let front = Front {
+        state: start,
+        agenda: every_step(unit, looped_atoms(rules, which)),
+        top: 0,
+    };
     begin(
         rules,
         &table,
         &counts,
         desk,
-        whole(which, facts),
-        looped_atoms(rules, which),
+        unit,
         memory,
         &mut filter,
-        start,
+        front,
     )
 }
 

@@ -66,7 +66,6 @@ fn list_one(
         unit,
         shown,
         &mut list,
-        0,
         State {
             up: given,
             dropped: outside,

@@ -16,11 +16,12 @@ use Rattle.answer_sets.specs.Test.{answerSet}
 use Rattle.answer_sets.specs.State.{Completes, Narrows, undecided}
 use Rattle.answer_sets.specs.declared.state.State.{State}
 use Rattle.answer_sets.proofs.HalfDecided.{decided-cases}
-use Rattle.answer_sets.proofs.Narrows.{completes-back, overlap-none, with-up, with-dropped, without-up, without-dropped}
-use Rattle.learning.specs.Nogood.{Nogood, Within, Overlaps}
+use Rattle.answer_sets.proofs.Narrows.{completes-back, overlap-none}
+use Rattle.learning.specs.Nogood.{Nogood, Within}
+use Rattle.learning.specs.Reason.{Remembers}
 use Rattle.learning.proofs.Nogoods.{nogood-stops}
 use Rattle.unit_search.specs.Listing.{Ordered, Inserted, Gathered, Grown}
-use Rattle.unit_search.specs.Branch.{withDropped, withUp}
+use Rattle.unit_search.specs.Branch.{branchOf}
 use Rattle.atoms.specs.Cuts.{CutOf}
 use Rattle.unit_search.specs.Witness.{Witnessed, met, none, Met, eitherOf}
 use Rattle.unit_search.specs.declared.witness.Witness.{Witness}
@@ -30,6 +31,7 @@ use Rattle.unit_steps.specs.Job.{joins, Belongs, Wanted, Offered}
 use Rattle.unit_steps.specs.declared.unit.Unit.{Unit}
 use Rattle.unit_steps.specs.Desk.{LaidOut}
 use Rattle.unit_steps.proofs.Desks.{wanted-desk, desk-wanted}
+use Rattle.unit_search.proofs.Branches.{without-branch, some-branch}
 use Rattle.unit_search.proofs.Gathered.{gathered-insert, gathered-same, gathered-iff}
 use Rattle.unit_search.proofs.Witnesses.{cuts-iff, cuts-over, cuts-enough, cuts-then, same-cut, grown-for, witnessed-iff, witnessed-met}
 use Rattle.unit_search.proofs.Witnesses.{witnessed-more, witnessed-both}
@@ -56,23 +58,23 @@ module _ (rules table counts heads : List ℕ) (unit : Unit) where
 
   -- ---- one position
 
-  pub offer-none : (list : List ℕ) (count shown position : ℕ) {e : State} {r : Found} → Ordered list count → Decides (Belong position) false
-      → r ≡ record { count = count; nogood = e; witness = Nothing } → Overlaps e
+  pub offer-none : (list : List ℕ) (count shown position : ℕ) {memory : List ℕ} {e : State} {r : Found} → Ordered list count
+      → Decides (Belong position) false → r ≡ record { count = count; nogood = e; witness = Nothing } → Remembers Belong memory → Nogood Belong e
       → Gathered (Grown list count (CutOf shown (Offer position))) list (r .count)
-      × (Witnessed (Offer position) (r .witness) × Overlaps (r .nogood))
-  offer-none list count shown position o d f k =
-      rw f (gathered-same list count (CutOf shown (Offer position)) o (λ x c. not-here (c .whole) (c .wanted)), (none not-here, k))
+      × (Witnessed (Offer position) (r .witness) × (Remembers Belong memory × Nogood Belong (r .nogood)))
+  offer-none list count shown position o d f m k =
+      rw f (gathered-same list count (CutOf shown (Offer position)) o (λ x c. not-here (c .whole) (c .wanted)), (none not-here, (m, k)))
     where
       not-here : (M : ℕ) → ¬ Offer position M
       not-here M w = d .no refl (subst Belong (w .is) (w .belongs))
 
-  pub offer-one : (list : List ℕ) (count shown position : ℕ) (after : List ℕ) {cut n : ℕ} {e : State} {r : Found} → Ordered list count
-      → Belong position → cut ≡ position ∩ shown → Inserted list count cut after n
-      → r ≡ record { count = n; nogood = e; witness = Member position } → Overlaps e
+  pub offer-one : (list : List ℕ) (count shown position : ℕ) (after : List ℕ) {memory : List ℕ} {cut n : ℕ} {e : State} {r : Found}
+      → Ordered list count → Belong position → cut ≡ position ∩ shown → Inserted list count cut after n
+      → r ≡ record { count = n; nogood = e; witness = Member position } → Remembers Belong memory → Nogood Belong e
       → Gathered (Grown list count (CutOf shown (Offer position))) after (r .count)
-      × (Witnessed (Offer position) (r .witness) × Overlaps (r .nogood))
-  offer-one list count shown position after {cut} {n} o b c i f k =
-      rw f (gathered-iff (grown-for list count into) (grown-for list count from) (gathered-insert list count cut after n o i), (met here, k))
+      × (Witnessed (Offer position) (r .witness) × (Remembers Belong memory × Nogood Belong (r .nogood)))
+  offer-one list count shown position after {cut = cut} {n = n} o b c i f m k =
+      rw f (gathered-iff (grown-for list count into) (grown-for list count from) (gathered-insert list count cut after n o i), (met here, (m, k)))
     where
       here : Offer position position
       here = record { is = refl; belongs = b }
@@ -151,51 +153,55 @@ module _ {rules table counts heads : List ℕ} {unit : Unit} where
       from : (M : ℕ) → Wanted rules table counts heads unit t M → Offered rules table counts heads unit (t .up) M
       from M w = record { is = whole M w; belongs = w .belongs }
 
-  -- an atom is dropped first, and then it goes up
-  module _ (list₀ : List ℕ) (count₀ i : ℕ) {shown : ℕ} {t low : State} {list₁ : List ℕ} {count₁ : ℕ} {v : Witness} (e : low ≡ withDropped t i)
-      (a : Answered list₀ count₀ shown (Wanted rules table counts heads unit low) list₁ count₁ v) where
-    lower-back : (M : ℕ) → Wanted rules table counts heads unit low M → Wanted rules table counts heads unit t M
-    lower-back M w = record { belongs = w .belongs; completes = without-dropped t i (rw e at (w .completes)) }
+  -- an atom is decided in its phase, whichever that is, and then the other way
+  module _ (list₀ : List ℕ) (count₀ i : ℕ) (phase : Bool) {shown : ℕ} {t one : State} {list₁ : List ℕ} {count₁ : ℕ} {v : Witness}
+      (e : one ≡ branchOf t i phase) (a : Answered list₀ count₀ shown (Wanted rules table counts heads unit one) list₁ count₁ v) where
+    first-back : (M : ℕ) → Wanted rules table counts heads unit one M → Wanted rules table counts heads unit t M
+    first-back M w = record { belongs = w .belongs; completes = without-branch t i phase (rw e at (w .completes)) }
 
     -- too many already
     pub search-over : LIST_WORDS < count₁ → Answered list₀ count₀ shown (Wanted rules table counts heads unit t) list₁ count₁ v
-    search-over l = (cuts-over list₀ count₀ lower-back l (a .0), λ m. absurd (omega arith))
+    search-over l = (cuts-over list₀ count₀ first-back l (a .0), λ m. absurd (omega arith))
 
     -- one was met, and all have its cut
     pub search-enough : {left : ℕ} → count₁ ≤ LIST_WORDS → left ≡ undecided (t .up) (t .dropped) ∩ shown → left ≡ 0 → Met v
         → Answered list₀ count₀ shown (Wanted rules table counts heads unit t) list₁ count₁ v
     search-enough l o z m =
         let q = witnessed-met m (a .1 l) in (
-          cuts-enough list₀ count₀ lower-back (m .member) q
+          cuts-enough list₀ count₀ first-back (m .member) q
               (λ M w.
-              same-cut t shown o z M (m .member) (w .belongs .word) (q .belongs .word) (w .completes) (lower-back (m .member) q .completes))
+              same-cut t shown o z M (m .member) (w .belongs .word) (q .belongs .word) (w .completes) (first-back (m .member) q .completes))
               (a .0),
-          λ k. witnessed-more lower-back m (a .1 l),
+          λ k. witnessed-more first-back m (a .1 l),
         )
 
     -- no member completes the state, so that the other branch has none
     pub search-skip : {n : State} → Nogood (Belongs rules table counts heads unit) n → Within n t
         → Answered list₀ count₀ shown (Wanted rules table counts heads unit t) list₁ count₁ v
-    search-skip g k = (cuts-iff list₀ count₀ lower-back stopped (a .0), λ l. witnessed-iff lower-back stopped (a .1 l))
+    search-skip g k = (cuts-iff list₀ count₀ first-back stopped (a .0), λ l. witnessed-iff first-back stopped (a .1 l))
       where
-        stopped : (M : ℕ) → Wanted rules table counts heads unit t M → Wanted rules table counts heads unit low M
+        stopped : (M : ℕ) → Wanted rules table counts heads unit t M → Wanted rules table counts heads unit one M
         stopped M w = absurd (nogood-stops g k M (w .belongs) (w .completes))
 
-    pub search-both : count₁ ≤ LIST_WORDS → {high : State} {list₂ : List ℕ} {count₂ : ℕ} {u w : Witness} → high ≡ withUp t i
-        → w ≡ eitherOf v u → Answered list₁ count₁ shown (Wanted rules table counts heads unit high) list₂ count₂ u
+    pub search-both : count₁ ≤ LIST_WORDS → {other : State} {list₂ : List ℕ} {count₂ : ℕ} {u w : Witness} → other ≡ branchOf t i (not phase)
+        → w ≡ eitherOf v u → Answered list₁ count₁ shown (Wanted rules table counts heads unit other) list₂ count₂ u
         → Answered list₀ count₀ shown (Wanted rules table counts heads unit t) list₂ count₂ w
-    search-both l {high} {u = u} f z b = (
-      cuts-then list₀ count₀ list₁ count₁ lower-back upper-back (λ M w. split M w (has-dec M i)) l (a .0) (b .0),
-      λ k. witnessed-both z lower-back upper-back (λ M w. split M w (has-dec M i)) (a .1 l) (b .1 k),
+    search-both l {other} {u = u} f z b = (
+      cuts-then list₀ count₀ list₁ count₁ first-back second-back split l (a .0) (b .0),
+      λ k. witnessed-both z first-back second-back split (a .1 l) (b .1 k),
     )
       where
-        upper-back : (M : ℕ) → Wanted rules table counts heads unit high M → Wanted rules table counts heads unit t M
-        upper-back M w = record { belongs = w .belongs; completes = without-up t i (rw f at (w .completes)) }
+        second-back : (M : ℕ) → Wanted rules table counts heads unit other M → Wanted rules table counts heads unit t M
+        second-back M w = record { belongs = w .belongs; completes = without-branch t i (not phase) (rw f at (w .completes)) }
 
-        split : (M : ℕ) → Wanted rules table counts heads unit t M → Dec (Has M i)
-            → Wanted rules table counts heads unit low M ⊎ Wanted rules table counts heads unit high M
-        split M w (yes h) = inr (record { belongs = w .belongs; completes = rw f (with-up t i (w .completes) h) })
-        split M w (no h) = inl (record { belongs = w .belongs; completes = rw e (with-dropped t i (w .completes) h) })
+        split : (M : ℕ) → Wanted rules table counts heads unit t M
+            → Wanted rules table counts heads unit one M ⊎ Wanted rules table counts heads unit other M
+        split M w = go (some-branch t i phase (w .completes))
+          where
+            go : Completes (branchOf t i phase) M ⊎ Completes (branchOf t i (not phase)) M
+                → Wanted rules table counts heads unit one M ⊎ Wanted rules table counts heads unit other M
+            go (inl c) = inl (record { belongs = w .belongs; completes = rw e c })
+            go (inr c) = inr (record { belongs = w .belongs; completes = rw f c })
 
 -- what is wanted through the desk is what is wanted
 pub search-desk : {rules table counts heads desk : List ℕ} {unit : Unit} → LaidOut rules heads unit desk → (list : List ℕ) (count : ℕ) {shown : ℕ}

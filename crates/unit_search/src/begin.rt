@@ -1,8 +1,6 @@
 // Where a search begins.
 use crate::dive::dive_ahead;
-use answer_sets::State;
 use unit_steps::Unit;
-use unit_steps::agenda::every_step;
 use unit_steps::front::Front;
 use unit_steps::propagate::propagate;
 ghost use Rattle.answer_sets.specs.State.{Narrows};
@@ -11,31 +9,26 @@ ghost use Rattle.unit_steps.specs.Filter.{Filtered};
 ghost use Rattle.unit_steps.specs.Desk.{Prepared};
 ghost use Rattle.unit_steps.specs.Job.{Belongs};
 
-// What every search and every question begins with: all steps are taken, and a few ways down are learnt from.
+// What every search and every question begins with: the steps on the agenda are taken, and a few ways down are learnt from.
 pub fn begin(
     rules: &[u64],
     table: &[u64],
     counts: &[usize],
     desk: &[u64],
     unit: Unit,
-    looped: u64,
     memory: &mut [u64],
     filter: &mut [u64],
-    s: State,
+    front: Front,
 ) -> Front
     requires { ⌜ Prepared (now rules) (now table) (now counts) (now desk) unit
         × Remembers (Belongs (now rules) (now table) (now counts) (now desk) unit) (now memory)
-        × Filtered (now table) (now counts) (now desk) (unit .nearest) s (now filter) ⌝ }
-    ensures narrows { λ f. ⌜ Narrows (Belongs (now (rules .entry)) (now (table .entry)) (now (counts .entry)) (now (desk .entry)) unit) s (f .state) ⌝ }
+        × Filtered (now table) (now counts) (now desk) (unit .nearest) (front .state) (now filter) ⌝ }
+    ensures narrows { λ f. ⌜ Narrows (Belongs (now (rules .entry)) (now (table .entry)) (now (counts .entry)) (now (desk .entry)) unit)
+        (front .state) (f .state) ⌝ }
     ensures filtered { λ f. ⌜ Filtered (now (table .entry)) (now (counts .entry)) (now (desk .entry)) (unit .nearest) (f .state) (now (filter .exit)) ⌝ }
     ensures remembers { λ _. ⌜ Remembers (Belongs (now (rules .entry)) (now (table .entry)) (now (counts .entry)) (now (desk .entry)) unit)
         (now (memory .exit)) ⌝ }
 {
-    let front = Front {
-        state: s,
-        agenda: every_step(unit, looped),
-        top: 0,
-    };
     let f = propagate(rules, table, counts, desk, unit, memory, filter, front);
     dive_ahead(rules, table, counts, desk, unit, memory, filter, f);
     f

@@ -5,14 +5,17 @@ use atoms::EVERY_ATOM;
 use atoms::tally::prefer;
 use learning::nogood::lies_within;
 use learning::nogood::resolve;
+use learning::store::RING;
 use learning::store::learnt_pairs;
 use learning::trail::leaders;
 use narrowing::choice::choose;
+use narrowing::choice::some_wide;
 use unit_steps::Unit;
 use unit_steps::agenda::Agenda;
 use unit_steps::agenda::woken;
 use unit_steps::desk::DESK_WORDS;
 use unit_steps::desk::INDEX;
+use unit_steps::desk::backing;
 use unit_steps::front::Front;
 ghost use mathlib.Core.Path.{_≡_};
 ghost use Prim.Native.Nat.{_≤_, _<_};
@@ -22,7 +25,7 @@ ghost use Rattle.answer_sets.specs.Lent.{Lent};
 ghost use Rattle.learning.specs.Nogood.{Overlaps, Resolves};
 ghost use Rattle.learning.specs.Store.{MEMORY_WORDS};
 ghost use Rattle.unit_steps.specs.Desk.{DESK_WORDS};
-ghost use Rattle.unit_search.specs.Branch.{withDropped, withUp};
+ghost use Rattle.unit_search.specs.Branch.{withDropped, withUp, branchOf};
 
 // A node of the search: its unit, the atoms that show, how many positions are listed so far, where propagation stands, and the state in which
 // the atom was decided.
@@ -39,6 +42,20 @@ pub struct Found {
     pub count: usize,
     pub nogood: State,
     pub witness: Witness,
+}
+
+// A node below another one: in the same search, at this count and front.
+pub fn below(node: Node, count: usize, front: Front, base: State) -> Node
+    ensures { λ r. ⌜ r ≡ record { unit = node .unit; shown = node .shown; count = count; front = front; base = base } ⌝ }
+{
+    let unit = node.unit;
+    Node {
+        unit,
+        shown: node.shown,
+        count,
+        front,
+        base,
+    }
 }
 
 // What was found, put together.
@@ -62,18 +79,6 @@ pub fn everything() -> State
     }
 }
 
-// The pair of an atom that is both up and dropped.
-pub fn contradiction(s: State) -> State
-    requires { ⌜ Overlaps s ⌝ }
-    ensures { λ r. ⌜ Overlaps r ⌝ }
-{
-    let atom = atoms::single(atoms::lowest(atoms::cut(s.up, s.dropped)));
-    State {
-        up: atom,
-        dropped: atom,
-    }
-}
-
 // The front in another state, with the steps that it wakes on the agenda.
 pub fn moved(desk: &[u64], f: Front, after: State) -> Front
     requires { ⌜ length (now desk) ≡ DESK_WORDS ⌝ }
@@ -93,7 +98,7 @@ pub fn moved(desk: &[u64], f: Front, after: State) -> Front
 }
 
 // The front with the atom dropped.
-pub fn lowered(desk: &[u64], f: Front, i: usize) -> Front
+fn lowered(desk: &[u64], f: Front, i: usize) -> Front
     requires { ⌜ (length (now desk) ≡ DESK_WORDS) × (i < ATOMS) ⌝ }
     ensures { λ r. ⌜ r .state ≡ withDropped (f .state) i ⌝ }
 {
@@ -106,7 +111,7 @@ pub fn lowered(desk: &[u64], f: Front, i: usize) -> Front
 }
 
 // The front with the atom up.
-pub fn raised(desk: &[u64], f: Front, i: usize) -> Front
+fn raised(desk: &[u64], f: Front, i: usize) -> Front
     requires { ⌜ (length (now desk) ≡ DESK_WORDS) × (i < ATOMS) ⌝ }
     ensures { λ r. ⌜ r .state ≡ withUp (f .state) i ⌝ }
 {
@@ -116,6 +121,17 @@ pub fn raised(desk: &[u64], f: Front, i: usize) -> Front
         dropped: s.dropped,
     };
     moved(desk, f, after)
+}
+
+// The front with the atom in the phase: up, or dropped.
+pub fn branched(desk: &[u64], f: Front, i: usize, phase: bool) -> Front
+    requires { ⌜ (length (now desk) ≡ DESK_WORDS) × (i < ATOMS) ⌝ }
+    ensures { λ r. ⌜ r .state ≡ branchOf (f .state) i phase ⌝ }
+{
+    if phase {
+        return raised(desk, f, i);
+    }
+    lowered(desk, f, i)
 }
 
 // The atoms whose rules come first in the choice: those that are decided, once a stop has shown that it matters what hangs together.
@@ -137,14 +153,31 @@ pub fn pick(rules: &[u64], which: u64, memory: &[u64], s: State, free: u64, show
     choose(rules, which, s, leading, near_atoms(memory, s))
 }
 
-// What is left of the pairs of both branches, of which the first has the atom dropped and the second has it up: the second where that lies within
-// the state, and else both without the atom.
-pub fn merged(first: State, second: State, s: State, i: usize) -> State
+// With so many pairs learnt it is refuting that takes the time.
+const MANY: usize = RING / 2;
+
+// The phase in which the atom is tried first: up where a rule that may back it is wide, since that meets members sooner; dropped where none is, and
+// once much was learnt, since that refutes sooner.
+pub fn phase_of(rules: &[u64], desk: &[u64], which: u64, memory: &[u64], s: State, i: usize) -> bool
+    requires { ⌜ Lent (now rules) which × (length (now desk) ≡ DESK_WORDS) × (MEMORY_WORDS ≤ length (now memory)) × (i < ATOMS) ⌝ }
+{
+    if MANY <= learnt_pairs(memory) {
+        return false;
+    }
+    some_wide(rules, backing(desk, which, i), s)
+}
+
+// What is left of the pairs of both branches, of which the first has the atom in the phase: the second where that lies within the state, and else
+// both without the atom.
+pub fn merged(first: State, second: State, s: State, i: usize, phase: bool) -> State
     requires { ⌜ i < ATOMS ⌝ }
     ensures { λ r. ⌜ Resolves second first r ⌝ }
 {
     if lies_within(second, s) {
         return second;
+    }
+    if phase {
+        return resolve(first, second, i);
     }
     resolve(second, first, i)
 }

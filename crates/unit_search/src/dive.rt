@@ -1,14 +1,14 @@
 // Ways down before the search: each follows one branch alone and learns from its stop, so that the first atom of the search is chosen by what was
 // learnt. They list nothing.
-use crate::branch::contradiction;
-use crate::branch::lowered;
+use crate::branch::branched;
+use crate::branch::phase_of;
 use crate::branch::pick;
+use crate::stop::stop;
 use answer_sets::State;
 use answer_sets::known::undecided;
 use unit_steps::Unit;
 use unit_steps::filter::copied;
 use unit_steps::front::Front;
-use unit_steps::lift::lift;
 use unit_steps::lift::span;
 use unit_steps::propagate::propagate;
 ghost use mathlib.Core.Path.{_≡_};
@@ -36,7 +36,7 @@ fn free_atoms(s: State) -> u64
     undecided(s.up, s.dropped)
 }
 
-// The front one atom further down: the atom is dropped, and steps are taken until none has anything new to say.
+// The front one atom further down: the atom is decided in its phase, and steps are taken until none has anything new to say.
 fn descend(
     rules: &[u64],
     table: &[u64],
@@ -65,7 +65,8 @@ fn descend(
         undecided(s.up, s.dropped),
         s.up,
     );
-    let below = lowered(desk, f, i);
+    let phase = phase_of(rules, desk, unit.rules, memory, s, i);
+    let below = branched(desk, f, i, phase);
     propagate(rules, table, counts, desk, unit, memory, filter, below)
 }
 
@@ -90,8 +91,7 @@ fn learn_stop(
     }
     let base = above.state;
     let way = span(base, above.top, f.top);
-    let clash = contradiction(s);
-    lift(rules, table, counts, desk, unit, memory, way, clash);
+    stop(rules, table, counts, desk, unit, memory, way);
     true
 }
 

@@ -6,4 +6,5 @@ pub mod find;
 pub mod listing;
 pub mod member;
 pub mod search;
+mod stop;
 pub mod witness;

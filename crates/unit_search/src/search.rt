@@ -2,13 +2,14 @@
 use crate::begin::begin;
 use crate::branch::Found;
 use crate::branch::Node;
-use crate::branch::contradiction;
+use crate::branch::below;
+use crate::branch::branched;
 use crate::branch::handed;
-use crate::branch::lowered;
 use crate::branch::merged;
+use crate::branch::phase_of;
 use crate::branch::pick;
-use crate::branch::raised;
 use crate::member::offer;
+use crate::stop::stop;
 use crate::witness::Witness;
 use crate::witness::either;
 use crate::witness::is_enough;
@@ -19,11 +20,12 @@ use learning::store::empty_store;
 use narrowing::loops::looped_atoms;
 use plan::LIST_WORDS;
 use unit_steps::Unit;
+use unit_steps::agenda::every_step;
 use unit_steps::desk::lay_out;
 use unit_steps::filter::copied;
 use unit_steps::filter::full_filter;
+use unit_steps::front::Front;
 use unit_steps::lift::blame;
-use unit_steps::lift::lift;
 use unit_steps::lift::span;
 use unit_steps::propagate::propagate;
 ghost use Prim.Native.Nat.{_≤_};
@@ -64,7 +66,6 @@ pub fn explore(
     ensures nogood { λ r. ⌜ Nogood (Belongs (now (rules .entry)) (now (table .entry)) (now (counts .entry)) (now (desk .entry)) (node .unit)) (r .nogood) ⌝ }
 {
     let unit = node.unit;
-    let shown = node.shown;
     let front = node.front;
     let base = node.base;
     let mut mine = copied(filter);
@@ -72,38 +73,22 @@ pub fn explore(
     let t = f.state;
     let way = span(base, front.top, f.top);
     if !atoms::are_apart(t.up, t.dropped) {
-        let clash = contradiction(t);
-        let nogood = lift(rules, table, counts, desk, unit, memory, way, clash);
+        let nogood = stop(rules, table, counts, desk, unit, memory, way);
         return handed(node.count, nogood, Witness::Nothing);
     }
     let free = undecided(t.up, t.dropped);
     if free == 0 {
-        return offer(
-            rules,
-            table,
-            counts,
-            desk,
-            unit,
-            list,
-            node.count,
-            shown,
-            t.up,
-        );
+        return offer(rules, table, counts, desk, list, memory, node, way, t);
     }
-    let i = pick(rules, unit.rules, memory, t, free, shown);
-    let lower = Node {
-        unit,
-        shown,
-        count: node.count,
-        front: lowered(desk, f, i),
-        base: t,
-    };
-    let first = explore(rules, table, counts, desk, list, memory, &mine, lower);
+    let i = pick(rules, unit.rules, memory, t, free, node.shown);
+    let phase = phase_of(rules, desk, unit.rules, memory, t, i);
+    let one = below(node, node.count, branched(desk, f, i, phase), t);
+    let first = explore(rules, table, counts, desk, list, memory, &mine, one);
     if LIST_WORDS < first.count {
         return first;
     }
     let met = first.witness;
-    if is_enough(met, atoms::cut(free, shown)) {
+    if is_enough(met, atoms::cut(free, node.shown)) {
         return first;
     }
     let n = first.nogood;
@@ -111,21 +96,15 @@ pub fn explore(
         let nogood = blame(rules, table, counts, desk, unit, memory, way, n);
         return handed(first.count, nogood, met);
     }
-    let upper = Node {
-        unit,
-        shown,
-        count: first.count,
-        front: raised(desk, f, i),
-        base: t,
-    };
-    let second = explore(rules, table, counts, desk, list, memory, &mine, upper);
-    let left = merged(n, second.nogood, t, i);
+    let other = below(node, first.count, branched(desk, f, i, !phase), t);
+    let second = explore(rules, table, counts, desk, list, memory, &mine, other);
+    let left = merged(n, second.nogood, t, i, phase);
     let nogood = blame(rules, table, counts, desk, unit, memory, way, left);
-    let other = second.witness;
-    handed(second.count, nogood, either(met, other))
+    let also = second.witness;
+    handed(second.count, nogood, either(met, also))
 }
 
-// Adds to the list the cut of every position that belongs there and completes the state: the new count, or OVERFULL where that is more than LIST_WORDS.
+// Puts the cut of every position that belongs there and completes the state into an empty list: its count, or OVERFULL where that is more than LIST_WORDS.
 pub fn search(
     rules: &[u64],
     table: &[u64],
@@ -134,33 +113,36 @@ pub fn search(
     unit: Unit,
     shown: u64,
     list: &mut [u64],
-    count: usize,
     s: State,
 ) -> usize
-    requires { ⌜ Searchable (now rules) (now table) (now counts) (now heads) unit × Ordered (now list) count ⌝ }
-    ensures { λ r. ⌜ Gathered (Grown (now (list .entry)) count (CutOf shown
+    requires { ⌜ Searchable (now rules) (now table) (now counts) (now heads) unit × Ordered (now list) 0 ⌝ }
+    ensures { λ r. ⌜ Gathered (Grown (now (list .entry)) 0 (CutOf shown
         (Wanted (now (rules .entry)) (now (table .entry)) (now (counts .entry)) (now (heads .entry)) unit s))) (now (list .exit)) r ⌝ }
 {
     let looped = looped_atoms(rules, unit.rules);
     let desk = lay_out(rules, heads, unit, looped);
     let mut memory = empty_store();
     let mut filter = full_filter(counts);
+    let front = Front {
+        state: s,
+        agenda: every_step(unit, looped),
+        top: 0,
+    };
     let f = begin(
         rules,
         table,
         counts,
         &desk,
         unit,
-        looped,
         &mut memory,
         &mut filter,
-        s,
+        front,
     );
     let base = f.state;
     let node = Node {
         unit,
         shown,
-        count,
+        count: 0,
         front: f,
         base,
     };

@@ -7,11 +7,13 @@ use crate::words::store;
 use atoms::ATOMS;
 use narrowing::backers::backers;
 use plan::MAX_UNITS;
+ghost use mathlib.Core.Path.{_≡_};
 ghost use Prim.Native.Nat.{_^_, _≤_, _<_};
 ghost use lib.ListN.{length};
+ghost use Rattle.atoms.specs.Word.{ATOMS, _⊆_};
 ghost use Rattle.plan.specs.Limits.{MAX_UNITS};
 ghost use Rattle.answer_sets.specs.Lent.{Lent};
-ghost use Rattle.unit_steps.specs.Desk.{LaidOut};
+ghost use Rattle.unit_steps.specs.Desk.{DESK_WORDS, LaidOut};
 
 pub const BACKERS: usize = MAX_UNITS;
 
@@ -31,4 +33,12 @@ pub fn lay_out(rules: &[u64], heads: &[u64], unit: Unit, looped: u64) -> [u64; D
     store(&backers, &mut desk, BACKERS);
     store(&index, &mut desk, INDEX);
     desk
+}
+
+// The rules that may back an atom, as the desk has them.
+pub fn backing(desk: &[u64], which: u64, atom: usize) -> u64
+    requires { ⌜ (length (now desk) ≡ DESK_WORDS) × (atom < ATOMS) ⌝ }
+    ensures { λ r. ⌜ r ⊆ which ⌝ }
+{
+    atoms::cut(which, desk[BACKERS + atom])
 }

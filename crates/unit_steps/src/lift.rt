@@ -53,6 +53,7 @@ fn lift_over(
         step: done.step,
         part: before,
         goal,
+        unfounded: 0,
     };
     let part = explain(rules, table, counts, desk, memory, unit, claim, at);
     replace(n, before, part)

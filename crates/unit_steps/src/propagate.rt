@@ -12,6 +12,7 @@ use crate::unit::Unit;
 use answer_sets::State;
 use learning::nogood::refute;
 use learning::store::COPIES;
+use learning::store::PAIRS;
 use learning::store::RING;
 use learning::store::copy_pair;
 use learning::store::next_pair;
@@ -29,8 +30,12 @@ ghost use Rattle.unit_steps.specs.Job.{Belongs};
 ghost use Rattle.unit_steps.specs.Filter.{Filtered};
 ghost use Rattle.unit_steps.specs.Desk.{DESK_WORDS, Prepared};
 
-// Steps behind the lists and the founded step: the pairs of the memory.
-pub const PAIR_STEPS: usize = LISTS + MAX_UNITS + 1;
+// Behind the lists the founded step, then the pairs of the memory, and last the step that drops given atoms if they are unfounded.
+pub const FOUNDED_STEP: usize = LISTS + MAX_UNITS;
+
+pub const PAIR_STEPS: usize = FOUNDED_STEP + 1;
+
+pub const UNFOUNDED_STEP: usize = PAIR_STEPS + PAIRS;
 
 // The state after the step of this number; a list's step is one over the entries that the filter has.
 fn take_step(

@@ -2,9 +2,12 @@
 use crate::agenda::LISTS;
 use crate::desk::BACKERS;
 use crate::desk::INDEX;
+use crate::desk::backing;
 use crate::filter::filter_step;
 use crate::filter::full_filter;
+use crate::propagate::FOUNDED_STEP;
 use crate::propagate::PAIR_STEPS;
+use crate::propagate::UNFOUNDED_STEP;
 use crate::unit::Unit;
 use answer_sets::State;
 use answer_sets::rule::head;
@@ -18,16 +21,19 @@ use learning::reason::tells;
 use learning::store::PAIRS;
 use learning::store::read_pair;
 use learning::trail::decided_since;
+use learning::trail::noted_unfounded;
+use narrowing::founded_step::founded_step;
 use narrowing::steps::SUPPORTS;
 use narrowing::steps::apply;
+use narrowing::unfounded::drop_unfounded;
 use plan::MAX_UNITS;
 ghost use mathlib.Core.Path.{_≡_};
 ghost use mathlib.Core.Bool.{true};
 ghost use Prim.Native.Nat.{_≤_, _<_};
 ghost use lib.ListN.{length};
-ghost use Rattle.atoms.specs.Word.{ATOMS, _⊆_};
+ghost use Rattle.atoms.specs.Word.{ATOMS};
 ghost use Rattle.plan.specs.Limits.{MAX_UNITS};
-ghost use Rattle.answer_sets.specs.Lent.{Lent};
+ghost use Rattle.answer_sets.specs.Lent.{IsLent, Lent};
 ghost use Rattle.answer_sets.specs.State.{Narrows};
 ghost use Rattle.learning.specs.Store.{MEMORY_WORDS, STEPS, AvoidsAll};
 ghost use Rattle.learning.specs.Reason.{Heeds, Explains};
@@ -36,11 +42,13 @@ ghost use Rattle.unit_steps.specs.Filter.{JoinsAll};
 ghost use Rattle.unit_steps.specs.Desk.{DESK_WORDS, Prepared};
 ghost use Rattle.unit_steps.specs.Claims.{Told};
 
-// A step, a part of a state, and what the step is to tell from it.
+// A step, a part of a state, and what the step is to tell from it; and the atoms that it drops if they are unfounded, where it is the step for that:
+// `explain` finds these by itself.
 pub struct Claim {
     pub step: usize,
     pub part: State,
     pub goal: State,
+    pub unfounded: u64,
 }
 
 // The state after pair i of the memory, if there is one.
@@ -79,12 +87,16 @@ fn step_again(
     memory: &[u64],
     unit: Unit,
     step: usize,
+    unfounded: u64,
     s: State,
 ) -> State
     requires { ⌜ Prepared (now rules) (now table) (now counts) (now desk) unit × (MEMORY_WORDS ≤ length (now memory)) ⌝ }
     ensures { λ t. ⌜ Narrows (Heeds (Belongs (now (rules .entry)) (now (table .entry)) (now (counts .entry)) (now (desk .entry)) unit)
         (now (memory .entry))) s t ⌝ }
 {
+    if UNFOUNDED_STEP <= step {
+        return drop_unfounded(rules, unit.rules, unit.inputs, unfounded, s);
+    }
     if PAIR_STEPS <= step {
         return pair_again(memory, step - PAIR_STEPS, s);
     }
@@ -122,30 +134,60 @@ fn numbered_atoms(rules: &[u64], which: u64, rule: usize) -> u64
     rule_atoms(rules, rule)
 }
 
-// The atoms that keep one of the rules from supporting an atom where they are up, and those that do where they are dropped.
+// What is seen so far, with the atoms that keep the rule from supporting one where they are up, and those that do where they are dropped.
+fn excluded_by(rules: &[u64], rule: usize, seen: State) -> State
+    requires { ⌜ IsLent (now rules) rule ⌝ }
+{
+    let looked = looks(rules, rule);
+    let inputs = atoms::without(looked, negative_body(rules, rule));
+    let up = atoms::union(head(rules, rule), looked);
+    let dropped = atoms::union(positive_body(rules, rule), inputs);
+    State {
+        up: atoms::union(seen.up, up),
+        dropped: atoms::union(seen.dropped, dropped),
+    }
+}
+
+// The atoms that keep one of the rules from supporting an atom.
 fn excluding(rules: &[u64], which: u64) -> State
     requires { ⌜ Lent (now rules) which ⌝ }
 {
     let mut rest = which;
-    let mut up = 0;
-    let mut dropped = 0;
+    let mut seen = State { up: 0, dropped: 0 };
     while rest != 0 {
         let rule = atoms::lowest(rest);
-        let looked = looks(rules, rule);
-        let inputs = atoms::without(looked, negative_body(rules, rule));
-        up = atoms::union(up, atoms::union(head(rules, rule), looked));
-        dropped = atoms::union(dropped, atoms::union(positive_body(rules, rule), inputs));
+        seen = excluded_by(rules, rule, seen);
         rest = atoms::drop(rest, rule);
     }
-    State { up, dropped }
+    seen
 }
 
-// The rules that may back an atom.
-fn backing(desk: &[u64], which: u64, atom: usize) -> u64
-    requires { ⌜ (length (now desk) ≡ DESK_WORDS) × (atom < ATOMS) ⌝ }
-    ensures { λ r. ⌜ r ⊆ which ⌝ }
+// What is seen so far, with the atoms that keep the rule from founding one of x: those of rules with an atom of x in the head and none in the
+// positive word, since the others cannot.
+fn unfounded_by(rules: &[u64], rule: usize, x: u64, seen: State) -> State
+    requires { ⌜ IsLent (now rules) rule ⌝ }
 {
-    atoms::cut(which, desk[BACKERS + atom])
+    if atoms::are_apart(head(rules, rule), x) {
+        return seen;
+    }
+    if !atoms::are_apart(positive_body(rules, rule), x) {
+        return seen;
+    }
+    excluded_by(rules, rule, seen)
+}
+
+// The atoms of x, and those that keep the rules from founding one of them.
+fn unfounding(rules: &[u64], which: u64, x: u64) -> State
+    requires { ⌜ Lent (now rules) which ⌝ }
+{
+    let mut rest = which;
+    let mut seen = State { up: x, dropped: 0 };
+    while rest != 0 {
+        let rule = atoms::lowest(rest);
+        seen = unfounded_by(rules, rule, x, seen);
+        rest = atoms::drop(rest, rule);
+    }
+    seen
 }
 
 // The atoms of pair i of the memory, if there is one.
@@ -160,7 +202,14 @@ fn pair_atoms(memory: &[u64], i: usize) -> u64
 }
 
 // What the step looks at: atoms that are up, and atoms that are dropped. It is advice: a reason that has too few does not tell the goal.
-fn looked_at(rules: &[u64], desk: &[u64], memory: &[u64], unit: Unit, step: usize) -> State
+fn looked_at(
+    rules: &[u64],
+    desk: &[u64],
+    memory: &[u64],
+    unit: Unit,
+    step: usize,
+    unfounded: u64,
+) -> State
     requires { ⌜ Lent (now rules) (unit .rules) × (length (now desk) ≡ DESK_WORDS) × (MEMORY_WORDS ≤ length (now memory)) ⌝ }
 {
     if step < SUPPORTS {
@@ -175,7 +224,10 @@ fn looked_at(rules: &[u64], desk: &[u64], memory: &[u64], unit: Unit, step: usiz
     if step < PAIR_STEPS {
         return either_way(atoms::first(ATOMS));
     }
-    either_way(pair_atoms(memory, step - PAIR_STEPS))
+    if step < UNFOUNDED_STEP {
+        return either_way(pair_atoms(memory, step - PAIR_STEPS));
+    }
+    unfounding(rules, unit.rules, unfounded)
 }
 
 // The atoms that may be spared in a reason: those of rules and pairs are few already.
@@ -183,7 +235,10 @@ fn to_spare(step: usize, part: State) -> u64 {
     if step < SUPPORTS {
         return 0;
     }
-    if PAIR_STEPS <= step {
+    if step < PAIR_STEPS {
+        return atoms::union(part.up, part.dropped);
+    }
+    if step < UNFOUNDED_STEP {
         return 0;
     }
     atoms::union(part.up, part.dropped)
@@ -203,7 +258,18 @@ fn still_tells(
     ensures { λ r. ⌜ (r ≡ true → Told (Belongs (now (rules .entry)) (now (table .entry)) (now (counts .entry)) (now (desk .entry)) unit)
         (now (memory .entry)) (c .goal) c) ⌝ }
 {
-    let t = step_again(rules, table, counts, desk, memory, unit, c.step, c.part);
+    let part = c.part;
+    let t = step_again(
+        rules,
+        table,
+        counts,
+        desk,
+        memory,
+        unit,
+        c.step,
+        c.unfounded,
+        part,
+    );
     tells(t, c.goal)
 }
 
@@ -233,6 +299,7 @@ fn spare(
         step: c.step,
         part: fewer,
         goal,
+        unfounded: c.unfounded,
     };
     if still_tells(rules, table, counts, desk, memory, unit, less) {
         return less;
@@ -294,6 +361,25 @@ fn shrink(
     c
 }
 
+// The atoms that the step drops together because they are unfounded: what the founded step drops from the state, or else those that were noted.
+fn unfounded_atoms(rules: &[u64], memory: &[u64], unit: Unit, step: usize, s: State) -> u64
+    requires { ⌜ Lent (now rules) (unit .rules) × (MEMORY_WORDS ≤ length (now memory)) ⌝ }
+{
+    if step != FOUNDED_STEP {
+        return noted_unfounded(memory);
+    }
+    let t = founded_step(rules, unit.rules, unit.inputs, s);
+    atoms::without(t.dropped, s.dropped)
+}
+
+// The step that is run again for this one. What the founded step drops is unfounded, and that is told without another closure.
+fn rerun_as(step: usize) -> usize {
+    if step == FOUNDED_STEP {
+        return UNFOUNDED_STEP;
+    }
+    step
+}
+
 // A reason of the claim's goal, which step `at` of the trail told from the state that is the claim's part: those atoms of it that the step looks at
 // and cannot spare. The goal itself where the step does not tell it from these.
 pub fn explain(
@@ -310,17 +396,20 @@ pub fn explain(
     ensures { λ r. ⌜ Explains (Heeds (Belongs (now (rules .entry)) (now (table .entry)) (now (counts .entry)) (now (desk .entry)) unit)
         (now (memory .entry))) r (c .goal) ⌝ }
 {
-    let seen = looked_at(rules, desk, memory, unit, c.step);
     let whole = c.part;
+    let unfounded = unfounded_atoms(rules, memory, unit, c.step, whole);
+    let step = rerun_as(c.step);
+    let seen = looked_at(rules, desk, memory, unit, step, unfounded);
     let part = State {
         up: atoms::cut(whole.up, seen.up),
         dropped: atoms::cut(whole.dropped, seen.dropped),
     };
     let goal = c.goal;
     let near = Claim {
-        step: c.step,
+        step,
         part,
         goal,
+        unfounded,
     };
     if !still_tells(rules, table, counts, desk, memory, unit, near) {
         return goal;

@@ -1,21 +1,19 @@
 -- The measure is the count of undecided atoms. Each return says what its step of the search adds to the list, that the memory keeps its promise, and
 -- why no member completes the pair.
-use mathlib.Core.Path.{refl, sym, _∙_}
+use mathlib.Core.Path.{sym, _∙_}
+use mathlib.Core.Bool.{not}
 use Prim.Native.Nat.{ℕ, _<_, _≤_}
 use lib.Count.{ones}
 use denote.Ref.{now}
 use borrow.Author.Needs.{needs}
-use borrow.Author.Tests.{not-true}
 use borrow.Fn.Kinds.{In}
 use borrow.Fn.PlainCycle.{Measures, is, falls, and}
 use Rattle.atoms.specs.Word.{Has}
 use Rattle.answer_sets.specs.State.{undecided}
-use Rattle.answer_sets.proofs.Between.{raise-falls, lower-falls}
 use Rattle.learning.proofs.Nogoods.{nogood-resolved}
 use Rattle.learning.proofs.Reasons.{lifted-nogood, lifted-remembers}
-use Rattle.unit_steps.proofs.Filters.{filtered-lower, filtered-upper}
 use Rattle.unit_search.proofs.Gathered.{gathered-ordered}
-use Rattle.unit_search.proofs.Branches.{overlap-of, overlap-nogood, narrowed-le, found-as}
+use Rattle.unit_search.proofs.Branches.{narrowed-le, branch-falls, filtered-branch, found-as}
 use Rattle.unit_search.proofs.SearchSteps.{search-narrowed, search-clash, search-leaf, search-over, search-enough, search-skip, search-both}
 use Rattle.unit_search.proofs.Witnesses.{enough-met}
 use Rattle.unit_search.proofs.search.explore.Reads as explore′
@@ -25,18 +23,18 @@ use Rattle.answer_sets.proofs.known.undecided.Reads as undecided-reads
 use Rattle.atoms.proofs.are_apart.Reads as are-apart-reads
 use Rattle.atoms.proofs.cut.Reads as cut-reads
 use Rattle.learning.proofs.nogood.lies_within.Reads as lies-within-reads
-use Rattle.unit_search.proofs.branch.contradiction.Reads as contradiction-reads
+use Rattle.unit_search.proofs.branch.below.Reads as below-reads
+use Rattle.unit_search.proofs.branch.branched.Reads as branched-reads
 use Rattle.unit_search.proofs.witness.either.Reads as either-reads
 use Rattle.unit_search.proofs.branch.handed.Reads as handed-reads
 use Rattle.unit_search.proofs.witness.is_enough.Reads as is-enough-reads
-use Rattle.unit_search.proofs.branch.lowered.Reads as lowered-reads
 use Rattle.unit_search.proofs.branch.merged.Reads as merged-reads
+use Rattle.unit_search.proofs.branch.phase_of.Reads as phase-of-reads
 use Rattle.unit_search.proofs.branch.pick.Reads as pick-reads
-use Rattle.unit_search.proofs.branch.raised.Reads as raised-reads
 use Rattle.unit_search.proofs.member.offer.Reads as offer-reads
+use Rattle.unit_search.proofs.stop.stop.Reads as stop-reads
 use Rattle.unit_steps.proofs.filter.copied.Reads as copied-reads
 use Rattle.unit_steps.proofs.lift.blame.Reads as blame-reads
-use Rattle.unit_steps.proofs.lift.lift.Reads as lift-reads
 use Rattle.unit_steps.proofs.lift.span.Reads as span-reads
 use Rattle.unit_steps.proofs.propagate.propagate.Reads as propagate-reads
 use Rattle.unit_search.proofs.search.+explore.{statement}
@@ -62,10 +60,8 @@ calls t = (
   span-reads.Learnt,
   are-apart-reads.Asked,
   are-apart-reads.Learnt,
-  contradiction-reads.Asked,
-  contradiction-reads.Learnt,
-  lift-reads.Asked,
-  lift-reads.Learnt,
+  stop-reads.Asked,
+  stop-reads.Learnt,
   handed-reads.Asked,
   handed-reads.Learnt,
   undecided-reads.Asked,
@@ -74,8 +70,12 @@ calls t = (
   offer-reads.Learnt,
   pick-reads.Asked,
   pick-reads.Learnt,
-  lowered-reads.Asked,
-  lowered-reads.Learnt,
+  phase-of-reads.Asked,
+  phase-of-reads.Learnt,
+  branched-reads.Asked,
+  branched-reads.Learnt,
+  below-reads.Asked,
+  below-reads.Learnt,
   explore-below t,
   explore′.Post,
   cut-reads.Asked,
@@ -86,8 +86,6 @@ calls t = (
   lies-within-reads.Learnt,
   blame-reads.Asked,
   blame-reads.Learnt,
-  raised-reads.Asked,
-  raised-reads.Learnt,
   merged-reads.Asked,
   merged-reads.Learnt,
   either-reads.Asked,
@@ -105,11 +103,11 @@ module _ (t : ℕ) where
   abbrev Chosen : Type 0
   Chosen = explore-lts.After-pick (calls t) (explore-at t) explore′.Post
 
-  -- the atom was dropped, and what that adds to the list was searched
+  -- the atom was decided in its phase, and what that adds to the list was searched
   abbrev Searched : Type 0
   Searched = explore-lts.After-explore (calls t) (explore-at t) explore′.Post
 
-  -- then it went up
+  -- then the other way
   abbrev Twice : Type 0
   Twice = explore-lts.After-explore2 (calls t) (explore-at t) explore′.Post
 
@@ -120,10 +118,20 @@ module _ (t : ℕ) where
   narrowed c = c .before .before .before .before .before .before .before .before .before .before .before
 
   abbrev chosen : Searched → Chosen
-  chosen c = c .before .before .before .before .before
+  chosen c = c .before .before .before .before .before .before .before .before
+
+  -- the phase of the atom, and the node of its branch
+  abbrev phased : Searched → explore-lts.After-phase-of (calls t) (explore-at t) explore′.Post
+  phased c = c .before .before .before .before .before .before
+
+  abbrev asked : Searched → explore-lts.After-below (calls t) (explore-at t) explore′.Post
+  asked c = c .before .before .before .before
+
+  abbrev asked-other : Twice → explore-lts.After-below2 (calls t) (explore-at t) explore′.Post
+  asked-other c = c .before .before .before .before
 
   abbrev searched : Twice → Searched
-  searched c = c .before .before .before .before .before .before .before .before .before .before .before .before .before .before .before .before .before
+  searched c = c .before .before .before .before .before .before .before .before .before .before .before .before .before .before .before .before .before .before
 
   -- the chosen atom is undecided
   undecided-atom : (c : Chosen)
@@ -142,35 +150,46 @@ module _ (t : ℕ) where
       let pre = c .before .before .before .before .before .before .before .before .before .before .before .before .before .pre .1 in
       (pre .0, pre .2, rw (c .before .before .copied .ensures) (pre .3))
 
-  contradiction-requires : explore-lts.Need-contradiction-requires (calls t) (explore-at t) explore′.Post
-  contradiction-requires c κs = overlap-of (c .before .are-apart .ensures) (not-true (c .before .are-apart .result) (c .if1 .taken))
-
-  lift-requires : explore-lts.Need-lift-requires (calls t) (explore-at t) explore′.Post
-  lift-requires c κs =
-      let n = c .before .before .before .before .before .before .before .before .before in
-      (start n .pre .1 .0, n .propagate .ensures .1 .1 .long)
+  stop-requires : explore-lts.Need-stop-requires (calls t) (explore-at t) explore′.Post
+  stop-requires c κs =
+      let n = c .before .before .before .before .before .before .before .before in (start n .pre .1 .0, n .propagate .ensures .1 .1)
 
   offer-requires : explore-lts.Need-offer-requires (calls t) (explore-at t) explore′.Post
   offer-requires c κs =
-      let pre = start (c .before .before .before .before .before .before .before .before .before .before) .pre .1 in
-      (pre .0 .searchable, pre .1)
+      let n = c .before .before .before .before .before .before .before .before .before .before .before in
+      let pre = start n .pre .1 in
+      (pre .0, pre .1, n .propagate .ensures .1 .1)
 
   pick-requires : explore-lts.Need-pick-requires (calls t) (explore-at t) explore′.Post
   pick-requires c κs =
       let n = c .before .before .before .before .before .before .before .before .before .before in
       (start n .pre .1 .0 .searchable .rules-lent, n .propagate .ensures .1 .1 .long, c .before .if2 .left)
 
-  lowered-requires : explore-lts.Need-lowered-requires (calls t) (explore-at t) explore′.Post
-  lowered-requires c κs = (start (narrowed c) .pre .1 .0 .long, c .pick .ensures .1)
-
-  lower-requires : explore-lts.Need-explore-requires (calls t) (explore-at t) explore′.Post
-  lower-requires c κs =
-      let down = c .before .before .before in
-      let k = down .before in
+  phase-of-requires : explore-lts.Need-phase-of-requires (calls t) (explore-at t) explore′.Post
+  phase-of-requires c κs =
+      let k = c .before in
       let n = narrowed k in
-      let pre = start n .pre .1 in (
-        rw (down .lowered .ensures) (lower-falls _ _ refl (undecided-atom k) (no-more k) refl),
-        (pre .0, pre .1, n .propagate .ensures .1 .1, rw (down .lowered .ensures) (filtered-lower _ _ refl (n .propagate .ensures .1 .0))),
+      (start n .pre .1 .0 .searchable .rules-lent, start n .pre .1 .0 .long, n .propagate .ensures .1 .1 .long, k .pick .ensures .1)
+
+  branched-requires : explore-lts.Need-branched-requires (calls t) (explore-at t) explore′.Post
+  branched-requires c κs = let k = c .before .before in (start (narrowed k) .pre .1 .0 .long, k .pick .ensures .1)
+
+  first-requires : explore-lts.Need-explore-requires (calls t) (explore-at t) explore′.Post
+  first-requires c κs =
+      let one = c .before .before .before in
+      let way = one .before in
+      let phase = way .before in
+      let k = phase .before .before in
+      let n = narrowed k in
+      let pre = start n .pre .1 in
+      rw (one .below .ensures) (
+        branch-falls (n .propagate .result .state) (phase .phase-of .result) (undecided-atom k) (way .branched .ensures) (no-more k),
+        (
+          pre .0,
+          pre .1,
+          n .propagate .ensures .1 .1,
+          filtered-branch (n .propagate .result .state) (k .pick .result) (phase .phase-of .result) (way .branched .ensures) (n .propagate .ensures .1 .0),
+        ),
       )
 
   blame-requires : explore-lts.Need-blame-requires (calls t) (explore-at t) explore′.Post
@@ -178,24 +197,27 @@ module _ (t : ℕ) where
       let s = c .before .before .before .before .before .before .before .before .before .before .before .before .before in
       (start (narrowed (chosen s)) .pre .1 .0, s .explore .ensures .1 .1 .0 .long)
 
-  raised-requires : explore-lts.Need-raised-requires (calls t) (explore-at t) explore′.Post
-  raised-requires c κs =
+  other-requires : explore-lts.Need-branched-requires-2 (calls t) (explore-at t) explore′.Post
+  other-requires c κs =
       let k = chosen (c .before .before .before .before .before .before .before .before .before .before .before .before) in
       (start (narrowed k) .pre .1 .0 .long, k .pick .ensures .1)
 
-  upper-requires : explore-lts.Need-explore-requires-2 (calls t) (explore-at t) explore′.Post
-  upper-requires c κs =
-      let up = c .before .before .before in
-      let s = up .before .before .before .before .before .before .before .before .before .before .before .before .before in
+  second-requires : explore-lts.Need-explore-requires-2 (calls t) (explore-at t) explore′.Post
+  second-requires c κs =
+      let other = c .before .before .before in
+      let way = other .before in
+      let s = way .before .before .before .before .before .before .before .before .before .before .before .before .before in
       let k = chosen s in
       let n = narrowed k in
-      let pre = start n .pre .1 in (
-        rw (up .raised .ensures) (raise-falls _ _ refl (undecided-atom k) (no-more k) refl),
+      let pre = start n .pre .1 in
+      rw (other .below2 .ensures) (
+        branch-falls (n .propagate .result .state) (not (phased s .phase-of .result)) (undecided-atom k) (way .branched2 .ensures) (no-more k),
         (
           pre .0,
-          gathered-ordered (up .before .before .before .before .before .before .before .if3 .left) (s .explore .ensures .0),
-          s .explore .ensures .1 .1 .0,
-          rw (up .raised .ensures) (filtered-upper _ _ refl (n .propagate .ensures .1 .0)),
+          gathered-ordered (way .before .before .before .before .before .before .before .if3 .left) (s .explore .ensures .0),
+          rw (asked s .below .ensures) at (s .explore .ensures .1 .1 .0),
+          filtered-branch (n .propagate .result .state) (k .pick .result) (not (phased s .phase-of .result)) (way .branched2 .ensures)
+              (n .propagate .ensures .1 .0),
         ),
       )
 
@@ -207,48 +229,48 @@ module _ (t : ℕ) where
 
   overlap : explore-lts.Need-returns (calls t) (explore-at t) explore′.Post
   overlap c =
-      let lifted = c .before .before .before in
-      let clash = lifted .before .before in
-      let n = clash .before .before .before .before .before .before .before .before in
-      let known = n .propagate .ensures .1 .1 in
-      let none = overlap-nogood (clash .contradiction .ensures) in
+      let stopped = c .before .before .before in
+      let test = stopped .before .before in
+      let n = test .before .before .before .before .before .before .before in
       found-as (c .handed .ensures)
       (search-narrowed (now (start n .args .list)) (start n .args .node .count) (n .propagate .ensures .0)
-      (search-clash (start n .pre .1 .1) (clash .before .before .are-apart .ensures) (clash .before .if1 .taken)))
-      (lifted-remembers known (lifted .lift .ensures) none)
-      (lifted-nogood known (lifted .lift .ensures) none)
+      (search-clash (start n .pre .1 .1) (test .before .are-apart .ensures) (test .if1 .taken)))
+      (stopped .stop .ensures .0)
+      (stopped .stop .ensures .1)
 
   decided : explore-lts.Need-returns-2 (calls t) (explore-at t) explore′.Post
   decided c =
-      let offered = c .before .before in
-      let free = offered .before .before .before in
+      let offered = c .before .before .before .before in
+      let free = offered .before .before .before .before in
       let n = free .before .before .before .before .before .before .before .before in
       let told = search-narrowed (now (start n .args .list)) (start n .args .node .count) (n .propagate .ensures .0)
       (search-leaf (now (start n .args .list)) (start n .args .node .count) (free .before .before .are-apart .ensures) (free .before .if1 .left)
-      (free .undecided .ensures) (offered .before .before .if2 .taken) (offered .offer .ensures .0, λ l. offered .offer .ensures .1 .0)) in
-      (told .0, (told .1, (n .propagate .ensures .1 .1, overlap-nogood (offered .offer .ensures .1 .1))))
+      (free .undecided .ensures) (offered .before .before .before .if2 .taken) (offered .offer .ensures .0, λ l. offered .offer .ensures .1 .0)) in
+      (told .0, (told .1, offered .offer .ensures .1 .1))
 
   too-many : explore-lts.Need-returns-3 (calls t) (explore-at t) explore′.Post
   too-many c =
       let s = c .before .before .before .before .before .before in
       let k = chosen s in
       let n = narrowed k in
+      let first = rw (asked s .below .ensures) at (s .explore .ensures) in
       let told = search-narrowed (now (start n .args .list)) (start n .args .node .count) (n .propagate .ensures .0)
-      (search-over (now (start n .args .list)) (start n .args .node .count) (k .pick .result) (s .before .before .before .before .lowered .ensures)
-      (s .explore .ensures .0, s .explore .ensures .1 .0) (c .if3 .taken)) in
-      (told .0, (told .1, s .explore .ensures .1 .1))
+      (search-over (now (start n .args .list)) (start n .args .node .count) (k .pick .result) (phased s .phase-of .result)
+      (asked s .before .branched .ensures) (first .0, first .1 .0) (c .if3 .taken)) in
+      (told .0, (told .1, first .1 .1))
 
   one-met : explore-lts.Need-returns-4 (calls t) (explore-at t) explore′.Post
   one-met c =
       let s = c .before .before .before .before .before .before .before .before .before in
       let k = chosen s in
       let n = narrowed k in
+      let first = rw (asked s .below .ensures) at (s .explore .ensures) in
       let met = enough-met (s .explore .result .witness) (sym (c .before .is-enough .ensures) ∙ c .if4 .taken) in
       let told = search-narrowed (now (start n .args .list)) (start n .args .node .count) (n .propagate .ensures .0)
-      (search-enough (now (start n .args .list)) (start n .args .node .count) (k .pick .result) (s .before .before .before .before .lowered .ensures)
-      (s .explore .ensures .0, s .explore .ensures .1 .0) (c .before .before .before .if3 .left)
+      (search-enough (now (start n .args .list)) (start n .args .node .count) (k .pick .result) (phased s .phase-of .result)
+      (asked s .before .branched .ensures) (first .0, first .1 .0) (c .before .before .before .if3 .left)
       (rw (k .before .before .before .undecided .ensures) at (c .before .before .cut .ensures)) (met .0) (met .1)) in
-      (told .0, (told .1, s .explore .ensures .1 .1))
+      (told .0, (told .1, first .1 .1))
 
   skipped : explore-lts.Need-returns-5 (calls t) (explore-at t) explore′.Post
   skipped c =
@@ -257,12 +279,13 @@ module _ (t : ℕ) where
       let s = test .before .before .before .before .before .before .before .before .before .before .before in
       let k = chosen s in
       let n = narrowed k in
-      let known = s .explore .ensures .1 .1 .0 in
-      let none = s .explore .ensures .1 .1 .1 in
+      let first = rw (asked s .below .ensures) at (s .explore .ensures) in
+      let known = first .1 .1 .0 in
+      let none = first .1 .1 .1 in
       found-as (c .handed2 .ensures)
       (search-narrowed (now (start n .args .list)) (start n .args .node .count) (n .propagate .ensures .0)
-      (search-skip (now (start n .args .list)) (start n .args .node .count) (k .pick .result) (s .before .before .before .before .lowered .ensures)
-      (s .explore .ensures .0, s .explore .ensures .1 .0) none (test .lies-within .ensures .yes (blamed .before .before .if5 .taken))))
+      (search-skip (now (start n .args .list)) (start n .args .node .count) (k .pick .result) (phased s .phase-of .result)
+      (asked s .before .branched .ensures) (first .0, first .1 .0) none (test .lies-within .ensures .yes (blamed .before .before .if5 .taken))))
       (lifted-remembers known (blamed .blame .ensures) none)
       (lifted-nogood known (blamed .blame .ensures) none)
 
@@ -271,18 +294,20 @@ module _ (t : ℕ) where
       let blamed = c .before .before .before .before in
       let left = blamed .before .before in
       let h = left .before .before .before .before .before in
-      let s = searched h in
+      let s =
+      h .before .before .before .before .before .before .before .before .before .before .before .before .before .before .before .before .before .before in
       let k = chosen s in
       let n = narrowed k in
-      let known = h .explore2 .ensures .1 .1 .0 in
-      let none = nogood-resolved (left .merged .ensures) (h .explore2 .ensures .1 .1 .1) (s .explore .ensures .1 .1 .1) in
+      let first = rw (asked s .below .ensures) at (s .explore .ensures) in
+      let second = rw (asked-other h .below2 .ensures) at (h .explore2 .ensures) in
+      let known = second .1 .1 .0 in
+      let none = nogood-resolved (left .merged .ensures) (second .1 .1 .1) (first .1 .1 .1) in
       found-as (c .handed3 .ensures)
       (search-narrowed (now (start n .args .list)) (start n .args .node .count) (n .propagate .ensures .0)
-      (search-both (now (start n .args .list)) (start n .args .node .count) (k .pick .result) (s .before .before .before .before .lowered .ensures)
-      (s .explore .ensures .0, s .explore .ensures .1 .0)
-      (h .before .before .before .before .before .before .before .before .before .before .before .if3 .left)
-      (h .before .before .before .before .raised .ensures)
-      (c .before .either .ensures) (h .explore2 .ensures .0, h .explore2 .ensures .1 .0)))
+      (search-both (now (start n .args .list)) (start n .args .node .count) (k .pick .result) (phased s .phase-of .result)
+      (asked s .before .branched .ensures) (first .0, first .1 .0)
+      (h .before .before .before .before .before .before .before .before .before .before .before .before .if3 .left) (asked-other h .before .branched2 .ensures)
+      (c .before .either .ensures) (second .0, second .1 .0)))
       (lifted-remembers known (blamed .blame2 .ensures) none)
       (lifted-nogood known (blamed .blame2 .ensures) none)
 
@@ -295,8 +320,7 @@ pub +explore-spec : {M : Type 1} → statement M
     (propagate-requires t)
     (λ c κs. search needs)
     (λ c κs. search needs)
-    (contradiction-requires t)
-    (lift-requires t)
+    (stop-requires t)
     (λ c κs. search needs)
     (λ c. search needs)
     (overlap t)
@@ -306,9 +330,11 @@ pub +explore-spec : {M : Type 1} → statement M
     (λ c. search needs)
     (decided t)
     (pick-requires t)
-    (lowered-requires t)
-    (λ c. search needs)
-    (lower-requires t)
+    (phase-of-requires t)
+    (branched-requires t)
+    (λ c κs. search needs)
+    (λ c. sym (narrowed t (c .before .before .before .before .before .before .before) .propagate .ensures .1 .0 .long))
+    (first-requires t)
     (λ c. c .before .before .before .before .before .before .explore .kept .1 .1 .1 .1 .0)
     (λ c.
     let s = c .before .before .before .before .before .before in
@@ -331,11 +357,12 @@ pub +explore-spec : {M : Type 1} → statement M
     let s = c .before .before .before .before .before .before .before .before .before .before .before .before .before .before .before .before .before in
     c .before .before .before .blame .kept .1 .1 .1 .1 .1 .0 ∙ s .explore .kept .1 .1 .1 .1 .1 .0 ∙ narrowed t (chosen t s) .propagate .kept .1 .1 .1 .1 .1 .0)
     (skipped t)
-    (raised-requires t)
+    (other-requires t)
+    (λ c κs. search needs)
     (λ c.
-    let s = c .before .before .before .before .before .before .before .before .before .before .before .before .before .before .before .before in
+    let s = c .before .before .before .before .before .before .before .before .before .before .before .before .before .before .before .before .before in
     sym (narrowed t (chosen t s) .propagate .ensures .1 .0 .long))
-    (upper-requires t)
+    (second-requires t)
     (λ c κs. chosen t (searched t (c .before .before .before .before)) .pick .ensures .1)
     (blame-both-requires t)
     (λ c κs. search needs)

@@ -14,7 +14,7 @@ abbrev entry : tie.After-lay-out → tie.Start
 entry c = c .before .before .before .before .before .before .before
 
 abbrev laid : tie.After-begin → tie.After-lay-out
-laid c = c .before .before .before .before .before .before
+laid c = c .before .before .before .before .before .before .before
 
 lay-out-requires : tie.Need-lay-out-requires
 lay-out-requires c κs =
@@ -23,7 +23,7 @@ lay-out-requires c κs =
 
 begin-requires : tie.Need-begin-requires
 begin-requires c κs =
-    let full = c .before .before .before in
+    let full = c .before .before .before .before in
     let desk = full .before .before in
     let ready = prepared (desk .lay-out .ensures) (entry desk .pre .0) in (
       ready,
@@ -44,8 +44,8 @@ returns c =
     let begun = done .before .before .before .before .before .before .before .before in
     let desk = laid begun in
     let at = entry desk .args in
-    search-desk (desk .lay-out .ensures) (now (at .list)) (at .count)
-    (search-narrowed (now (at .list)) (at .count) (begun .begin .ensures .0) (done .explore .ensures .0, done .explore .ensures .1 .0) .0)
+    search-desk (desk .lay-out .ensures) (now (at .list)) 0
+    (search-narrowed (now (at .list)) 0 (begun .begin .ensures .0) (done .explore .ensures .0, done .explore .ensures .1 .0) .0)
 
 pub search-spec : {M : Type 1} → statement M
 search-spec =
@@ -53,6 +53,7 @@ search-spec =
     (tie.spec
     (λ c κs. search needs)
     lay-out-requires
+    (λ c κs. search needs)
     (λ c κs. search needs)
     (λ c κs. search needs)
     (λ c. search needs)

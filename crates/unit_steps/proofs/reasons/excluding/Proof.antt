@@ -1,25 +1,22 @@
--- The loop carries that the rules left are some of the word. The measure is how many.
+-- What is left are rules of the word. The measure is how many are left.
 use lib.Count.{ones}
-use denote.Ref.{now}
 use Rattle.atoms.specs.Word.{_⊆_}
 use Rattle.atoms.proofs.Sets.{subset-refl}
 use Rattle.atoms.proofs.Counts.{taken-less, taken-within}
-use Rattle.answer_sets.specs.Lent.{IsLent}
+use Rattle.atoms.proofs.TakenNumbers.{taken-lent}
 use borrow.Author.Needs.{needs}
 use Rattle.unit_steps.proofs.reasons.excluding.Statement.{statement}
 use Rattle.unit_steps.proofs.reasons.excluding.Tie as tie
 
 abbrev Inv-loop : tie.InvT-loop
-Inv-loop rules which rest₀ up₀ dropped₀ rest up dropped = rest ⊆ which
+Inv-loop rules which rest₀ seen₀ rest seen = rest ⊆ which
 
 abbrev μ-loop : tie.MeasureT-loop
-μ-loop rules which rest₀ up₀ dropped₀ rest up dropped = ones rest
+μ-loop rules which rest₀ seen₀ rest seen = ones rest
 
--- the rule that is taken is lent
-taken-lent : (c : tie.After-lowest Inv-loop μ-loop) → IsLent (now (c .before .before .before .before .args .rules)) (c .lowest .result)
-taken-lent c =
-    let loop = c .before .before in
-    loop .before .before .pre .each _ (loop .loop .inv .each _ (c .lowest .ensures .0 .here))
+excluded-by-requires : tie.Need-excluded-by-requires Inv-loop μ-loop
+excluded-by-requires c κs =
+    let at = c .before .before in at .before .before .pre .each _ (taken-lent (at .loop .inv) (c .lowest .ensures .0))
 
 pub excluding-spec : {M : Type 1} → statement M
 excluding-spec =
@@ -29,18 +26,8 @@ excluding-spec =
     μ-loop
     (λ c. subset-refl)
     (λ c κs. c .loop-test .taken)
-    (λ c κs. taken-lent c)
-    (λ c κs. taken-lent (c .before))
-    (λ c κs. search needs)
-    (λ c κs. taken-lent (c .before .before .before))
-    (λ c κs. search needs)
-    (λ c κs. search needs)
-    (λ c κs. taken-lent (c .before .before .before .before .before .before))
-    (λ c κs. search needs)
-    (λ c κs. search needs)
-    (λ c κs. c .before .before .before .before .before .before .before .before .before .lowest .ensures .1)
-    (λ c. taken-less (c .before .before .before .before .before .before .before .before .before .before .lowest .ensures .0) (c .drop .ensures))
-    (λ c.
-    let taken = c .before .before .before .before .before .before .before .before .before .before in
-    taken-within (taken .before .before .loop .inv) (taken .lowest .ensures .0) (c .drop .ensures))
+    excluded-by-requires
+    (λ c κs. c .before .lowest .ensures .1)
+    (λ c. taken-less (c .before .before .lowest .ensures .0) (c .drop .ensures))
+    (λ c. taken-within (c .before .before .before .before .loop .inv) (c .before .before .lowest .ensures .0) (c .drop .ensures))
     (λ c. search needs))

@@ -4,8 +4,8 @@ use Prim.Native.Nat.{ℕ}
 use Rattle.atoms.specs.Word.{_⊆_, _∩_}
 use Rattle.atoms.proofs.Sets.{cut-left}
 use borrow.Author.Needs.{needs}
-use Rattle.unit_steps.proofs.reasons.backing.Statement.{statement}
-use Rattle.unit_steps.proofs.reasons.backing.Tie as tie
+use Rattle.unit_steps.proofs.desk.backing.Statement.{statement}
+use Rattle.unit_steps.proofs.desk.backing.Tie as tie
 
 cut-within : (w x : ℕ) {r : ℕ} → r ≡ w ∩ x → r ⊆ w
 cut-within w x e = record { each = λ i h. cut-left w x (rw e at h) }
