@@ -55,6 +55,8 @@ static FAMILIES: &[Family] = &[
     family("contradicting parities", 50, Draw::Valid(stops::contradicting_parities)),
     family("contradicting parities of many keys", 8, Draw::ManyAtoms(stops::parities_of_many)),
     family("hitting sets", 50, Draw::Valid(stops::hitting_sets)),
+    family("saturated pairs", 60, Draw::Valid(stops::saturated)),
+    family("head cycles with tables", 60, Draw::Valid(stops::head_cycles)),
     family("tables put into other plans", 110, Draw::Valid(tables::tables_anywhere)),
     family("small circuits with tables", 90, Draw::Valid(tables::table_circuits)),
     family("banks of tables in layers", 50, Draw::Valid(tables::banks_in_layers)),

@@ -2,7 +2,7 @@
 
 use crate::draft::{Draft, Words};
 use crate::random::Random;
-use crate::table_plans::{put_tables, truth_by, FALSE, TRUE};
+use crate::table_plans::{any_table, put_tables, truth_by, FALSE, TRUE};
 use crate::valid_plans::{add_choice, add_choices, bit, one, turn_keys, zero};
 
 /// Most atoms in heads: of so many the comparison still tries every set.
@@ -316,4 +316,66 @@ pub fn hitting_sets(random: &mut Random) -> Draft {
         draft.add_rule(unit, words);
     }
     finished(random, draft)
+}
+
+// ---- Failed tests ----------------------------------------------------------------------------
+
+/// Choices, and pairs that all go up with a top relay where terms over both leave them no way out: most full positions have a smaller set.
+pub fn saturated(random: &mut Random) -> Draft {
+    let (choices, pairs) = random.pick(&[(1, 3), (2, 2), (2, 3), (3, 2), (3, 3), (4, 2)]);
+    let mut draft = Draft::with_units(1);
+    let unit = spread_choices(random, &mut draft, choices);
+    let paired = (choices..choices + pairs).fold(0, |atoms, i| atoms | one(i) | zero(i));
+    let chosen = (0..choices).fold(0, |atoms, i| atoms | one(i) | zero(i));
+    let top = bit(2 * (choices + pairs));
+    (choices..choices + pairs).for_each(|i| draft.add_rule(unit, [one(i) | zero(i), 0, 0]));
+    for _ in 0..random.between(2, 3 * pairs + 4) {
+        let term = random.atoms_of(chosen, 1) | random.atoms_of(paired, 2);
+        draft.add_rule(unit, [top, term, 0]);
+        if random.chance(15) {
+            use_any_table(random, &mut draft, chosen | paired | top);
+        }
+    }
+    for i in choices..choices + pairs {
+        draft.add_rule(unit, [one(i), top, 0]);
+        draft.add_rule(unit, [zero(i), top, 0]);
+    }
+    if random.chance(70) {
+        draft.add_rule(unit, [0, 0, top]);
+    }
+    finished(random, draft)
+}
+
+/// Disjunctions over atoms that also lead to each other, with tables that look at the heads of the rules that use them.
+pub fn head_cycles(random: &mut Random) -> Draft {
+    let mut draft = Draft::with_units(1);
+    let own = (0..random.between(3, 8)).fold(0, |atoms, atom| atoms | bit(atom));
+    for _ in 0..random.between(1, 3) {
+        draft.add_rule(0, [random.atoms_of(own, 2) | random.atoms_of(own, 2), 0, 0]);
+        if random.chance(20) {
+            use_any_table(random, &mut draft, own);
+        }
+    }
+    for _ in 0..random.between(3, 10) {
+        let head = random.atoms_of(own, 1);
+        let negative = if random.chance(15) { random.atoms_of(own & !head, 1) } else { 0 };
+        draft.add_rule(0, [head, random.atoms_of(own & !head, 2), negative]);
+        if random.chance(40) {
+            use_any_table(random, &mut draft, own);
+        }
+    }
+    if random.chance(40) {
+        draft.add_rule(0, [0, random.atoms_of(own, 1), random.atoms_of(own, 2)]);
+    }
+    finished(random, draft)
+}
+
+/// The newest rule uses a new table over some of these atoms and of its own head.
+fn use_any_table(random: &mut Random, draft: &mut Draft, pool: u64) {
+    let Some(rule) = draft.rules.len().checked_sub(1) else { return };
+    let [inputs, _] = any_table(random, pool);
+    let inputs = if inputs.count_ones() < 6 { inputs | random.atoms_of(draft.rules[rule][0], 1) } else { inputs };
+    let truth = random.word() & truth_by(inputs.count_ones() as usize, |_| true);
+    let table = draft.add_table([inputs, truth]);
+    draft.add_use(rule, table, random.pick(&[TRUE, TRUE, FALSE]));
 }
