@@ -6,6 +6,7 @@ of the whole program, and these are the last list.
 """
 import itertools
 import os
+import random
 import struct
 import sys
 
@@ -540,6 +541,92 @@ def decoder(size):
     return plan
 
 
+def saturated_choices(size):
+    """`size` choices, and seven pairs that are all up wherever random terms over both leave them no way out: choices that leave one fail in the
+    subset test alone."""
+    plan = Plan()
+    draw = random.Random("saturated choices, %d" % size)
+    choices = [plan.choice() for _ in range(size)]
+    pairs = [plan.choice() for _ in range(7)]
+    top = plan.atom()
+    for _ in range(24 + size % 5):
+        term = draw.sample(choices, 1) + draw.sample(pairs, 2)
+        plan.rule([top], [draw.choice(pair) for pair in term])
+    for atom in itertools.chain(*pairs):
+        plan.rule([atom], [top])
+    plan.rule((), (), [top])
+    return plan
+
+
+def regular_graph(draw, nodes, degree):
+    """The edges of a random graph in which each node has `degree` neighbours."""
+    while True:
+        ends = [node for node in range(nodes) for _ in range(degree)]
+        draw.shuffle(ends)
+        edges = {tuple(sorted(pair)) for pair in zip(ends[::2], ends[1::2])}
+        if len(edges) == nodes * degree // 2 and all(a != b for a, b in edges):
+            return sorted(edges)
+
+
+def parity_graph(size):
+    """A key on each edge of a random graph of `size` nodes and degree 4; by a table at each node an odd number of its keys must be up at the first, an
+    even number at the others: no position, since each key is at two nodes."""
+    plan = Plan()
+    never = plan.atom()
+    edges = regular_graph(random.Random("parity graph, %d" % size), size, 4)
+    keys = [plan.choice()[0] for _ in edges]
+    for node in range(size):
+        odd = plan.table([key for key, edge in zip(keys, edges) if node in edge], lambda ups: sum(ups) % 2)
+        plan.rule((), (), [never], uses=[(odd, node != 0)])
+    return plan
+
+
+# Three families that no setting was picked on: they were drawn once, after all settings were fixed.
+
+
+def routes(size):
+    """`size` stations, a choice of one of two lines out of each, at random; the last two must be reached from the first. Stations may reach each
+    other in a ring."""
+    plan = Plan()
+    draw = random.Random("routes, %d" % size)
+    reached = [plan.atom() for _ in range(size)]
+    plan.rule([reached[0]])
+    for i in range(size):
+        lines = [plan.atom(), plan.atom()]
+        plan.rule(lines)
+        for line, to in zip(lines, draw.sample([j for j in range(size) if j != i], 2)):
+            plan.rule([reached[to]], [reached[i], line])
+    for station in reached[-2:]:
+        plan.rule((), (), [station])
+    return plan
+
+
+def strategic_sets(size):
+    """`size` firms; each of as many goods is made by one of two or three at random, and some firms are held by two others together: smallest sets of
+    firms, of which a random firm must be one."""
+    plan = Plan()
+    draw = random.Random("strategic sets, %d" % size)
+    firms = [plan.atom() for _ in range(size)]
+    for _ in range(size):
+        plan.rule(draw.sample(firms, draw.choice([2, 2, 3])))
+    for _ in range(size // 2):
+        held, *holders = draw.sample(firms, 3)
+        plan.rule([held], holders)
+    plan.rule((), (), [draw.choice(firms)])
+    return plan
+
+
+def random_clauses(size):
+    """`size` choices and 64 - `size` constraints of three at random: some 2.4 to 4.3 for each choice."""
+    plan = Plan()
+    draw = random.Random("random clauses, %d" % size)
+    keys = [contact(plan.choice()[0]) for _ in range(size)]
+    for _ in range(MAX_RULES - size):
+        bodies = [draw.choice(key) for key in draw.sample(keys, 3)]
+        plan.rule((), sum((body[0] for body in bodies), []), sum((body[1] for body in bodies), []))
+    return plan
+
+
 FAMILIES = {
     latches: range(2, 19, 4),
     mutual_exclusion: range(4, 41, 9),
@@ -550,6 +637,7 @@ FAMILIES = {
     joined_lists: range(2, 9),
     free_choices: range(2, 11),
     saturation: range(3, 16, 4),
+    saturated_choices: range(4, 15),
     odd_loops: range(3, 22, 6),
     even_ring: range(4, 33, 7),
     holding_loops: range(4, 33, 7),
@@ -564,11 +652,15 @@ FAMILIES = {
     odd_and_even: [6, 8, 10, 12, 13],
     odd_and_even_pairs: range(6, 15, 2),
     odd_and_even_tables: range(6, 17, 2),
+    parity_graph: range(8, 16),
     majority: range(2, 17, 3),
     decoder: range(1, 7),
     free_helpers: range(0, 25, 4),
     helpers_of_keys: range(0, 25, 4),
     relays_of_helpers: range(8, 25, 4),
+    routes: range(6, 17, 2),
+    strategic_sets: range(8, 29, 4),
+    random_clauses: [12, 13, 14, 15, 16, 18],
 }
 
 
