@@ -68,6 +68,9 @@ diamond = edge 1 0 ++ (edge 2 0 ++ (edge 3 1 ++ (edge 3 2 ++ end)))
 abbrev pub circuit-2 : List ℕ
 circuit-2 = rule 3 0 0 ++ (unit 1 ++ end)
 
+abbrev pub circuit-7 : List ℕ
+circuit-7 = rule 3 0 0 ++ (rule 4 1 0 ++ (rule 8 1 0 ++ (rule 16 12 0 ++ (unit 1 ++ (unit 2 ++ (unit 4 ++ (unit 8 ++ diamond)))))))
+
 -- circuits 2 to 11, plan P, and P without its EDGE; P with a table that is true where atom 0 is up, with either sign, and without its EDGE;
 -- two facts on pairs that show atoms 0 and 1 alone, and no atom; circuit 4 that shows no atom; P that shows atoms 1 and 2; a second SHOW, an EDGE
 -- and an unknown byte behind a SHOW
@@ -78,7 +81,7 @@ plans =
     ∷ (rule 1 0 1 ++ (unit 1 ++ end))
     ∷ (rule 1 0 2 ++ (rule 2 0 1 ++ (unit 3 ++ end)))
     ∷ (rule 3 0 0 ++ (rule 1 2 0 ++ (rule 2 1 0 ++ (unit 7 ++ end))))
-    ∷ (rule 3 0 0 ++ (rule 4 1 0 ++ (rule 8 1 0 ++ (rule 16 12 0 ++ (unit 1 ++ (unit 2 ++ (unit 4 ++ (unit 8 ++ diamond))))))))
+    ∷ circuit-7
     ∷ (rule 1 0 0 ++ (rule 2 0 0 ++ (rule 0 3 0 ++ (unit 1 ++ (unit 2 ++ (unit 4 ++ (unit 4 ++ (edge 2 0 ++ (edge 3 1 ++ end)))))))))
     ∷ (rule 1 0 0 ++ (rule 2 0 0 ++ (rule 0 3 0 ++ (unit 1 ++ (unit 2 ++ (unit 4 ++ (unit 4 ++ (edge 2 0 ++ (edge 3 1 ++ (edge 2 1 ++ end))))))))))
     ∷ (rule 3 0 0 ++ (rule 0 0 1 ++ (unit 1 ++ (unit 2 ++ end))))
