@@ -47,6 +47,8 @@ samples!(
     "clingo-default-misses-one",
     "clingo-default-misses-ten",
     "contradictory-body",
+    "eleven-heads",
+    "five-of-ten",
     "given-in-heads",
     "given-keys",
     "inner-list-wider",

@@ -29,6 +29,8 @@ fn show_sheets() {
     show(b"clingo-default-misses-one.plan");
     show(b"clingo-default-misses-ten.plan");
     show(b"contradictory-body.plan");
+    show(b"eleven-heads.plan");
+    show(b"five-of-ten.plan");
     show(b"given-in-heads.plan");
     show(b"given-keys.plan");
     show(b"inner-list-wider.plan");
