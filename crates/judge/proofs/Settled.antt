@@ -18,6 +18,7 @@ use Rattle.plan.specs.Limits.{MAX_RULES, PROGRAM_WORDS}
 use Rattle.plan.specs.Record.{Fitting}
 use Rattle.reading.specs.Reading.{reading}
 use Rattle.reading.proofs.Limits.{record-fits}
+use Rattle.plan_meaning.proofs.RecordMeans.{read-means}
 use Rattle.plan.specs.declared.record.Plan.{Plan}
 use Rattle.plan.specs.declared.fault.Fault.{Fault}
 use Rattle.plan.specs.declared.fault.Outcome.the-variants.{Accepted, Refused as RefusedWith}
@@ -64,7 +65,7 @@ judged-decides bytes position e =
 
 -- so an answer that is the definition's meets the whole contract
 pub judged-right : (bytes : List ℕ) (position : ℕ) (answer : Answer) → answer ≡ judged bytes position → Judged bytes position answer
-judged-right bytes position answer e = record { is = e; decides = λ a. rw e (judged-decides bytes position a) }
+judged-right bytes position answer e = record { is = e; decides = λ a. rw e (judged-decides bytes position a); meaning = read-means bytes }
 
 -- ---- the answers of the code, from what reading gave
 

@@ -7,6 +7,7 @@ use Prim.Native.Nat.{ℕ}
 use Rattle.atoms.specs.Bounded.{Decides}
 use Rattle.plan.specs.Faults.{refusalCode}
 use Rattle.reading.specs.Reading.{reading}
+use Rattle.plan_meaning.specs.Meaning.{ReadMeans}
 use Rattle.plan.specs.declared.fault.Fault.{Fault}
 use Rattle.plan.specs.declared.fault.Outcome.the-variants.{Accepted, Refused as RefusedWith}
 use Rattle.judge.specs.Settled.{Settles, settled}
@@ -28,10 +29,12 @@ unfoldable pub judged : List ℕ → ℕ → Answer
 judged bytes position =
     elim (reading bytes .outcome) [ RefusedWith f ↦ Refused f | Accepted ↦ yesNo (settled (reading bytes .plan) position) ]
 
--- the answer is that, and for a plan that reads it is yes exactly if the position is an answer set of the whole program
+-- the answer is that, and for a plan that reads it is yes exactly if the position is an answer set of the whole program, whose rules and facts are
+-- those of the plan's lists
 pub record Judged (bytes : List ℕ) (position : ℕ) (answer : Answer) : Type 0 where
   pub is : answer ≡ judged bytes position
   pub decides : reading bytes .outcome ≡ Accepted → Decides (Settles (reading bytes .plan) position) (isYes answer)
+  pub meaning : ReadMeans bytes
 
 -- the answer as one number
 abbrev pub code : Answer → ℕ

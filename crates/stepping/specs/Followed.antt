@@ -14,6 +14,7 @@ use Rattle.plan.specs.declared.fault.Fault.{Fault}
 use Rattle.plan.specs.declared.fault.Outcome.the-variants.{Accepted, Refused as RefusedWith}
 use Rattle.plan.specs.declared.record.Plan.{Plan}
 use Rattle.reading.specs.Reading.{reading}
+use Rattle.plan_meaning.specs.Meaning.{ReadMeans}
 use Rattle.judge.specs.Settled.{Settles, settled}
 use Rattle.finding.specs.Least.{Behind}
 use Rattle.finding.specs.declared.least.From.{From}
@@ -50,11 +51,13 @@ unfoldable pub followed : List ℕ → From → Next
 followed bytes from =
     elim (reading bytes .outcome) [ RefusedWith f ↦ Refused f | Accepted ↦ nextIn (reading bytes .plan) from ]
 
--- the result is that; the fault that reading found, and otherwise the next answer set of the whole program
+-- the result is that; the fault that reading found, and otherwise the next answer set of the whole program, whose rules and facts are those of the
+-- plan's lists
 pub record Followed (bytes : List ℕ) (from : From) (r : Next) : Type 0 where
   pub is : r ≡ followed bytes from
   pub refused : (f : Fault) → reading bytes .outcome ≡ RefusedWith f → r ≡ Refused f
   pub follows : reading bytes .outcome ≡ Accepted → Follows (reading bytes .plan) from r
+  pub meaning : ReadMeans bytes
 
 -- the result as one number, beside the position
 abbrev pub code : Next → ℕ

@@ -2,6 +2,7 @@
 use mathlib.Core.List.{List}
 use Prim.Native.Nat.{ℕ}
 use Rattle.reading.specs.Layout.{IsByte, All}
+use Rattle.plan_meaning.proofs.RecordMeans.{read-means}
 use Rattle.unit_lists.specs.Answer.{answer}
 use Rattle.unit_lists.specs.Handed.{Handed}
 use Rattle.unit_lists.specs.Promised.{Promised}
@@ -16,4 +17,5 @@ promised {bytes} {table} all {r} {table′} h = record {
   demand-1 = demand-1 bytes table all h;
   demand-2 = demand-2 bytes table r table′ h;
   demand-3 = demand-3 bytes table all r table′ h;
+  meaning = read-means bytes;
 }

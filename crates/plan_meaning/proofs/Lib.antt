@@ -1,0 +1,2 @@
+pub mod TruthTables
+pub mod RecordMeans

@@ -1,0 +1,1 @@
+// What the lists of a plan mean: a crate without code.
