@@ -17,7 +17,7 @@ use Rattle.contact_tables.specs.Table.{place, row as tableRow, answer as said}
 use Rattle.answer_sets.specs.Lent.{tableOf, asks, useHolds, usesHold, usedInputs, lent}
 use Rattle.answer_sets.specs.Test.{body, satisfies, satisfiesAll, kept, keptIf, someSmaller, answerSet}
 use Rattle.reading.specs.Words.{number, wordAt}
-use Rattle.plan.specs.Record.{emptyPlan, withTable, withRule, withUse, withUnit, withEdge, withShow}
+use Rattle.plan.specs.Record.{emptyPlan, withGiven, withTable, withRule, withUse, withUnit, withEdge, withShow}
 use Rattle.reading.specs.Commands.{kindOf, carrying, late, emptyRule, contradictory, badTable, badUse, absentRule, badEdge, ofKind, commandAt}
 use Rattle.reading.specs.Reading.{walk, reading}
 use Rattle.plan.specs.declared.fault.Fault.the-variants.{UnknownCommand, OutOfOrder, Cycle, NonmonotonicUnseen, MonotonicUnseen}
@@ -39,6 +39,9 @@ use Rattle.unit_lists.specs.Answer.{unlessRefused, workFrom, tableOutcome, answ
 -- a word below 256 in a plan
 abbrev word : ℕ → List ℕ
 word n = n ∷ 0 ∷ 0 ∷ 0 ∷ 0 ∷ 0 ∷ 0 ∷ 0 ∷ []
+
+abbrev given : ℕ → List ℕ
+given w = 4 ∷ word w
 
 abbrev rule : ℕ → ℕ → ℕ → List ℕ
 rule h p n = 1 ∷ word h ++ (word p ++ word n)
@@ -73,7 +76,8 @@ circuit-7 = rule 3 0 0 ++ (rule 4 1 0 ++ (rule 8 1 0 ++ (rule 16 12 0 ++ (unit 1
 
 -- circuits 2 to 11, plan P, and P without its EDGE; P with a table that is true where atom 0 is up, with either sign, and without its EDGE;
 -- two facts on pairs that show atoms 0 and 1 alone, and no atom; circuit 4 that shows no atom; P that shows atoms 1 and 2; a second SHOW, an EDGE
--- and an unknown byte behind a SHOW
+-- and an unknown byte behind a SHOW; 0←2 where 2 is given; 2 by a table 1 that is true where 1 is up and 0 is not, beside a table 0 that is never true;
+-- facts 0 and 1 in units that do not see each other, and a table over atom 0 that no rule uses
 abbrev pub plans : List (List ℕ)
 plans =
     circuit-2
@@ -98,6 +102,9 @@ plans =
     ∷ (show 3 ++ (show 3 ++ end))
     ∷ (unit 0 ++ (unit 0 ++ (show 3 ++ (edge 0 1 ++ end))))
     ∷ (show 3 ++ (7 ∷ end))
+    ∷ (given 4 ++ (rule 1 4 0 ++ (unit 1 ++ end)))
+    ∷ (table 1 0 ++ (table 3 4 ++ (rule 3 0 0 ++ (rule 4 0 0 ++ (wants 1 1 0 ++ (unit 3 ++ end))))))
+    ∷ (table 1 2 ++ (rule 1 0 0 ++ (rule 2 0 0 ++ (unit 1 ++ (unit 2 ++ end)))))
     ∷ []
 
 abbrev pub results : List (Outcome × List ℕ)
@@ -124,6 +131,9 @@ results =
     ∷ (Refused (OutOfOrder 9), [])
     ∷ (Refused (OutOfOrder 27), [])
     ∷ (Refused (UnknownCommand 9), [])
+    ∷ (Accepted, 5 ∷ [])
+    ∷ (Accepted, 1 ∷ 6 ∷ [])
+    ∷ (Accepted, 3 ∷ [])
     ∷ []
 
 -- what `answer` gives for the bytes and a table of zeros: its outcome, and "the words from 4,096 on, as many as the last count says"
@@ -134,7 +144,7 @@ answered bytes =
 -- the results of all of them; and of circuit 2: "Position 3 isn't settled."
 pub circuits : (map answered plans ≡ results) × (judged circuit-2 3 ≡ NotSettled)
 unfolding judged answered answer tableOutcome reading walk commandAt ofKind kindOf carrying late emptyRule contradictory absentRule badEdge badTable
-    badUse emptyPlan withTable withRule withUse withUnit withEdge withShow number wordAt unlessRefused workFrom noCounts tableWith countsWith listAt runs
+    badUse emptyPlan withGiven withTable withRule withUse withUnit withEdge withShow number wordAt unlessRefused workFrom noCounts tableWith countsWith listAt runs
     padded tabulate lastList cutList insertInto unitList inList isInput members allBelow someBelow wordBelow unionIn twiceBelow heads inputHeads own reach
     reachVia through withLast unitsOf lent usesHold useHolds tableOf asks usedInputs said tableRow place ones answerSet someSmaller satisfiesAll satisfies body
     kept keptIf has subset apart _∩_ _∪_ _∖_ atom below verdict row givenInHead ruleInNoUnit headedRuleInSeveral cycle nonmonotonicUnseen
