@@ -1,3 +1,4 @@
 pub mod Nogood
 pub mod Store
 pub mod Reason
+pub mod Trail

@@ -16,9 +16,18 @@ PAIRS = 194
 abbrev pub MEMORY_WORDS : ℕ
 MEMORY_WORDS = 604
 
--- how many steps the trail has
+-- where the trail starts, how many steps it has and how many words each, and the word of unfounded atoms behind it
+abbrev pub TRAIL : ℕ
+TRAIL = 2 * PAIRS + 1
+
 abbrev pub STEPS : ℕ
 STEPS = 66
+
+abbrev pub STEP_WORDS : ℕ
+STEP_WORDS = 3
+
+abbrev pub UNFOUNDED : ℕ
+UNFOUNDED = TRAIL + STEP_WORDS * STEPS
 
 -- pair i: two words
 abbrev pub pairAt : List ℕ → ℕ → State

@@ -13,9 +13,10 @@ use atoms::tally::count_atoms;
 use atoms::tally::most;
 ghost use Prim.Native.Nat.{_≤_, _<_};
 ghost use mathlib.Core.Path.{_≡_};
-ghost use lib.ListN.{length};
-ghost use Rattle.atoms.specs.Word.{SomeOf};
-ghost use Rattle.learning.specs.Store.{MEMORY_WORDS, STEPS, SamePairs};
+ghost use lib.ListN.{length, getD};
+ghost use Rattle.atoms.specs.Word.{SomeOf, _∖_};
+ghost use Rattle.learning.specs.Store.{MEMORY_WORDS, STEPS, UNFOUNDED, SamePairs};
+ghost use Rattle.learning.specs.Trail.{stepAt};
 
 // A step by its number, and the state before it.
 pub struct Recorded {
@@ -52,6 +53,7 @@ pub fn note_step(memory: &mut [u64], at: usize, step: usize, before: State, afte
 // Step `at` of the trail as it was noted.
 pub fn read_step(memory: &[u64], at: usize) -> Recorded
     requires { ⌜ (MEMORY_WORDS ≤ length (now memory)) × (at < STEPS) ⌝ }
+    ensures { λ r. ⌜ r ≡ stepAt (now (memory .entry)) at ⌝ }
 {
     Recorded {
         before: State {
@@ -65,6 +67,7 @@ pub fn read_step(memory: &[u64], at: usize) -> Recorded
 // Of these atoms those that were undecided at step `at` of the trail.
 pub fn decided_since(memory: &[u64], at: usize, which: u64) -> u64
     requires { ⌜ (MEMORY_WORDS ≤ length (now memory)) × (at < STEPS) ⌝ }
+    ensures { λ r. ⌜ r ≡ (which ∖ stepAt (now (memory .entry)) at .before .up) ∖ stepAt (now (memory .entry)) at .before .dropped ⌝ }
 {
     let before = read_step(memory, at).before;
     atoms::without(atoms::without(which, before.up), before.dropped)
@@ -81,6 +84,7 @@ pub fn note_unfounded(memory: &mut [u64], which: u64)
 // The atoms so noted last.
 pub fn noted_unfounded(memory: &[u64]) -> u64
     requires { ⌜ MEMORY_WORDS ≤ length (now memory) ⌝ }
+    ensures { λ r. ⌜ r ≡ getD (now (memory .entry)) UNFOUNDED 0 ⌝ }
 {
     memory[UNFOUNDED]
 }

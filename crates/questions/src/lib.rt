@@ -8,7 +8,6 @@ pub use common::Common;
 pub use common::common_atoms;
 pub use counter::Asked;
 pub use counter::MAX_QUESTIONS;
-pub use counter::counts_of;
 pub use question::Counted;
 pub use question::Question;
 pub use question::count_questions;

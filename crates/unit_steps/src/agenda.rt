@@ -18,7 +18,7 @@ use plan::MAX_UNITS;
 ghost use mathlib.Core.Path.{_≡_};
 ghost use Prim.Native.Nat.{_^_, _≤_, _<_};
 ghost use lib.ListN.{length};
-ghost use Rattle.atoms.specs.Word.{ATOMS};
+ghost use Rattle.atoms.specs.Word.{ATOMS, outside};
 ghost use Rattle.atoms.specs.Bounded.{Decides};
 ghost use Rattle.plan.specs.Limits.{MAX_UNITS};
 ghost use Rattle.answer_sets.specs.Lent.{IsLent, Lent};
@@ -199,7 +199,9 @@ pub fn wake_index(rules: &[u64], heads: &[u64], unit: Unit, looped: u64) -> [u64
 }
 
 // The agenda of all steps; without looped atoms the founded step has nothing to say beyond the supports.
-pub fn every_step(unit: Unit, looped: u64) -> Agenda {
+pub fn every_step(unit: Unit, looped: u64) -> Agenda
+    ensures { λ r. ⌜ (r .rules ≡ unit .rules) × (r .supports ≡ outside (unit .inputs)) ⌝ }
+{
     Agenda {
         rules: unit.rules,
         supports: atoms::outside(unit.inputs),

@@ -9,6 +9,7 @@ use learning::reason::learn_once;
 use learning::reason::replace;
 use learning::store::STEPS;
 use learning::trail::read_step;
+ghost use mathlib.Core.Path.{_≡_};
 ghost use Prim.Native.Nat.{_≤_, _<_};
 ghost use lib.ListN.{length};
 ghost use Rattle.learning.specs.Store.{MEMORY_WORDS, STEPS};
@@ -24,7 +25,9 @@ pub struct Stretch {
 }
 
 // A stretch, put together.
-pub fn span(base: State, from: usize, top: usize) -> Stretch {
+pub fn span(base: State, from: usize, top: usize) -> Stretch
+    ensures { λ r. ⌜ r ≡ record { base = base; from = from; top = top } ⌝ }
+{
     Stretch { base, from, top }
 }
 
