@@ -1,0 +1,82 @@
+-- A row whose number has bit e is a high one, any other a low one.
+use borrow.Author.Needs.{needs}
+use native.Mathlib.Omega.{arith}
+use Rattle.relay_rows.proofs.Exchanging.{half-lt, low-across, high-across, low-word, high-word}
+use Rattle.relay_rows.proofs.block.exchanged_row.Statement.{statement}
+use Rattle.relay_rows.proofs.block.exchanged_row.Tie as tie
+
+mul-low-row-2 : tie.Need-mul-low-row-2
+mul-low-row-2 c = omega (
+  arith,
+  low-across (c .before .before .before .before .before .before .pre)
+      (c .before .before .before .before .single .ensures) (c .before .union .ensures),
+)
+
+shared-slice-read-low-row-2 : tie.Need-shared-slice-read-low-row-2
+shared-slice-read-low-row-2 c =
+    omega (
+      arith,
+      c .before .before .before .before .before .before .before .pre .whole,
+      low-across
+          (c .before .before .before .before .before .before .before .pre) (c .before .before .before .before .before .single .ensures)
+          (c .before .before .union .ensures),
+    )
+
+low-row-requires : tie.Need-low-row-requires
+low-row-requires c κs = half-lt (c .before .before .before .before .before .before .before .pre .alternates .small)
+    (c .before .before .before .before .before .single .ensures)
+
+returns : tie.Need-returns
+returns c =
+    low-word (c .before .before .before .before .before .before .before .before .pre)
+    (c .before .before .before .before .before .before .single .ensures) (c .before .before .before .before .before .are-apart .ensures)
+    (c .before .before .before .before .if1 .taken) (c .before .before .before .union .ensures)
+    (c .low-row .ensures)
+
+mul-high-row : tie.Need-mul-high-row
+mul-high-row c = omega (arith, high-across (c .before .before .before .before .before .pre) (c .before .before .before .single .ensures) (c .without .ensures))
+
+shared-slice-read-high-row : tie.Need-shared-slice-read-high-row
+shared-slice-read-high-row c =
+    omega (
+      arith,
+      c .before .before .before .before .before .before .pre .whole,
+      high-across (c .before .before .before .before .before .before .pre)
+          (c .before .before .before .before .single .ensures) (c .before .without .ensures),
+    )
+
+high-row-requires : tie.Need-high-row-requires
+high-row-requires c κs = half-lt (c .before .before .before .before .before .before .before .pre .alternates .small)
+    (c .before .before .before .before .before .single .ensures)
+
+returns-2 : tie.Need-returns-2
+returns-2 c =
+    high-word (c .before .before .before .before .before .before .before .before .pre)
+    (c .before .before .before .before .before .before .single .ensures) (c .before .before .before .before .before .are-apart .ensures)
+    (c .before .before .before .before .if1 .left) (c .before .before .before .without .ensures)
+    (omega (
+      arith,
+      c .before .before .before .before .before .before .before .shared-slice-known .given
+          (c .before .before .before .before .before .before .before .before .args .k),
+    )) (c .high-row .ensures)
+
+pub exchanged-row-spec : {M : Type 1} → statement M
+exchanged-row-spec =
+    tie.close
+    (tie.spec
+    (λ c κs. search needs)
+    (λ c κs. search needs)
+    (λ c κs. search needs)
+    (λ c. search needs)
+    (λ c. search needs)
+    mul-low-row-2
+    shared-slice-read-low-row-2
+    low-row-requires
+    returns
+    (λ c κs. search needs)
+    mul-high-row
+    shared-slice-read-high-row
+    (λ c. search needs)
+    (λ c. search needs)
+    high-row-requires
+    returns-2)

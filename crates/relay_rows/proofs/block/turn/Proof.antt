@@ -1,0 +1,62 @@
+-- The six rounds, the largest half blocks first (halved-round).
+use native.Mathlib.Omega.{arith}
+use borrow.Author.Needs.{needs}
+use Rattle.relay_rows.proofs.Exchanging.{mask-5, mask-4, mask-3, mask-2, mask-1, mask-0, halved-start, halved-round, crossed}
+use Rattle.relay_rows.proofs.block.turn.Statement.{statement}
+use Rattle.relay_rows.proofs.block.turn.Tie as tie
+
+exchange-requires : tie.Need-exchange-requires
+exchange-requires c κs = record { from-whole = search needs; to-whole = search needs; alternates = mask-5 }
+
+exchange-requires-2 : tie.Need-exchange-requires-2
+exchange-requires-2 c κs = record { from-whole = search needs; to-whole = search needs; alternates = mask-4 }
+
+exchange-requires-3 : tie.Need-exchange-requires-3
+exchange-requires-3 c κs = record { from-whole = search needs; to-whole = search needs; alternates = mask-3 }
+
+exchange-requires-4 : tie.Need-exchange-requires-4
+exchange-requires-4 c κs = record { from-whole = search needs; to-whole = search needs; alternates = mask-2 }
+
+exchange-requires-5 : tie.Need-exchange-requires-5
+exchange-requires-5 c κs = record { from-whole = search needs; to-whole = search needs; alternates = mask-1 }
+
+exchange-requires-6 : tie.Need-exchange-requires-6
+exchange-requires-6 c κs = record { from-whole = search needs; to-whole = search needs; alternates = mask-0 }
+
+returns : tie.Need-returns
+returns c =
+    let r5 = c .before .before .before .before .before in
+    let r4 = r5 .before .before .before .before in
+    let r3 = r4 .before .before .before .before in
+    let r2 = r3 .before .before .before .before in
+    let r1 = r2 .before .before .before .before in
+    let h5 = halved-round 5 (omega arith) (halved-start _) (r1 .exchange .ensures) in
+    let h4 = halved-round 4 (omega arith) h5 (r2 .exchange2 .ensures) in
+    let h3 = halved-round 3 (omega arith) h4 (r3 .exchange3 .ensures) in
+    let h2 = halved-round 2 (omega arith) h3 (r4 .exchange4 .ensures) in
+    let h1 = halved-round 1 (omega arith) h2 (r5 .exchange5 .ensures) in
+    crossed h1 (c .before .exchange6 .ensures)
+
+pub turn-spec : {M : Type 1} → statement M
+turn-spec =
+    tie.close
+    (tie.spec
+    (λ c. search needs)
+    (λ c. search needs)
+    exchange-requires
+    (λ c. search needs)
+    (λ c. search needs)
+    exchange-requires-2
+    (λ c. search needs)
+    (λ c. search needs)
+    exchange-requires-3
+    (λ c. search needs)
+    (λ c. search needs)
+    exchange-requires-4
+    (λ c. search needs)
+    (λ c. search needs)
+    exchange-requires-5
+    (λ c. search needs)
+    (λ c. search needs)
+    exchange-requires-6
+    returns)

@@ -1,0 +1,20 @@
+-- Refused where the areas and the count do not suit; else the area is written.
+use borrow.Author.Needs.{needs}
+use borrow.Author.Tests.{not-true, not-false}
+use Rattle.relay_rows.proofs.Rearranging.{answer-refused, answer-written, positions-written}
+use Rattle.relay_rows.proofs.positions.to_positions.Statement.{statement}
+use Rattle.relay_rows.proofs.positions.to_positions.Tie as tie
+
+returns : tie.Need-returns
+returns c = answer-refused (c .before .suits .ensures .no (not-true _ (c .if1 .taken)))
+
+write-positions-requires : tie.Need-write-positions-requires
+write-positions-requires c κs = let s = c .before .before .suits .ensures .yes (not-false _ (c .before .if1 .left)) in (s .read-long, s .written-long)
+
+returns-2 : tie.Need-returns-2
+returns-2 c =
+    let s = c .before .before .before .before .before .suits .ensures .yes (not-false _ (c .before .before .before .before .if1 .left)) in
+    answer-written s (positions-written _ (s .count-le) (s .written-long) (c .before .before .write-positions .ensures))
+
+pub to-positions-spec : {M : Type 1} → statement M
+to-positions-spec = tie.close (tie.spec (λ c κs. search needs) returns write-positions-requires (λ c. search needs) returns-2)

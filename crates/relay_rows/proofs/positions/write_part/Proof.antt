@@ -1,0 +1,27 @@
+-- Each turned word is the position's (position-part).
+use borrow.Author.Needs.{needs}
+use Rattle.relay_rows.proofs.Scattering.{scattered-same}
+use Rattle.relay_rows.proofs.SheetWords.{position-part}
+use Rattle.relay_rows.proofs.positions.write_part.Statement.{statement}
+use Rattle.relay_rows.proofs.positions.write_part.Tie as tie
+
+returns : tie.Need-returns
+returns c =
+    scattered-same
+    (position-part _ _ _ (c .before .before .before .before .before .before .before .kept .ensures)
+    (c .before .before .before .before .before .before .first .ensures) (c .before .before .before .before .before .read-block .ensures)
+    (c .before .before .before .before .turn .ensures))
+    (c .before .before .write-block .ensures)
+
+pub write-part-spec : {M : Type 1} → statement M
+write-part-spec =
+    tie.close
+    (tie.spec
+    (λ c. search needs)
+    (λ c κs. search needs)
+    (λ c κs. search needs)
+    (λ c κs. search needs)
+    (λ c κs. search needs)
+    (λ c κs. search needs)
+    (λ c. search needs)
+    returns)

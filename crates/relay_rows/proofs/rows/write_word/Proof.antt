@@ -1,0 +1,26 @@
+-- Each turned word is the row's (row-part).
+use borrow.Author.Needs.{needs}
+use Rattle.relay_rows.proofs.Scattering.{scattered-same}
+use Rattle.relay_rows.proofs.SheetWords.{row-part}
+use Rattle.relay_rows.proofs.rows.write_word.Statement.{statement}
+use Rattle.relay_rows.proofs.rows.write_word.Tie as tie
+
+returns : tie.Need-returns
+returns c =
+    scattered-same
+    (row-part _ _ _ (c .before .before .before .before .before .before .before .before .before .pre .part)
+    (c .before .before .before .before .before .before .kept .ensures) (c .before .before .before .before .before .read-block .ensures)
+    (c .before .before .before .before .turn .ensures))
+    (c .before .before .write-block .ensures)
+
+pub write-word-spec : {M : Type 1} → statement M
+write-word-spec =
+    tie.close
+    (tie.spec
+    (λ c. search needs)
+    (λ c κs. search needs)
+    (λ c κs. search needs)
+    (λ c κs. search needs)
+    (λ c κs. search needs)
+    (λ c. search needs)
+    returns)

@@ -1,0 +1,67 @@
+-- The first k words are written (Scattering).
+use mathlib.Core.Path.{refl}
+use Prim.Native.Nat.{_+_, _-_, _*_, _<_}
+use native.Mathlib.Omega.{arith}
+use lib.ListN.{length, getD}
+use borrow.Author.Needs.{needs}
+use Rattle.atoms.specs.Word.{ATOMS}
+use Rattle.relay_rows.proofs.Scattering.{Scattering, scattering-start, scattering-room, scattering-more, scattering-end}
+use Rattle.relay_rows.proofs.strided.write_block.Statement.{statement}
+use Rattle.relay_rows.proofs.strided.write_block.Tie as tie
+
+abbrev Inv-loop : tie.InvT-loop
+Inv-loop at stride area₀ block k₀ area k = Scattering (λ j. getD block j 0) at stride area₀ area k
+
+abbrev μ-loop : tie.MeasureT-loop
+μ-loop at stride area₀ block k₀ area k = ATOMS - k
+
+-- the word that is written is there
+there : (c : tie.In-loop Inv-loop μ-loop) → c .before .before .args .at + c .before .before .args .stride * c .before .loop .k < length (c .before .loop .area)
+there c = scattering-room (c .before .loop .inv) (c .loop-test .taken)
+
+long : (c : tie.In-loop Inv-loop μ-loop) → c .before .before .args .at + c .before .before .args .stride * c .before .loop .k < length
+    (c .before .before .args .area .now)
+long c = c .before .before .pre .there (c .before .loop .k) (c .loop-test .taken)
+
+loop-holds : tie.Need-loop-holds Inv-loop μ-loop
+loop-holds c = scattering-start _ (c .pre)
+
+mul-area-2 : tie.Need-mul-area-2 Inv-loop μ-loop
+mul-area-2 c = omega (arith, long c)
+
+add-area : tie.Need-add-area Inv-loop μ-loop
+add-area c = omega (arith, long c)
+
+mul-area-3 : tie.Need-mul-area-3 Inv-loop μ-loop
+mul-area-3 c = omega (arith, long c)
+
+slice-write-area : tie.Need-slice-write-area Inv-loop μ-loop
+slice-write-area c = there c
+
+loop-again : tie.Need-loop-again Inv-loop μ-loop
+loop-again c = scattering-more (c .before .loop .inv) (c .loop-test .taken) refl
+
+same-length : tie.Need-same-length Inv-loop μ-loop
+same-length c = c .before .loop .inv .so-far .long
+
+returns : tie.Need-returns Inv-loop μ-loop
+returns c = scattering-end (c .before .loop .inv) (c .loop-test .left)
+
+pub write-block-spec : {M : Type 1} → statement M
+write-block-spec =
+    tie.close
+    (tie.spec
+    Inv-loop
+    μ-loop
+    loop-holds
+    (λ c. search needs)
+    (λ c. search needs)
+    mul-area-2
+    add-area
+    mul-area-3
+    slice-write-area
+    (λ c. search needs)
+    (λ c. search needs)
+    loop-again
+    same-length
+    returns)

@@ -1,0 +1,5 @@
+pub mod Turned
+pub mod Sheet
+pub mod Columns
+pub mod Exchange
+pub mod Answers
