@@ -41,7 +41,8 @@ enum {
     LUCARNECRESS_BAD_TABLE = 18,
     LUCARNECRESS_BAD_USE = 19,
     LUCARNECRESS_BAD_READING = 20,
-    LUCARNECRESS_CONTRADICTORY_BODY = 21
+    LUCARNECRESS_CONTRADICTORY_BODY = 21,
+    LUCARNECRESS_NO_SHEET = 22
 };
 
 /* ---- lists ------------------------------------------------------------------------------------------------------------------- */
@@ -107,6 +108,20 @@ uint64_t lucarnecress_count(const uint64_t *list, size_t list_length, uint64_t *
 /* Writes the atoms up in all listed positions to atoms[0] and those up in some to atoms[1], as far as there is room. For an empty list
  * these are all 64 and none. Gives 0. */
 uint64_t lucarnecress_common(const uint64_t *list, size_t list_length, uint64_t *atoms, size_t atoms_length);
+
+/* ---- a sheet by relay -------------------------------------------------------------------------------------------------------- */
+
+#define LUCARNECRESS_ROW_WORDS 4u /* words of a row, a bit for each position of a list */
+
+/* Rearranges the first `count` positions of a list into 64 rows: bit j of row i tells whether position j has atom i up. Row i starts at word
+ * LUCARNECRESS_ROW_WORDS * i, and bit j is bit j % 64 of its word j / 64; bits from the count on are 0. The first LUCARNECRESS_LIST_WORDS words of
+ * the rows are written and those behind left alone. Gives 0, or LUCARNECRESS_NO_SHEET at 0, with nothing written, where the list or the rows have
+ * fewer words than that or the count is above it. */
+uint64_t lucarnecress_rows(const uint64_t *list, size_t list_length, uint64_t count, uint64_t *rows, size_t rows_length);
+
+/* The way back: writes the positions below the count and 0 in the rest of the list's first LUCARNECRESS_LIST_WORDS words. Bits of the rows
+ * from the count on are not looked at. Gives what lucarnecress_rows gives. */
+uint64_t lucarnecress_positions_of_rows(const uint64_t *rows, size_t rows_length, uint64_t count, uint64_t *list, size_t list_length);
 
 /* ---- drop-away readings in packed decimal ------------------------------------------------------------------------------------ */
 

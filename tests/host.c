@@ -274,6 +274,33 @@ static void check_common(void)
     same("common, room for one: the second word", 99, atoms[1]);
 }
 
+static void check_rows(void)
+{
+    uint64_t list[LUCARNECRESS_LIST_WORDS], rows[LUCARNECRESS_LIST_WORDS + 1], back[LUCARNECRESS_LIST_WORDS + 1];
+    for (size_t j = 0; j < LUCARNECRESS_LIST_WORDS; j++)
+        list[j] = j;
+    for (size_t w = 0; w <= LUCARNECRESS_LIST_WORDS; w++)
+        rows[w] = back[w] = 99;
+    same("rows", 0, lucarnecress_rows(list, LUCARNECRESS_LIST_WORDS, 250, rows, LUCARNECRESS_LIST_WORDS + 1));
+    same("rows, atom 0: every other position", 0xaaaaaaaaaaaaaaaa, rows[0]);
+    same("rows, atom 6: the second 64 positions", UINT64_MAX, rows[LUCARNECRESS_ROW_WORDS * 6 + 1]);
+    same("rows, atom 7: behind the count", 0x03ffffffffffffff, rows[LUCARNECRESS_ROW_WORDS * 7 + 3]);
+    same("rows, the word behind", 99, rows[LUCARNECRESS_LIST_WORDS]);
+    rows[3] = UINT64_MAX;
+    same("positions of rows", 0,
+         lucarnecress_positions_of_rows(rows, LUCARNECRESS_LIST_WORDS + 1, 250, back, LUCARNECRESS_LIST_WORDS + 1));
+    same("positions of rows, there and back", 0, (uint64_t)(memcmp(list, back, 192 * sizeof list[0]) != 0));
+    same("positions of rows, a bit of a row", 193, back[192]);
+    same("positions of rows, from the count on", 0, back[250]);
+    same("positions of rows, the word behind", 99, back[LUCARNECRESS_LIST_WORDS]);
+    same("rows, a count of 257", refusal(LUCARNECRESS_NO_SHEET, 0),
+         lucarnecress_rows(list, LUCARNECRESS_LIST_WORDS, 257, back, LUCARNECRESS_LIST_WORDS));
+    same("rows, a short list", refusal(LUCARNECRESS_NO_SHEET, 0), lucarnecress_rows(list, 255, 1, back, LUCARNECRESS_LIST_WORDS));
+    same("positions of rows, a short area", refusal(LUCARNECRESS_NO_SHEET, 0),
+         lucarnecress_positions_of_rows(rows, LUCARNECRESS_LIST_WORDS, 1, back, 255));
+    same("positions of rows, nothing written", 193, back[192]);
+}
+
 static void check_readings(void)
 {
     same("number of a reading", 1234, lucarnecress_reading_number(0x1234));
@@ -315,7 +342,7 @@ static void check_codes(void)
     same("spot of a code", 9, LUCARNECRESS_SPOT(code));
 }
 
-static void (*const checks[])(void) = {check_list,   check_judge,    check_walk,    check_walk_edges, check_sheet,  check_count,
+static void (*const checks[])(void) = {check_list,   check_judge,    check_walk,    check_walk_edges, check_sheet,  check_count, check_rows,
                                        check_common, check_readings, check_largest, check_codes,      check_tables, check_shown};
 
 int main(void)

@@ -4,3 +4,4 @@ pub mod HostCodes
 pub mod CommonWords
 pub mod ReadingCodes
 pub mod NextCodes
+pub mod RowCodes

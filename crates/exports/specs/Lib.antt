@@ -1,3 +1,4 @@
 pub mod Handed
 pub mod Readings
 pub mod Steps
+pub mod Rows

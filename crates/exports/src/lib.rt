@@ -1,5 +1,6 @@
 // The functions that other languages call: a slice passes as a pointer and a length.
 mod readings;
+mod rows;
 mod steps;
 
 use judge::answer_code;
