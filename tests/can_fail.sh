@@ -292,5 +292,18 @@ with_mistake "a dropped atom may be up" '!has(dropped, atom) ||' '!has(dropped, 
 with_mistake "all and some are exchanged for an empty list" '[all, some]' 'if list.is_empty() { [some, all] } else { [all, some] }'
 with_mistake "the first position is left out of what all have" 'list.iter().all(' 'list.iter().skip(1).all('
 
+# Sheets by relay
+with_mistake "rows: bits behind the count are kept" 'for place in 0..count as usize {
+            row' 'for place in 0..LIST_WORDS {
+            row'
+with_mistake "rows: bit 63 - j for bit j" '<< (place % 64)' '<< (63 - place % 64)'
+with_mistake "rows: a row of bits that were there before" 'row.fill(0);' ''
+with_mistake "rows: no zeros behind the count on the way back" 'list[..LIST_WORDS].fill(0)' 'list[..count as usize].fill(0)'
+with_mistake "rows: words past 256 are cleared" 'list[..LIST_WORDS].fill(0)' 'list.fill(0)'
+with_mistake "rows: 256 positions are refused" 'count > LIST_WORDS as u64' 'count >= LIST_WORDS as u64'
+with_mistake "rows: the area is cleared before a refusal" 'suits(list.len(), rows.len(), count)?;' 'rows.fill(0);
+    suits(list.len(), rows.len(), count)?;'
+with_mistake "rows: a short area is refused at 1" 'return refuse(22, 0);' 'return if count > LIST_WORDS as u64 { refuse(22, 0) } else { refuse(22, 1) };'
+
 echo "$tried faulty copies, $unnoticed not noticed"
 [ "$unnoticed" = 0 ]

@@ -13,6 +13,7 @@ mod positions;
 mod questions;
 mod random;
 mod readings;
+mod rows;
 mod samples;
 mod shown_plans;
 mod shown_tally;
@@ -56,6 +57,7 @@ fn main() {
         tally.note(&case, compared);
     }
     readings::compare(count, seed, &mut tally);
+    rows::compare(count / 10, seed, &mut tally);
     tally.print(seed);
     std::process::exit(if tally.failed == 0 { 0 } else { 1 });
 }

@@ -26,6 +26,8 @@ extern "C" {
     fn lucarnecress_reading_largest(bytes: *const u8, bytes_len: usize, found: *mut u64, found_len: usize) -> u64;
     fn lucarnecress_count(list: *const u64, list_len: usize, questions: *mut u64, questions_len: usize) -> u64;
     fn lucarnecress_common(list: *const u64, list_len: usize, atoms: *mut u64, atoms_len: usize) -> u64;
+    fn lucarnecress_rows(list: *const u64, list_len: usize, count: u64, rows: *mut u64, rows_len: usize) -> u64;
+    fn lucarnecress_positions_of_rows(rows: *const u64, rows_len: usize, count: u64, list: *mut u64, list_len: usize) -> u64;
 }
 
 /// Lists a plan into the lent table and counts; 0 or the code of a refusal.
@@ -98,4 +100,14 @@ pub fn count(list: &[u64], questions: &mut [u64]) -> u64 {
 /// Writes the atoms up in all positions and those up in some, as far as there is room.
 pub fn common(list: &[u64], atoms: &mut [u64]) -> u64 {
     unsafe { lucarnecress_common(list.as_ptr(), list.len(), atoms.as_mut_ptr(), atoms.len()) }
+}
+
+/// Writes the rows of a list; 0 or the code of a refusal.
+pub fn rows(list: &[u64], count: u64, rows: &mut [u64]) -> u64 {
+    unsafe { lucarnecress_rows(list.as_ptr(), list.len(), count, rows.as_mut_ptr(), rows.len()) }
+}
+
+/// Writes the list of rows; 0 or the code of a refusal.
+pub fn positions_of_rows(rows: &[u64], count: u64, list: &mut [u64]) -> u64 {
+    unsafe { lucarnecress_positions_of_rows(rows.as_ptr(), rows.len(), count, list.as_mut_ptr(), list.len()) }
 }

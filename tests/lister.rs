@@ -663,3 +663,39 @@ pub fn common(list: &[u64]) -> [u64; 2] {
     let some = atoms(&|atom| list.iter().any(|&position| has(position, atom)));
     [all, some]
 }
+
+// ---- A sheet by relay ----------------------------------------------------------------------
+
+/// Words of a row, one bit for each position of a list.
+pub const ROW_WORDS: usize = LIST_WORDS / 64;
+
+/// Bit j of row i tells whether position j has atom i up; bits from the count on are 0.
+pub fn rows(list: &[u64], count: u64, rows: &mut [u64]) -> Result<(), Refusal> {
+    suits(list.len(), rows.len(), count)?;
+    for (atom, row) in rows[..LIST_WORDS].chunks_exact_mut(ROW_WORDS).enumerate() {
+        row.fill(0);
+        for place in 0..count as usize {
+            row[place / 64] |= u64::from(has(list[place], atom)) << (place % 64);
+        }
+    }
+    Ok(())
+}
+
+/// The words below the count from the rows, and 0 in the rest.
+pub fn positions_of_rows(rows: &[u64], count: u64, list: &mut [u64]) -> Result<(), Refusal> {
+    suits(rows.len(), list.len(), count)?;
+    list[..LIST_WORDS].fill(0);
+    for (atom, row) in rows[..LIST_WORDS].chunks_exact(ROW_WORDS).enumerate() {
+        for place in 0..count as usize {
+            list[place] |= u64::from(has(row[place / 64], place % 64)) << atom;
+        }
+    }
+    Ok(())
+}
+
+fn suits(read: usize, written: usize, count: u64) -> Result<(), Refusal> {
+    if read < LIST_WORDS || written < LIST_WORDS || count > LIST_WORDS as u64 {
+        return refuse(22, 0);
+    }
+    Ok(())
+}

@@ -158,3 +158,27 @@ pub unsafe extern "C" fn lucarnecress_common(
     slice::from_raw_parts_mut(atoms, room).copy_from_slice(&found[..room]);
     0
 }
+
+#[no_mangle]
+pub unsafe extern "C" fn lucarnecress_rows(
+    list: *const u64,
+    list_len: usize,
+    count: u64,
+    rows: *mut u64,
+    rows_len: usize,
+) -> u64 {
+    let rows = slice::from_raw_parts_mut(rows, rows_len);
+    lister::rows(slice::from_raw_parts(list, list_len), count, rows).map_or_else(Refusal::code, |_| 0)
+}
+
+#[no_mangle]
+pub unsafe extern "C" fn lucarnecress_positions_of_rows(
+    rows: *const u64,
+    rows_len: usize,
+    count: u64,
+    list: *mut u64,
+    list_len: usize,
+) -> u64 {
+    let list = slice::from_raw_parts_mut(list, list_len);
+    lister::positions_of_rows(slice::from_raw_parts(rows, rows_len), count, list).map_or_else(Refusal::code, |_| 0)
+}

@@ -25,6 +25,7 @@ pub struct Tally {
     refused: BTreeMap<u64, u64>,
     families: BTreeMap<&'static str, u64>,
     readings: BTreeMap<&'static str, u64>,
+    rows: BTreeMap<&'static str, u64>,
 }
 
 /// The steps of walks from position to position.
@@ -80,11 +81,22 @@ impl Tally {
     /// Counts a reading, a pair or a run of them; the first difference is printed.
     pub fn note_reading(&mut self, kind: &'static str, compared: Result<(), String>) {
         *self.readings.entry(kind).or_default() += 1;
+        self.note_apart("readings", compared);
+    }
+
+    /// Counts an area that goes there and back; the first difference is printed.
+    pub fn note_rows(&mut self, kind: &'static str, compared: Result<(), String>) {
+        *self.rows.entry(kind).or_default() += 1;
+        self.note_apart("rows", compared);
+    }
+
+    /// Counts what is compared apart from plans.
+    fn note_apart(&mut self, what: &str, compared: Result<(), String>) {
         match compared {
             Ok(()) => self.passed += 1,
             Err(difference) => {
                 if self.failed == 0 {
-                    println!("first difference, readings: {}", difference);
+                    println!("first difference, {}: {}", what, difference);
                 }
                 self.failed += 1;
             }
@@ -135,6 +147,7 @@ impl Tally {
         println!("questions over lists: {} counted, {} times too many", self.questions, self.questions_refused);
         println!("last list against all answer sets of the whole program: {} plans", self.whole_programs);
         println!("readings: {}", listed(&self.readings));
+        println!("sheets by relay, there and back: {}", listed(&self.rows));
         println!("{} passed, {} failed", self.passed, self.failed);
     }
 }
