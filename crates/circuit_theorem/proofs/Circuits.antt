@@ -144,9 +144,10 @@ answered bytes =
 -- the results of all of them; and of circuit 2: "Position 3 isn't settled."
 pub circuits : (map answered plans ≡ results) × (judged circuit-2 3 ≡ NotSettled)
 unfolding judged answered answer tableOutcome reading walk commandAt ofKind kindOf carrying late emptyRule contradictory absentRule badEdge badTable
-    badUse emptyPlan withGiven withTable withRule withUse withUnit withEdge withShow number wordAt unlessRefused workFrom noCounts tableWith countsWith listAt runs
-    padded tabulate lastList cutList insertInto unitList inList isInput members allBelow someBelow wordBelow unionIn twiceBelow heads inputHeads own reach
-    reachVia through withLast unitsOf lent usesHold useHolds tableOf asks usedInputs said tableRow place ones answerSet someSmaller satisfiesAll satisfies body
-    kept keptIf has subset apart _∩_ _∪_ _∖_ atom below verdict row givenInHead ruleInNoUnit headedRuleInSeveral cycle nonmonotonicUnseen
-    monotonicUnseen nonmonotonicUnseenIn monotonicSeenIn seen unseenHeads lowestOf lowest workingOrder orderFrom nextUnit ready
+    badUse emptyPlan withGiven withTable withRule withUse withUnit withEdge withShow number wordAt unlessRefused workFrom noCounts tableWith
+    countsWith listAt runs padded tabulate lastList cutList insertInto unitList inList isInput members allBelow someBelow wordBelow unionIn twiceBelow
+    heads inputHeads own reach reachVia through withLast unitsOf lent usesHold useHolds tableOf asks usedInputs said tableRow place ones answerSet
+    someSmaller satisfiesAll satisfies body kept keptIf has subset apart _∩_ _∪_ _∖_ atom below verdict row givenInHead ruleInNoUnit
+    headedRuleInSeveral cycle nonmonotonicUnseen monotonicUnseen nonmonotonicUnseenIn monotonicSeenIn seen unseenHeads lowestOf lowest workingOrder
+    orderFrom nextUnit ready
 circuits = (refl, refl)

@@ -212,7 +212,8 @@ module _ (c : Contents) (within : Within c) where
           negative = subst (λ (v : ℕ). Apart v M) (rule-words n .2) (decides-apart (negative words r) M .yes (k .0));
           uses = λ x m q.
               let g = good-use x m in
-              use-told x g M (all-in-at USE_BITS (uses words r) (λ i. useHolds words i M) (k .1) (bitOf x) (bit-lt x (small x g M) (g .zero-or-one)) (uses-it x m q));
+              use-told x g M (all-in-at USE_BITS (uses words r) (λ i. useHolds words i M) (k .1) (bitOf x)
+              (bit-lt x (small x g M) (g .zero-or-one)) (uses-it x m q));
         }
 
     rest-back : (M : ℕ) → RestHolds c r w M → lent words .rest r M ≡ true
