@@ -4,3 +4,4 @@ pub mod BackedAtoms
 pub mod SupportSteps
 pub mod UnfoundedAtoms
 pub mod NumberedSteps
+pub mod StoppedRules

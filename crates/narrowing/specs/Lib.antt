@@ -4,3 +4,4 @@ pub mod Marks
 pub mod Backers
 pub mod Unfounded
 pub mod Woken
+pub mod Stops

@@ -1,46 +1,82 @@
 // Which undecided atom is decided next, one that stands in most live rules, and in which phase it is tried first. Any would be right; this one
-// leaves little to search.
+// leaves little to search. Where a rule is at a stop there is none.
 use answer_sets::State;
 use answer_sets::Truth;
 use answer_sets::known::body_known;
+use answer_sets::reduct::Found;
 use answer_sets::rule::head;
 use answer_sets::rule::rule_atoms;
 use atoms::tally::count_atoms;
 use atoms::tally::most;
 ghost use mathlib.Core.Path.{_≡_};
-ghost use Prim.Native.Nat.{_<_};
+ghost use mathlib.Core.Bool.{true};
+ghost use mathlib.Core.Logic.{_↔_};
 ghost use lib.ListN.{length};
-ghost use Rattle.atoms.specs.Word.{ATOMS, Has};
 ghost use Rattle.answer_sets.specs.Lent.{IsLent, Lent};
+ghost use Rattle.narrowing.specs.declared.choice.Standing.the-variants.{Stopped};
+ghost use Rattle.narrowing.specs.Stops.{Stands, Met, Chosen};
 
 // Seven binary places count up to 127, for at most MAX_RULES rules.
 const PLACES: usize = 7;
 
-// Whether the rule has nothing more to ask for: a head atom is up, or its body fails.
-fn is_spent(rules: &[u64], rule: usize, s: State) -> bool
+// Where a rule stands: it has nothing more to ask for, since a head atom is up or its body fails; its body holds and all its head atoms are dropped, so
+// that no completion satisfies it; or it is live.
+pub enum Standing {
+    Spent,
+    Stopped,
+    Live,
+}
+
+// What comes next: an atom to decide, or nothing, since this rule is at a stop.
+pub enum Choice {
+    Atom(usize),
+    Stop(usize),
+}
+
+// Where the rule stands.
+fn standing_of(rules: &[u64], rule: usize, s: State) -> Standing
     requires { ⌜ IsLent (now rules) rule ⌝ }
+    ensures { λ r. ⌜ Stands (now (rules .entry)) rule s r ⌝ }
 {
-    if !atoms::are_apart(head(rules, rule), s.up) {
-        return true;
+    let head = head(rules, rule);
+    if !atoms::are_apart(head, s.up) {
+        return Standing::Spent;
     }
     let truth = body_known(rules, rule, s.up, s.dropped);
     match truth {
-        Truth::Holds => false,
-        Truth::Fails => true,
-        Truth::Open => false,
+        Truth::Fails => Standing::Spent,
+        Truth::Open => Standing::Live,
+        Truth::Holds => {
+            if atoms::is_subset(head, s.dropped) {
+                return Standing::Stopped;
+            }
+            Standing::Live
+        },
+    }
+}
+
+// Whether that is a stop.
+fn is_stop(standing: Standing) -> bool
+    ensures { λ r. ⌜ (r ≡ true) ↔ (standing ≡ Stopped) ⌝ }
+{
+    match standing {
+        Standing::Stopped => true,
+        Standing::Spent => false,
+        Standing::Live => false,
     }
 }
 
 // A head is wide with this many atoms left.
 const WIDE: usize = 3;
 
-// Whether the rule has a wide head and is not spent: then dropping one head atom tells little.
+// Whether the rule has a wide head and is live: then dropping one head atom tells little.
 fn is_wide(rules: &[u64], rule: usize, s: State) -> bool
     requires { ⌜ IsLent (now rules) rule ⌝ }
 {
-    if is_spent(rules, rule, s) {
+    let standing = standing_of(rules, rule, s);
+    let Standing::Live = standing else {
         return false;
-    }
+    };
     WIDE <= atoms::count(atoms::without(head(rules, rule), s.dropped))
 }
 
@@ -59,11 +95,11 @@ pub fn some_wide(rules: &[u64], which: u64, s: State) -> bool
     false
 }
 
-// Counts the free atoms of a rule that is not spent: among the first where the rule has a near atom, and else among the others.
+// Counts the free atoms of a rule that is live: among the first where the rule has a near atom, and else among the others.
 fn count_rule(
     rules: &[u64],
     rule: usize,
-    s: State,
+    standing: Standing,
     free: u64,
     near: u64,
     first: &mut [u64],
@@ -73,9 +109,9 @@ fn count_rule(
     ensures first { λ _. ⌜ length (now (first .exit)) ≡ length (now (first .entry)) ⌝ }
     ensures others { λ _. ⌜ length (now (others .exit)) ≡ length (now (others .entry)) ⌝ }
 {
-    if is_spent(rules, rule, s) {
+    let Standing::Live = standing else {
         return;
-    }
+    };
     let all = rule_atoms(rules, rule);
     let open = atoms::cut(free, all);
     if atoms::are_apart(all, near) {
@@ -85,7 +121,7 @@ fn count_rule(
     count_atoms(first, open);
 }
 
-// The same for the rules of the word.
+// The same for the rules of the word, up to one that is at a stop: that one, if there is one.
 fn count_rules(
     rules: &[u64],
     which: u64,
@@ -94,27 +130,36 @@ fn count_rules(
     near: u64,
     first: &mut [u64],
     others: &mut [u64],
-)
+) -> Found
     requires { ⌜ Lent (now rules) which ⌝ }
+    ensures met { λ r. ⌜ Met (now (rules .entry)) which s r ⌝ }
     ensures first { λ _. ⌜ length (now (first .exit)) ≡ length (now (first .entry)) ⌝ }
     ensures others { λ _. ⌜ length (now (others .exit)) ≡ length (now (others .entry)) ⌝ }
 {
     let mut rest = which;
     while rest != 0 {
         let rule = atoms::lowest(rest);
-        count_rule(rules, rule, s, free, near, first, others);
+        let standing = standing_of(rules, rule, s);
+        if is_stop(standing) {
+            return Found::Rule(rule);
+        }
+        count_rule(rules, rule, standing, free, near, first, others);
         rest = atoms::drop(rest, rule);
     }
+    Found::Nothing
 }
 
-// The free atom to decide next: the lowest of those that stand in most rules that are not spent, those with a near atom before the others. Which
-// free atom it is is not promised.
-pub fn choose(rules: &[u64], which: u64, s: State, free: u64, near: u64) -> usize
+// What comes next: a rule of the word that is at a stop, if there is one; else the lowest of those free atoms that stand in most live rules, those
+// with a near atom before the others. Which free atom and which rule it is is not promised.
+pub fn choose(rules: &[u64], which: u64, s: State, free: u64, near: u64) -> Choice
     requires { ⌜ Lent (now rules) which × (free ≡ 0 → ⊥) ⌝ }
-    ensures { λ r. ⌜ Has free r × (r < ATOMS) ⌝ }
+    ensures { λ r. ⌜ Chosen (now (rules .entry)) which s free r ⌝ }
 {
     let mut first = [0u64; PLACES];
     let mut others = [0u64; PLACES];
-    count_rules(rules, which, s, free, near, &mut first, &mut others);
-    atoms::lowest(most(&others, most(&first, free)))
+    let found = count_rules(rules, which, s, free, near, &mut first, &mut others);
+    match found {
+        Found::Rule(rule) => Choice::Stop(rule),
+        Found::Nothing => Choice::Atom(atoms::lowest(most(&others, most(&first, free)))),
+    }
 }

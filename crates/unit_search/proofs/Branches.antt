@@ -1,24 +1,24 @@
 -- Branches: states that overlap, the state with one more atom decided, and what falls.
-use mathlib.Core.Path.{_≡_, refl}
+use mathlib.Core.Path.{_≡_, refl, sym}
 use mathlib.Core.Bool.{Bool, true, false, not}
 use mathlib.Core.Logic.{_⊎_, inl, inr}
 use mathlib.Core.List.{List}
 use Prim.Native.Nat.{ℕ, _≤_, _<_}
 use native.Mathlib.Omega.{arith}
 use lib.Count.{ones}
-use Rattle.atoms.specs.Word.{Has, _∪_, atom}
-use Rattle.atoms.proofs.Sets.{has-dec}
-use Rattle.atoms.proofs.Counts.{count-le}
+use Rattle.atoms.specs.Word.{ATOMS, EVERY_ATOM, Has, _∪_, atom, below}
+use Rattle.atoms.proofs.Sets.{has-dec, has-none, has-below, ext}
+use Rattle.atoms.proofs.Counts.{count-le, count-proper}
 use Rattle.plan.specs.Limits.{LIST_WORDS}
 use Rattle.answer_sets.specs.State.{Completes, Narrows, undecided}
 use Rattle.answer_sets.specs.declared.state.State.{State}
-use Rattle.answer_sets.proofs.HalfDecided.{undecided-shrinks}
+use Rattle.answer_sets.proofs.HalfDecided.{undecided-shrinks, undecided-up, undecided-lt}
 use Rattle.answer_sets.proofs.Narrows.{with-up, with-dropped, without-up, without-dropped}
 use Rattle.answer_sets.proofs.Between.{raise-falls, lower-falls}
 use Rattle.learning.specs.Nogood.{Nogood, Overlaps, Resolves}
 use Rattle.learning.specs.Reason.{Remembers, Heeds, Explains}
 use Rattle.unit_steps.specs.Filter.{Filtered}
-use Rattle.unit_steps.proofs.Filters.{filtered-lower, filtered-upper}
+use Rattle.unit_steps.proofs.Filters.{filtered-more, filtered-lower, filtered-upper}
 use Rattle.unit_search.specs.Listing.{Gathered}
 use Rattle.unit_search.specs.Branch.{withDropped, withUp, branchOf}
 use Rattle.unit_search.specs.Witness.{Witnessed}
@@ -37,6 +37,25 @@ pub reason-nogood : {K : ℕ → Type 0} {memory : List ℕ} {part goal : State}
 reason-nogood r e o = record {
   avoided = λ N h. record { never = λ c. overlap-avoided N o .never (e .completes N (record { has = h; avoids = r .avoids N h }) c) };
 }
+
+-- entries that agree with the state agree with one that overlaps, since nothing completes that
+pub filtered-overlap : {table counts heads : List ℕ} {near : ℕ} (s : State) {t : State} {filter : List ℕ} → Overlaps t
+    → Filtered table counts heads near s filter → Filtered table counts heads near t filter
+filtered-overlap s o p = filtered-more {s = s} (λ M c. absurd (overlap-avoided M o .never c)) p
+
+every-atom : (i : ℕ) → i < ATOMS → Has EVERY_ATOM i
+unfolding below
+every-atom i l = has-below ATOMS i l
+
+-- with every atom up none is undecided
+pub all-decided : undecided EVERY_ATOM EVERY_ATOM ≡ 0
+all-decided =
+    ext (undecided EVERY_ATOM EVERY_ATOM) 0
+    (λ i h. absurd (undecided-up EVERY_ATOM EVERY_ATOM h (every-atom i (undecided-lt EVERY_ATOM EVERY_ATOM h)))) (λ i h. absurd (has-none h))
+
+-- where nothing is undecided, fewer are than where something is
+pub none-falls : {w v : ℕ} → ¬ (w ≡ 0) → v ≡ 0 → ones v < ones w
+none-falls {w} n e = rw e (count-proper 0 w (record { each = λ i h. absurd (has-none h) }) (λ z. n (sym z)))
 
 -- ---- one more atom decided
 

@@ -16,6 +16,9 @@ use Rattle.answer_sets.specs.Test.{answerSet}
 use Rattle.answer_sets.specs.State.{Completes, Narrows, undecided}
 use Rattle.answer_sets.specs.declared.state.State.{State}
 use Rattle.answer_sets.proofs.HalfDecided.{decided-cases}
+use Rattle.answer_sets.proofs.Judged.{decides-answer-set}
+use Rattle.narrowing.specs.Stops.{AtStop}
+use Rattle.narrowing.proofs.StoppedRules.{stop-answers-none}
 use Rattle.answer_sets.proofs.Narrows.{completes-back, overlap-none}
 use Rattle.learning.specs.Nogood.{Nogood, Within}
 use Rattle.learning.specs.Reason.{Remembers}
@@ -115,6 +118,17 @@ module _ {rules table counts heads : List ℕ} {unit : Unit} where
     where
       nobody : (M : ℕ) → ¬ Wanted rules table counts heads unit t M
       nobody M w = overlap-none {s = t} (decides-apart (t .up) (t .dropped) .no (sym e ∙ not-true r f)) (w .completes)
+
+  -- a rule is at a stop: nothing is wanted
+  pub search-stop : {list : List ℕ} {count shown r : ℕ} {t : State} → Ordered list count → unit .rules < 2 ^ ATOMS → Has (unit .rules) r → AtStop rules r t
+      → Answered list count shown (Wanted rules table counts heads unit t) list count Nothing
+  search-stop {list} {count} {shown} {r} {t} o fits h a =
+      (gathered-same list count (CutOf shown (Wanted rules table counts heads unit t)) o (λ x c. nobody (c .whole) (c .wanted)), λ l. none nobody)
+    where
+      nobody : (M : ℕ) → ¬ Wanted rules table counts heads unit t M
+      nobody M w =
+          stop-answers-none rules (unit .rules) (unit .inputs) r h a M (w .completes)
+          (record { answer = decides-answer-set (lent rules) (unit .rules) (M ∩ unit .inputs) M fits .yes (w .belongs .answers) })
 
   -- nothing undecided: only the atoms that are up can be wanted
   pub search-leaf : (list : List ℕ) (count : ℕ) {shown : ℕ} {t : State} {free : ℕ} {test : Bool} {after : List ℕ} {r : ℕ} {w : Witness}

@@ -8,6 +8,7 @@ use learning::nogood::resolve;
 use learning::store::RING;
 use learning::store::learnt_pairs;
 use learning::trail::leaders;
+use narrowing::choice::Choice;
 use narrowing::choice::choose;
 use narrowing::choice::some_wide;
 use unit_steps::Unit;
@@ -17,11 +18,15 @@ use unit_steps::desk::DESK_WORDS;
 use unit_steps::desk::INDEX;
 use unit_steps::desk::backing;
 use unit_steps::front::Front;
+use unit_steps::lift::Stretch;
+use unit_steps::lift::span;
 ghost use mathlib.Core.Path.{_≡_};
 ghost use Prim.Native.Nat.{_≤_, _<_};
 ghost use lib.ListN.{length};
-ghost use Rattle.atoms.specs.Word.{ATOMS, Has};
+ghost use Rattle.atoms.specs.Word.{ATOMS};
 ghost use Rattle.answer_sets.specs.Lent.{Lent};
+ghost use Rattle.answer_sets.specs.State.{undecided as undecidedOf};
+ghost use Rattle.narrowing.specs.Stops.{NoStop, Chosen};
 ghost use Rattle.learning.specs.Nogood.{Overlaps, Resolves};
 ghost use Rattle.learning.specs.Store.{MEMORY_WORDS};
 ghost use Rattle.unit_steps.specs.Desk.{DESK_WORDS};
@@ -44,20 +49,6 @@ pub struct Found {
     pub witness: Witness,
 }
 
-// A node below another one: in the same search, at this count and front.
-pub fn below(node: Node, count: usize, front: Front, base: State) -> Node
-    ensures { λ r. ⌜ r ≡ record { unit = node .unit; shown = node .shown; count = count; front = front; base = base } ⌝ }
-{
-    let unit = node.unit;
-    Node {
-        unit,
-        shown: node.shown,
-        count,
-        front,
-        base,
-    }
-}
-
 // What was found, put together.
 pub fn handed(count: usize, nogood: State, witness: Witness) -> Found
     ensures { λ r. ⌜ r ≡ record { count = count; nogood = nogood; witness = witness } ⌝ }
@@ -71,7 +62,8 @@ pub fn handed(count: usize, nogood: State, witness: Witness) -> Found
 
 // The pair that names everything, which nothing completes.
 pub fn everything() -> State
-    ensures { λ r. ⌜ Overlaps r ⌝ }
+    ensures overlaps { λ r. ⌜ Overlaps r ⌝ }
+    ensures decided { λ r. ⌜ undecidedOf (r .up) (r .dropped) ≡ 0 ⌝ }
 {
     State {
         up: EVERY_ATOM,
@@ -123,15 +115,47 @@ fn raised(desk: &[u64], f: Front, i: usize) -> Front
     moved(desk, f, after)
 }
 
-// The front with the atom in the phase: up, or dropped.
-pub fn branched(desk: &[u64], f: Front, i: usize, phase: bool) -> Front
-    requires { ⌜ (length (now desk) ≡ DESK_WORDS) × (i < ATOMS) ⌝ }
+// The front with the atom in the phase: up, or dropped. It may be asked for only where no rule of the word is at a stop: the search goes no further there.
+pub fn branched(rules: &[u64], which: u64, desk: &[u64], f: Front, i: usize, phase: bool) -> Front
+    requires { ⌜ NoStop (now rules) which (f .state) × (length (now desk) ≡ DESK_WORDS) × (i < ATOMS) ⌝ }
     ensures { λ r. ⌜ r .state ≡ branchOf (f .state) i phase ⌝ }
 {
     if phase {
         return raised(desk, f, i);
     }
     lowered(desk, f, i)
+}
+
+// A node below another one: in the same search, at this count, one atom further down from this front.
+pub fn below(
+    rules: &[u64],
+    desk: &[u64],
+    node: Node,
+    count: usize,
+    f: Front,
+    i: usize,
+    phase: bool,
+) -> Node
+    requires { ⌜ NoStop (now rules) (node .unit .rules) (f .state) × (length (now desk) ≡ DESK_WORDS) × (i < ATOMS) ⌝ }
+    ensures same { λ r. ⌜ r ≡ record { unit = node .unit; shown = node .shown; count = count; front = r .front; base = f .state } ⌝ }
+    ensures branch { λ r. ⌜ r .front .state ≡ branchOf (f .state) i phase ⌝ }
+{
+    let unit = node.unit;
+    let base = f.state;
+    Node {
+        unit,
+        shown: node.shown,
+        count,
+        front: branched(rules, unit.rules, desk, f, i, phase),
+        base,
+    }
+}
+
+// The steps of a node, up to this front.
+pub fn way_to(node: Node, f: Front) -> Stretch {
+    let base = node.base;
+    let front = node.front;
+    span(base, front.top, f.top)
 }
 
 // The atoms whose rules come first in the choice: those that are decided, once a stop has shown that it matters what hangs together.
@@ -144,10 +168,11 @@ fn near_atoms(memory: &[u64], s: State) -> u64
     atoms::union(s.up, s.dropped)
 }
 
-// The free atom to decide next: of those that show, if there are any, and of these those that stood most often in what was learnt.
-pub fn pick(rules: &[u64], which: u64, memory: &[u64], s: State, free: u64, shown: u64) -> usize
+// What comes next: a rule that is at a stop, if there is one; else a free atom, of those that show, if there are any, and of these one of those that
+// stood most often in what was learnt.
+pub fn pick(rules: &[u64], which: u64, memory: &[u64], s: State, free: u64, shown: u64) -> Choice
     requires { ⌜ Lent (now rules) which × (MEMORY_WORDS ≤ length (now memory)) × (free ≡ 0 → ⊥) ⌝ }
-    ensures { λ r. ⌜ Has free r × (r < ATOMS) ⌝ }
+    ensures { λ r. ⌜ Chosen (now (rules .entry)) which s free r ⌝ }
 {
     let leading = leaders(memory, prefer(free, shown));
     choose(rules, which, s, leading, near_atoms(memory, s))

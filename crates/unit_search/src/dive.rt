@@ -1,11 +1,13 @@
 // Ways down before the search: each follows one branch alone and learns from its stop, so that the first atom of the search is chosen by what was
 // learnt. They list nothing.
 use crate::branch::branched;
+use crate::branch::everything;
 use crate::branch::phase_of;
 use crate::branch::pick;
 use crate::stop::stop;
 use answer_sets::State;
 use answer_sets::known::undecided;
+use narrowing::choice::Choice;
 use unit_steps::Unit;
 use unit_steps::filter::copied;
 use unit_steps::front::Front;
@@ -15,6 +17,7 @@ ghost use mathlib.Core.Path.{_≡_};
 ghost use Prim.Native.Nat.{_<_};
 ghost use lib.Count.{ones};
 ghost use Rattle.answer_sets.specs.State.{undecided as undecidedOf};
+ghost use Rattle.learning.specs.Nogood.{Overlaps};
 ghost use Rattle.learning.specs.Reason.{Remembers};
 ghost use Rattle.unit_steps.specs.Filter.{Filtered};
 ghost use Rattle.unit_steps.specs.Desk.{Prepared};
@@ -36,7 +39,21 @@ fn free_atoms(s: State) -> u64
     undecided(s.up, s.dropped)
 }
 
-// The front one atom further down: the atom is decided in its phase, and steps are taken until none has anything new to say.
+// The front at a stop: nothing completes its state, and nothing is left to decide.
+fn halted(f: Front) -> Front
+    ensures overlaps { λ r. ⌜ Overlaps (r .state) ⌝ }
+    ensures decided { λ r. ⌜ undecidedOf (r .state .up) (r .state .dropped) ≡ 0 ⌝ }
+{
+    let agenda = f.agenda;
+    Front {
+        state: everything(),
+        agenda,
+        top: f.top,
+    }
+}
+
+// The front one atom further down: the atom is decided in its phase, and steps are taken until none has anything new to say. Where a rule is at a
+// stop nothing is left to decide.
 fn descend(
     rules: &[u64],
     table: &[u64],
@@ -57,16 +74,13 @@ fn descend(
     ensures falls { λ r. ⌜ ones (undecidedOf (r .state .up) (r .state .dropped)) < ones (undecidedOf (f .state .up) (f .state .dropped)) ⌝ }
 {
     let s = f.state;
-    let i = pick(
-        rules,
-        unit.rules,
-        memory,
-        s,
-        undecided(s.up, s.dropped),
-        s.up,
-    );
+    let free = undecided(s.up, s.dropped);
+    let choice = pick(rules, unit.rules, memory, s, free, s.up);
+    let Choice::Atom(i) = choice else {
+        return halted(f);
+    };
     let phase = phase_of(rules, desk, unit.rules, memory, s, i);
-    let below = branched(desk, f, i, phase);
+    let below = branched(rules, unit.rules, desk, f, i, phase);
     propagate(rules, table, counts, desk, unit, memory, filter, below)
 }
 

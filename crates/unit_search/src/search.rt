@@ -3,11 +3,12 @@ use crate::begin::begin;
 use crate::branch::Found;
 use crate::branch::Node;
 use crate::branch::below;
-use crate::branch::branched;
+use crate::branch::everything;
 use crate::branch::handed;
 use crate::branch::merged;
 use crate::branch::phase_of;
 use crate::branch::pick;
+use crate::branch::way_to;
 use crate::member::offer;
 use crate::stop::stop;
 use crate::witness::Witness;
@@ -17,6 +18,7 @@ use answer_sets::State;
 use answer_sets::known::undecided;
 use learning::nogood::lies_within;
 use learning::store::empty_store;
+use narrowing::choice::Choice;
 use narrowing::loops::looped_atoms;
 use plan::LIST_WORDS;
 use unit_steps::Unit;
@@ -26,7 +28,6 @@ use unit_steps::filter::copied;
 use unit_steps::filter::full_filter;
 use unit_steps::front::Front;
 use unit_steps::lift::blame;
-use unit_steps::lift::span;
 use unit_steps::propagate::propagate;
 ghost use Prim.Native.Nat.{_≤_};
 ghost use Rattle.plan.specs.Limits.{LIST_WORDS};
@@ -41,8 +42,8 @@ ghost use Rattle.unit_steps.specs.Job.{Belongs, Searchable, Wanted};
 
 // Adds to the list the cut of every position that belongs there and completes the node's state, of which the filter says which entries may be joined:
 // the new count, or OVERFULL where that is more than LIST_WORDS. Beside it stands a member that was met, or that there is none. The memory keeps what is
-// learnt on the way. The pair that is handed back is completed by no member; where it lies within the state that the first branch began from, the
-// second branch has none.
+// learnt on the way. It goes no further where a rule of the unit is at a stop. The pair that is handed back is completed by no member; where it lies
+// within the state that the first branch began from, the second branch has none.
 pub fn explore(
     rules: &[u64],
     table: &[u64],
@@ -67,11 +68,10 @@ pub fn explore(
 {
     let unit = node.unit;
     let front = node.front;
-    let base = node.base;
     let mut mine = copied(filter);
     let f = propagate(rules, table, counts, desk, unit, memory, &mut mine, front);
     let t = f.state;
-    let way = span(base, front.top, f.top);
+    let way = way_to(node, f);
     if !atoms::are_apart(t.up, t.dropped) {
         let nogood = stop(rules, table, counts, desk, unit, memory, way);
         return handed(node.count, nogood, Witness::Nothing);
@@ -80,9 +80,12 @@ pub fn explore(
     if free == 0 {
         return offer(rules, table, counts, desk, list, memory, node, way, t);
     }
-    let i = pick(rules, unit.rules, memory, t, free, node.shown);
+    let choice = pick(rules, unit.rules, memory, t, free, node.shown);
+    let Choice::Atom(i) = choice else {
+        return handed(node.count, everything(), Witness::Nothing);
+    };
     let phase = phase_of(rules, desk, unit.rules, memory, t, i);
-    let one = below(node, node.count, branched(desk, f, i, phase), t);
+    let one = below(rules, desk, node, node.count, f, i, phase);
     let first = explore(rules, table, counts, desk, list, memory, &mine, one);
     if LIST_WORDS < first.count {
         return first;
@@ -96,7 +99,7 @@ pub fn explore(
         let nogood = blame(rules, table, counts, desk, unit, memory, way, n);
         return handed(first.count, nogood, met);
     }
-    let other = below(node, first.count, branched(desk, f, i, !phase), t);
+    let other = below(rules, desk, node, first.count, f, i, !phase);
     let second = explore(rules, table, counts, desk, list, memory, &mine, other);
     let left = merged(n, second.nogood, t, i, phase);
     let nogood = blame(rules, table, counts, desk, unit, memory, way, left);

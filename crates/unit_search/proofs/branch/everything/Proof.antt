@@ -1,10 +1,11 @@
--- Atom 0 is in both words.
+-- Atom 0 is in both words, and every atom is in one.
 use mathlib.Core.Path.{refl}
+use Rattle.unit_search.proofs.Branches.{all-decided}
 use Rattle.unit_search.proofs.branch.everything.Statement.{statement}
 use Rattle.unit_search.proofs.branch.everything.Tie as tie
 
 returns : tie.Need-returns
-returns c = record { overlap = λ a. a .none 0 (record { bit = refl }) (record { bit = refl }) }
+returns c = (record { overlap = λ a. a .none 0 (record { bit = refl }) (record { bit = refl }) }, all-decided)
 
 pub everything-spec : {M : Type 1} → statement M
 everything-spec =

@@ -1,14 +1,14 @@
--- The atom is one of the leading ones, and these are free.
+-- The choice is among the leading atoms, and these are free.
+use Rattle.atoms.proofs.Sets.{subset-trans}
+use Rattle.narrowing.proofs.StoppedRules.{chosen-within}
 use borrow.Author.Needs.{needs}
 use Rattle.unit_search.proofs.branch.pick.Statement.{statement}
 use Rattle.unit_search.proofs.branch.pick.Tie as tie
 
 returns : tie.Need-returns
 returns c =
-    let led = c .before .before in (
-      led .before .prefer .ensures .within .each _ (led .leaders .ensures .within .each _ (c .choose .ensures .0)),
-      c .choose .ensures .1,
-    )
+    let led = c .before .before in
+    chosen-within _ _ _ (c .choose .result) (subset-trans (led .leaders .ensures .within) (led .before .prefer .ensures .within)) (c .choose .ensures)
 
 pub pick-spec : {M : Type 1} → statement M
 pick-spec =

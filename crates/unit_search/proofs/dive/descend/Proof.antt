@@ -1,34 +1,59 @@
--- The atom that is decided was undecided, so that fewer are.
+-- Where a rule is at a stop nothing is left undecided; else the atom that is decided was, so that fewer are.
 use Rattle.atoms.specs.Word.{Has}
 use Rattle.answer_sets.specs.State.{undecided}
-use Rattle.unit_search.proofs.Branches.{filtered-branch, decided-falls}
+use Rattle.unit_search.proofs.Branches.{filtered-branch, filtered-overlap, decided-falls, none-falls}
 use borrow.Author.Needs.{needs}
 use Rattle.unit_search.proofs.dive.descend.Statement.{statement}
 use Rattle.unit_search.proofs.dive.descend.Tie as tie
 
 -- the atom that was chosen, and where the function begins
-abbrev picked : tie.After-branched → tie.After-pick
-picked c = c .before .before .before
+abbrev chosen : tie.After-branched → tie.After-choice
+chosen c = c .before .before .before .before
 
-abbrev start : tie.After-pick → tie.Start
-start c = c .before .before .before .before .before .before .before .before .before .before
+abbrev start : tie.After-choice → tie.Start
+start c = c .before .before .before .before .before .before .before .before .before .before .before .before
 
-undecided-atom : (c : tie.After-pick) → Has (undecided (start c .args .f .state .up) (start c .args .f .state .dropped)) (c .pick .result)
-undecided-atom c = rw (c .before .undecided .ensures) at (c .pick .ensures .0)
+undecided-atom : (c : tie.After-choice)
+    → Has (undecided (start c .args .f .state .up) (start c .args .f .state .dropped)) (c .choice .given .0 .0)
+undecided-atom c =
+    let picked = c .before .before in
+    rw (picked .before .before .undecided .ensures) at (rw (c .choice .given .1) at (picked .pick .ensures)) .0
+
+halted : tie.Need-returns
+halted c =
+    let first = c .before .before .before .before .before .before .before .before .before .before .before .before .before in (
+      filtered-overlap (first .args .f .state) (c .halted .ensures .0) (first .pre .2),
+      (first .pre .1, none-falls (first .pre .3) (c .halted .ensures .1)),
+    )
+
+phase-of-requires : tie.Need-phase-of-requires
+phase-of-requires c κs =
+    let k = c .before .before in
+    let pre = start k .pre in
+    (pre .0 .searchable .rules-lent, pre .0 .long, pre .1 .long, (rw (k .choice .given .1) at (k .before .before .pick .ensures)) .1)
+
+branched-requires : tie.Need-branched-requires
+branched-requires c κs =
+    let k = c .before .before .before in
+    let told = rw (k .choice .given .1) at (k .before .before .pick .ensures) in
+    (told .2, start k .pre .0 .long, told .1)
 
 propagate-requires : tie.Need-propagate-requires
 propagate-requires c κs =
     let way = c .before .before in
-    let k = picked way in
-    let pre = start k .pre in
-    (pre .0, pre .1, filtered-branch (start k .args .f .state) (k .pick .result) (way .before .phase-of .result) (way .branched .ensures) (pre .2))
+    let k = chosen way in
+    let pre = start k .pre in (
+      pre .0,
+      pre .1,
+      filtered-branch (start k .args .f .state) (k .choice .given .0 .0) (way .before .phase-of .result) (way .branched .ensures) (pre .2),
+    )
 
-returns : tie.Need-returns
-returns c =
-    let moved = c .before .before .before .before in
-    let way = moved .before .before .before in
-    let k = picked way in
-    let told = moved .propagate .ensures in (
+moved : tie.Need-returns-2
+moved c =
+    let done = c .before .before .before .before in
+    let way = done .before .before .before in
+    let k = chosen way in
+    let told = done .propagate .ensures in (
       told .1 .0,
       (
         told .1 .1,
@@ -43,9 +68,14 @@ descend-spec =
     (tie.spec
     (λ c κs. search needs)
     (λ c κs. search needs)
+    (λ c. search needs)
+    (λ c. search needs)
     (λ c κs. search needs)
-    (λ c κs. search needs)
+    (λ c. search needs)
+    halted
+    phase-of-requires
+    branched-requires
     propagate-requires
     (λ c. search needs)
     (λ c. search needs)
-    returns)
+    moved)

@@ -27,7 +27,7 @@ returns-2 c =
     offer-one (now (at .rules)) (now (at .table)) (now (at .counts)) (now (at .desk)) (at .node .unit) (now (at .list)) (at .node .count)
     (at .node .shown) (at .s .up) (put .insert .last .0) (start .pre .1)
     (test .belongs .ensures .yes (not-false (test .belongs .result .answers) (put .before .before .before .if1 .left)))
-    (put .before .cut .ensures) (put .insert .ensures) (c .handed2 .ensures) (start .pre .2) (overlap-nogood (c .before .everything .ensures))
+    (put .before .cut .ensures) (put .insert .ensures) (c .handed2 .ensures) (start .pre .2) (overlap-nogood (c .before .everything .ensures .0))
 
 pub offer-spec : {M : Type 1} → statement M
 offer-spec =

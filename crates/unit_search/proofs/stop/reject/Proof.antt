@@ -17,7 +17,7 @@ reject-spec =
     tie.close
     (tie.spec
     (λ c κs. search needs)
-    (λ c. (c .before .before .before .before .before .before .before .pre .1, overlap-nogood (c .everything .ensures)))
+    (λ c. (c .before .before .before .before .before .before .before .pre .1, overlap-nogood (c .everything .ensures .0)))
     (λ c κs. search needs)
     (λ c κs. search needs)
     (λ c κs. search needs)

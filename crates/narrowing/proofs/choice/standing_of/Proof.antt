@@ -1,0 +1,43 @@
+-- A head atom is up; or the body fails, is open or holds; and where it holds, the whole head is dropped or not.
+use Rattle.narrowing.proofs.StoppedRules.{met-spent, failing-spent, open-live, held-stopped, held-live}
+use borrow.Author.Needs.{needs}
+use Rattle.narrowing.proofs.choice.standing_of.Statement.{statement}
+use Rattle.narrowing.proofs.choice.standing_of.Tie as tie
+
+returns : tie.Need-returns
+returns c = met-spent _ _ _ (c .before .before .head .ensures) (c .before .are-apart .ensures) (c .if1 .taken)
+
+stopped : tie.Need-returns-2
+stopped c =
+    let known = c .before .before .before .before in
+    held-stopped _ _ _ (known .before .before .before .head .ensures) (known .before .before .are-apart .ensures) (known .before .if1 .left)
+    (known .body-known .ensures) (c .before .before .enum-told3 .given .1) (c .before .is-subset .ensures) (c .if2 .taken)
+
+still-open : tie.Need-returns-4
+still-open c =
+    let known = c .before .before in
+    open-live _ _ _ (known .before .before .before .head .ensures) (known .before .before .are-apart .ensures) (known .before .if1 .left)
+    (known .body-known .ensures) (c .enum-told2 .given .1)
+
+live : tie.Need-returns-5
+live c =
+    let known = c .before .before .before .before in
+    held-live _ _ _ (known .before .before .before .head .ensures) (known .before .before .are-apart .ensures) (known .before .if1 .left)
+    (known .body-known .ensures) (c .before .before .enum-told3 .given .1) (c .before .is-subset .ensures) (c .if2 .left)
+
+pub standing-of-spec : {M : Type 1} → statement M
+standing-of-spec =
+    tie.close
+    (tie.spec
+    (λ c κs. search needs)
+    (λ c κs. search needs)
+    returns
+    (λ c κs. search needs)
+    (λ c. search needs)
+    (λ c. search needs)
+    (λ c. search needs)
+    (λ c κs. search needs)
+    stopped
+    (λ c. failing-spent _ _ _ (c .before .before .body-known .ensures) (c .enum-told .given .1))
+    still-open
+    live)

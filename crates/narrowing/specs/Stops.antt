@@ -1,0 +1,44 @@
+-- Where a search goes no further (document 02, S-7), and what the choice of the next atom says of it.
+use mathlib.Core.List.{List}
+use Prim.Native.Nat.{ℕ, _<_}
+use Rattle.atoms.specs.Word.{ATOMS, Has, _⊆_, Apart, _∖_}
+use Rattle.answer_sets.specs.Lent.{lent}
+use Rattle.answer_sets.specs.Known.{BodySays}
+use Rattle.answer_sets.specs.declared.state.State.{State}
+use Rattle.answer_sets.specs.declared.state.Truth.the-variants.{Holds, Fails}
+use Rattle.answer_sets.specs.declared.reduct.Found.{Found}
+use Rattle.answer_sets.specs.declared.reduct.Found.the-variants.{Rule, Nothing}
+use Rattle.narrowing.specs.declared.choice.Standing.{Standing}
+use Rattle.narrowing.specs.declared.choice.Standing.the-variants.{Spent, Stopped, Live}
+use Rattle.narrowing.specs.declared.choice.Choice.{Choice}
+use Rattle.narrowing.specs.declared.choice.Choice.the-variants.{Atom, Stop}
+
+-- rule r is at a stop: its "body holds and all its head atoms are dropped" ("an atom in both counts as up")
+pub record AtStop (rules : List ℕ) (r : ℕ) (s : State) : Type 0 where
+  pub holds : BodySays rules r (s .up) (s .dropped) Holds
+  pub gone : lent rules .head r ⊆ (s .dropped ∖ s .up)
+
+-- no rule of the word is
+pub record NoStop (rules : List ℕ) (which : ℕ) (s : State) : Type 0 where
+  pub each : (r : ℕ) → Has which r → ¬ AtStop rules r s
+
+-- what comes next: an atom of `free`, and then no rule of the word is at a stop; or a rule of the word that is
+abbrev pub Chosen : List ℕ → ℕ → State → ℕ → Choice → Type 0
+Chosen rules which s free (Atom i) = Has free i × (i < ATOMS) × NoStop rules which s
+Chosen rules which s free (Stop r) = Has which r × AtStop rules r s
+
+-- Inner: a rule of the word that is at a stop, or that none is
+abbrev pub Met : List ℕ → ℕ → State → Found → Type 0
+Met rules which s (Rule r) = Has which r × AtStop rules r s
+Met rules which s Nothing = NoStop rules which s
+
+-- Inner: rule r has nothing more to ask for: a head atom is up, or its body fails
+pub data IsSpent (rules : List ℕ) (r : ℕ) (s : State) : Type 0 where
+  head-up : ¬ Apart (lent rules .head r) (s .up) → IsSpent rules r s
+  body-fails : BodySays rules r (s .up) (s .dropped) Fails → IsSpent rules r s
+
+-- Inner: where rule r stands
+abbrev pub Stands : List ℕ → ℕ → State → Standing → Type 0
+Stands rules r s Spent = IsSpent rules r s
+Stands rules r s Stopped = AtStop rules r s
+Stands rules r s Live = (¬ IsSpent rules r s) × (¬ AtStop rules r s)
