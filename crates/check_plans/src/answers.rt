@@ -15,7 +15,8 @@ fn write_number(label: &[u8], number: u64) {
     io::print_decimal(STDOUT_FILENO, number);
 }
 
-// Writes the words of GIVEN and SHOW and how many tables and uses there are, if any, and how many rules, units and edges, if the plan reads.
+// Writes the numbers of COUNT, the words of GIVEN and SHOW and how many tables and uses there are, if any, and how many rules, units and edges, if the
+// plan reads.
 fn write_counts(plan: &[u8]) {
     let reading = reading::read_plan(plan);
     let outcome = reading.outcome;
@@ -23,6 +24,11 @@ fn write_counts(plan: &[u8]) {
         return;
     };
     let read = reading.plan;
+    if 0 < read.declared.count {
+        write_number(b" declared ", read.declared.rules as u64);
+        write_number(b" ", read.declared.units as u64);
+        write_number(b" ", read.declared.edges as u64);
+    }
     if 0 < read.given_count {
         write_number(b" given ", read.given);
     }
