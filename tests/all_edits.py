@@ -1,0 +1,179 @@
+#!/usr/bin/env python3
+"""tests/all_edits.py [-j JOBS] [CRATE..]: tries every must-fail edit, those of the gate and those of tests/must-fail; of these crates, if any are named.
+
+A function is proved by the contracts of those it calls, not by their code. So edits inside the bodies of different functions of a crate do not touch each
+other's proofs, and are tried together: each must be refused by an error in the proof of its own function, and not by one that only says that another
+name was not admitted. What is left without such an error, and edits of definitions, constants or several functions, are tried one at a time. It works on a
+copy in target/all-edits, where LOG/CRATE/LABEL.log has the errors of each. The last line is 'N passed, M failed'.
+"""
+import argparse
+import collections
+import concurrent.futures
+import os
+import re
+import shutil
+import subprocess
+import sys
+from pathlib import Path
+
+ROOT = Path(__file__).resolve().parent.parent
+WORK = ROOT / "target/all-edits"
+LOG = WORK / "log"
+FUNCTION = re.compile(r'^(?:pub )?(?:extern "C" )?fn (\w+)', re.M)
+Edit = collections.namedtuple("Edit", "crate label pairs")
+
+
+def read_edit(crate, file):
+    """An edit's replacements: file of the crate, old text, new text."""
+    name, old, pairs = "", "", []
+    for line in file.read_text().splitlines():
+        if line.startswith("file: "):
+            name = line[6:]
+        elif line.startswith("old: "):
+            old = line[5:]
+        elif line.startswith("new:"):
+            pairs.append((name, old, line[4:].removeprefix(" ")))
+    return Edit(crate, file.stem, pairs)
+
+
+def edits_of(crate):
+    """All edits of a crate, by name."""
+    folders = [ROOT / "crates" / crate / "must-fail", ROOT / "tests/must-fail" / crate]
+    return [read_edit(crate, file) for folder in folders for file in sorted(folder.glob("*.edit"))]
+
+
+def body_at(text, at):
+    """The function in whose body a place of a source stands, or None."""
+    starts = [found for found in FUNCTION.finditer(text) if found.start() < at]
+    if not starts:
+        return None
+    before = text[starts[-1].start():at]
+    opened = any(line == "{" or (line.endswith(" {") and not line.lstrip().startswith(("ensures", "requires"))) for line in before.splitlines())
+    return starts[-1].group(1) if opened and "\n}" not in before else None
+
+
+def function_of(edit):
+    """The one function whose body the edit changes, as (module, function), or None."""
+    functions = set()
+    for name, old, _ in edit.pairs:
+        text = (ROOT / "crates" / edit.crate / name).read_text()
+        body = body_at(text, text.index(old)) if name.startswith("src/") and old in text else None
+        functions.add((Path(name).stem, body) if body else None)
+    return functions.pop() if len(functions) == 1 else None
+
+
+def apply(copy, crate, tried):
+    """Makes the replacements of all these edits in the copy, each at the place of its old text, which stands there once."""
+    places = collections.defaultdict(list)
+    for edit in tried:
+        for name, old, new in edit.pairs:
+            text = (ROOT / "crates" / crate / name).read_text()
+            if text.count(old) != 1:
+                raise ValueError(f"{crate}/{edit.label}: an old text stands {text.count(old)} times in {name}")
+            places[name].append((text.index(old), old, new))
+    for name, replacements in places.items():
+        text = (ROOT / "crates" / crate / name).read_text()
+        for at, old, new in sorted(replacements, reverse=True):
+            text = text[:at] + new + text[at + len(old):]
+        (copy / "crates" / crate / name).write_text(text)
+
+
+def check(copy, crate, tried):
+    """What the prover says of the crate with these edits; the copy is as before afterwards."""
+    apply(copy, crate, tried)
+    environment = dict(os.environ, RT_JOBS="1", RT_CUT="0")
+    said = subprocess.run(["rt", "check", crate], cwd=copy, env=environment, capture_output=True, text=True)
+    shutil.rmtree(copy / "crates" / crate)
+    shutil.copytree(ROOT / "crates" / crate, copy / "crates" / crate)
+    return said.stdout + said.stderr
+
+
+def own_errors(said, crate, function):
+    """The errors in the proof of a function itself."""
+    module, name = function
+    at_root = module in ("lib", "main")
+    folder = "" if at_root else f"{module}/"
+    path = f"{crate}::{name}" if at_root else f"{crate}::{module}::{name}"
+    errors = re.findall(rf"^\S*/proofs/{folder}[+]?{name}/\S*: error: .*$", said, re.M)
+    errors += re.findall(rf"^fn {path}: no proof: .*`search` does not close.*$", said, re.M)
+    return [error for error in errors if "was not admitted" not in error]
+
+
+def keep(edit, errors):
+    """Writes the errors of a refused edit to its log."""
+    log = LOG / edit.crate / f"{edit.label}.log"
+    log.parent.mkdir(parents=True, exist_ok=True)
+    log.write_text("\n".join(errors) + "\n")
+
+
+def try_together(copy, crate, tried):
+    """Tries edits of different functions at once: those that are not refused by errors of their own."""
+    said = check(copy, crate, [edit for edit, _ in tried])
+    left = []
+    for edit, function in tried:
+        errors = own_errors(said, crate, function)
+        if errors:
+            keep(edit, errors)
+        else:
+            left.append(edit)
+    return left
+
+
+def is_refused(copy, edit):
+    """Whether the edit by itself is refused."""
+    said = check(copy, edit.crate, [edit])
+    keep(edit, re.findall(r"^.*: error: .*$|^fn .*: no proof: .*$", said, re.M) or [said])
+    return "logic=not-proved" in said
+
+
+def rounds_of(edits):
+    """The edits of single functions, in rounds with at most one of each, and the others."""
+    by_function, alone = collections.defaultdict(list), []
+    for edit in edits:
+        function = function_of(edit)
+        if function:
+            by_function[function].append(edit)
+        else:
+            alone.append(edit)
+    most = max(map(len, by_function.values()), default=0)
+    return [[(edits[k], function) for function, edits in by_function.items() if k < len(edits)] for k in range(most)], alone
+
+
+def try_crate(crate):
+    """Tries the edits of a crate: how many were refused, and those that were not."""
+    edits = edits_of(crate)
+    copy = WORK / crate
+    shutil.copytree(ROOT / "crates", copy / "crates")
+    shutil.copy(ROOT / "crates.txt", copy)
+    for part in ("stamp", "rlib", "obj", "bin"):
+        if (ROOT / "target" / part).exists():
+            shutil.copytree(ROOT / "target" / part, copy / "target" / part)
+    rounds, alone = rounds_of(edits)
+    for tried in rounds:
+        alone += try_together(copy, crate, tried)
+    passed = [edit.label for edit in alone if not is_refused(copy, edit)]
+    shutil.rmtree(copy)
+    return crate, len(edits), passed
+
+
+def main():
+    parser = argparse.ArgumentParser()
+    parser.add_argument("-j", type=int, default=os.cpu_count())
+    parser.add_argument("crates", nargs="*")
+    options = parser.parse_args()
+    crates = options.crates or [folder.name for folder in sorted((ROOT / "crates").iterdir()) if edits_of(folder.name)]
+    if subprocess.run(["rt", "check", *crates], cwd=ROOT).returncode:
+        return 2
+    shutil.rmtree(WORK, ignore_errors=True)
+    refused = failed = 0
+    with concurrent.futures.ThreadPoolExecutor(options.j) as pool:
+        for crate, count, passed in pool.map(try_crate, crates):
+            print(f"{crate}: {count - len(passed)} of {count} refused" + "".join(f"; NOT REFUSED: {label}" for label in passed), flush=True)
+            refused += count - len(passed)
+            failed += len(passed)
+    print(f"{refused} passed, {failed} failed")
+    return 1 if failed else 0
+
+
+if __name__ == "__main__":
+    sys.exit(main())
