@@ -1,3 +1,4 @@
 pub mod Settled
 pub mod Spots
 pub mod Codes
+pub mod JudgedSheets

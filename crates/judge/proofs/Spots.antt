@@ -8,7 +8,7 @@ use native.Mathlib.Omega.{arith}
 use lib.ListN.{length, drop, length-drop}
 use Rattle.plan.specs.Faults.{spot}
 use Rattle.plan.specs.Record.{emptyPlan}
-use Rattle.reading.specs.Commands.{Kind, given, table, rule, usage, unit, edge, show, end, kindOf, carrying, commandAt}
+use Rattle.reading.specs.Commands.{Kind, sizes, given, table, rule, usage, unit, edge, show, end, kindOf, carrying, commandAt}
 use Rattle.reading.specs.Commands.{Row, operandRows, rows, firstFit, ofKind}
 use Rattle.reading.specs.Reading.{Step, onward, ended, stepOf, reading, commandBytes}
 use Rattle.reading.proofs.Commands.{known-command, unknown-command, adds, step-when, Leads}
@@ -43,6 +43,7 @@ first-fit-by n p (r ∷ rs) x a h = go (r .fits) refl (first-fit-by n p rs x (a 
     go false t rest = rw t rest
 
 operand-rows-by : (p : Plan) (at : ℕ) (k : Kind) (operands : List ℕ) → RowsBy (at + 1) (operandRows p at k operands)
+operand-rows-by p at sizes operands = tt
 operand-rows-by p at given operands = tt
 operand-rows-by p at table operands = (omega arith, tt)
 operand-rows-by p at rule operands = (omega arith, (omega arith, tt))
@@ -50,7 +51,7 @@ operand-rows-by p at usage operands = (omega arith, tt)
 operand-rows-by p at unit operands = (omega arith, tt)
 operand-rows-by p at edge operands = (omega arith, tt)
 operand-rows-by p at show operands = tt
-operand-rows-by p at end operands = (omega arith, tt)
+operand-rows-by p at end operands = (omega arith, (omega arith, tt))
 
 rows-by : (p : Plan) (at : ℕ) (k : Kind) (operands : List ℕ) → RowsBy (at + 1) (rows p at k operands)
 rows-by p at k operands = (omega arith, (omega arith, (omega arith, operand-rows-by p at k operands)))
@@ -95,5 +96,5 @@ unfolding reading
 spot-within bytes f e =
     let n : ℕ = length bytes in
     subst (OutcomeBy n) e
-    (walk-keeps (λ p at s. at + length s ≡ n) (λ r. OutcomeBy n (r .outcome)) (on n) (λ p at s h k. tt)
+    (walk-keeps (λ p at s. at + length s ≡ n) (λ r. OutcomeBy n (r .outcome)) (on n) (λ p at s h k n. tt)
     (λ p at s f h k. subst (StepBy n) (ap (stepOf p) k) (command-by n p at s h)) emptyPlan 0 bytes (omega arith))

@@ -1,8 +1,13 @@
-// The single-position question: whether a position is settled for a plan, or why the plan is refused.
+// The single-position question: whether a position is settled for a plan, or why the plan is refused; and the same of a whole sheet.
+mod sheet;
+
 use plan::Fault;
 use plan::Outcome;
 use plan::Plan;
 use plan::refusal_code;
+pub use sheet::SheetAnswer;
+pub use sheet::judge_sheet;
+pub use sheet::sheet_code;
 ghost use mathlib.Core.Path.{_≡_};
 ghost use Rattle.plan.specs.Record.{Fitting};
 ghost use Rattle.judge.specs.Settled.{settled};

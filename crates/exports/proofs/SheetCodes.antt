@@ -1,0 +1,63 @@
+-- What the number tells a host of a sheet, from what `judge_sheet` promises.
+use mathlib.Core.Path.{_≡_, ap, sym, _∙_, subst}
+use mathlib.Core.Logic.{_↔_}
+use mathlib.Core.List.{List}
+use Prim.Native.Nat.{ℕ, _+_, _*_, _≤_, _<_}
+use native.Mathlib.Omega.{arith}
+use native.Mathlib.Decide.{decLt}
+use lib.ListN.{length}
+use Rattle.plan.specs.Faults.{CODE_STEP}
+use Rattle.plan.specs.declared.record.Plan.{Plan}
+use Rattle.reading.specs.Layout.{IsByte, All, Contents, recordOf}
+use Rattle.reading.specs.Refusals.{Stopped}
+use Rattle.reading.specs.declared.reader.Reading.{Reading}
+use Rattle.reading.proofs.Judged.{reading-judged}
+use Rattle.judge.specs.Sheets.{sheetCode, Laid, AllSettle, FirstNot, Right, all-settled, first-not, SheetJudged}
+use Rattle.judge.specs.declared.sheet.SheetAnswer.{SheetAnswer}
+use Rattle.unit_lists.specs.Demand1.{Lays}
+use Rattle.unit_lists.proofs.Demand1.{lays-read, lays-accepted}
+use Rattle.exports.specs.Sheets.{SheetJudgeHanded}
+use Rattle.exports.proofs.Spots.{stopped-at-most, code-exact}
+
+-- ---- a number tells which it is
+
+module _ {p : Plan} {ps : List ℕ} (few : length ps ≤ 256) where
+  told-all : {r : ℕ} {answer : SheetAnswer} → Right p ps answer → r ≡ sheetCode answer → (r ≡ 256) ↔ AllSettle p ps
+  told-all (all-settled a) e = (λ _. a, λ _. e)
+  told-all (first-not f) e = (λ full. absurd (omega (arith, f .within)), λ a. absurd (f .not-here (a .each _ (f .within))))
+
+  -- there is one first place
+  first-is-one : {a b : ℕ} → FirstNot p ps a → FirstNot p ps b → a ≡ b
+  first-is-one {a} {b} f g = go (decLt a b) (decLt b a)
+    where
+      go : Dec (a < b) → Dec (b < a) → a ≡ b
+      go (yes l) d = absurd (f .not-here (g .each-before a l))
+      go (no l) (yes k) = absurd (g .not-here (f .each-before b k))
+      go (no l) (no k) = omega arith
+
+  told-first : {r : ℕ} {answer : SheetAnswer} (place : ℕ) → Right p ps answer → r ≡ sheetCode answer → ((place < 256) × (r ≡ place)) ↔ FirstNot p ps place
+  told-first place (all-settled a) e = (λ q. absurd (omega (arith, q .0, q .1)), λ f. absurd (f .not-here (a .each place (f .within))))
+  told-first place (first-not f) e = (λ q. subst (FirstNot p ps) (sym e ∙ q .1) f, λ g. (omega (arith, g .within), e ∙ first-is-one f g))
+
+-- ---- what is handed back
+
+module _ (bytes sheet : List ℕ) {r : ℕ} {answer : SheetAnswer} (small : All IsByte bytes) (e : r ≡ sheetCode answer) (j : SheetJudged bytes sheet answer)
+  where
+    refused : (n s : ℕ) → Stopped bytes n s → r ≡ CODE_STEP * n + s
+    refused n s st =
+        let x = reading-judged bytes small .refused n s .1 st in
+        e ∙ ap sheetCode (j .refused (x .fault) (x .is)) ∙ code-exact x (stopped-at-most small st)
+
+    module _ (c : Contents) (l : Lays bytes c) where
+      right : (ps : List ℕ) → Laid ps sheet → Right (recordOf c) ps answer
+      right ps laid = subst (λ (x : Reading). Right (x .plan) ps answer) (lays-read l) (j .judges (lays-accepted l) ps laid)
+
+    pub sheet-judge-handed : SheetJudgeHanded bytes sheet r
+    sheet-judge-handed = record {
+      code-is = e ∙ ap sheetCode (j .is);
+      refused = refused;
+      no-sheet = λ c l n. e ∙ ap sheetCode (j .no-sheet (lays-accepted l) n);
+      laid = j .laid;
+      all-settled = λ c l ps laid. told-all (laid .few) (right c l ps laid) e;
+      first-not = λ c l ps laid place. told-first (laid .few) place (right c l ps laid) e;
+    }

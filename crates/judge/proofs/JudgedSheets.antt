@@ -1,0 +1,296 @@
+-- A sheet judged: the answer where the loop returns, what the definition says of a sheet laid down from its positions, and that 256 is no place.
+use mathlib.Core.Path.{_≡_, refl, ap, ap₂, sym, _∙_, subst}
+use mathlib.Core.Bool.{Bool, true, false, not}
+use mathlib.Core.List.{List, [], _∷_, _++_, flatMap}
+use mathlib.Core.Logic.{_⊎_, inl, inr}
+use Prim.Native.Nat.{ℕ, zero, suc, _+_, _*_, _/_, _%_, _≤_, _<_}
+use native.Mathlib.Omega.{arith}
+use native.Mathlib.Decide.{decLt, ℕ-discrete}
+use lib.Dec.{ltb, eqb}
+use lib.ListN.{length, getD, take, drop, length-drop, take-append-drop}
+use lib.Seq.{drop-append-add}
+use borrow.Author.Tests.{lt-ltb, le-ltb, eqb-true, eqb-false, not-true, not-false}
+use Rattle.atoms.specs.Word.{below}
+use Rattle.atoms.specs.Bounded.{Decides}
+use Rattle.atoms.specs.Collected.{lowest}
+use Rattle.atoms.proofs.Collected.{lowest-is, lowest-none, lowest-here, lowest-least}
+use Rattle.atoms.proofs.Tests.{not-both, decided-true, decided-false}
+use Rattle.answer_sets.specs.Lent.{lent}
+use Rattle.answer_sets.specs.Test.{answerSet}
+use Rattle.plan.specs.Record.{Fitting}
+use Rattle.plan.specs.declared.record.Plan.{Plan}
+use Rattle.plan.specs.declared.fault.Fault.{Fault}
+use Rattle.plan.specs.declared.fault.Outcome.{Outcome}
+use Rattle.plan.specs.declared.fault.Outcome.the-variants.{Accepted, Refused as RefusedWith}
+use Rattle.reading.specs.Words.{WORD_BYTES, WORD_VALUES, number, wordAt}
+use Rattle.reading.specs.Layout.{All, IsByte, wordBytes}
+use Rattle.reading.specs.Reading.{reading}
+use Rattle.reading.specs.declared.reader.Reading.{Reading}
+use Rattle.reading.proofs.Limits.{record-fits}
+use Rattle.reading.proofs.Longest.{elements-long}
+use Rattle.reading.proofs.Numbers.{length-bytes, word-behind, word-bytes, word-fits, all-drop}
+use Rattle.plan_meaning.proofs.RecordMeans.{read-means}
+use Rattle.judge.specs.Settled.{Settles, settled}
+use Rattle.judge.specs.Sheets.{MAX_POSITIONS, badBytes, positionsIn, positionAt, unsettledAt, placesJudged, sheetJudged}
+use Rattle.judge.specs.Sheets.{NoSheet, Laid, AllSettle, FirstNot, Right, all-settled, first-not, SheetJudged}
+use Rattle.judge.specs.declared.sheet.SheetAnswer.{SheetAnswer}
+use Rattle.judge.specs.declared.sheet.SheetAnswer.the-variants.{AllSettled, NotSettledAt, Refused, BadSheet}
+use Rattle.judge.proofs.Settled.{decides-settled}
+
+-- ---- what is no sheet
+
+pub bad-over : (n : ℕ) → MAX_POSITIONS < n / WORD_BYTES → badBytes n ≡ true
+unfolding badBytes
+bad-over n l = rw (lt-ltb MAX_POSITIONS (n / WORD_BYTES) l, badBytes) refl
+
+pub bad-rest : (n : ℕ) → n / WORD_BYTES ≤ MAX_POSITIONS → badBytes n ≡ not (eqb (n % WORD_BYTES) 0)
+unfolding badBytes
+bad-rest n l = rw (le-ltb MAX_POSITIONS (n / WORD_BYTES) l, badBytes) refl
+
+pub decides-no-sheet : (sheet : List ℕ) → Decides (NoSheet sheet) (badBytes (length sheet))
+decides-no-sheet sheet = go (decLt MAX_POSITIONS (positionsIn sheet))
+  where
+    go : Dec (MAX_POSITIONS < positionsIn sheet) → Decides (NoSheet sheet) (badBytes (length sheet))
+    go (yes l) = record { yes = λ _. inl l; no = λ f. absurd (not-both (bad-over (length sheet) l) f) }
+    go (no l) = record { yes = λ t. inr (eqb-false _ _ (not-true _ (sym rest ∙ t))); no = λ f. neither (eqb-true _ _ (not-false _ (sym rest ∙ f))) }
+      where
+        rest : badBytes (length sheet) ≡ not (eqb (length sheet % WORD_BYTES) 0)
+        rest = bad-rest (length sheet) (omega arith)
+
+        neither : length sheet % WORD_BYTES ≡ 0 → ¬ NoSheet sheet
+        neither e (inl over) = l over
+        neither e (inr rest) = rest e
+
+-- ---- the places
+
+module _ (p : Plan) (sheet : List ℕ) where
+  -- the first n positions are answer sets
+  abbrev pub Passed : ℕ → Type 0
+  Passed n = (q : ℕ) → q < n → settled p (positionAt sheet q) ≡ true
+
+  -- the test of the code is that of the position at the place
+  pub tested-at : {which M : ℕ} {b : Bool} (place : ℕ) → b ≡ answerSet (lent (p .rules)) which (p .given) M → which ≡ below (p .«rule_count»)
+      → M ≡ positionAt sheet place → b ≡ settled p (positionAt sheet place)
+  tested-at {which} {M} place t w m = t ∙ ap (λ (x : ℕ). answerSet (lent (p .rules)) x (p .given) M) w ∙ ap (settled p) m
+
+  pub passed-more : (n : ℕ) → Passed n → settled p (positionAt sheet n) ≡ true → Passed (n + 1)
+  passed-more n before here q l = go (decLt q n)
+    where
+      go : Dec (q < n) → settled p (positionAt sheet q) ≡ true
+      go (yes k) = before q k
+      go (no k) = let e : n ≡ q = omega arith in subst (λ (i : ℕ). settled p (positionAt sheet i) ≡ true) e here
+
+  places-here : lowest (positionsIn sheet) (unsettledAt p sheet) < positionsIn sheet
+      → placesJudged p sheet ≡ NotSettledAt (lowest (positionsIn sheet) (unsettledAt p sheet))
+  unfolding placesJudged
+  places-here l = rw (lt-ltb (lowest (positionsIn sheet) (unsettledAt p sheet)) (positionsIn sheet) l, placesJudged) refl
+
+  places-none : positionsIn sheet ≤ lowest (positionsIn sheet) (unsettledAt p sheet) → placesJudged p sheet ≡ AllSettled
+  unfolding placesJudged
+  places-none l = rw (le-ltb (lowest (positionsIn sheet) (unsettledAt p sheet)) (positionsIn sheet) l, placesJudged) refl
+
+  pub places-first : (place : ℕ) → place < positionsIn sheet → Passed place → settled p (positionAt sheet place) ≡ false
+      → placesJudged p sheet ≡ NotSettledAt place
+  places-first place l before here =
+      let e : lowest (positionsIn sheet) (unsettledAt p sheet) ≡ place =
+      lowest-is (positionsIn sheet) (unsettledAt p sheet) place l (ap not here) (λ q k. ap not (before q k)) in
+      places-here (omega arith) ∙ ap NotSettledAt e
+
+  pub places-all : Passed (positionsIn sheet) → placesJudged p sheet ≡ AllSettled
+  places-all each =
+      let e : lowest (positionsIn sheet) (unsettledAt p sheet) ≡ positionsIn sheet =
+      lowest-none (positionsIn sheet) (unsettledAt p sheet) (λ q k. ap not (each q k)) in
+      places-none (omega arith)
+
+-- an answer for the places, with what the tests said: all passed, or the first that did not
+data Tested (p : Plan) (sheet : List ℕ) : SheetAnswer → Type 0 where
+  all-pass : Passed p sheet (positionsIn sheet) → Tested p sheet AllSettled
+  stops-at : (place : ℕ) → place < positionsIn sheet → Passed p sheet place → settled p (positionAt sheet place) ≡ false
+      → Tested p sheet (NotSettledAt place)
+
+places-tested : (p : Plan) (sheet : List ℕ) → Tested p sheet (placesJudged p sheet)
+places-tested p sheet = go (decLt place (positionsIn sheet))
+  where
+    place : ℕ
+    place = lowest (positionsIn sheet) (unsettledAt p sheet)
+
+    before : Passed p sheet place
+    before q k = not-false (settled p (positionAt sheet q)) (lowest-least (positionsIn sheet) (unsettledAt p sheet) q k)
+
+    go : Dec (place < positionsIn sheet) → Tested p sheet (placesJudged p sheet)
+    go (yes l) =
+        subst (Tested p sheet) (sym (places-here p sheet l))
+        (stops-at place l before (not-true (settled p (positionAt sheet place)) (lowest-here (positionsIn sheet) (unsettledAt p sheet) l)))
+    go (no l) = subst (Tested p sheet) (sym (places-none p sheet (omega arith))) (all-pass (λ q k. before q (omega arith)))
+
+-- ---- a sheet laid down from its positions
+
+positions-long : (ps : List ℕ) → length (flatMap wordBytes ps) ≡ WORD_BYTES * length ps
+positions-long = elements-long wordBytes WORD_BYTES (length-bytes WORD_BYTES)
+
+behind-first : (M place : ℕ) (s : List ℕ) → positionAt (wordBytes M ++ s) (suc place) ≡ positionAt s place
+unfolding wordAt
+behind-first M place s =
+    let e : WORD_BYTES * suc place ≡ length (wordBytes M) + WORD_BYTES * place = omega (arith, length-bytes WORD_BYTES M) in
+    ap (λ (t : List ℕ). number (take WORD_BYTES t))
+    (ap (λ (n : ℕ). drop n (wordBytes M ++ s)) e ∙ drop-append-add (wordBytes M) s (WORD_BYTES * place))
+
+position-laid : (ps : List ℕ) → All (λ M. M < WORD_VALUES) ps → (place : ℕ) → place < length ps
+    → positionAt (flatMap wordBytes ps) place ≡ getD ps place 0
+unfolding flatMap
+position-laid [] a place l = absurd (omega arith)
+position-laid (M ∷ ps) a zero l = word-behind [] 0 M (flatMap wordBytes ps) refl (a .0)
+position-laid (M ∷ ps) a (suc place) l = behind-first M place (flatMap wordBytes ps) ∙ position-laid ps (a .1) place (omega arith)
+
+module _ {ps sheet : List ℕ} (laid : Laid ps sheet) where
+  long : length sheet ≡ WORD_BYTES * length ps
+  long = ap length (laid .bytes-are) ∙ positions-long ps
+
+  pub laid-count : positionsIn sheet ≡ length ps
+  laid-count = omega (arith, long)
+
+  pub laid-is-sheet : ¬ NoSheet sheet
+  laid-is-sheet (inl over) = omega (arith, long, laid .few)
+  laid-is-sheet (inr rest) = rest (omega (arith, long))
+
+  there : (place : ℕ) → place < length ps → positionAt sheet place ≡ getD ps place 0
+  there place l = ap (λ (s : List ℕ). positionAt s place) (laid .bytes-are) ∙ position-laid ps (laid .words) place l
+
+  module _ (p : Plan) (fits : Fitting p) where
+    settles : (place : ℕ) → place < length ps → settled p (positionAt sheet place) ≡ true → Settles p (getD ps place 0)
+    settles place l t = decides-settled p (getD ps place 0) fits .yes (ap (settled p) (sym (there place l)) ∙ t)
+
+    -- "all are answer sets, or the place from 0 of the first that isn't"
+    pub places-right : Right p ps (placesJudged p sheet)
+    places-right = go (places-tested p sheet)
+      where
+        go : {answer : SheetAnswer} → Tested p sheet answer → Right p ps answer
+        go (all-pass each) = all-settled (record { each = λ place l. settles place l (each place (omega (arith, laid-count))) })
+        go (stops-at place l before here) =
+            let k : place < length ps = omega (arith, laid-count) in
+            first-not
+            (record {
+              within = k;
+              each-before = λ q m. settles q (omega arith) (before q m);
+              not-here = decides-settled p (getD ps place 0) fits .no (ap (settled p) (sym (there place k)) ∙ here);
+            })
+
+-- ---- every sheet of whole positions, at most 256 of them, is laid down from some
+
+unfoldable pub wordsIn : ℕ → List ℕ → List ℕ
+wordsIn zero s = []
+wordsIn (suc n) s = wordAt 0 s ∷ wordsIn n (drop WORD_BYTES s)
+
+words-long : (n : ℕ) (s : List ℕ) → length (wordsIn n s) ≡ n
+unfolding wordsIn
+words-long zero s = refl
+words-long (suc n) s = ap suc (words-long n (drop WORD_BYTES s))
+
+words-fit : (n : ℕ) (s : List ℕ) → All IsByte s → WORD_BYTES * n ≤ length s → All (λ M. M < WORD_VALUES) (wordsIn n s)
+unfolding wordsIn
+words-fit zero s small l = tt
+words-fit (suc n) s small l = (
+  word-fits s 0 (omega arith) small,
+  words-fit n (drop WORD_BYTES s) (all-drop IsByte WORD_BYTES s small) (omega (arith, length-drop WORD_BYTES s)),
+)
+
+words-laid : (n : ℕ) (s : List ℕ) → All IsByte s → length s ≡ WORD_BYTES * n → s ≡ flatMap wordBytes (wordsIn n s)
+unfolding wordsIn flatMap
+words-laid zero [] small l = refl
+words-laid zero (b ∷ s) small l = absurd (omega arith)
+words-laid (suc n) s small l =
+    let rest = words-laid n (drop WORD_BYTES s) (all-drop IsByte WORD_BYTES s small) (omega (arith, length-drop WORD_BYTES s)) in
+    sym (take-append-drop WORD_BYTES s) ∙ ap₂ (λ (a b : List ℕ). a ++ b) (sym (word-bytes s 0 (omega arith) small)) rest
+
+pub sheet-laid : (sheet : List ℕ) → All IsByte sheet → ¬ NoSheet sheet → (ps : List ℕ) × Laid ps sheet
+sheet-laid sheet small n = go (decLt MAX_POSITIONS (positionsIn sheet)) (ℕ-discrete (length sheet % WORD_BYTES) 0)
+  where
+    go : Dec (MAX_POSITIONS < positionsIn sheet) → Dec (length sheet % WORD_BYTES ≡ 0) → (ps : List ℕ) × Laid ps sheet
+    go (yes over) d = absurd (n (inl over))
+    go (no few) (no rest) = absurd (n (inr rest))
+    go (no few) (yes whole) =
+        let l : length sheet ≡ WORD_BYTES * positionsIn sheet = omega arith in (
+          wordsIn (positionsIn sheet) sheet,
+          record {
+            few = omega (arith, words-long (positionsIn sheet) sheet);
+            words = words-fit (positionsIn sheet) sheet small (omega arith);
+            bytes-are = words-laid (positionsIn sheet) sheet small l;
+          },
+        )
+
+-- ---- the answer
+
+module _ (bytes sheet : List ℕ) where
+  pub sheet-refused : (f : Fault) → reading bytes .outcome ≡ RefusedWith f → sheetJudged bytes sheet ≡ Refused f
+  unfolding sheetJudged
+  sheet-refused f e = rw (e, sheetJudged)
+
+  pub sheet-bad : reading bytes .outcome ≡ Accepted → badBytes (length sheet) ≡ true → sheetJudged bytes sheet ≡ BadSheet
+  unfolding sheetJudged
+  sheet-bad e b = rw (e, b, sheetJudged)
+
+  pub sheet-places : reading bytes .outcome ≡ Accepted → badBytes (length sheet) ≡ false
+      → sheetJudged bytes sheet ≡ placesJudged (reading bytes .plan) sheet
+  unfolding sheetJudged
+  sheet-places e b = rw (e, b, sheetJudged)
+
+-- an answer with a place has one below 256
+abbrev PlaceBelow : SheetAnswer → Type 0
+PlaceBelow AllSettled = Unit {0}
+PlaceBelow (NotSettledAt place) = place < MAX_POSITIONS
+PlaceBelow (Refused f) = Unit {0}
+PlaceBelow BadSheet = Unit {0}
+
+places-below : (p : Plan) (sheet : List ℕ) → positionsIn sheet ≤ MAX_POSITIONS → PlaceBelow (placesJudged p sheet)
+places-below p sheet few = go (places-tested p sheet)
+  where
+    go : {answer : SheetAnswer} → Tested p sheet answer → PlaceBelow answer
+    go (all-pass each) = tt
+    go (stops-at place l before here) = omega arith
+
+-- places are below the number of positions, and these are at most 256
+answer-below : (bytes sheet : List ℕ) → PlaceBelow (sheetJudged bytes sheet)
+answer-below bytes sheet = go (reading bytes .outcome) refl (badBytes (length sheet)) refl
+  where
+    go : (o : Outcome) → reading bytes .outcome ≡ o → (b : Bool) → badBytes (length sheet) ≡ b → PlaceBelow (sheetJudged bytes sheet)
+    go (RefusedWith f) e b t = subst PlaceBelow (sym (sheet-refused bytes sheet f e)) tt
+    go Accepted e true t = subst PlaceBelow (sym (sheet-bad bytes sheet e t)) tt
+    go Accepted e false t =
+        subst PlaceBelow (sym (sheet-places bytes sheet e t)) (places-below (reading bytes .plan) sheet (few (decLt MAX_POSITIONS (positionsIn sheet))))
+      where
+        few : Dec (MAX_POSITIONS < positionsIn sheet) → positionsIn sheet ≤ MAX_POSITIONS
+        few (yes over) = absurd (decides-no-sheet sheet .no t (inl over))
+        few (no l) = omega arith
+
+-- an answer that is the definition's meets the whole contract
+pub sheet-right : (bytes sheet : List ℕ) (answer : SheetAnswer) → All IsByte sheet → answer ≡ sheetJudged bytes sheet → SheetJudged bytes sheet answer
+sheet-right bytes sheet answer small is = record {
+  is = is;
+  refused = λ f e. is ∙ sheet-refused bytes sheet f e;
+  no-sheet = λ e n. is ∙ sheet-bad bytes sheet e (decided-true (decides-no-sheet sheet) n);
+  judges = λ e ps laid.
+      subst (Right (reading bytes .plan) ps)
+      (sym (is ∙ sheet-places bytes sheet e (decided-false (decides-no-sheet sheet) (laid-is-sheet laid))))
+      (places-right laid (reading bytes .plan) (record-fits bytes));
+  laid = sheet-laid sheet small;
+  place-below = λ place e. subst PlaceBelow (sym is ∙ e) (answer-below bytes sheet);
+  meaning = read-means bytes;
+}
+
+-- ---- the answers of the code, from what reading gave
+
+module _ (bytes sheet : List ℕ) (small : All IsByte sheet) (r : Reading) (read : r ≡ reading bytes) where
+  outcome-of : {o : Outcome} → r .outcome ≡ o → reading bytes .outcome ≡ o
+  outcome-of o = ap (λ (x : Reading). x .outcome) (sym read) ∙ o
+
+  pub refused-sheet : (f : Fault) → r .outcome ≡ RefusedWith f → SheetJudged bytes sheet (Refused f)
+  refused-sheet f o = sheet-right bytes sheet (Refused f) small (sym (sheet-refused bytes sheet f (outcome-of o)))
+
+  pub bad-sheet : r .outcome ≡ Accepted → badBytes (length sheet) ≡ true → SheetJudged bytes sheet BadSheet
+  bad-sheet o b = sheet-right bytes sheet BadSheet small (sym (sheet-bad bytes sheet (outcome-of o) b))
+
+  pub judged-sheet : (answer : SheetAnswer) → r .outcome ≡ Accepted → badBytes (length sheet) ≡ false → answer ≡ placesJudged (r .plan) sheet
+      → SheetJudged bytes sheet answer
+  judged-sheet answer o b e =
+      sheet-right bytes sheet answer small
+      (e ∙ ap (λ (x : Reading). placesJudged (x .plan) sheet) read ∙ sym (sheet-places bytes sheet (outcome-of o) b))
