@@ -5,3 +5,5 @@ pub mod CommonWords
 pub mod ReadingCodes
 pub mod NextCodes
 pub mod RowCodes
+pub mod SheetCodes
+pub mod BlameCodes

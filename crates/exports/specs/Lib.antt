@@ -2,3 +2,5 @@ pub mod Handed
 pub mod Readings
 pub mod Steps
 pub mod Rows
+pub mod Sheets
+pub mod Blame

@@ -1,6 +1,8 @@
 // The functions that other languages call: a slice passes as a pointer and a length.
+mod blame;
 mod readings;
 mod rows;
+mod sheets;
 mod steps;
 
 use judge::answer_code;

@@ -9,15 +9,15 @@ ghost use Rattle.finding.specs.declared.least.From.the-variants.{Start, Above};
 ghost use Rattle.exports.specs.Handed.{copied};
 ghost use Rattle.exports.specs.Steps.{Tells, NextHanded};
 
-// The position in the first lent word, if there is room. 1.
-fn hand_position(position: u64, found: &mut [u64]) -> u64
-    ensures { λ r. ⌜ (r ≡ 1) × (now (found .exit) ≡ copied (position ∷ []) (now (found .entry))) ⌝ }
+// The word in the first lent word, if there is room. The code.
+pub fn hand_word(word: u64, found: &mut [u64], code: u64) -> u64
+    ensures { λ r. ⌜ (r ≡ code) × (now (found .exit) ≡ copied (word ∷ []) (now (found .entry))) ⌝ }
 {
     if found.len() == 0 {
-        return 1;
+        return code;
     }
-    found[0] = position;
-    1
+    found[0] = word;
+    code
 }
 
 // The code of the result; a position goes into the first lent word, if there is room.
@@ -25,7 +25,7 @@ fn hand_over(next: Next, found: &mut [u64]) -> u64
     ensures { λ r. ⌜ Tells next (now (found .entry)) (now (found .exit)) r ⌝ }
 {
     match next {
-        Next::Position(position) => hand_position(position, found),
+        Next::Position(position) => hand_word(position, found, 1),
         Next::NoneLeft => 0,
         Next::Refused(fault) => refusal_code(fault),
     }

@@ -3,36 +3,31 @@ use mathlib.Core.Path.{_≡_, refl, sym, ap, _∙_, subst}
 use mathlib.Core.Bool.{true}
 use mathlib.Core.Logic.{_⊎_, inl, inr}
 use mathlib.Core.List.{List}
-use Prim.Native.Nat.{ℕ, _^_, _≤_, _<_}
-use native.Mathlib.Omega.{arith}
+use Prim.Native.Nat.{ℕ, _^_, _<_}
 use native.Mathlib.Decide.{ℕ-discrete}
+use lib.ListN.{getD}
 use Rattle.atoms.specs.Word.{ATOMS, Has, _⊆_, _∪_, _∖_, atom, Lowest}
 use Rattle.atoms.proofs.Sets.{has-none, has-left, has-right, union-cases, has-without, without-left, without-right, has-atom, atom-only, has-dec}
-use Rattle.atoms.proofs.Sets.{subset-refl, subset-trans, subset-le, union-fits}
+use Rattle.atoms.proofs.Sets.{subset-refl, subset-trans}
 use Rattle.atoms.proofs.Tests.{decided-true}
+use Rattle.answer_sets.specs.AnswerSet.{AnswerSet}
 use Rattle.answer_sets.specs.Lent.{lent, Lent}
 use Rattle.answer_sets.proofs.Judged.{decides-answer-set}
+use Rattle.answer_sets.proofs.Lent.{answer-word}
 use Rattle.answer_sets.proofs.Support.{fewer-constraints}
 use Rattle.unit_search.specs.Witness.{Witnessed}
 use Rattle.unit_search.specs.declared.witness.Witness.{Witness}
 use Rattle.unit_search.specs.declared.witness.Witness.the-variants.{Member, Nothing}
 use Rattle.unit_search.proofs.Witnesses.{witnessed-iff}
-use Rattle.finding.specs.Whole.{Settled, Fitting}
+use Rattle.finding.specs.Whole.{Fitting}
 use Rattle.finding.proofs.Leasts.{met-as, none-as, nobody}
 use Rattle.finding.specs.Few.{Constraints, NoneSettled, OneSettled, Tried, drops, keeps, Going, done, tries, Blamed}
 
 module _ {rules : List ℕ} {facts : ℕ} (headed : ℕ) where
   -- said of words of constraints
-  pub settled-fewer : (more fewer : ℕ) → headed ∪ more < 2 ^ ATOMS → headed ∪ fewer < 2 ^ ATOMS → fewer ⊆ more → Constraints rules more
-      → OneSettled rules (headed ∪ more) facts → OneSettled rules (headed ∪ fewer) facts
-  settled-fewer more fewer w v f c o = record {
-    member = o .member;
-    settled = record {
-      word = o .settled .word;
-      answers = decided-true (decides-answer-set (lent rules) (headed ∪ fewer) facts (o .member) v)
-          (fewer-constraints wider split (decides-answer-set (lent rules) (headed ∪ more) facts (o .member) w .yes (o .settled .answers)));
-    };
-  }
+  pub settled-fewer : (more fewer : ℕ) → fewer ⊆ more → Constraints rules more → OneSettled rules (headed ∪ more) facts
+      → OneSettled rules (headed ∪ fewer) facts
+  settled-fewer more fewer f c o = record { member = o .member; answers = fewer-constraints wider split (o .answers) }
     where
       wider : headed ∪ fewer ⊆ headed ∪ more
       wider = record { each = λ i h. go i (union-cases headed fewer h) }
@@ -72,7 +67,7 @@ held-end {rules} {headed} {constraints} {facts} {held} h e = record {
 }
 
 module _ {rules : List ℕ} {headed constraints facts held rest c : ℕ} (cs : Constraints rules constraints)
-    (fits : (w : ℕ) → w ⊆ constraints → headed ∪ w < 2 ^ ATOMS) (h : Held rules headed constraints facts held rest) (low : Lowest rest c) where
+    (h : Held rules headed constraints facts held rest) (low : Lowest rest c) where
   other : {rest′ : ℕ} → rest′ ≡ rest ∖ atom c → (d : ℕ) → ¬ Has rest′ d → ¬ (c ≡ d) → ¬ Has rest d
   other e d m n k = m (rw e (has-without rest (atom c) k (λ q. n (atom-only c q))))
 
@@ -93,8 +88,7 @@ module _ {rules : List ℕ} {headed constraints facts held rest c : ℕ} (cs : C
         each = λ d k m.
             let here : Has (held ∖ atom c) d = rw q at k in
             rw q
-            (settled-fewer headed (held ∖ atom d) ((held ∖ atom c) ∖ atom d) (fits (held ∖ atom d) (within-some d))
-            (fits ((held ∖ atom c) ∖ atom d) (within-both d))
+            (settled-fewer headed (held ∖ atom d) ((held ∖ atom c) ∖ atom d)
             (record {
               each = λ i p.
                   has-without held (atom d) (without-left held (atom c) (without-left (held ∖ atom c) (atom d) p)) (without-right (held ∖ atom c) (atom d) p);
@@ -102,12 +96,6 @@ module _ {rules : List ℕ} {headed constraints facts held rest c : ℕ} (cs : C
             (record { headless = λ r p. cs .headless r (h .within .each r (without-left held (atom d) p)) })
             (h .each d (without-left held (atom c) here) (other e d m (λ x. without-right held (atom c) here (subst (Has (atom c)) x (has-atom c))))));
       }
-        where
-          within-some : (d : ℕ) → held ∖ atom d ⊆ constraints
-          within-some d = record { each = λ i p. h .within .each i (without-left held (atom d) p) }
-
-          within-both : (d : ℕ) → (held ∖ atom c) ∖ atom d ⊆ constraints
-          within-both d = record { each = λ i p. h .within .each i (without-left held (atom c) (without-left (held ∖ atom c) (atom d) p)) }
       go (keeps q o) = record {
         going = goes;
         within = rw q (h .within);
@@ -133,10 +121,10 @@ lent-some headed held others f e l = rw e (record { each = λ r h. l .each r (go
 pub others-within : (held c : ℕ) {others : ℕ} → others ≡ held ∖ atom c → others ⊆ held
 others-within held c e = rw e (record { each = λ i h. without-left held (atom c) h })
 
-pub any-asked : {rules : List ℕ} {which facts : ℕ} {w : Witness} → Witnessed (Fitting rules which facts (record { up = 0; dropped = 0 })) w
-    → Witnessed (Settled rules which facts) w
-any-asked k = witnessed-iff (λ M f. f .settled) (λ M s. record {
-  settled = s;
+pub any-asked : (rules : List ℕ) {which facts : ℕ} {w : Witness} → ((i : ℕ) → getD rules i 0 < 2 ^ ATOMS) → facts < 2 ^ ATOMS → which < 2 ^ ATOMS
+    → Witnessed (Fitting rules which facts (record { up = 0; dropped = 0 })) w → Witnessed (AnswerSet (lent rules) which facts) w
+any-asked rules {which} {facts} g f h k = witnessed-iff (λ M q. decides-answer-set (lent rules) which facts M h .yes (q .settled .answers)) (λ M a. record {
+  settled = record { word = answer-word rules g f a; answers = decided-true (decides-answer-set (lent rules) which facts M h) a };
   completes = record {
     has-up = record { each = λ i h. absurd (has-none h) };
     no-dropped = record { none = λ i h. absurd (has-none h) };
@@ -144,11 +132,8 @@ any-asked k = witnessed-iff (λ M f. f .settled) (λ M s. record {
 }) k
 
 module _ {rules : List ℕ} {headed held facts c others which : ℕ} (o : others ≡ held ∖ atom c) (e : which ≡ headed ∪ others) where
-  pub tried-keeps : {w : Witness} {M : ℕ} → w ≡ Member M → Witnessed (Settled rules which facts) w → Tried rules headed held facts c held
-  tried-keeps {M = M} q k = keeps refl (rw (← o) (rw (← e) (record { member = M; settled = met-as q k })))
+  pub tried-keeps : {w : Witness} {M : ℕ} → w ≡ Member M → Witnessed (AnswerSet (lent rules) which facts) w → Tried rules headed held facts c held
+  tried-keeps {M = M} q k = keeps refl (rw (← o) (rw (← e) (record { member = M; answers = met-as q k })))
 
-  pub tried-drops : {w : Witness} → w ≡ Nothing → Witnessed (Settled rules which facts) w → Tried rules headed held facts c others
+  pub tried-drops : {w : Witness} → w ≡ Nothing → Witnessed (AnswerSet (lent rules) which facts) w → Tried rules headed held facts c others
   tried-drops q k = drops o (rw (← o) (rw (← e) (record { nobody = nobody (none-as q k) })))
-
-pub words-fit : (headed constraints : ℕ) → headed < 2 ^ ATOMS → constraints < 2 ^ ATOMS → (w : ℕ) → w ⊆ constraints → headed ∪ w < 2 ^ ATOMS
-words-fit headed constraints l m w f = union-fits headed w ATOMS l (let k : w ≤ constraints = subset-le f in omega arith)

@@ -7,15 +7,15 @@ use learning::store::empty_store;
 use unit_search::witness::Witness;
 ghost use Prim.Native.Nat.{_<_};
 ghost use Rattle.atoms.specs.Word.{ATOMS, _∪_};
-ghost use Rattle.answer_sets.specs.Lent.{Lent};
-ghost use Rattle.finding.specs.Whole.{Settled};
+ghost use Rattle.answer_sets.specs.AnswerSet.{AnswerSet};
+ghost use Rattle.answer_sets.specs.Lent.{lent, Lent};
 ghost use Rattle.finding.specs.Few.{Constraints, NoneSettled, Tried, Blamed};
 ghost use Rattle.unit_search.specs.Witness.{Witnessed};
 
 // An answer set of the program, or that there is none.
 pub fn any(rules: &[u64], which: u64, facts: u64) -> Witness
     requires { ⌜ Lent (now rules) which ⌝ }
-    ensures { λ r. ⌜ Witnessed (Settled (now (rules .entry)) which facts) r ⌝ }
+    ensures { λ r. ⌜ Witnessed (AnswerSet (lent (now (rules .entry))) which facts) r ⌝ }
 {
     let desk = desk_of(rules, which, facts);
     let mut memory = empty_store();

@@ -18,7 +18,7 @@ pub enum Next {
 }
 
 // The next answer set of all rules of the record, with its given atoms as facts.
-fn next_of(plan: Plan, from: From) -> Witness
+pub fn next_of(plan: Plan, from: From) -> Witness
     requires { ⌜ Fitting plan ⌝ }
     ensures { λ r. ⌜ LeastOf (λ M. Settles plan M × Behind from M) r ⌝ }
 {

@@ -7,7 +7,7 @@ use Rattle.exports.proofs.steps.hand_over.Tie as tie
 returns : tie.Need-returns
 returns c =
     let handed = c .before .before in
-    tells-position (handed .before .before .before .next .given .1) (handed .hand-position .ensures)
+    tells-position (handed .before .before .before .next .given .1) (handed .hand-word .ensures)
 
 returns-2 : tie.Need-returns-2
 returns-2 c = tells-none (c .enum-told .given .1)

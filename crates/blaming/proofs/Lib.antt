@@ -1,0 +1,5 @@
+pub mod Sifting
+pub mod Passes
+pub mod Programs
+pub mod Blames
+pub mod Results

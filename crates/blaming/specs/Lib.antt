@@ -1,0 +1,2 @@
+pub mod Blamed
+pub mod Sifted
