@@ -1,25 +1,26 @@
 -- The subset test: what each of its steps says of the completions of a state that are proper subsets of M and satisfy the rules.
-use mathlib.Core.Path.{_≡_, refl, sym, _∙_}
+use mathlib.Core.Path.{_≡_, sym, _∙_}
 use mathlib.Core.Bool.{Bool, true, false, not, true≢false, false≢true}
 use mathlib.Core.Logic.{_⊎_, inl, inr}
 use mathlib.Core.List.{List}
 use Prim.Native.Nat.{ℕ, _<_, _≤_, _^_}
 use native.Mathlib.Nat.{lt-of-lt-of-le}
-use lib.Dec.{eqb}
 use lib.Count.{ones}
-use borrow.Author.Tests.{eqb-true, eqb-false, not-true}
+use borrow.Author.Tests.{not-true}
 use Rattle.atoms.specs.Word.{ATOMS, Has, _⊆_, Apart, apart, _∪_, atom, outside}
 use Rattle.atoms.specs.Bounded.{Decides}
-use Rattle.atoms.proofs.Tests.{decides, decides-iff, decides-same, decided-true, decided-false}
+use Rattle.atoms.proofs.Tests.{decides-iff, decides-same, decided-false}
 use Rattle.atoms.proofs.Sets.{decides-apart, has-dec, has-lt, subset-refl, subset-trans, subset-antisym, has-left, has-right, has-outside}
 use Rattle.atoms.proofs.Sets.{outside-lacks, has-atom}
 use Rattle.atoms.proofs.Counts.{count-lt, count-proper}
 use Rattle.answer_sets.specs.Program.{Program, Body, Satisfies, SatisfiesAll}
-use Rattle.answer_sets.specs.Lent.{lent}
+use Rattle.answer_sets.specs.Lent.{lent, Lent}
 use Rattle.answer_sets.specs.State.{Completes, Narrows, undecided}
+use Rattle.answer_sets.specs.RulePass.{Sifted}
 use Rattle.answer_sets.specs.SubsetTest.{Between, Confines, Candidates, InRule, in-head, in-looks}
 use Rattle.answer_sets.specs.Test.{Smaller, SubsetTested}
 use Rattle.answer_sets.specs.declared.state.State.{State}
+use Rattle.answer_sets.specs.declared.rule_pass.Passed.{Passed}
 use Rattle.answer_sets.proofs.Narrows.{completes-back, overlap-none, with-up, with-dropped, without-up, without-dropped}
 use Rattle.answer_sets.proofs.HalfDecided.{decided-cases, undecided-up, undecided-dropped, undecided-shrinks}
 use Rattle.answer_sets.proofs.Bodies.{rest-same}
@@ -29,6 +30,9 @@ use Rattle.answer_sets.proofs.Judged.{decides-smaller}
 
 pub confines-more : {M d e : ℕ} → Confines M d → d ⊆ e → Confines M e
 confines-more c f = record { outside = λ i l h. f .each i (c .outside i l h) }
+
+pub lent-part : {rules : List ℕ} {which left : ℕ} → Lent rules which → left ⊆ which → Lent rules left
+lent-part k f = record { each = λ r h. k .each r (f .each r h) }
 
 pub confines-outside : {M d : ℕ} → d ≡ outside M → Confines M d
 confines-outside {M} e = rw e (record { outside = λ i l n. has-outside M l n })
@@ -40,12 +44,30 @@ module _ {P : Program} {which M : ℕ} where
   between-as : {s t : State} (b : Between P which M s) → Completes t (b .set) → Between P which M t
   between-as b c = record { set = b .set; proper = b .proper; completes = c; satisfied = b .satisfied }
 
-  -- a narrowing pass changes nothing
-  pub between-narrow : {s t : State} {r : Bool} → Narrows (SatisfiesAll P which) s t → Decides (Between P which M t) r
+  -- a round changes nothing, and the rules that it leaves out are satisfied
+  pub between-passed : {s : State} {p : Passed} {r : Bool} → Sifted P which s which p → Decides (Between P (p .left) M (p .state)) r
       → Decides (Between P which M s) r
-  between-narrow n d =
-      decides-iff (λ b. between-as b (completes-back n (b .completes)))
-      (λ b. between-as b (n .keeps (b .set) (b .satisfied) (b .completes))) d
+  between-passed {s} {p} k d = decides-iff back on d
+    where
+      back : Between P (p .left) M (p .state) → Between P which M s
+      back b = record {
+        set = b .set;
+        proper = b .proper;
+        completes = completes-back (k .narrows) (b .completes);
+        satisfied = record { each = λ i h. go i h (has-dec (p .left) i) };
+      }
+        where
+          go : (i : ℕ) → Has which i → Dec (Has (p .left) i) → Satisfies P i (b .set)
+          go i h (yes l) = b .satisfied .each i l
+          go i h (no n) = k .gone i h n .each (b .set) (b .completes)
+
+      on : Between P which M s → Between P (p .left) M (p .state)
+      on b = record {
+        set = b .set;
+        proper = b .proper;
+        completes = k .narrows .keeps (b .set) (b .satisfied) (b .completes);
+        satisfied = record { each = λ i l. b .satisfied .each i (k .part .each i l) };
+      }
 
   -- an overlap: none
   pub between-clash : {t : State} {r : Bool} → r ≡ apart (t .up) (t .dropped) → not r ≡ true → Decides (Between P which M t) false
@@ -54,10 +76,14 @@ module _ {P : Program} {which M : ℕ} where
     no = λ g b. overlap-none (decides-apart (t .up) (t .dropped) .no (sym e ∙ not-true r f)) (b .completes);
   }
 
-  -- the atoms that are up satisfy the rules: they are such a set, unless they are M itself
-  pub between-model : {t : State} → t .up < 2 ^ ATOMS → Confines M (t .dropped) → Apart (t .up) (t .dropped)
-      → SatisfiesAll P which (t .up) → Decides (Between P which M t) (not (eqb (t .up) M))
-  between-model {t} fits conf free all = decides (not (eqb (t .up) M)) found (λ b. back b (eqb (t .up) M) refl)
+  -- all atoms of M are up: none
+  pub between-whole : {t : State} → t .up ≡ M → Decides (Between P which M t) false
+  between-whole e = record { yes = λ g. absurd (false≢true g); no = λ g b. b .proper .short (rw e at (b .completes .has-up)) }
+
+  -- the atoms that are up satisfy the rules, and are not all of M: they are such a set
+  pub between-model : {t : State} → t .up < 2 ^ ATOMS → Confines M (t .dropped) → Apart (t .up) (t .dropped) → ¬ (t .up ≡ M)
+      → SatisfiesAll P which (t .up) → Decides (Between P which M t) true
+  between-model {t} fits conf free less all = record { yes = λ g. found; no = λ g. absurd (true≢false g) }
     where
       inside : t .up ⊆ M
       inside = record { each = λ i p. go i p (has-dec M i) }
@@ -66,20 +92,13 @@ module _ {P : Program} {which M : ℕ} where
           go i p (yes q) = q
           go i p (no n) = absurd (free .none i p (conf .outside i (has-lt (t .up) ATOMS fits p) n))
 
-      found : not (eqb (t .up) M) ≡ true → Between P which M t
-      found q = record {
+      found : Between P which M t
+      found = record {
         set = t .up;
-        proper = record {
-          within = inside;
-          short = λ f. eqb-false (t .up) M (not-true (eqb (t .up) M) q) (subset-antisym inside f);
-        };
+        proper = record { within = inside; short = λ f. less (subset-antisym inside f) };
         completes = record { has-up = subset-refl; no-dropped = record { none = λ i p q. free .none i q p } };
         satisfied = all;
       }
-
-      back : Between P which M t → (x : Bool) → eqb (t .up) M ≡ x → not x ≡ true
-      back b false q = refl
-      back b true q = absurd (b .proper .short (rw (eqb-true (t .up) M q) at (b .completes .has-up)))
 
   -- one atom is tried both ways
   pub branch-yes : (i : ℕ) {s : State} {x up : ℕ} {r : Bool} → up ≡ s .up ∪ x → x ≡ atom i

@@ -2,8 +2,8 @@
 use mathlib.Core.Path.{_≡_, sym}
 use mathlib.Core.List.{List}
 use Prim.Native.Nat.{ℕ, _<_, _^_}
-use Rattle.atoms.specs.Word.{ATOMS, Has, _∩_, _∪_}
-use Rattle.atoms.proofs.Sets.{has-none, has-lt, has-cut, cut-left, has-left, has-right}
+use Rattle.atoms.specs.Word.{ATOMS, Has, _∩_, _∪_, SomeOf}
+use Rattle.atoms.proofs.Sets.{has-none, some-atom, has-lt, has-cut, cut-left, has-left, has-right}
 use Rattle.answer_sets.specs.Lent.{lent, looks}
 use Rattle.answer_sets.specs.SubsetTest.{InRule, in-head, in-positive, in-looks, Candidates}
 
@@ -32,3 +32,7 @@ module _ (rules : List ℕ) (r free : ℕ) {head v : ℕ} (reads : head ≡ lent
           let k = rw (sym pos) at h in (has-lt positive ATOMS pf k, gone f z (rw e (has-left positive looked k)))
       go z i (in-looks h) =
           let k = rw (sym neg) at h in (has-lt looked ATOMS nf k, gone f z (rw e (has-right positive looked k)))
+
+-- where some of the free atoms are chosen there are free ones
+pub some-free : {free w : ℕ} → SomeOf free w → ¬ (free ≡ 0)
+some-free {free} {w} s z = let i = some-atom w (s .some) in has-none (rw z at (s .within .each (i .0) (i .1)))

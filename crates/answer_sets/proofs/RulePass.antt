@@ -5,20 +5,22 @@ use mathlib.Core.Logic.{_↔_}
 use mathlib.Core.List.{List}
 use Prim.Native.Nat.{ℕ}
 use borrow.Author.Tests.{not-true}
-use Rattle.atoms.specs.Word.{Has, _⊆_, subset, Apart, apart, _∪_, _∖_, AtMostOne}
+use Rattle.atoms.specs.Word.{Has, _⊆_, subset, Apart, apart, _∪_, _∖_, atom, AtMostOne}
 use Rattle.atoms.proofs.Sets.{has-none, has-without, without-left, without-right, has-dec, some-atom, decides-subset, decides-apart}
-use Rattle.answer_sets.specs.Program.{Body, Satisfies}
+use Rattle.atoms.proofs.Sets.{shared-atom, apart-of-cut, subset-refl, subset-trans, has-atom, atom-only}
+use Rattle.answer_sets.specs.Program.{Program, Body, Satisfies, SatisfiesAll}
 use Rattle.answer_sets.specs.Lent.{lent}
 use Rattle.answer_sets.specs.State.{Completes, Narrows, clashed}
 use Rattle.answer_sets.specs.Known.{BodySays, halfDecided}
-use Rattle.answer_sets.specs.RulePass.{HeadUp, Held, Forced, Stepped}
+use Rattle.answer_sets.specs.RulePass.{HeadUp, Held, Forced, Stepped, Met, Sifted}
 use Rattle.answer_sets.specs.declared.state.State.{State}
+use Rattle.answer_sets.specs.declared.rule_pass.Passed.{Passed}
 use Rattle.answer_sets.specs.declared.state.Truth.{Truth}
-use Rattle.answer_sets.specs.declared.state.Truth.the-variants.{Holds}
-use Rattle.answer_sets.proofs.Parts.{known-holds, completes-known}
+use Rattle.answer_sets.specs.declared.state.Truth.the-variants.{Holds, Fails}
+use Rattle.answer_sets.proofs.Parts.{known-holds, known-fails, completes-known}
 use Rattle.answer_sets.proofs.Bodies.{parts-body}
 use Rattle.answer_sets.proofs.Narrows.{narrows-refl, narrows-when, clash-overlaps, clash-narrows, up-narrows, down-narrows}
-use Rattle.answer_sets.proofs.Narrows.{with-all-up, with-all-dropped}
+use Rattle.answer_sets.proofs.Narrows.{with-all-up, with-all-dropped, narrows-trans, narrows-for, completes-back}
 
 -- ---- a word of which one atom has to be up; `w` are those that are not dropped
 
@@ -131,3 +133,64 @@ module _ (rules : List ℕ) (r : ℕ) {s : State} (gone : lent rules .head r ⊆
           (body-fails N k p
           (held-holds rules r (s .up) down b f N
           (completes-known {s = record { up = s .up; dropped = down }} (rw e (with-all-dropped s left p (none N i h n))))))
+
+-- ---- rules that are met
+
+module _ (rules : List ℕ) (r : ℕ) {s : State} where
+  -- a head atom is up
+  pub met-by-head : {h : ℕ} {a : Bool} → h ≡ lent rules .head r → a ≡ apart h (s .up) → not a ≡ true → Met (lent rules) r s
+  met-by-head {h} {a} reads e f = go (shared-atom h (s .up) (λ z. decides-apart h (s .up) .no (sym e ∙ not-true a f) (apart-of-cut h (s .up) z)))
+    where
+      go : ((i : ℕ) × Has h i × Has (s .up) i) → Met (lent rules) r s
+      go k = record { each = λ N c. record { head-up = λ b. (k .0, rw reads at (k .1), c .has-up .each (k .0) (k .2)) } }
+
+  -- the body fails
+  pub met-by-body : {t : Truth} → BodySays rules r (s .up) (s .dropped) t → t ≡ Fails → Met (lent rules) r s
+  met-by-body k e = record {
+    each = λ N c. record { head-up = λ b. absurd (known-fails rules r (s .up) (s .dropped) k N (completes-known c) e b) };
+  }
+
+-- ---- a round
+
+-- a rule that is met stays so in a larger state
+met-later : {P : Program} {K : ℕ → Type 0} {r : ℕ} {s t : State} → Narrows K s t → Met P r s → Met P r t
+met-later n m = record { each = λ N c. m .each N (completes-back n c) }
+
+pub sifted-start : {P : Program} {which : ℕ} {s : State} → Sifted P which s which (record { state = s; left = which })
+sifted-start = record { narrows = narrows-refl; part = subset-refl; gone = λ r h n. absurd (n h) }
+
+pub sifted-next : {P : Program} {which word r : ℕ} {s : State} {p q : Passed} → Has which r → Sifted P which s word p
+    → Sifted P (atom r) (p .state) (p .left) q → Sifted P which s word q
+sifted-next {P} {which} {word} {r} {s} {p} {q} h f g = record {
+  narrows = narrows-trans (f .narrows) (narrows-for only (g .narrows));
+  part = subset-trans (g .part) (f .part);
+  gone = λ i k n. cases i k n (has-dec (p .left) i);
+}
+  where
+    only : (N : ℕ) → SatisfiesAll P which N → SatisfiesAll P (atom r) N
+    only N all = record { each = λ i k. all .each i (rw (atom-only r k) at h) }
+
+    cases : (i : ℕ) → Has word i → ¬ Has (q .left) i → Dec (Has (p .left) i) → Met P i (q .state)
+    cases i k n (yes l) = g .gone i l n
+    cases i k n (no l) = met-later (g .narrows) (f .gone i k l)
+
+-- the rule of the turn: it goes where it is met, and else stays
+module _ {P : Program} {r : ℕ} (p : Passed) {q : Passed} where
+  pub sifted-met : Met P r (p .state) → q ≡ record { state = p .state; left = p .left ∖ atom r } → Sifted P (atom r) (p .state) (p .left) q
+  sifted-met m e = rw e (record {
+    narrows = narrows-refl;
+    part = record { each = λ i h. without-left (p .left) (atom r) h };
+    gone = λ i h n. go i h n (has-dec (atom r) i);
+  })
+    where
+      go : (i : ℕ) → Has (p .left) i → ¬ Has (p .left ∖ atom r) i → Dec (Has (atom r) i) → Met P i (p .state)
+      go i h n (yes k) = rw (atom-only r k) at m
+      go i h n (no k) = absurd (n (has-without (p .left) (atom r) h k))
+
+  pub sifted-on : {t : State} → Narrows (Satisfies P r) (p .state) t → q ≡ record { state = t; left = p .left }
+      → Sifted P (atom r) (p .state) (p .left) q
+  sifted-on n e = rw e (record {
+    narrows = narrows-for (λ N all. all .each r (has-atom r)) n;
+    part = subset-refl;
+    gone = λ i h k. absurd (k h);
+  })

@@ -5,10 +5,11 @@ use mathlib.Core.Logic.{_↔_}
 use mathlib.Core.List.{List}
 use Prim.Native.Nat.{ℕ}
 use Rattle.atoms.specs.Word.{Has, _⊆_, Apart}
-use Rattle.answer_sets.specs.Program.{Satisfies}
+use Rattle.answer_sets.specs.Program.{Program, Satisfies, SatisfiesAll}
 use Rattle.answer_sets.specs.Lent.{lent}
 use Rattle.answer_sets.specs.State.{Completes, Narrows}
 use Rattle.answer_sets.specs.declared.state.State.{State}
+use Rattle.answer_sets.specs.declared.rule_pass.Passed.{Passed}
 use Rattle.answer_sets.specs.Known.{halfDecided, Part, PartHolds, InBody}
 
 -- the position has an atom of the head
@@ -31,3 +32,13 @@ pub record Forced (word : ℕ) (s t : State) : Type 0 where
 pub record Stepped (rules : List ℕ) (r : ℕ) (s t : State) : Type 0 where
   pub narrows : Narrows (Satisfies (lent rules) r) s t
   pub stops : Held rules r (s .up) (s .dropped) true → lent rules .head r ⊆ s .dropped → ¬ Apart (t .up) (t .dropped)
+
+-- every completion of the state satisfies rule r
+pub record Met (P : Program) (r : ℕ) (s : State) : Type 0 where
+  pub each : (N : ℕ) → Completes s N → Satisfies P r N
+
+-- after a round over the rules of `which`: the state, and what is left of a word, from which only rules are gone that are met
+pub record Sifted (P : Program) (which : ℕ) (s : State) (word : ℕ) (p : Passed) : Type 0 where
+  pub narrows : Narrows (SatisfiesAll P which) s (p .state)
+  pub part : p .left ⊆ word
+  pub gone : (r : ℕ) → Has word r → ¬ Has (p .left) r → Met P r (p .state)

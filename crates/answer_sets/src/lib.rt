@@ -6,6 +6,7 @@ pub mod rule;
 pub mod rule_pass;
 pub mod smaller;
 mod state;
+mod tried;
 pub mod truth;
 mod uses;
 

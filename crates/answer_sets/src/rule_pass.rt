@@ -12,11 +12,13 @@ use crate::uses::used_inputs;
 use crate::uses::uses;
 use crate::uses::with_uses;
 ghost use mathlib.Core.Path.{_≡_};
-ghost use Rattle.answer_sets.specs.Program.{Satisfies, SatisfiesAll};
+ghost use Prim.Native.Nat.{_<_};
+ghost use Rattle.plan.specs.Limits.{MAX_RULES};
+ghost use Rattle.answer_sets.specs.Program.{Satisfies};
 ghost use Rattle.answer_sets.specs.Lent.{lent, IsLent, Lent};
 ghost use Rattle.answer_sets.specs.State.{Narrows, clashed};
-ghost use Rattle.answer_sets.specs.RulePass.{Held, Forced, Stepped};
-ghost use Rattle.atoms.specs.Word.{_⊆_, AtMostOne};
+ghost use Rattle.answer_sets.specs.RulePass.{Held, Forced, Stepped, Sifted};
+ghost use Rattle.atoms.specs.Word.{_⊆_, _∖_, AtMostOne, atom};
 
 // A state that nothing completes: an atom is both up and dropped.
 pub fn clash(s: State) -> State
@@ -117,17 +119,67 @@ pub fn rule_step(rules: &[u64], rule: usize, s: State) -> State
     }
 }
 
-// The state after one round over the rules of the word.
-pub fn rule_pass(rules: &[u64], which: u64, s: State) -> State
+// Where a round over rules stands: the state, and the rules that some completion of it may not satisfy.
+pub struct Passed {
+    pub state: State,
+    pub left: u64,
+}
+
+// The round without a rule that every completion satisfies.
+fn without_rule(p: Passed, rule: usize) -> Passed
+    requires { ⌜ rule < MAX_RULES ⌝ }
+    ensures { λ r. ⌜ r ≡ record { state = p .state; left = p .left ∖ atom rule } ⌝ }
+{
+    let state = p.state;
+    Passed {
+        state,
+        left: atoms::drop(p.left, rule),
+    }
+}
+
+// The round in another state.
+fn moved_on(p: Passed, state: State) -> Passed
+    ensures { λ r. ⌜ r ≡ record { state = state; left = p .left } ⌝ }
+{
+    Passed {
+        state,
+        left: p.left,
+    }
+}
+
+// One rule of a round: where a head atom is up or its body fails it is left out, and else its step is taken. Of an open body that step is known, and the
+// body is not asked again.
+fn pass_rule(rules: &[u64], rule: usize, p: Passed) -> Passed
+    requires { ⌜ IsLent (now rules) rule × (rule < MAX_RULES) ⌝ }
+    ensures { λ r. ⌜ Sifted (lent (now (rules .entry))) (atom rule) (p .state) (p .left) r ⌝ }
+{
+    let s = p.state;
+    let heads = head(rules, rule);
+    if !atoms::are_apart(heads, s.up) {
+        return without_rule(p, rule);
+    }
+    let truth = body_known(rules, rule, s.up, s.dropped);
+    match truth {
+        Truth::Holds => moved_on(p, rule_step(rules, rule, s)),
+        Truth::Fails => without_rule(p, rule),
+        Truth::Open => moved_on(p, denied(rules, rule, s)),
+    }
+}
+
+// The state after one round over the rules of the word, and those of them that some completion of it may not satisfy.
+pub fn rule_pass(rules: &[u64], which: u64, s: State) -> Passed
     requires { ⌜ Lent (now rules) which ⌝ }
-    ensures { λ t. ⌜ Narrows (SatisfiesAll (lent (now (rules .entry))) which) s t ⌝ }
+    ensures { λ r. ⌜ Sifted (lent (now (rules .entry))) which s which r ⌝ }
 {
     let mut rest = which;
-    let mut t = s;
+    let mut p = Passed {
+        state: s,
+        left: which,
+    };
     while rest != 0 {
         let rule = atoms::lowest(rest);
-        t = rule_step(rules, rule, t);
+        p = pass_rule(rules, rule, p);
         rest = atoms::drop(rest, rule);
     }
-    t
+    p
 }

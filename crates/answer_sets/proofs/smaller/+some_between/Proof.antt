@@ -11,17 +11,19 @@ use borrow.Fn.PlainCycle.{Measures, is, falls, and}
 use Rattle.atoms.specs.Word.{Has, Apart}
 use Rattle.atoms.proofs.Sets.{decides-apart, has-left}
 use Rattle.answer_sets.specs.Program.{Satisfies}
-use Rattle.answer_sets.specs.Lent.{lent}
+use Rattle.answer_sets.specs.Lent.{lent, Lent}
 use Rattle.answer_sets.specs.State.{undecided}
 use Rattle.answer_sets.specs.SubsetTest.{Confines}
-use Rattle.answer_sets.proofs.Between.{confines-more, between-narrow, between-clash, between-model, between-stuck, branch-yes, branch-no}
-use Rattle.answer_sets.proofs.Between.{pass-falls, raise-falls, lower-falls}
+use Rattle.answer_sets.proofs.Between.{lent-part, confines-more, between-passed, between-clash, between-whole, between-model, between-stuck}
+use Rattle.answer_sets.proofs.Between.{branch-yes, branch-no, pass-falls, raise-falls, lower-falls}
 use Rattle.answer_sets.proofs.smaller.some_between.Reads as some-between
 use Rattle.answer_sets.proofs.smaller.some_between.Kinds as some-between-kinds
 use Rattle.answer_sets.proofs.smaller.+some_between.Lts-some_between as some-between-lts
 use Rattle.answer_sets.proofs.known.undecided.Reads as undecided-reads
 use Rattle.answer_sets.proofs.reduct.find_unsatisfied.Reads as find-unsatisfied-reads
-use Rattle.answer_sets.proofs.smaller.candidates.Reads as candidates-reads
+use Rattle.answer_sets.proofs.tried.candidates.Reads as candidates-reads
+use Rattle.answer_sets.proofs.tried.tried_next.Reads as tried-next-reads
+use Rattle.answer_sets.proofs.smaller.none_smaller.Reads as none-smaller-reads
 use Rattle.answer_sets.proofs.rule_pass.rule_pass.Reads as rule-pass-reads
 use Rattle.atoms.proofs.are_apart.Reads as are-apart-reads
 use Rattle.atoms.proofs.lowest.Reads as lowest-reads
@@ -51,6 +53,8 @@ calls t = (
   rule-pass-reads.Learnt,
   are-apart-reads.Asked,
   are-apart-reads.Learnt,
+  none-smaller-reads.Asked,
+  none-smaller-reads.Learnt,
   undecided-reads.Asked,
   undecided-reads.Learnt,
   some-between-below t,
@@ -59,6 +63,8 @@ calls t = (
   find-unsatisfied-reads.Learnt,
   candidates-reads.Asked,
   candidates-reads.Learnt,
+  tried-next-reads.Asked,
+  tried-next-reads.Learnt,
   lowest-reads.Asked,
   lowest-reads.Learnt,
   single-reads.Asked,
@@ -76,7 +82,7 @@ module _ (t : ℕ) where
 
   -- the pass decided nothing
   abbrev Unchanged : Type 0
-  Unchanged = some-between-lts.Else2 (calls t) (some-between-at t) some-between.Post
+  Unchanged = some-between-lts.Else3 (calls t) (some-between-at t) some-between.Post
 
   -- a rule was found
   abbrev Found : Type 0
@@ -90,90 +96,108 @@ module _ (t : ℕ) where
   start c = c .before .before
 
   abbrev unchanged : Chosen → Unchanged
-  unchanged c = c .before .before .before .before .before .before .before
+  unchanged c = c .before .before .before .before .before .before .before .before
 
   abbrev passed : Unchanged → Passed
-  passed c = c .before .before .before .before .before
+  passed c = c .before .before .before .before .before .before .before .before
 
   -- all atoms outside the position are dropped after the pass
-  confined : (c : Passed) → Confines (start c .args .position) (c .rule-pass .result .dropped)
-  confined c = confines-more (start c .pre .1 .1) (c .rule-pass .ensures .dropped-grows)
+  confined : (c : Passed) → Confines (start c .args .position) (c .rule-pass .result .state .dropped)
+  confined c = confines-more (start c .pre .1 .1) (c .rule-pass .ensures .narrows .dropped-grows)
 
-  apart-up : (c : Unchanged) → Apart (passed c .rule-pass .result .up) (passed c .rule-pass .result .dropped)
+  -- the rules that are left are lent
+  lent-left : (c : Passed) → Lent (now (start c .args .rules)) (c .rule-pass .result .left)
+  lent-left c = lent-part (start c .pre .1 .0) (c .rule-pass .ensures .part)
+
+  apart-up : (c : Unchanged) → Apart (passed c .rule-pass .result .state .up) (passed c .rule-pass .result .state .dropped)
   apart-up c =
-      let test = c .before .before .before .before .are-apart in
-      decides-apart _ _ .yes (sym (test .ensures) ∙ not-false (test .result) (c .before .before .before .if1 .left))
+      let tested = c .before .before .before .before .before in
+      let test = tested .before .are-apart in
+      decides-apart _ _ .yes (sym (test .ensures) ∙ not-false (test .result) (tested .if1 .left))
 
   -- the measure is that of the state after the pass
-  same-measure : (c : Unchanged) → ones (undecided (passed c .rule-pass .result .up) (passed c .rule-pass .result .dropped)) ≤ t
+  same-measure : (c : Unchanged) → ones (undecided (passed c .rule-pass .result .state .up) (passed c .rule-pass .result .state .dropped)) ≤ t
   same-measure c =
-      let e = ap ones (sym (c .before .before .undecided .ensures) ∙ c .if2 .left ∙ c .before .undecided2 .ensures)
+      let e = ap ones (sym (c .before .before .undecided .ensures) ∙ c .if3 .left ∙ c .before .undecided2 .ensures)
       ∙ start (passed c) .pre .0 in
       omega (arith, e)
 
-  -- the rule that was found: it is of the word, and the atoms that are up do not satisfy it
-  unsatisfied : (c : Found) → Has (start (passed (c .before .before .before)) .args .which) (c .found .given .0 .0)
+  -- the rule that was found: it is left, and the atoms that are up do not satisfy it
+  unsatisfied : (c : Found) → Has (passed (c .before .before .before) .rule-pass .result .left) (c .found .given .0 .0)
       × ¬ Satisfies (lent (now (start (passed (c .before .before .before)) .args .rules))) (c .found .given .0 .0)
-      (passed (c .before .before .before) .rule-pass .result .up)
+      (passed (c .before .before .before) .rule-pass .result .state .up)
   unsatisfied c = rw (c .found .given .1) at (c .before .before .find-unsatisfied .ensures)
 
   -- the atom that is tried is undecided
   undecided-atom : (c : Chosen)
-      → Has (undecided (passed (unchanged c) .rule-pass .result .up) (passed (unchanged c) .rule-pass .result .dropped)) (c .lowest .result)
+      → Has (undecided (passed (unchanged c) .rule-pass .result .state .up) (passed (unchanged c) .rule-pass .result .state .dropped)) (c .lowest .result)
   undecided-atom c =
       rw (unchanged c .before .before .undecided .ensures) at
-      (c .before .before .candidates .ensures .within .each (c .lowest .result) (c .lowest .ensures .0 .here))
+      (c .before .tried-next .ensures .within .each (c .lowest .result) (c .lowest .ensures .0 .here))
 
   -- ---- the needs
 
   overlap : some-between-lts.Need-returns (calls t) (some-between-at t) some-between.Post
-  overlap c = between-narrow (c .before .before .rule-pass .ensures) (between-clash (c .before .are-apart .ensures) (c .if1 .taken))
+  overlap c =
+      let test = c .before .before in
+      rw (c .none-smaller .ensures)
+      (between-passed (test .before .before .rule-pass .ensures) (between-clash (test .are-apart .ensures) (c .before .if1 .taken)))
+
+  whole : some-between-lts.Need-returns-2 (calls t) (some-between-at t) some-between.Post
+  whole c = rw (c .none-smaller2 .ensures) (between-passed (c .before .before .before .before .before .before .rule-pass .ensures) (between-whole (c .before .if2 .taken)))
 
   again-requires : some-between-lts.Need-some-between-requires (calls t) (some-between-at t) some-between.Post
   again-requires c κs =
-      let p = c .before .before .before .before .before in (
-        pass-falls (p .rule-pass .ensures) (c .before .before .undecided .ensures) (c .before .undecided2 .ensures) (c .if2 .taken)
+      let p = c .before .before .before .before .before .before .before .before in (
+        pass-falls (p .rule-pass .ensures .narrows) (c .before .before .undecided .ensures) (c .before .undecided2 .ensures) (c .if3 .taken)
             (start p .pre .0),
-        (start p .pre .1 .0, confined p),
+        (lent-left p, confined p),
       )
 
-  again : some-between-lts.Need-returns-2 (calls t) (some-between-at t) some-between.Post
-  again c = between-narrow (c .before .before .before .before .before .before .rule-pass .ensures) (c .some-between .ensures)
+  again : some-between-lts.Need-returns-3 (calls t) (some-between-at t) some-between.Post
+  again c = between-passed (c .before .before .before .before .before .before .before .before .before .rule-pass .ensures) (c .some-between .ensures)
 
-  satisfied : some-between-lts.Need-returns-3 (calls t) (some-between-at t) some-between.Post
+  satisfied : some-between-lts.Need-returns-4 (calls t) (some-between-at t) some-between.Post
   satisfied c =
-      let u = c .before .before .before .before in
-      between-narrow (passed u .rule-pass .ensures)
-      (between-model (c .struct-known .given .0 .fits) (confined (passed u)) (apart-up u)
-      (rw (c .before .enum-told .given .1) at (c .before .before .before .find-unsatisfied .ensures)))
+      let u = c .before .before .before in
+      let unlike = u .before .before .before in
+      between-passed (passed u .rule-pass .ensures)
+      (between-model (unlike .before .struct-known .given .0 .fits) (confined (passed u)) (apart-up u) (unlike .if2 .left)
+      (rw (c .enum-told .given .1) at (c .before .before .find-unsatisfied .ensures)))
 
   candidates-requires : some-between-lts.Need-candidates-requires (calls t) (some-between-at t) some-between.Post
-  candidates-requires c κs =
-      start (passed (c .before .before .before .before)) .pre .1 .0 .each _ (unsatisfied (c .before) .0)
+  candidates-requires c κs = lent-left (passed (c .before .before .before .before)) .each _ (unsatisfied (c .before) .0)
 
-  stuck : some-between-lts.Need-returns-4 (calls t) (some-between-at t) some-between.Post
+  stuck : some-between-lts.Need-returns-5 (calls t) (some-between-at t) some-between.Post
   stuck c =
-      let f = c .before .before .before in
+      let f = c .before .before .before .before in
       let u = f .before .before .before in
-      between-narrow (passed u .rule-pass .ensures)
-      (between-stuck (u .before .before .undecided .ensures) (c .before .candidates .ensures) (c .if3 .taken) (unsatisfied f))
+      rw (c .none-smaller3 .ensures)
+      (between-passed (passed u .rule-pass .ensures)
+      (between-stuck (u .before .before .undecided .ensures) (c .before .before .candidates .ensures) (c .before .if4 .taken) (unsatisfied f)))
+
+  tried-next-requires : some-between-lts.Need-tried-next-requires (calls t) (some-between-at t) some-between.Post
+  tried-next-requires c κs = (
+    lent-left (passed (c .before .before .before .before .before .before)),
+    record { within = c .before .candidates .ensures .within; some = c .if4 .left },
+  )
 
   up-requires : some-between-lts.Need-some-between-requires-2 (calls t) (some-between-at t) some-between.Post
   up-requires c κs =
       let k = c .before .before in
       let p = passed (unchanged k) in (
         raise-falls _ _ (c .before .single .ensures) (undecided-atom k) (same-measure (unchanged k)) (c .union .ensures),
-        (start p .pre .1 .0, confined p),
+        (lent-left p, confined p),
       )
 
-  up-found : some-between-lts.Need-returns-5 (calls t) (some-between-at t) some-between.Post
+  up-found : some-between-lts.Need-returns-6 (calls t) (some-between-at t) some-between.Post
   up-found c =
       let up = c .before in
       let single = up .before .before in
-      rw (c .if4 .taken)
-      (between-narrow (passed (unchanged (single .before)) .rule-pass .ensures)
+      rw (c .if5 .taken)
+      (between-passed (passed (unchanged (single .before)) .rule-pass .ensures)
       (branch-yes (single .before .lowest .result) (up .before .union .ensures) (single .single .ensures) (up .some-between2 .ensures)
-      (c .if4 .taken)))
+      (c .if5 .taken)))
 
   dropped-requires : some-between-lts.Need-some-between-requires-3 (calls t) (some-between-at t) some-between.Post
   dropped-requires c κs =
@@ -182,18 +206,18 @@ module _ (t : ℕ) where
       let p = passed (unchanged k) in (
         lower-falls _ _ (single .single .ensures) (undecided-atom k) (same-measure (unchanged k)) (c .union2 .ensures),
         (
-          start p .pre .1 .0,
+          lent-left p,
           confines-more (confined p) (rw (c .union2 .ensures) (record { each = λ i h. has-left _ _ h })),
         ),
       )
 
-  both-tried : some-between-lts.Need-returns-6 (calls t) (some-between-at t) some-between.Post
+  both-tried : some-between-lts.Need-returns-7 (calls t) (some-between-at t) some-between.Post
   both-tried c =
       let up = c .before .before .before in
       let single = up .before .before in
-      between-narrow (passed (unchanged (single .before)) .rule-pass .ensures)
+      between-passed (passed (unchanged (single .before)) .rule-pass .ensures)
       (branch-no (single .before .lowest .result) (up .before .union .ensures) (c .before .union2 .ensures) (single .single .ensures)
-      (up .some-between2 .ensures) (c .before .before .if4 .left) (c .some-between3 .ensures))
+      (up .some-between2 .ensures) (c .before .before .if5 .left) (c .some-between3 .ensures))
 
 pub +some-between-spec : {M : Type 1} → statement M
 +some-between-spec = close μ-some-between λ t. some-between-lts.spec (calls t)
@@ -201,18 +225,23 @@ pub +some-between-spec : {M : Type 1} → statement M
     some-between.Post
     (λ c κs. c .before .pre .1 .0)
     (λ c κs. search needs)
+    (λ c κs. search needs)
     (overlap t)
+    (λ c κs. search needs)
+    (whole t)
     (λ c κs. search needs)
     (λ c κs. search needs)
     (again-requires t)
     (again t)
-    (λ c κs. start t (passed t c) .pre .1 .0)
+    (λ c κs. lent-left t (passed t c))
     (λ c. search needs)
     (λ c. search needs)
     (satisfied t)
     (candidates-requires t)
+    (λ c κs. search needs)
     (stuck t)
-    (λ c κs. c .if3 .left)
+    (tried-next-requires t)
+    (λ c κs. c .tried-next .ensures .some)
     (λ c κs. c .lowest .ensures .1)
     (λ c κs. search needs)
     (up-requires t)

@@ -1,8 +1,8 @@
 -- Free atoms of the head, else of the body.
 use Rattle.answer_sets.proofs.Candidates.{candidates-head, candidates-body}
 use borrow.Author.Needs.{needs}
-use Rattle.answer_sets.proofs.smaller.candidates.Statement.{statement}
-use Rattle.answer_sets.proofs.smaller.candidates.Tie as tie
+use Rattle.answer_sets.proofs.tried.candidates.Statement.{statement}
+use Rattle.answer_sets.proofs.tried.candidates.Tie as tie
 
 returns : tie.Need-returns
 returns c = candidates-head _ _ _ (c .before .before .head .ensures) (c .before .cut .ensures) (c .if1 .taken)

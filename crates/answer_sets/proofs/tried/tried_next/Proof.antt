@@ -1,0 +1,14 @@
+-- Either word has some of the free atoms.
+use Rattle.answer_sets.proofs.Candidates.{some-free}
+use borrow.Author.Needs.{needs}
+use Rattle.answer_sets.proofs.tried.tried_next.Statement.{statement}
+use Rattle.answer_sets.proofs.tried.tried_next.Tie as tie
+
+pub tried-next-spec : {M : Type 1} → statement M
+tried-next-spec =
+    tie.close
+    (tie.spec
+    (λ c κs. search needs)
+    (λ c. search needs)
+    (λ c κs. (c .before .before .before .pre .0, some-free (c .before .before .before .pre .1)))
+    (λ c. search needs))
