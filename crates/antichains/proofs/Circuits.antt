@@ -15,7 +15,7 @@ use Rattle.atoms.specs.Lists.{padded, tabulate}
 use Rattle.answer_sets.specs.Lent.{tableOf, asks, usedInputs, lent}
 use Rattle.reading.specs.Words.{BYTE_VALUES, number, wordAt}
 use Rattle.plan.specs.Record.{emptyPlan, withTable, withRule, withUse, withUnit, withEdge, withShow}
-use Rattle.reading.specs.Commands.{kindOf, carrying, late, emptyRule, contradictory, badTable, badUse, absentRule, badEdge, ofKind, commandAt}
+use Rattle.reading.specs.Commands.{kindOf, carrying, late, emptyRule, contradictory, badTable, badUse, absentRule, badEdge, miscounted, ofKind, commandAt}
 use Rattle.reading.specs.Reading.{walk, reading}
 use Rattle.reading.specs.Layout.{Contents, IsByte, All}
 use Rattle.dependency_graph.specs.Heads.{through, reachVia, reach, own}
@@ -47,8 +47,8 @@ abbrev headCount : List ℕ → ℕ
 headCount bytes = ones (headAtoms (unitsOf (reading bytes .plan)))
 
 pub head-counts : (headCount circuit-7 ≡ 5) × (headCount circuit-12 ≡ 16)
-unfolding headAtoms unitsOf lent reading walk commandAt ofKind kindOf carrying late emptyRule contradictory absentRule badEdge badTable badUse emptyPlan
-    withTable withRule withUse withUnit withEdge withShow number wordAt padded tabulate unionIn has subset apart _∩_ _∪_ _∖_ atom below ones flatMap
+unfolding headAtoms unitsOf lent reading walk commandAt ofKind kindOf carrying late emptyRule contradictory absentRule badEdge badTable badUse miscounted
+    emptyPlan withTable withRule withUse withUnit withEdge withShow number wordAt padded tabulate unionIn has subset apart _∩_ _∪_ _∖_ atom below ones flatMap
 head-counts = (refl, refl)
 
 -- ---- circuit 7 is such a plan
@@ -66,7 +66,7 @@ are-bytes (b ∷ bytes) e = go (ltb b BYTE_VALUES) refl (are-bytes bytes)
     go false t rest = absurd (true≢false (sym (rw (t, areBytes) at e)))
 
 pub circuit-7-ten-headed : (c : Contents) × TenHeaded circuit-7 c
-unfolding headAtoms unitsOf lent reading walk commandAt ofKind kindOf carrying late emptyRule contradictory absentRule badEdge badTable badUse
+unfolding headAtoms unitsOf lent reading walk commandAt ofKind kindOf carrying late emptyRule contradictory absentRule badEdge badTable badUse miscounted
     emptyPlan withTable withRule withUse withUnit withEdge withShow number wordAt padded tabulate unionIn has subset apart _∩_ _∪_ _∖_ atom below ones
     tableOf asks usedInputs allBelow someBelow wordBelow twiceBelow own reach reachVia through verdict row givenInHead ruleInNoUnit headedRuleInSeveral cycle
     nonmonotonicUnseen monotonicUnseen nonmonotonicUnseenIn monotonicSeenIn seen unseenHeads lowestOf lowest

@@ -97,7 +97,7 @@ ten-headed bytes all read pass few =
     let p = accepted-is-plan bytes all read in (
       p .contents,
       record {
-        lays = record { within = p .within; bytes-are = p .bytes-are };
+        lays = record { within = p .within; counted = p .counted; bytes-are = p .bytes-are };
         passes = subst (λ (q : Plan). Passes (unitsOf q)) (p .record-is) pass;
         few = subst (λ (q : Plan). FewHeads 10 (unitsOf q)) (p .record-is) few;
       },

@@ -1,6 +1,6 @@
 -- Circuits 2 to 11 of document 01 and plan P, from their bytes: the definitions give the outcomes and the last lists that the
--- paper has. And plan P with a contact table (02, S-4) in place of the second rule's positive body, and plans with a
--- SHOW (02, S-11).
+-- paper has. And plan P with a contact table (02, S-4) in place of the second rule's positive body, plans with a
+-- SHOW (02, S-11), and plans with a COUNT (02, S-10).
 use Prim.Native.Nat.{ℕ}
 use mathlib.Core.Path.{_≡_, refl}
 use mathlib.Core.List.{List, [], _∷_, _++_, map}
@@ -17,10 +17,10 @@ use Rattle.contact_tables.specs.Table.{place, row as tableRow, answer as said}
 use Rattle.answer_sets.specs.Lent.{tableOf, asks, useHolds, usesHold, usedInputs, lent}
 use Rattle.answer_sets.specs.Test.{body, satisfies, satisfiesAll, kept, keptIf, someSmaller, answerSet}
 use Rattle.reading.specs.Words.{number, wordAt}
-use Rattle.plan.specs.Record.{emptyPlan, withGiven, withTable, withRule, withUse, withUnit, withEdge, withShow}
-use Rattle.reading.specs.Commands.{kindOf, carrying, late, emptyRule, contradictory, badTable, badUse, absentRule, badEdge, ofKind, commandAt}
+use Rattle.plan.specs.Record.{emptyPlan, withCount, withGiven, withTable, withRule, withUse, withUnit, withEdge, withShow}
+use Rattle.reading.specs.Commands.{kindOf, carrying, late, emptyRule, contradictory, badTable, badUse, absentRule, badEdge, miscounted, ofKind, commandAt}
 use Rattle.reading.specs.Reading.{walk, reading}
-use Rattle.plan.specs.declared.fault.Fault.the-variants.{UnknownCommand, OutOfOrder, Cycle, NonmonotonicUnseen, MonotonicUnseen}
+use Rattle.plan.specs.declared.fault.Fault.the-variants.{UnknownCommand, OutOfOrder, Cycle, NonmonotonicUnseen, MonotonicUnseen, WrongCount}
 use Rattle.plan.specs.declared.fault.Outcome.{Outcome}
 use Rattle.plan.specs.declared.fault.Outcome.the-variants.{Accepted, Refused}
 use Rattle.dependency_graph.specs.Heads.{through, reachVia, reach, own, heads, inputHeads}
@@ -39,6 +39,9 @@ use Rattle.unit_lists.specs.Answer.{unlessRefused, workFrom, tableOutcome, answ
 -- a word below 256 in a plan
 abbrev word : ℕ → List ℕ
 word n = n ∷ 0 ∷ 0 ∷ 0 ∷ 0 ∷ 0 ∷ 0 ∷ 0 ∷ []
+
+abbrev count : ℕ → ℕ → ℕ → List ℕ
+count rules units edges = 7 ∷ rules ∷ units ∷ edges ∷ []
 
 abbrev given : ℕ → List ℕ
 given w = 4 ∷ word w
@@ -77,7 +80,8 @@ circuit-7 = rule 3 0 0 ++ (rule 4 1 0 ++ (rule 8 1 0 ++ (rule 16 12 0 ++ (unit 1
 -- circuits 2 to 11, plan P, and P without its EDGE; P with a table that is true where atom 0 is up, with either sign, and without its EDGE;
 -- two facts on pairs that show atoms 0 and 1 alone, and no atom; circuit 4 that shows no atom; P that shows atoms 1 and 2; a second SHOW, an EDGE
 -- and an unknown byte behind a SHOW; 0←2 where 2 is given; 2 by a table 1 that is true where 1 is up and 0 is not, beside a table 0 that is never true;
--- facts 0 and 1 in units that do not see each other, and a table over atom 0 that no rule uses
+-- facts 0 and 1 in units that do not see each other, and a table over atom 0 that no rule uses; P that declares its sizes, and that without its EDGE;
+-- sizes of 0 declared of a plan without units and one with a unit, with a byte behind END; a second COUNT, and one behind a GIVEN
 abbrev pub plans : List (List ℕ)
 plans =
     circuit-2
@@ -101,10 +105,16 @@ plans =
     ∷ (rule 3 0 0 ++ (rule 4 1 0 ++ (unit 1 ++ (unit 2 ++ (edge 1 0 ++ (show 6 ++ end))))))
     ∷ (show 3 ++ (show 3 ++ end))
     ∷ (unit 0 ++ (unit 0 ++ (show 3 ++ (edge 0 1 ++ end))))
-    ∷ (show 3 ++ (7 ∷ end))
+    ∷ (show 3 ++ (9 ∷ end))
     ∷ (given 4 ++ (rule 1 4 0 ++ (unit 1 ++ end)))
     ∷ (table 1 0 ++ (table 3 4 ++ (rule 3 0 0 ++ (rule 4 0 0 ++ (wants 1 1 0 ++ (unit 3 ++ end))))))
     ∷ (table 1 2 ++ (rule 1 0 0 ++ (rule 2 0 0 ++ (unit 1 ++ (unit 2 ++ end)))))
+    ∷ (count 2 2 1 ++ (rule 3 0 0 ++ (rule 4 1 0 ++ (unit 1 ++ (unit 2 ++ (edge 1 0 ++ end))))))
+    ∷ (count 2 2 1 ++ (rule 3 0 0 ++ (rule 4 1 0 ++ (unit 1 ++ (unit 2 ++ end)))))
+    ∷ (count 0 0 0 ++ end)
+    ∷ (count 0 0 0 ++ (unit 0 ++ (end ++ end)))
+    ∷ (count 0 0 0 ++ (count 0 0 0 ++ end))
+    ∷ (given 4 ++ (count 0 0 0 ++ end))
     ∷ []
 
 abbrev pub results : List (Outcome × List ℕ)
@@ -134,6 +144,12 @@ results =
     ∷ (Accepted, 5 ∷ [])
     ∷ (Accepted, 1 ∷ 6 ∷ [])
     ∷ (Accepted, 3 ∷ [])
+    ∷ (Accepted, 2 ∷ 5 ∷ [])
+    ∷ (Refused (WrongCount 0), [])
+    ∷ (Accepted, 0 ∷ [])
+    ∷ (Refused (WrongCount 0), [])
+    ∷ (Refused (OutOfOrder 4), [])
+    ∷ (Refused (OutOfOrder 9), [])
     ∷ []
 
 -- what `answer` gives for the bytes and a table of zeros: its outcome, and "the words from 4,096 on, as many as the last count says"
@@ -144,8 +160,8 @@ answered bytes =
 -- the results of all of them; and of circuit 2: "Position 3 isn't settled."
 pub circuits : (map answered plans ≡ results) × (judged circuit-2 3 ≡ NotSettled)
 unfolding judged answered answer tableOutcome reading walk commandAt ofKind kindOf carrying late emptyRule contradictory absentRule badEdge badTable
-    badUse emptyPlan withGiven withTable withRule withUse withUnit withEdge withShow number wordAt unlessRefused workFrom noCounts tableWith
-    countsWith listAt runs padded tabulate lastList cutList insertInto unitList inList isInput members allBelow someBelow wordBelow unionIn twiceBelow
+    badUse miscounted emptyPlan withCount withGiven withTable withRule withUse withUnit withEdge withShow number wordAt unlessRefused workFrom noCounts
+    tableWith countsWith listAt runs padded tabulate lastList cutList insertInto unitList inList isInput members allBelow someBelow wordBelow unionIn twiceBelow
     heads inputHeads own reach reachVia through withLast unitsOf lent usesHold useHolds tableOf asks usedInputs said tableRow place ones answerSet
     someSmaller satisfiesAll satisfies body kept keptIf has subset apart _∩_ _∪_ _∖_ atom below verdict row givenInHead ruleInNoUnit
     headedRuleInSeveral cycle nonmonotonicUnseen monotonicUnseen nonmonotonicUnseenIn monotonicSeenIn seen unseenHeads lowestOf lowest workingOrder

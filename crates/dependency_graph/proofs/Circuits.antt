@@ -7,6 +7,7 @@ use Rattle.atoms.specs.Word.{EVERY_ATOM, has, apart, subset, _∩_, _∪_, _∖
 use Rattle.atoms.specs.Bounded.{unionIn, wordBelow}
 use Rattle.atoms.specs.Collected.{lowest, lowestOf}
 use Rattle.plan.specs.Limits.{FIRST_RULE}
+use Rattle.plan.specs.Record.{undeclared}
 use Rattle.answer_sets.specs.Lent.{lent, usedInputs, tableOf}
 use Rattle.plan.specs.declared.record.Plan.{Plan}
 use Rattle.plan.specs.declared.fault.Fault.{Fault}
@@ -30,6 +31,7 @@ plain (head ∷ positive ∷ negative ∷ rules) = head ∷ positive ∷ negativ
 abbrev tabled : ℕ → List ℕ → ℕ → List ℕ → ℕ → List ℕ → Plan
 tabled given words n units m predecessors =
     record {
+      declared = undeclared;
       given = given;
       «given_count» = 0;
       rules = words;

@@ -6,7 +6,7 @@ use Rattle.plan.specs.declared.fault.Fault.{Fault}
 use Rattle.plan.specs.declared.fault.Fault.the-variants.{TableShort, Truncated, UnknownCommand, OutOfOrder, TooMany}
 use Rattle.plan.specs.declared.fault.Fault.the-variants.{EmptyRule, AbsentRule, BadEdge, TrailingBytes}
 use Rattle.plan.specs.declared.fault.Fault.the-variants.{RuleInNoUnit, HeadedRuleInSeveral, Cycle, NonmonotonicUnseen, MonotonicUnseen, LongList}
-use Rattle.plan.specs.declared.fault.Fault.the-variants.{GivenInHead, BadTable, BadUse, ContradictoryBody}
+use Rattle.plan.specs.declared.fault.Fault.the-variants.{GivenInHead, BadTable, BadUse, ContradictoryBody, WrongCount}
 
 pub number-fits : (f : Fault) → number f < CODE_STEP
 number-fits (TableShort s) = omega arith
@@ -28,3 +28,4 @@ number-fits (GivenInHead s) = omega arith
 number-fits (BadTable s) = omega arith
 number-fits (BadUse s) = omega arith
 number-fits (ContradictoryBody s) = omega arith
+number-fits (WrongCount s) = omega arith

@@ -9,7 +9,7 @@ use Rattle.plan.specs.declared.fault.Fault.{Fault}
 use Rattle.plan.specs.declared.fault.Fault.the-variants.{TableShort, Truncated, UnknownCommand, OutOfOrder, TooMany}
 use Rattle.plan.specs.declared.fault.Fault.the-variants.{EmptyRule, AbsentRule, BadEdge, TrailingBytes}
 use Rattle.plan.specs.declared.fault.Fault.the-variants.{RuleInNoUnit, HeadedRuleInSeveral, Cycle, NonmonotonicUnseen, MonotonicUnseen, LongList}
-use Rattle.plan.specs.declared.fault.Fault.the-variants.{GivenInHead, BadTable, BadUse, ContradictoryBody}
+use Rattle.plan.specs.declared.fault.Fault.the-variants.{GivenInHead, BadTable, BadUse, ContradictoryBody, WrongCount}
 use Rattle.plan.specs.declared.fault.Outcome.{Outcome}
 use Rattle.plan.specs.declared.fault.Outcome.the-variants.{Refused}
 
@@ -39,6 +39,8 @@ faultAt n s =
     ∷ BadUse s
     ∷ TableShort s
     ∷ ContradictoryBody s
+    ∷ TableShort s
+    ∷ WrongCount s
     ∷ [])
     n (TableShort s)
 
@@ -62,6 +64,7 @@ fault-told (GivenInHead s) = refl
 fault-told (BadTable s) = refl
 fault-told (BadUse s) = refl
 fault-told (ContradictoryBody s) = refl
+fault-told (WrongCount s) = refl
 
 pub refused-by : (f : Fault) {outcome : Outcome} → RefusedBy outcome (number f) (spot f) ↔ (outcome ≡ Refused f)
 refused-by f = (

@@ -7,7 +7,7 @@ use Rattle.plan.specs.declared.fault.Fault.{Fault}
 use Rattle.plan.specs.declared.fault.Fault.the-variants.{TableShort, Truncated, UnknownCommand, OutOfOrder, TooMany}
 use Rattle.plan.specs.declared.fault.Fault.the-variants.{EmptyRule, AbsentRule, BadEdge, TrailingBytes}
 use Rattle.plan.specs.declared.fault.Fault.the-variants.{RuleInNoUnit, HeadedRuleInSeveral, Cycle, NonmonotonicUnseen, MonotonicUnseen, LongList}
-use Rattle.plan.specs.declared.fault.Fault.the-variants.{GivenInHead, BadTable, BadUse, ContradictoryBody}
+use Rattle.plan.specs.declared.fault.Fault.the-variants.{GivenInHead, BadTable, BadUse, ContradictoryBody, WrongCount}
 use Rattle.plan.specs.declared.fault.Outcome.{Outcome}
 use Rattle.plan.specs.declared.fault.Outcome.the-variants.{Refused}
 
@@ -32,6 +32,7 @@ number (GivenInHead s) = 16
 number (BadTable s) = 18
 number (BadUse s) = 19
 number (ContradictoryBody s) = 21
+number (WrongCount s) = 23
 
 -- column "spot"
 abbrev pub spot : Fault → ℕ
@@ -54,6 +55,7 @@ spot (GivenInHead s) = s
 spot (BadTable s) = s
 spot (BadUse s) = s
 spot (ContradictoryBody s) = s
+spot (WrongCount s) = s
 
 -- "A refusal gives its number and spot"
 pub record RefusedBy (outcome : Outcome) (n s : ℕ) : Type 0 where

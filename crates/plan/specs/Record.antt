@@ -3,6 +3,7 @@ use Prim.Native.Nat.{ℕ, _+_, _*_, _≤_}
 use lib.ListN.{getD, set, replicate}
 use Rattle.atoms.specs.Word.{EVERY_ATOM, _∪_, atom}
 use Rattle.plan.specs.Limits.{MAX_TABLES, MAX_RULES, MAX_UNITS, CONTACT_WORDS, RULE_WORDS, FIRST_RULE, USES, PROGRAM_WORDS}
+use Rattle.plan.specs.declared.record.Declared.{Declared}
 use Rattle.plan.specs.declared.record.Plan.{Plan}
 
 -- no more contact tables, rules and units than there may be
@@ -11,10 +12,15 @@ pub record Fitting (p : Plan) : Type 0 where
   pub rules-fit : p .«rule_count» ≤ MAX_RULES
   pub units-fit : p .«unit_count» ≤ MAX_UNITS
 
+-- no sizes are declared
+abbrev pub undeclared : Declared
+undeclared = record { count = 0; rules = 0; units = 0; edges = 0 }
+
 -- the record of no commands: all zero, and S-11: "without it all 64 atoms show"
 unfoldable pub emptyPlan : Plan
 emptyPlan =
     record {
+      declared = undeclared;
       given = 0;
       «given_count» = 0;
       rules = replicate {A = ℕ} PROGRAM_WORDS 0;
@@ -29,10 +35,30 @@ emptyPlan =
       «show_count» = 0;
     }
 
+-- S-10: "COUNT .. has three bytes: rules, units, edges": the COUNT
+unfoldable pub withCount : Plan → ℕ → ℕ → ℕ → Plan
+withCount p rules units edges =
+    record {
+      declared = record { count = 1; rules = rules; units = units; edges = edges };
+      given = p .given;
+      «given_count» = p .«given_count»;
+      rules = p .rules;
+      «table_count» = p .«table_count»;
+      «rule_count» = p .«rule_count»;
+      «use_count» = p .«use_count»;
+      units = p .units;
+      «unit_count» = p .«unit_count»;
+      predecessors = p .predecessors;
+      «edge_count» = p .«edge_count»;
+      shown = p .shown;
+      «show_count» = p .«show_count»;
+    }
+
 -- S-1: "the record of a read plan carries them": the GIVEN
 unfoldable pub withGiven : Plan → ℕ → Plan
 withGiven p word =
     record {
+      declared = p .declared;
       given = word;
       «given_count» = 1;
       rules = p .rules;
@@ -51,6 +77,7 @@ withGiven p word =
 unfoldable pub withTable : Plan → ℕ → ℕ → Plan
 withTable p inputs truth =
     record {
+      declared = p .declared;
       given = p .given;
       «given_count» = p .«given_count»;
       rules = set (set (p .rules) (CONTACT_WORDS * p .«table_count») inputs) (CONTACT_WORDS * p .«table_count» + 1) truth;
@@ -69,6 +96,7 @@ withTable p inputs truth =
 unfoldable pub withRule : Plan → ℕ → ℕ → ℕ → Plan
 withRule p head positive negative =
     record {
+      declared = p .declared;
       given = p .given;
       «given_count» = p .«given_count»;
       rules =
@@ -98,6 +126,7 @@ usesAt r = FIRST_RULE + RULE_WORDS * r + USES
 unfoldable pub withUse : Plan → ℕ → ℕ → ℕ → Plan
 withUse p r table sign =
     record {
+      declared = p .declared;
       given = p .given;
       «given_count» = p .«given_count»;
       rules = set (p .rules) (usesAt r) (getD (p .rules) (usesAt r) 0 ∪ atom (wantedBit table sign));
@@ -116,6 +145,7 @@ withUse p r table sign =
 unfoldable pub withUnit : Plan → ℕ → Plan
 withUnit p word =
     record {
+      declared = p .declared;
       given = p .given;
       «given_count» = p .«given_count»;
       rules = p .rules;
@@ -134,6 +164,7 @@ withUnit p word =
 unfoldable pub withEdge : Plan → ℕ → ℕ → Plan
 withEdge p u v =
     record {
+      declared = p .declared;
       given = p .given;
       «given_count» = p .«given_count»;
       rules = p .rules;
@@ -152,6 +183,7 @@ withEdge p u v =
 unfoldable pub withShow : Plan → ℕ → Plan
 withShow p word =
     record {
+      declared = p .declared;
       given = p .given;
       «given_count» = p .«given_count»;
       rules = p .rules;

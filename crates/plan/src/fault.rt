@@ -24,6 +24,7 @@ pub enum Fault {
     BadTable(usize),
     BadUse(usize),
     ContradictoryBody(usize),
+    WrongCount(usize),
 }
 
 // A plan is accepted, or refused with its first fault.
@@ -56,6 +57,7 @@ pub fn fault_number(f: Fault) -> u64
         Fault::BadTable(_) => 18,
         Fault::BadUse(_) => 19,
         Fault::ContradictoryBody(_) => 21,
+        Fault::WrongCount(_) => 23,
     }
 }
 
@@ -83,6 +85,7 @@ pub fn fault_spot(f: Fault) -> usize
         Fault::BadTable(spot) => spot,
         Fault::BadUse(spot) => spot,
         Fault::ContradictoryBody(spot) => spot,
+        Fault::WrongCount(spot) => spot,
     }
 }
 

@@ -8,16 +8,25 @@ use crate::limits::RULE_WORDS;
 use crate::limits::USES;
 ghost use mathlib.Core.Path.{_≡_};
 ghost use Prim.Native.Nat.{_<_, _+_, _^_};
-ghost use Rattle.plan.specs.Record.{emptyPlan, withGiven, withTable, withRule, withUse, withUnit, withEdge, withShow};
+ghost use Rattle.plan.specs.Record.{emptyPlan, withCount, withGiven, withTable, withRule, withUse, withUnit, withEdge, withShow};
 ghost use Rattle.plan.specs.Limits.{MAX_RULES as Limits·MAX_RULES, MAX_TABLES as Limits·MAX_TABLES, MAX_UNITS as Limits·MAX_UNITS};
 
 const PROGRAM_WORDS: usize = FIRST_RULE + RULE_WORDS * MAX_RULES;
 
-// A read plan: its given atoms and those that show, its contact tables (two words each: inputs, truth) and behind their room its rules (four words each:
-// head, positive, negative, uses), its units and edges, zeros behind. Bit t of a rule's uses says that table t must be true, bit
+// The sizes that a plan declares: how many COUNTs were read, none or one, and the numbers of rules, units and edges that it names.
+pub struct Declared {
+    pub count: usize,
+    pub rules: usize,
+    pub units: usize,
+    pub edges: usize,
+}
+
+// A read plan: the sizes it declares, its given atoms and those that show, its contact tables (two words each: inputs, truth) and behind their room
+// its rules (four words each: head, positive, negative, uses), its units and edges, zeros behind. Bit t of a rule's uses says that table t must be true, bit
 // MAX_TABLES + t that it must be false; bit v of predecessors[u] is the edge (u, v). The counts say how many commands of each kind
 // were read.
 pub struct Plan {
+    pub declared: Declared,
     pub given: u64,
     pub given_count: usize,
     pub rules: [u64; PROGRAM_WORDS],
@@ -37,6 +46,12 @@ pub fn empty_plan() -> Plan
     ensures { λ r. ⌜ r ≡ emptyPlan ⌝ }
 {
     Plan {
+        declared: Declared {
+            count: 0,
+            rules: 0,
+            units: 0,
+            edges: 0,
+        },
         given: 0,
         given_count: 0,
         rules: [0; PROGRAM_WORDS],
@@ -50,6 +65,21 @@ pub fn empty_plan() -> Plan
         shown: atoms::EVERY_ATOM,
         show_count: 0,
     }
+}
+
+// The record with the COUNT.
+pub fn with_count(read: Plan, rules: u8, units: u8, edges: u8) -> Plan
+    ensures { λ r. ⌜ r ≡ withCount read rules units edges ⌝ }
+{
+    let declared = Declared {
+        count: 1,
+        rules: rules as usize,
+        units: units as usize,
+        edges: edges as usize,
+    };
+    let mut next = read;
+    next.declared = declared;
+    next
 }
 
 // The record with the GIVEN.

@@ -309,5 +309,5 @@ module _ (c : Contents) (within : Within c) where
 -- what was read is the record of the lists
 pub read-means : (bytes : List ℕ) → ReadMeans bytes
 read-means bytes = record {
-  means = λ c w e. subst (λ (r : Reading). Means c (r .plan)) (sym (ap reading e ∙ layout-is-read c w)) (record-means c w);
+  means = λ c w n e. subst (λ (r : Reading). Means c (r .plan)) (sym (ap reading e ∙ layout-is-read c w n)) (record-means c w);
 }

@@ -11,17 +11,18 @@ use Rattle.atoms.proofs.Lists.{getD-tabulate}
 use Rattle.plan.specs.Limits.{MAX_UNITS}
 use Rattle.plan.specs.Record.{emptyPlan}
 use Rattle.reading.specs.Words.{WORD_BYTES, WORD_VALUES}
-use Rattle.reading.specs.Commands.{Kind, given, table, rule, usage, unit, edge, show, end, byteOf, operandBytes}
+use Rattle.reading.specs.Commands.{Kind, sizes, given, table, rule, usage, unit, edge, show, end, byteOf, operandBytes, miscounted}
 use Rattle.reading.specs.Reading.{reading, commandBytes}
-use Rattle.reading.specs.Layout.{Contents, endBytes, commands, predecessorsOf, recordOf, IsByte, All, GoodTable, GoodRule, Within, IsPlan}
+use Rattle.reading.specs.Layout.{Contents, Element, endBytes, commands, predecessorsOf, recordOf, IsByte, All, GoodTable, GoodRule, Within, IsPlan}
 use Rattle.reading.proofs.Numbers.{all-drop, word-fits}
 use Rattle.reading.proofs.Commands.{Leads}
 use Rattle.reading.proofs.Walk.{walk-keeps}
 use Rattle.reading.proofs.Limits.{record-fits}
 use Rattle.reading.proofs.Predecessors.{pair, has-member}
-use Rattle.reading.proofs.Elements.{Element, nothing, with, elementAt, operandsOf, written-again, Sized, Held, held-none, few-edges}
+use Rattle.reading.proofs.Elements.{nothing, with, elementAt, operandsOf, written-again, Sized, Held, held-none, few-edges}
 use Rattle.reading.proofs.Elements.{Fits, commands-with, commands-longer, record-none, more}
 use Rattle.reading.proofs.Lists.{all-snoc, all-member, empty}
+use Rattle.reading.proofs.Sizes.{counted-right}
 use Rattle.plan.specs.declared.record.Plan.{Plan}
 use Rattle.plan.specs.declared.fault.Outcome.{Outcome}
 use Rattle.plan.specs.declared.fault.Outcome.the-variants.{Accepted, Refused}
@@ -29,6 +30,7 @@ use Rattle.plan.specs.declared.fault.Outcome.the-variants.{Accepted, Refused}
 -- ---- the words, one element more
 
 sized : (k : Kind) (s : List ℕ) → operandBytes k ≤ length s → All IsByte s → Sized k (elementAt k s)
+sized sizes s long b = tt
 sized given s long b = word-fits s 0 (omega arith) b
 sized table s long b = (word-fits s 0 (omega arith) b, word-fits s WORD_BYTES (omega arith) b)
 sized rule s long b = (word-fits s 0 (omega arith) b, (word-fits s WORD_BYTES (omega arith) b, word-fits s (2 * WORD_BYTES) (omega arith) b))
@@ -48,6 +50,14 @@ pub record Good (c : Contents) : Type 0 where
 
 good-with : (c : Contents) (k : Kind) (x : Element k) → Sized k x → Fits c k x → Good c → Good (with c k x)
 unfolding recordOf
+good-with c sizes s z f g =
+    record {
+      good-given = g .good-given;
+      good-tables = g .good-tables;
+      good-rules = g .good-rules;
+      good-units = g .good-units;
+      good-shown = g .good-shown;
+    }
 good-with c given w z f g =
     record {
       good-given = all-snoc (λ y. y < WORD_VALUES) (c .given) w (g .good-given) z;
@@ -162,13 +172,14 @@ module _ (whole : List ℕ) where
   read-within p at s r =
       let h = r .held in
       record {
-        one-given = h .few .few-given;
-        most-tables = h .few .few-tables;
-        most-rules = h .few .few-rules;
-        most-uses = h .few .few-uses;
-        most-units = h .few .few-units;
+        one-count = h .few .under sizes;
+        one-given = h .few .under given;
+        most-tables = h .few .under table;
+        most-rules = h .few .under rule;
+        most-uses = h .few .under usage;
+        most-units = h .few .under unit;
         most-edges = few-edges (r .contents) h;
-        one-shown = h .few .few-shown;
+        one-shown = h .few .under show;
         good-given = r .good .good-given;
         good-tables = r .good .good-tables;
         good-rules = r .good .good-rules;
@@ -180,11 +191,13 @@ module _ (whole : List ℕ) where
         good-shown = r .good .good-shown;
       }
 
-  read-ended : (p : Plan) (at : ℕ) (s : List ℕ) → Read whole p at s → s ≡ endBytes → IsPlan whole p
-  read-ended p at s r e =
+  read-ended : (p : Plan) (at : ℕ) (s : List ℕ) → Read whole p at s → s ≡ endBytes → miscounted p ≡ false → IsPlan whole p
+  read-ended p at s r e n =
       record {
         contents = r .contents;
         within = read-within p at s r;
+        counted =
+            counted-right (r .contents) (r .held .few) (subst (λ (q : Plan). miscounted q ≡ false) (r .record-is) n);
         bytes-are = r .bytes-are ∙ ap (λ (y : List ℕ). commands (r .contents) ++ y) e;
         record-is = r .record-is;
       }
@@ -197,7 +210,7 @@ isAccepted (Refused f) = false
 pub accepted-is-plan : (bytes : List ℕ) → All IsByte bytes → reading bytes .outcome ≡ Accepted → IsPlan bytes (reading bytes .plan)
 unfolding reading
 accepted-is-plan bytes small =
-    walk-keeps (Read bytes) (λ x. x .outcome ≡ Accepted → IsPlan bytes (x .plan)) (read-on bytes) (λ p at s r e o. read-ended bytes p at s r e)
+    walk-keeps (Read bytes) (λ x. x .outcome ≡ Accepted → IsPlan bytes (x .plan)) (read-on bytes) (λ p at s r e n o. read-ended bytes p at s r e n)
     (λ p at s f r e o. absurd (true≢false (sym (ap isAccepted o)))) emptyPlan 0 bytes (read-start bytes small)
 
 -- ---- the edges of an accepted plan

@@ -10,7 +10,7 @@ use native.Mathlib.Decide.{decLt}
 use lib.Dec.{eqb, ltb, leb}
 use borrow.Author.Tests.{leb-true, eqb-true, ne-eqb, ltb-true, ltb-false, lt-ltb, le-ltb}
 use Rattle.atoms.proofs.Tests.{bool-ext, and-true}
-use Rattle.reading.specs.Commands.{Kind, given, table, rule, usage, unit, edge, show, end, byteOf, kindAmong, kinds, kindOf, orderOf}
+use Rattle.reading.specs.Commands.{Kind, sizes, given, table, rule, usage, unit, edge, show, end, byteOf, kindAmong, kinds, kindOf, orderOf}
 use Rattle.reading.specs.Commands.{earliestBehind, count, countBehind, late}
 use Rattle.plan.specs.declared.record.Plan.{Plan}
 
@@ -18,6 +18,7 @@ use Rattle.plan.specs.declared.record.Plan.{Plan}
 
 pub kind-of-byte : (k : Kind) → kindOf (byteOf k) ≡ some k
 unfolding kindOf
+kind-of-byte sizes = refl
 kind-of-byte given = refl
 kind-of-byte table = refl
 kind-of-byte rule = refl

@@ -11,9 +11,9 @@ use lib.ListN.{length, take, drop, getD, length-drop, drop-of-length-le}
 use lib.Seq.{take-all, drop-cons}
 use lib.Dec.{eqb}
 use borrow.Author.Tests.{eqb-true, ltb-false, leb-false, le-ltb, not-false}
-use Rattle.plan.specs.Limits.{MAX_TABLES, MAX_RULES, MAX_USES, MAX_UNITS}
 use Rattle.plan.specs.Record.{emptyPlan}
-use Rattle.reading.specs.Commands.{Kind, given, table, rule, usage, unit, edge, show, end, byteOf, kinds, kindOf, operandBytes, orderOf, carrying}
+use Rattle.reading.specs.Commands.{Kind, sizes, given, table, rule, usage, unit, edge, show, end, byteOf, kinds, kindOf, operandBytes, orderOf, carrying}
+use Rattle.reading.specs.Commands.{Most, once, upTo, runsOutAt, mostOf, count, noRoom}
 use Rattle.reading.specs.Commands.{countBehind, late, full, Row, kindRows, operandRows, rows, firstFit, ofKind, commandAt}
 use Rattle.reading.proofs.CommandKinds.{kind-of-byte, kind-byte, byte-own, no-kind}
 use Rattle.reading.specs.Reading.{Step, onward, ended, stepOf, accepted, refused}
@@ -64,18 +64,19 @@ pub record InPlace (p : Plan) (k : Kind) : Type 0 where
   pub on-time : countBehind p (orderOf k) kinds ≤ 0
   pub room : full p k ≡ false
 
--- what the limits of column "most" leave
-pub table-room : {p : Plan} → InPlace p table → p .«table_count» < MAX_TABLES
-table-room {p} i = leb-false MAX_TABLES (p .«table_count») (i .room)
+-- the room that column "most" leaves behind n commands
+abbrev pub Room : Most → ℕ → Type 0
+Room once n = Unit {0}
+Room (upTo m) n = n < m
+Room (runsOutAt m) n = Unit {0}
 
-pub rule-room : {p : Plan} → InPlace p rule → p .«rule_count» < MAX_RULES
-rule-room {p} i = leb-false MAX_RULES (p .«rule_count») (i .room)
-
-pub use-room : {p : Plan} → InPlace p usage → p .«use_count» < MAX_USES
-use-room {p} i = leb-false MAX_USES (p .«use_count») (i .room)
-
-pub unit-room : {p : Plan} → InPlace p unit → p .«unit_count» < MAX_UNITS
-unit-room {p} i = leb-false MAX_UNITS (p .«unit_count») (i .room)
+pub room-left : (k : Kind) {p : Plan} → InPlace p k → Room (mostOf k) (count p k)
+room-left k {p} i = left (mostOf k) (i .room)
+  where
+    left : (m : Most) → noRoom m (count p k) ≡ false → Room m (count p k)
+    left once e = tt
+    left (upTo m) e = leb-false m (count p k) e
+    left (runsOutAt m) e = tt
 
 pub passed-in-place : (p : Plan) (at : ℕ) (k : Kind) → Passed (kindRows p at k) → InPlace p k
 unfolding late
@@ -152,6 +153,7 @@ stepWhen false more last = last
 step-is : (p : Plan) (k : Kind) (operands : List ℕ)
     → stepOf p (carrying k operands) ≡ stepWhen (adds k) (onward k (grown p k operands)) (ended (accepted p))
 unfolding carrying
+step-is p sizes operands = refl
 step-is p given operands = refl
 step-is p table operands = refl
 step-is p rule operands = refl

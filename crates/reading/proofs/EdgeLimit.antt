@@ -17,7 +17,7 @@ use Rattle.reading.specs.Refusals.{NoNewEdge, no-such-u, no-such-v, to-i
 use Rattle.reading.proofs.CommandKinds.{kind-of-byte}
 use Rattle.reading.proofs.Commands.{known-command}
 use Rattle.reading.proofs.Walk.{walk-ended}
-use Rattle.reading.proofs.Elements.{with, Few, few-within, Held, few-edges}
+use Rattle.reading.proofs.Elements.{with, Few, few-so, few-within, Held, few-edges}
 use Rattle.reading.proofs.Lists.{length-snoc, all-snoc, distinct-snoc}
 use Rattle.reading.proofs.Rows.{decides-bad}
 use Rattle.reading.proofs.RoundTrip.{commands-read}
@@ -54,15 +54,7 @@ module _ (c : Contents) (w : Within c) (all : length (c .edges) ≡ MAX_EDGES) (
       held new =
           record {
             few =
-                record {
-                  few-given = w .one-given;
-                  few-tables = w .most-tables;
-                  few-rules = w .most-rules;
-                  few-uses = w .most-uses;
-                  few-units = w .most-units;
-                  few-shown = w .one-shown;
-                  good-uses = w .good-uses;
-                };
+                few-so (more new) (w .one-count) (w .one-given) (w .most-tables) (w .most-rules) (w .most-uses) (w .most-units) (w .one-shown) (w .good-uses);
             no-use-again = w .no-use-again;
             good-edges = all-snoc (GoodEdge (length (c .units))) (c .edges) e (w .good-edges) (good new);
             no-repeat = distinct-snoc (c .edges) e (w .no-repeat) (λ m. new (repeated m));

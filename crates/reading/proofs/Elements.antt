@@ -1,14 +1,16 @@
 -- One command more, of any kind: its operands as an element of the plan's lists, when it fits behind them, and what it adds to their bytes
 -- and to their record.
-use mathlib.Core.Path.{_≡_, refl, ap, sym, _∙_}
+use mathlib.Core.Path.{_≡_, refl, ap, sym, _∙_, subst}
 use mathlib.Core.List.{List, [], _∷_, _++_, append-assoc, append-nil, flatMap, List·Memᴰ}
-use mathlib.Core.Bool.{true, false, true≢false}
-use Prim.Native.Nat.{ℕ, _+_, _*_, _^_, _≤_, _<_}
+use mathlib.Core.Bool.{Bool, true, false, true≢false}
+use Prim.Native.Nat.{ℕ, suc, _+_, _*_, _^_, _≤_, _<_}
 use native.Mathlib.Omega.{arith}
+use native.Mathlib.Numerals.{add-one}
 use lib.Count.{ones}
 use lib.ListN.{length, take, drop, getD, length-append, take-append-drop}
 use lib.Seq.{drop-drop}
-use borrow.Author.Tests.{leb-false, lt-leb, le-ltb, ne-eqb, not-false}
+use lib.Dec.{ltb}
+use borrow.Author.Tests.{leb-false, ltb-true, lt-leb, le-ltb, ne-eqb, not-false}
 use Rattle.atoms.specs.Lists.{padded, tabulate}
 use Rattle.atoms.specs.Bounded.{Decides}
 use Rattle.atoms.specs.Word.{Has, has, Apart}
@@ -16,60 +18,58 @@ use Rattle.atoms.proofs.Lists.{padded-snoc, getD-tabulate}
 use Rattle.atoms.proofs.Sets.{decides-has, decides-apart}
 use Rattle.atoms.proofs.Tests.{decided-true, decided-false, not-both, decides-and, decides-not, decides-equal}
 use Rattle.plan.specs.Limits.{MAX_TABLES, MAX_RULES, MAX_USES, MAX_UNITS, MAX_EDGES, MAX_INPUTS}
-use Rattle.plan.specs.Record.{usesAt, emptyPlan, withGiven, withTable, withRule, withUse, withUnit, withEdge, withShow}
+use Rattle.plan.specs.Record.{usesAt, emptyPlan, withCount, withGiven, withTable, withRule, withUse, withUnit, withEdge, withShow}
 use Rattle.reading.specs.Words.{WORD_BYTES, WORD_VALUES, wordAt}
-use Rattle.reading.specs.Commands.{Kind, given, table, rule, usage, unit, edge, show, end, byteOf, operandBytes, carrying, operandRows}
+use Rattle.reading.specs.Commands.{Kind, sizes, given, table, rule, usage, unit, edge, show, end, byteOf, operandBytes, carrying, operandRows}
+use Rattle.reading.specs.Commands.{kind-discrete, Most, once, upTo, runsOutAt, mostOf, orderOf, earliestBehind, count}
 use Rattle.reading.specs.Commands.{emptyRule, contradictory, badUse, absentRule, badEdge}
-use Rattle.reading.specs.Layout.{TableWords, RuleWords, TableUse, UnitPair, Contents, wordBytes, givenBytes, tableBytes, ruleBytes, useBytes}
+use Rattle.reading.specs.Layout.{TableWords, RuleWords, TableUse, UnitPair, Contents, Element, listOf}
+use Rattle.reading.specs.Layout.{wordBytes, countBytes, givenBytes, tableBytes, ruleBytes, useBytes}
 use Rattle.reading.specs.Layout.{unitBytes, edgeBytes, showBytes, commands, wordOf, usesOf, ruleWords, predecessorsOf, recordOf, IsByte, All, Distinct}
 use Rattle.reading.specs.Layout.{GoodUse, GoodEdge, Within}
 use Rattle.reading.specs.Reading.{commandBytes}
+use Rattle.reading.specs.Refusals.{countOf}
+use Rattle.reading.proofs.CommandKinds.{each-kind, none-behind}
 use Rattle.reading.proofs.Numbers.{length-bytes, word-behind, word-bytes}
 use Rattle.reading.proofs.Edges.{not-bad-edge}
 use Rattle.reading.proofs.Uses.{not-bad-use}
 use Rattle.reading.proofs.Tables.{decides-bad-table, right-table, no-wrong-table}
-use Rattle.reading.proofs.Commands.{Passed, InPlace, table-room, rule-room, use-room, unit-room, adds, grown, Leads}
+use Rattle.reading.proofs.Commands.{Passed, InPlace, Room, room-left, adds, grown, Leads}
 use Rattle.reading.proofs.Pigeonhole.{edges-at-most}
 use Rattle.reading.proofs.Predecessors.{has-member, member-has, rows-snoc}
 use Rattle.reading.proofs.Program.{tableWords, table-words-long, tables-snoc, rules-snoc, bitOf, uses-word, use-has, has-use, uses-snoc}
 use Rattle.reading.proofs.Lists.{length-snoc, all-snoc, distinct-snoc, flat-snoc, empty}
 use Rattle.plan.specs.declared.record.Plan.{Plan}
 
-abbrev pub Element : Kind → Type 0
-Element given = ℕ
-Element table = TableWords
-Element rule = RuleWords
-Element usage = TableUse
-Element unit = ℕ
-Element edge = UnitPair
-Element show = ℕ
-Element end = Unit {0}
+-- the contents with these lists
+abbrev contentsOf : ((k : Kind) → List (Element k)) → Contents
+contentsOf lists =
+    record {
+      declared = lists sizes;
+      given = lists given;
+      tables = lists table;
+      rules = lists rule;
+      uses = lists usage;
+      units = lists unit;
+      edges = lists edge;
+      shown = lists show;
+    }
 
 abbrev pub nothing : Contents
-nothing = record { given = []; tables = []; rules = []; uses = []; units = []; edges = []; shown = [] }
+nothing = contentsOf (λ k. [])
 
 -- the lists with one element more
+abbrev added : (k : Kind) → Element k → (j : Kind) → List (Element j) → List (Element j)
+added k x j xs = elim (kind-discrete k j) [ yes e ↦ xs ++ (subst Element e x ∷ []) | no n ↦ xs ]
+
 abbrev pub with : Contents → (k : Kind) → Element k → Contents
-with c given w =
-    record { given = c .given ++ (w ∷ []); tables = c .tables; rules = c .rules; uses = c .uses; units = c .units; edges = c .edges; shown = c .shown }
-with c table t =
-    record { given = c .given; tables = c .tables ++ (t ∷ []); rules = c .rules; uses = c .uses; units = c .units; edges = c .edges; shown = c .shown }
-with c rule r =
-    record { given = c .given; tables = c .tables; rules = c .rules ++ (r ∷ []); uses = c .uses; units = c .units; edges = c .edges; shown = c .shown }
-with c usage x =
-    record { given = c .given; tables = c .tables; rules = c .rules; uses = c .uses ++ (x ∷ []); units = c .units; edges = c .edges; shown = c .shown }
-with c unit w =
-    record { given = c .given; tables = c .tables; rules = c .rules; uses = c .uses; units = c .units ++ (w ∷ []); edges = c .edges; shown = c .shown }
-with c edge e =
-    record { given = c .given; tables = c .tables; rules = c .rules; uses = c .uses; units = c .units; edges = c .edges ++ (e ∷ []); shown = c .shown }
-with c show w =
-    record { given = c .given; tables = c .tables; rules = c .rules; uses = c .uses; units = c .units; edges = c .edges; shown = c .shown ++ (w ∷ []) }
-with c end x = c
+with c k x = contentsOf (λ j. added k x j (listOf c j))
 
 -- ---- operands
 
 -- the bytes of an element
 abbrev pub operandsOf : (k : Kind) → Element k → List ℕ
+operandsOf sizes s = s .rules ∷ s .units ∷ s .edges ∷ []
 operandsOf given w = wordBytes w
 operandsOf table t = wordBytes (t .inputs) ++ wordBytes (t .truth)
 operandsOf rule r = wordBytes (r .head) ++ (wordBytes (r .positive) ++ wordBytes (r .negative))
@@ -81,6 +81,7 @@ operandsOf end x = []
 
 -- the element that the bytes spell
 abbrev pub elementAt : (k : Kind) → List ℕ → Element k
+elementAt sizes s = record { rules = getD s 0 0; units = getD s 1 0; edges = getD s 2 0 }
 elementAt given s = wordAt 0 s
 elementAt table s = record { inputs = wordAt 0 s; truth = wordAt WORD_BYTES s }
 elementAt rule s = record { head = wordAt 0 s; positive = wordAt WORD_BYTES s; negative = wordAt (2 * WORD_BYTES) s }
@@ -94,6 +95,7 @@ word-long : (w : ℕ) → length (wordBytes w) ≡ WORD_BYTES
 word-long w = length-bytes WORD_BYTES w
 
 pub operands-long : (k : Kind) (x : Element k) → length (operandsOf k x) ≡ operandBytes k
+operands-long sizes s = refl
 operands-long given w = word-long w
 operands-long table t = simp (length-append, length-bytes WORD_BYTES (t .inputs), length-bytes WORD_BYTES (t .truth))
 operands-long rule r =
@@ -113,6 +115,10 @@ word-more s n = ap (λ (t : List ℕ). wordPart s n ++ t) (sym (drop-drop WORD_B
 
 -- bytes, read and written again
 pub written-again : (k : Kind) (s : List ℕ) → operandBytes k ≤ length s → All IsByte s → operandsOf k (elementAt k s) ++ drop (operandBytes k) s ≡ s
+written-again sizes [] long b = absurd (omega arith)
+written-again sizes (x ∷ []) long b = absurd (omega arith)
+written-again sizes (x ∷ y ∷ []) long b = absurd (omega arith)
+written-again sizes (x ∷ y ∷ z ∷ s) long b = refl
 written-again given s long b = rw (word-bytes s 0 (omega arith) b) (word-more s 0)
 written-again table s long b =
     rw (word-bytes s 0 (omega arith) b, word-bytes s WORD_BYTES (omega arith) b)
@@ -141,6 +147,7 @@ written-again end s long b = refl
 
 -- words of 64 bits
 abbrev pub Sized : (k : Kind) → Element k → Type 0
+Sized sizes s = Unit {0}
 Sized given w = w < WORD_VALUES
 Sized table t = (t .inputs < WORD_VALUES) × (t .truth < WORD_VALUES)
 Sized rule r = (r .head < WORD_VALUES) × ((r .positive < WORD_VALUES) × (r .negative < WORD_VALUES))
@@ -152,6 +159,7 @@ Sized end x = Unit {0}
 
 -- rows 18, 6, 21, 19, 7 and 8
 abbrev pub Right : Contents → (k : Kind) → Element k → Type 0
+Right c sizes s = Unit {0}
 Right c given w = Unit {0}
 Right c table t = (ones (t .inputs) ≤ MAX_INPUTS) × ((j : ℕ) → Has (t .truth) j → j < 2 ^ ones (t .inputs))
 Right c rule r = (¬ ((r .head ≡ 0) × ((r .positive ≡ 0) × (r .negative ≡ 0)))) × Apart (r .positive) (r .negative)
@@ -161,27 +169,28 @@ Right c edge e = GoodEdge (length (c .units)) e × ¬ List·Memᴰ e (c .edges)
 Right c show w = Unit {0}
 Right c end x = Unit {0}
 
+-- no more than column "most" allows
+abbrev pub Under : Most → ℕ → Type 0
+Under once n = n ≤ 1
+Under (upTo m) n = n ≤ m
+Under (runsOutAt m) n = Unit {0}
+
 -- what holds of the lists of every record that is read
 pub record Few (c : Contents) : Type 0 where
-  pub few-given : length (c .given) ≤ 1
-  pub few-tables : length (c .tables) ≤ MAX_TABLES
-  pub few-rules : length (c .rules) ≤ MAX_RULES
-  pub few-uses : length (c .uses) ≤ MAX_USES
-  pub few-units : length (c .units) ≤ MAX_UNITS
-  pub few-shown : length (c .shown) ≤ 1
+  pub under : (k : Kind) → Under (mostOf k) (countOf c k)
   pub good-uses : All (GoodUse (length (c .rules)) (length (c .tables))) (c .uses)
 
-pub few-within : {c : Contents} → Within c → Few c
-few-within w =
+pub few-so : (c : Contents) → length (c .declared) ≤ 1 → length (c .given) ≤ 1 → length (c .tables) ≤ MAX_TABLES → length (c .rules) ≤ MAX_RULES
+    → length (c .uses) ≤ MAX_USES → length (c .units) ≤ MAX_UNITS → length (c .shown) ≤ 1
+    → All (GoodUse (length (c .rules)) (length (c .tables))) (c .uses) → Few c
+few-so c d g t r x u s good =
     record {
-      few-given = w .one-given;
-      few-tables = w .most-tables;
-      few-rules = w .most-rules;
-      few-uses = w .most-uses;
-      few-units = w .most-units;
-      few-shown = w .one-shown;
-      good-uses = w .good-uses;
+      under = elim [ sizes ↦ d | given ↦ g | table ↦ t | rule ↦ r | usage ↦ x | unit ↦ u | edge ↦ tt | show ↦ s | end ↦ tt ];
+      good-uses = good;
     }
+
+pub few-within : {c : Contents} → Within c → Few c
+few-within {c} w = few-so c (w .one-count) (w .one-given) (w .most-tables) (w .most-rules) (w .most-uses) (w .most-units) (w .one-shown) (w .good-uses)
 
 pub record Held (c : Contents) : Type 0 where
   pub few : Few c
@@ -196,6 +205,7 @@ pub record Fits (c : Contents) (k : Kind) (x : Element k) : Type 0 where
 
 -- an element, written and read again
 pub read-again : (k : Kind) (x : Element k) (rest : List ℕ) → Sized k x → elementAt k (operandsOf k x ++ rest) ≡ x
+read-again sizes s rest g = refl
 read-again given w rest g = word-behind [] 0 w rest refl g
 read-again table t rest g =
     let n = wordBytes (t .inputs) in
@@ -234,24 +244,25 @@ none-shared b n e = decides-apart b n .yes (not-false _ e)
 
 module _ (c : Contents) (few : Few c) where
   pub row-is : (u : ℕ) → u < length (c .units) → getD (tabulate MAX_UNITS (predecessorsOf (c .edges))) u 0 ≡ predecessorsOf (c .edges) u
-  row-is u l = getD-tabulate MAX_UNITS (predecessorsOf (c .edges)) u (omega (arith, few .few-units))
+  row-is u l = getD-tabulate MAX_UNITS (predecessorsOf (c .edges)) u (omega (arith, few .under unit))
 
   -- the word of a rule's uses, and the use that a bit stands for
   pub uses-are : (r : ℕ) → r < length (c .rules) → getD (recordOf c .rules) (usesAt r) 0 ≡ usesOf (c .uses) r
   unfolding recordOf
-  uses-are r l = uses-word (c .uses) (tableWords (c .tables)) (c .rules) r (table-words-long (c .tables) (few .few-tables)) (few .few-rules) l
+  uses-are r l = uses-word (c .uses) (tableWords (c .tables)) (c .rules) r (table-words-long (c .tables) (few .under table)) (few .under rule) l
 
   pub bit-of-use : (x : TableUse) → x .table < length (c .tables) → Has (usesOf (c .uses) (x .rule)) (bitOf x) → List·Memᴰ x (c .uses)
-  bit-of-use x l h = has-use (c .uses) x (below (c .uses) (few .good-uses)) (omega (arith, few .few-tables)) h
+  bit-of-use x l h = has-use (c .uses) x (below (c .uses) (few .good-uses)) (omega (arith, few .under table)) h
     where
       below : (uses : List TableUse) → All (GoodUse (length (c .rules)) (length (c .tables))) uses → All (λ y. y .table < MAX_TABLES) uses
       below [] a = tt
-      below (y ∷ uses) a = (omega (arith, a .0 .table-there, few .few-tables), below uses (a .1))
+      below (y ∷ uses) a = (omega (arith, a .0 .table-there, few .under table), below uses (a .1))
 
 module _ (c : Contents) (at : ℕ) (s : List ℕ) (few : Few c) where
   -- no row of its operands stops an element exactly if it is right
   pub passed-right : (k : Kind) → Passed (operandRows (recordOf c) at k s) → Right c k (elementAt k s)
   unfolding recordOf absentRule
+  passed-right sizes h = tt
   passed-right given h = tt
   passed-right table h = right-table (elementAt table s) (decides-bad-table (elementAt table s) .no (h .0))
   passed-right rule h = (λ z. decides-empty _ _ _ .no (h .0) ((z .0, z .1 .0), z .1 .1), none-shared _ _ (h .1 .0))
@@ -275,6 +286,7 @@ module _ (c : Contents) (at : ℕ) (s : List ℕ) (few : Few c) where
 
   pub right-passed : (k : Kind) → adds k ≡ true → Right c k (elementAt k s) → Passed (operandRows (recordOf c) at k s)
   unfolding recordOf badUse absentRule badEdge
+  right-passed sizes a g = tt
   right-passed given a g = tt
   right-passed table a g = (decided-false (decides-bad-table (elementAt table s)) (no-wrong-table (elementAt table s) (g .0) (g .1)), tt)
   right-passed rule a g = (
@@ -306,36 +318,84 @@ module _ (c : Contents) (at : ℕ) (s : List ℕ) (few : Few c) where
 
 -- ---- the lists, one element more
 
+pub count-of : (c : Contents) (k : Kind) → count (recordOf c) k ≡ countOf c k
+unfolding recordOf
+count-of c sizes = refl
+count-of c given = refl
+count-of c table = refl
+count-of c rule = refl
+count-of c usage = refl
+count-of c unit = refl
+count-of c edge = refl
+count-of c show = refl
+count-of c end = refl
+
+-- a list of the contents is no longer than the one it is made of
+lists-long : (lists : (k : Kind) → List (Element k)) (j : Kind) → countOf (contentsOf lists) j ≤ length (lists j)
+lists-long lists sizes = omega arith
+lists-long lists given = omega arith
+lists-long lists table = omega arith
+lists-long lists rule = omega arith
+lists-long lists usage = omega arith
+lists-long lists unit = omega arith
+lists-long lists edge = omega arith
+lists-long lists show = omega arith
+lists-long lists end = omega arith
+
+under-less : (m : Most) {a b : ℕ} → a ≤ b → Under m b → Under m a
+under-less once l h = omega arith
+under-less (upTo m) l h = omega arith
+under-less (runsOutAt m) l h = tt
+
+-- behind a command that may stand once none of its kind comes
+abbrev closes : Kind → Bool
+closes k = elim (mostOf k) [ once ↦ ltb (orderOf k) (orderOf (earliestBehind k)) | upTo n ↦ true | runsOutAt n ↦ true ]
+
+-- where a command is in place there is room for one more
+one-more : (c : Contents) (k : Kind) → InPlace (recordOf c) k → Under (mostOf k) (suc (countOf c k))
+one-more c k i = go (mostOf k) refl (subst (Room (mostOf k)) (count-of c k) (room-left k i))
+  where
+    none-there : mostOf k ≡ once → countOf c k ≤ 0
+    none-there e =
+        let closed : ltb (orderOf k) (orderOf (earliestBehind k)) ≡ true = rw (e, closes) at (each-kind closes refl k) in
+        omega (arith, count-of c k, none-behind (recordOf c) (orderOf k) (i .on-time) k (ltb-true _ _ closed))
+
+    go : (m : Most) → mostOf k ≡ m → Room m (countOf c k) → Under m (suc (countOf c k))
+    go once e r = omega (arith, none-there e)
+    go (upTo m) e r = omega arith
+    go (runsOutAt m) e r = tt
+
+few-with : (c : Contents) (k : Kind) (x : Element k) → Few c → InPlace (recordOf c) k → (j : Kind) → Under (mostOf j) (countOf (with c k x) j)
+few-with c k x few i j = under-less (mostOf j) (lists-long (λ h. added k x h (listOf c h)) j) (go (kind-discrete k j))
+  where
+    go : (d : Dec (k ≡ j))
+        → Under (mostOf j) (length {A = Element j} (elim d [ yes e ↦ listOf c j ++ (subst Element e x ∷ []) | no n ↦ listOf c j ]))
+    go (yes e) =
+        subst (Under (mostOf j)) (sym (length-snoc (listOf c j) (subst Element e x) ∙ add-one (countOf c j)))
+        (subst (λ (h : Kind). Under (mostOf h) (suc (countOf c h))) e (one-more c k i))
+    go (no n) = few .under j
+
 held-with : (c : Contents) (k : Kind) (x : Element k) → Held c → Fits c k x → Held (with c k x)
 unfolding recordOf
-held-with c given w h f =
-    let more : length (c .given ++ (w ∷ [])) ≤ 1 = omega (arith, length-snoc (c .given) w, f .in-place .on-time) in
+held-with c sizes s h f =
     record {
-      few =
-          record {
-            few-given = more;
-            few-tables = f .few .few-tables;
-            few-rules = f .few .few-rules;
-            few-uses = f .few .few-uses;
-            few-units = f .few .few-units;
-            few-shown = f .few .few-shown;
-            good-uses = f .few .good-uses;
-          };
+      few = record { under = few-with c sizes s (f .few) (f .in-place); good-uses = f .few .good-uses };
+      no-use-again = h .no-use-again;
+      good-edges = h .good-edges;
+      no-repeat = h .no-repeat;
+    }
+held-with c given w h f =
+    record {
+      few = record { under = few-with c given w (f .few) (f .in-place); good-uses = f .few .good-uses };
       no-use-again = h .no-use-again;
       good-edges = h .good-edges;
       no-repeat = h .no-repeat;
     }
 held-with c table t h f =
-    let more : length (c .tables ++ (t ∷ [])) ≤ MAX_TABLES = omega (arith, length-snoc (c .tables) t, table-room (f .in-place)) in
     record {
       few =
           record {
-            few-given = f .few .few-given;
-            few-tables = more;
-            few-rules = f .few .few-rules;
-            few-uses = f .few .few-uses;
-            few-units = f .few .few-units;
-            few-shown = f .few .few-shown;
+            under = few-with c table t (f .few) (f .in-place);
             good-uses = rw (empty (c .uses) (omega (arith, f .in-place .on-time))) tt;
           };
       no-use-again = h .no-use-again;
@@ -343,16 +403,10 @@ held-with c table t h f =
       no-repeat = h .no-repeat;
     }
 held-with c rule r h f =
-    let more : length (c .rules ++ (r ∷ [])) ≤ MAX_RULES = omega (arith, length-snoc (c .rules) r, rule-room (f .in-place)) in
     record {
       few =
           record {
-            few-given = f .few .few-given;
-            few-tables = f .few .few-tables;
-            few-rules = more;
-            few-uses = f .few .few-uses;
-            few-units = f .few .few-units;
-            few-shown = f .few .few-shown;
+            under = few-with c rule r (f .few) (f .in-place);
             good-uses = rw (empty (c .uses) (omega (arith, f .in-place .on-time))) tt;
           };
       no-use-again = h .no-use-again;
@@ -360,16 +414,10 @@ held-with c rule r h f =
       no-repeat = h .no-repeat;
     }
 held-with c usage x h f =
-    let more : length (c .uses ++ (x ∷ [])) ≤ MAX_USES = omega (arith, length-snoc (c .uses) x, use-room (f .in-place)) in
     record {
       few =
           record {
-            few-given = f .few .few-given;
-            few-tables = f .few .few-tables;
-            few-rules = f .few .few-rules;
-            few-uses = more;
-            few-units = f .few .few-units;
-            few-shown = f .few .few-shown;
+            under = few-with c usage x (f .few) (f .in-place);
             good-uses = all-snoc (GoodUse (length (c .rules)) (length (c .tables))) (c .uses) x (f .few .good-uses) (f .right .0);
           };
       no-use-again = distinct-snoc (c .uses) x (h .no-use-again) (f .right .1);
@@ -377,51 +425,22 @@ held-with c usage x h f =
       no-repeat = h .no-repeat;
     }
 held-with c unit w h f =
-    let more : length (c .units ++ (w ∷ [])) ≤ MAX_UNITS = omega (arith, length-snoc (c .units) w, unit-room (f .in-place)) in
     record {
-      few =
-          record {
-            few-given = f .few .few-given;
-            few-tables = f .few .few-tables;
-            few-rules = f .few .few-rules;
-            few-uses = f .few .few-uses;
-            few-units = more;
-            few-shown = f .few .few-shown;
-            good-uses = f .few .good-uses;
-          };
+      few = record { under = few-with c unit w (f .few) (f .in-place); good-uses = f .few .good-uses };
       no-use-again = h .no-use-again;
       good-edges = rw (empty (c .edges) (omega (arith, f .in-place .on-time))) tt;
       no-repeat = h .no-repeat;
     }
 held-with c edge e h f =
     record {
-      few =
-          record {
-            few-given = f .few .few-given;
-            few-tables = f .few .few-tables;
-            few-rules = f .few .few-rules;
-            few-uses = f .few .few-uses;
-            few-units = f .few .few-units;
-            few-shown = f .few .few-shown;
-            good-uses = f .few .good-uses;
-          };
+      few = record { under = few-with c edge e (f .few) (f .in-place); good-uses = f .few .good-uses };
       no-use-again = h .no-use-again;
       good-edges = all-snoc (GoodEdge (length (c .units))) (c .edges) e (h .good-edges) (f .right .0);
       no-repeat = distinct-snoc (c .edges) e (h .no-repeat) (f .right .1);
     }
 held-with c show w h f =
-    let more : length (c .shown ++ (w ∷ [])) ≤ 1 = omega (arith, length-snoc (c .shown) w, f .in-place .on-time) in
     record {
-      few =
-          record {
-            few-given = f .few .few-given;
-            few-tables = f .few .few-tables;
-            few-rules = f .few .few-rules;
-            few-uses = f .few .few-uses;
-            few-units = f .few .few-units;
-            few-shown = more;
-            good-uses = f .few .good-uses;
-          };
+      few = record { under = few-with c show w (f .few) (f .in-place); good-uses = f .few .good-uses };
       no-use-again = h .no-use-again;
       good-edges = h .good-edges;
       no-repeat = h .no-repeat;
@@ -431,16 +450,7 @@ held-with c end x h f = h
 pub held-none : Held nothing
 held-none =
     record {
-      few =
-          record {
-            few-given = omega arith;
-            few-tables = omega arith;
-            few-rules = omega arith;
-            few-uses = omega arith;
-            few-units = omega arith;
-            few-shown = omega arith;
-            good-uses = tt;
-          };
+      few = few-so nothing (omega arith) (omega arith) (omega arith) (omega arith) (omega arith) (omega arith) (omega arith) tt;
       no-use-again = tt;
       good-edges = tt;
       no-repeat = tt;
@@ -453,7 +463,7 @@ few-edges c h = edges-at-most (c .edges) (below (c .edges) (h .good-edges)) (h .
     below [] a = tt
     below (e ∷ edges) a =
         let g = a .0 in
-        let l = h .few .few-units in
+        let l = h .few .under unit in
         (record { from-there = omega (arith, g .from-there); to-there = omega (arith, g .to-there); apart = g .apart }, below edges (a .1))
 
 -- ---- the bytes
@@ -461,6 +471,19 @@ few-edges c h = edges-at-most (c .edges) (below (c .edges) (h .good-edges)) (h .
 pub commands-with : (c : Contents) (k : Kind) (x : Element k) (t : List ℕ) → adds k ≡ true → InPlace (recordOf c) k
     → commands (with c k x) ++ t ≡ commands c ++ (byteOf k ∷ (operandsOf k x ++ t))
 unfolding commands recordOf flatMap
+commands-with c sizes s t a h =
+    let behind = h .on-time in
+    rw (
+      empty (c .given) (omega arith),
+      empty (c .tables) (omega arith),
+      empty (c .rules) (omega arith),
+      empty (c .uses) (omega arith),
+      empty (c .units) (omega arith),
+      empty (c .edges) (omega arith),
+      empty (c .shown) (omega arith),
+      flat-snoc countBytes (c .declared) s,
+    )
+    (simp (append-nil, append-assoc))
 commands-with c given w t a h =
     let behind = h .on-time in
     rw (
@@ -517,11 +540,13 @@ pub record-none : recordOf nothing ≡ emptyPlan
 unfolding recordOf emptyPlan padded tabulate predecessorsOf wordOf ruleWords flatMap
 record-none = refl
 
-same-plan : {p q : Plan} → p .given ≡ q .given → p .«given_count» ≡ q .«given_count» → p .rules ≡ q .rules → p .«table_count» ≡ q .«table_count»
-    → p .«rule_count» ≡ q .«rule_count» → p .«use_count» ≡ q .«use_count» → p .units ≡ q .units → p .«unit_count» ≡ q .«unit_count»
-    → p .predecessors ≡ q .predecessors → p .«edge_count» ≡ q .«edge_count» → p .shown ≡ q .shown → p .«show_count» ≡ q .«show_count» → p ≡ q
-same-plan g n a t b u c d e f x y =
+same-plan : {p q : Plan} → p .declared ≡ q .declared → p .given ≡ q .given → p .«given_count» ≡ q .«given_count» → p .rules ≡ q .rules
+    → p .«table_count» ≡ q .«table_count» → p .«rule_count» ≡ q .«rule_count» → p .«use_count» ≡ q .«use_count» → p .units ≡ q .units
+    → p .«unit_count» ≡ q .«unit_count» → p .predecessors ≡ q .predecessors → p .«edge_count» ≡ q .«edge_count» → p .shown ≡ q .shown
+    → p .«show_count» ≡ q .«show_count» → p ≡ q
+same-plan z g n a t b u c d e f x y =
     λ i. record {
+      declared = z i;
       given = g i;
       «given_count» = n i;
       rules = a i;
@@ -538,36 +563,39 @@ same-plan g n a t b u c d e f x y =
 
 -- the record of the lists with one element more
 pub record-with : (c : Contents) (k : Kind) (s : List ℕ) → Fits c k (elementAt k s) → grown (recordOf c) k s ≡ recordOf (with c k (elementAt k s))
-unfolding recordOf withGiven withTable withRule withUse withUnit withEdge withShow carrying
+unfolding recordOf withCount withGiven withTable withRule withUse withUnit withEdge withShow carrying
+record-with c sizes s f =
+    let first = empty (c .declared) (omega (arith, f .in-place .on-time)) in
+    same-plan (rw first) refl refl refl refl refl refl refl refl refl refl refl refl
 record-with c given s f =
     let first = empty (c .given) (omega (arith, f .in-place .on-time)) in
-    same-plan (rw first) (rw first) refl refl refl refl refl refl refl refl refl refl
+    same-plan refl (rw first) (rw first) refl refl refl refl refl refl refl refl refl refl
 record-with c table s f =
     let t : TableWords = elementAt table s in
-    let e = tables-snoc (c .tables) t _ (table-room (f .in-place)) in
-    same-plan refl refl e (sym (length-snoc (c .tables) t)) refl refl refl refl refl refl refl refl
+    let e = tables-snoc (c .tables) t _ (room-left table (f .in-place)) in
+    same-plan refl refl refl e (sym (length-snoc (c .tables) t)) refl refl refl refl refl refl refl refl
 record-with c rule s f =
     let r : RuleWords = elementAt rule s in
-    let whole = table-words-long (c .tables) (f .few .few-tables) in
+    let whole = table-words-long (c .tables) (f .few .under table) in
     let unused = empty (c .uses) (omega (arith, f .in-place .on-time)) in
-    let e = rules-snoc (tableWords (c .tables)) (c .uses) (c .rules) r whole (rule-room (f .in-place)) unused in
-    same-plan refl refl e refl (sym (length-snoc (c .rules) r)) refl refl refl refl refl refl refl
+    let e = rules-snoc (tableWords (c .tables)) (c .uses) (c .rules) r whole (room-left rule (f .in-place)) unused in
+    same-plan refl refl refl e refl (sym (length-snoc (c .rules) r)) refl refl refl refl refl refl refl
 record-with c usage s f =
     let x : TableUse = elementAt usage s in
-    let whole = table-words-long (c .tables) (f .few .few-tables) in
-    let e = uses-snoc (c .uses) x (tableWords (c .tables)) (c .rules) whole (f .few .few-rules) (f .right .0 .rule-there) in
-    same-plan refl refl e refl refl (sym (length-snoc (c .uses) x)) refl refl refl refl refl refl
+    let whole = table-words-long (c .tables) (f .few .under table) in
+    let e = uses-snoc (c .uses) x (tableWords (c .tables)) (c .rules) whole (f .few .under rule) (f .right .0 .rule-there) in
+    same-plan refl refl refl e refl refl (sym (length-snoc (c .uses) x)) refl refl refl refl refl refl
 record-with c unit s f =
     let w : ℕ = elementAt unit s in
-    let e = padded-snoc MAX_UNITS (c .units) (length (c .units)) w refl (unit-room (f .in-place)) in
-    same-plan refl refl refl refl refl refl e (sym (length-snoc (c .units) w)) refl refl refl refl
+    let e = padded-snoc MAX_UNITS (c .units) (length (c .units)) w refl (room-left unit (f .in-place)) in
+    same-plan refl refl refl refl refl refl refl e (sym (length-snoc (c .units) w)) refl refl refl refl
 record-with c edge s f =
     let x : UnitPair = elementAt edge s in
-    let e = rows-snoc (c .edges) x (omega (arith, f .right .0 .from-there, f .few .few-units)) in
-    same-plan refl refl refl refl refl refl refl refl e (sym (length-snoc (c .edges) x)) refl refl
+    let e = rows-snoc (c .edges) x (omega (arith, f .right .0 .from-there, f .few .under unit)) in
+    same-plan refl refl refl refl refl refl refl refl refl e (sym (length-snoc (c .edges) x)) refl refl
 record-with c show s f =
     let first = empty (c .shown) (omega (arith, f .in-place .on-time)) in
-    same-plan refl refl refl refl refl refl refl refl refl refl (rw first) (rw first)
+    same-plan refl refl refl refl refl refl refl refl refl refl refl (rw first) (rw first)
 record-with c end s f = refl
 
 -- one command more, behind the record of the lists

@@ -13,7 +13,7 @@ use types.Run.{OneOf, miss}
 use denote.Enum.Declared.{tagOf}
 use Rattle.reading.proofs.command.Command.{the-type}
 use Rattle.plan.specs.Record.{Fitting, emptyPlan}
-use Rattle.reading.specs.Commands.{Kind, given, usage, edge, end, orderOf, earliestBehind, count, commandAt, carrying}
+use Rattle.reading.specs.Commands.{Kind, sizes, usage, edge, end, orderOf, earliestBehind, count, commandAt, carrying}
 use Rattle.reading.specs.Reading.{onward, stepOf, walk, reading, accepted, refused, commandBytes}
 use Rattle.reading.specs.Progress.{placeAt, kindOfStep, Reached}
 use Rattle.reading.proofs.Commands.{InPlace, Unstopped, Front, unstopped, stopped, front}
@@ -29,7 +29,7 @@ use Rattle.plan.specs.declared.fault.Outcome.the-variants.{Refused}
 use Rattle.reading.specs.declared.reader.Progress.{Progress}
 use Rattle.reading.specs.declared.reader.Reading.{Reading}
 use Rattle.reading.specs.declared.command.Command.{Command}
-use Rattle.reading.specs.declared.command.Command.the-variants.{Given, Table, Rule, Use, Unit as UnitOf, Edge, Show, End, Fault as Faulty}
+use Rattle.reading.specs.declared.command.Command.the-variants.{Count, Given, Table, Rule, Use, Unit as UnitOf, Edge, Show, End, Fault as Faulty}
 
 -- ---- the order of kinds
 
@@ -134,7 +134,7 @@ pub place-is : (bytes : List ℕ) (taken : Plan) (at : ℕ) (x : Command) → x 
 place-is bytes taken at x e = ap (λ (y : Command). record { plan = taken; at = at; command = y }) e
 
 -- nothing is read yet
-pub start : (bytes : List ℕ) (q : Plan) (r : Progress) → q ≡ emptyPlan → r ≡ placeAt bytes q 0 → Reached given bytes r
+pub start : (bytes : List ℕ) (q : Plan) (r : Progress) → q ≡ emptyPlan → r ≡ placeAt bytes q 0 → Reached sizes bytes r
 unfolding emptyPlan reading
 start bytes q r e f =
     rw (f, e)
@@ -154,6 +154,7 @@ abbrev FAULT : ℕ
 FAULT = suc (orderOf end)
 
 tag-order : (p : Plan) (x : Command) → orderOf (kindOfStep (stepOf p x)) ≡ min (orderOf end) (tagOf the-type x)
+tag-order p (Count rules units edges) = refl
 tag-order p (Given word) = refl
 tag-order p (Table inputs truth) = refl
 tag-order p (Rule head positive negative) = refl
@@ -166,7 +167,7 @@ tag-order p (Faulty f) = refl
 
 -- all tags but one: what is known of a command that is none of that kind
 abbrev tagsBut : ℕ → List ℕ
-tagsBut t = but (0 ∷ 1 ∷ 2 ∷ 3 ∷ 4 ∷ 5 ∷ 6 ∷ 7 ∷ 8 ∷ [])
+tagsBut t = but (0 ∷ 1 ∷ 2 ∷ 3 ∷ 4 ∷ 5 ∷ 6 ∷ 7 ∷ 8 ∷ 9 ∷ [])
   where
     but : List ℕ → List ℕ
     but [] = []
@@ -191,6 +192,7 @@ passed-by k next bytes r R o n =
 -- behind all EDGEs and the SHOW stands END or a fault
 module _ (bytes : List ℕ) (r : Progress) (R : Reached end bytes r) where
   at-end : (x : Command) → OneOf (tagsBut FAULT) (tagOf the-type x) → orderOf end ≤ orderOf (kindOfStep (stepOf (r .plan) x)) → x ≡ End
+  at-end (Count rules units edges) o h = absurd (omega arith)
   at-end (Given word) o h = absurd (omega arith)
   at-end (Table inputs truth) o h = absurd (omega arith)
   at-end (Rule head positive negative) o h = absurd (omega arith)

@@ -10,7 +10,7 @@ use Rattle.plan.specs.Faults.{number, spot, RefusedBy, FirstFit}
 use Rattle.plan.specs.Record.{emptyPlan}
 use Rattle.reading.specs.Commands.{commandAt}
 use Rattle.reading.specs.Reading.{stepOf, reading, refused}
-use Rattle.reading.specs.Layout.{Contents, commands, layout, recordOf, IsByte, All, Within}
+use Rattle.reading.specs.Layout.{Contents, commands, layout, recordOf, IsByte, All, Within, Counted}
 use Rattle.reading.specs.Refusals.{readingPlace, Stopped, ReadingJudged}
 use Rattle.reading.proofs.Numbers.{all-drop}
 use Rattle.reading.proofs.Walk.{walk-ended, walk-keeps}
@@ -53,7 +53,7 @@ fault-stops bytes p at s f r e g same =
 refused-stopped : (bytes : List ℕ) → All IsByte bytes → StopsBy bytes (reading bytes .outcome)
 unfolding reading
 refused-stopped bytes small =
-    walk-keeps (Read bytes) (λ x. StopsBy bytes (x .outcome)) (read-on bytes) (λ p at s r e. accepted-stops-not bytes)
+    walk-keeps (Read bytes) (λ x. StopsBy bytes (x .outcome)) (read-on bytes) (λ p at s r e n. accepted-stops-not bytes)
     (λ p at s f r e. fault-stops bytes p at s f r e) emptyPlan 0 bytes (read-start bytes small)
 
 -- ---- where a row stops the bytes, reading refuses
@@ -76,11 +76,11 @@ pub reading-judged : (bytes : List ℕ) → All IsByte bytes → ReadingJudged b
 unfolding StopsBy
 reading-judged bytes small = record { accepted = (laid, read-so); refused = λ n s. (stops n s, stopped-refused bytes small n s) }
   where
-    laid : reading bytes .outcome ≡ Accepted → (c : Contents) × Within c × (bytes ≡ layout c)
-    laid o = let p = accepted-is-plan bytes small o in (p .contents, p .within, p .bytes-are)
+    laid : reading bytes .outcome ≡ Accepted → (c : Contents) × Within c × Counted c × (bytes ≡ layout c)
+    laid o = let p = accepted-is-plan bytes small o in (p .contents, p .within, p .counted, p .bytes-are)
 
-    read-so : (c : Contents) × Within c × (bytes ≡ layout c) → reading bytes .outcome ≡ Accepted
-    read-so (c, w, e) = ap (λ (r : Reading). r .outcome) (ap reading e ∙ layout-is-read c w)
+    read-so : (c : Contents) × Within c × Counted c × (bytes ≡ layout c) → reading bytes .outcome ≡ Accepted
+    read-so (c, w, n, e) = ap (λ (r : Reading). r .outcome) (ap reading e ∙ layout-is-read c w n)
 
     stops : (n s : ℕ) → RefusedBy (reading bytes .outcome) n s → Stopped bytes n s
     stops n s r =

@@ -14,6 +14,7 @@ pub mod Predecessors
 pub mod Program
 pub mod Pigeonhole
 pub mod Elements
+pub mod Sizes
 pub mod Rows
 pub mod RoundTrip
 pub mod Accepted

@@ -5,12 +5,12 @@ use mathlib.Core.List.{List, [], _∷_}
 use Prim.Native.Nat.{ℕ, suc, _≤_, _<_}
 use native.Mathlib.Omega.{arith}
 use lib.ListN.{getD}
-use Rattle.plan.specs.Record.{Fitting, emptyPlan, withGiven, withTable, withRule, withUse, withUnit, withEdge, withShow}
+use Rattle.plan.specs.Record.{Fitting, emptyPlan, withCount, withGiven, withTable, withRule, withUse, withUnit, withEdge, withShow}
 use Rattle.reading.specs.Words.{BYTE_VALUES}
-use Rattle.reading.specs.Commands.{Kind, given, table, rule, usage, unit, edge, show, end, carrying, count}
+use Rattle.reading.specs.Commands.{Kind, sizes, given, table, rule, usage, unit, edge, show, end, carrying, count}
 use Rattle.reading.specs.Reading.{reading}
 use Rattle.reading.specs.Layout.{IsByte, All}
-use Rattle.reading.proofs.Commands.{table-room, rule-room, unit-room, Unstopped, adds, grown, Leads}
+use Rattle.reading.proofs.Commands.{room-left, Unstopped, adds, grown, Leads}
 use Rattle.reading.proofs.Walk.{walk-keeps}
 use Rattle.plan.specs.declared.record.Plan.{Plan}
 
@@ -30,17 +30,18 @@ pub record Grown (p q : Plan) (k : Kind) : Type 0 where
   pub few-edges : q .«edge_count» ≤ suc (p .«edge_count»)
 
 grown-so : (p : Plan) (at : ℕ) (s : List ℕ) (k : Kind) → adds k ≡ true → (u : Unstopped k p at s) → Grown p (grown p k (u .operands)) k
-unfolding withGiven withTable withRule withUse withUnit withEdge withShow carrying
+unfolding withCount withGiven withTable withRule withUse withUnit withEdge withShow carrying
+grown-so p at s sizes a u = record { fitting = fits-still refl refl refl; some = omega arith; few-edges = omega arith }
 grown-so p at s given a u = record { fitting = fits-still refl refl refl; some = omega arith; few-edges = omega arith }
 grown-so p at s table a u =
-    let room = table-room (u .in-place) in
+    let room = room-left table (u .in-place) in
     record {
       fitting = λ f. record { tables-fit = omega arith; rules-fit = f .rules-fit; units-fit = f .units-fit };
       some = omega arith;
       few-edges = omega arith;
     }
 grown-so p at s rule a u =
-    let room = rule-room (u .in-place) in
+    let room = room-left rule (u .in-place) in
     record {
       fitting = λ f. record { tables-fit = f .tables-fit; rules-fit = omega arith; units-fit = f .units-fit };
       some = omega arith;
@@ -48,7 +49,7 @@ grown-so p at s rule a u =
     }
 grown-so p at s usage a u = record { fitting = fits-still refl refl refl; some = omega arith; few-edges = omega arith }
 grown-so p at s unit a u =
-    let room = unit-room (u .in-place) in
+    let room = room-left unit (u .in-place) in
     record {
       fitting = λ f. record { tables-fit = f .tables-fit; rules-fit = f .rules-fit; units-fit = omega arith };
       some = omega arith;
@@ -66,7 +67,7 @@ pub record-fits : (bytes : List ℕ) → Fitting (reading bytes .plan)
 unfolding reading
 record-fits bytes =
     walk-keeps (λ p at s. Fitting p) (λ r. Fitting (r .plan)) (λ p q at s k f l. leads-grown p q at s k l .fitting f)
-    (λ p at s f e. f) (λ p at s g f e. empty-fits) emptyPlan 0 bytes empty-fits
+    (λ p at s f e n. f) (λ p at s g f e. empty-fits) emptyPlan 0 bytes empty-fits
 
 -- the elements of a slice of bytes are bytes
 pub all-bytes : (s : List ℕ) → ((i : ℕ) → getD s i 0 < BYTE_VALUES) → All IsByte s

@@ -1,5 +1,5 @@
--- "The longest plan has 2,465 bytes", 9 more with a GIVEN, 1,296 more with all TABLEs and USEs, and 9 more with a SHOW: no layout within the limits is longer,
--- and one has as many.
+-- "The longest plan has 2,465 bytes", 9 more with a GIVEN, 1,296 more with all TABLEs and USEs, 9 more with a SHOW, and 4 more with a COUNT: no layout
+-- within the limits is longer, and one has as many.
 use mathlib.Core.Path.{_≡_, refl, ap, _∙_}
 use mathlib.Core.List.{List, [], _∷_, flatMap}
 use Prim.Native.Nat.{ℕ, zero, suc, _+_, _*_, _/_, _%_, _^_, _≤_, _<_}
@@ -9,16 +9,17 @@ use lib.Count.{ones-le}
 use lib.ListN.{length, replicate, length-append}
 use Rattle.atoms.proofs.Sets.{has-none}
 use Rattle.plan.specs.Limits.{MAX_TABLES, MAX_RULES, MAX_USES, MAX_UNITS, MAX_EDGES}
-use Rattle.reading.specs.Commands.{given, table, rule, usage, unit, edge, show}
+use Rattle.reading.specs.Commands.{sizes, given, table, rule, usage, unit, edge, show}
 use Rattle.reading.specs.Reading.{commandBytes, LONGEST_PLAN}
-use Rattle.reading.specs.Layout.{givenBytes, tableBytes, ruleBytes, useBytes, unitBytes, edgeBytes, showBytes, TableUse, Contents, commands, layout, All}
-use Rattle.reading.specs.Layout.{GoodTable, GoodRule, GoodUse, Within}
+use Rattle.reading.specs.Layout.{countBytes, givenBytes, tableBytes, ruleBytes, useBytes, unitBytes, edgeBytes, showBytes}
+use Rattle.reading.specs.Layout.{TableUse, Contents, commands, layout, All}
+use Rattle.reading.specs.Layout.{GoodTable, GoodRule, GoodUse, Within, Counted}
 use Rattle.reading.proofs.Elements.{operands-long}
 use Rattle.reading.proofs.Lists.{listBelow, below-long, below-all, below-distinct}
 use Rattle.reading.proofs.Pigeonhole.{edgesBelow, edges-long, edges-good, edges-distinct}
 
 -- elements of k bytes each
-elements-long : {A : Type 0} (f : A → List ℕ) (k : ℕ) → ((x : A) → length (f x) ≡ k) → (xs : List A)
+pub elements-long : {A : Type 0} (f : A → List ℕ) (k : ℕ) → ((x : A) → length (f x) ≡ k) → (xs : List A)
     → length (flatMap f xs) ≡ k * length xs
 unfolding flatMap
 elements-long f k e [] = omega arith
@@ -27,7 +28,8 @@ elements-long f k e (x ∷ xs) =
 
 pub commands-long : (c : Contents)
     → length (commands c)
-    ≡ commandBytes given * length (c .given) + commandBytes table * length (c .tables) + commandBytes rule * length (c .rules)
+    ≡ commandBytes sizes * length (c .declared) + commandBytes given * length (c .given) + commandBytes table * length (c .tables)
+    + commandBytes rule * length (c .rules)
     + commandBytes usage * length (c .uses)
     + commandBytes unit * length (c .units)
     + commandBytes edge * length (c .edges)
@@ -37,6 +39,7 @@ commands-long c =
     simp length-append
     (omega (
       arith,
+      elements-long countBytes (commandBytes sizes) (λ s. refl) (c .declared),
       elements-long givenBytes (commandBytes given) (λ g. ap suc (operands-long given g)) (c .given),
       elements-long tableBytes (commandBytes table) (λ t. ap suc (operands-long table t)) (c .tables),
       elements-long ruleBytes (commandBytes rule) (λ r. ap suc (operands-long rule r)) (c .rules),
@@ -49,7 +52,7 @@ commands-long c =
 pub layout-at-most : (c : Contents) → Within c → length (layout c) ≤ LONGEST_PLAN
 layout-at-most c w =
     simp length-append
-    (omega (arith, commands-long c, w .one-given, w .most-tables, w .most-rules, w .most-uses, w .most-units, w .most-edges, w .one-shown))
+    (omega (arith, commands-long c, w .one-count, w .one-given, w .most-tables, w .most-rules, w .most-uses, w .most-units, w .most-edges, w .one-shown))
 
 -- ---- one that is so long
 
@@ -72,10 +75,11 @@ use-own i j e =
     halves : (m n : ℕ) → m / 2 ≡ n / 2 → m % 2 ≡ n % 2 → m ≡ n
     halves m n p q = omega arith
 
--- a GIVEN, a SHOW, and as many tables, rules, uses, units and edges as there may be
+-- a COUNT, a GIVEN, a SHOW, and as many tables, rules, uses, units and edges as there may be
 longest : Contents
 longest =
     record {
+      declared = record { rules = MAX_RULES; units = MAX_UNITS; edges = MAX_EDGES } ∷ [];
       given = 0 ∷ [];
       tables = replicate MAX_TABLES (record { inputs = 0; truth = 0 });
       rules = replicate MAX_RULES (record { head = 1; positive = 0; negative = 0 });
@@ -89,6 +93,7 @@ longest-within : Within longest
 unfolding longest
 longest-within =
     record {
+      one-count = omega arith;
       one-given = omega arith;
       most-tables = omega arith;
       most-rules = omega arith;
@@ -120,10 +125,14 @@ longest-within =
       good-shown = (omega arith, tt);
     }
 
-pub longest-there : (c : Contents) × Within c × (length (layout c) ≡ LONGEST_PLAN)
+longest-counted : Counted longest
+unfolding longest
+longest-counted = (record { rules-are = omega arith; units-are = omega arith; edges-are = omega (arith, edges-long MAX_EDGES) }, tt)
+
+pub longest-there : (c : Contents) × Within c × Counted c × (length (layout c) ≡ LONGEST_PLAN)
 unfolding longest
 longest-there =
-    (longest, longest-within, simp length-append (omega (arith, commands-long longest, below-long useAt MAX_USES, edges-long MAX_EDGES)))
+    (longest, longest-within, longest-counted, simp length-append (omega (arith, commands-long longest, below-long useAt MAX_USES, edges-long MAX_EDGES)))
 
-pub longest-bytes : LONGEST_PLAN ≡ 3779
+pub longest-bytes : LONGEST_PLAN ≡ 3783
 longest-bytes = refl

@@ -14,11 +14,11 @@ use lib.Seq.{take-nil, take-take, getD-take}
 use borrow.Author.Tests.{lt-ltb, le-ltb}
 use Rattle.plan.specs.Record.{emptyPlan}
 use Rattle.reading.specs.Words.{WORD_BYTES, number, wordAt}
-use Rattle.reading.specs.Commands.{Kind, given, table, rule, usage, unit, edge, show, end, kindOf, operandBytes, carrying, Row, kindRows}
+use Rattle.reading.specs.Commands.{Kind, sizes, given, table, rule, usage, unit, edge, show, end, kindOf, operandBytes, carrying, Row, kindRows}
 use Rattle.reading.specs.Commands.{operandRows, firstFit, ofKind, commandAt}
 use Rattle.reading.specs.Reading.{ended, stepOf, walk, reading, accepted, refused, commandBytes, DECIDING_BYTES}
 use Rattle.reading.specs.Layout.{Contents, commands, recordOf}
-use Rattle.reading.proofs.Commands.{Passed, InPlace, table-room, rule-room, use-room, unit-room, passed-in-place, known-command}
+use Rattle.reading.proofs.Commands.{Passed, InPlace, room-left, passed-in-place, known-command}
 use Rattle.reading.proofs.Commands.{unknown-command, Leads, leads-step}
 use Rattle.reading.proofs.Elements.{nothing, with, commands-longer, Held, held-none, few-edges, record-none, more}
 use Rattle.reading.proofs.Longest.{commands-long}
@@ -78,6 +78,7 @@ module _ (p : Plan) (at m : ℕ) (s : List ℕ) where
   operands-kept : (k : Kind) → looksAt k ≤ m
       → firstFit (operandRows p at k (take m s)) (carrying k (take m s)) ≡ firstFit (operandRows p at k s) (carrying k s)
   unfolding carrying
+  operands-kept sizes h = rw (getD-take m s 0 0 (omega arith), getD-take m s 1 0 (omega arith), getD-take m s 2 0 (omega arith))
   operands-kept given h = rw (word-kept 0 m s (omega arith))
   operands-kept table h = rw (word-kept 0 m s (omega arith), word-kept WORD_BYTES m s (omega arith))
   operands-kept rule h = rw (word-kept 0 m s (omega arith), word-kept WORD_BYTES m s (omega arith), word-kept (2 * WORD_BYTES) m s (omega arith))
@@ -113,23 +114,27 @@ module _ (n : ℕ) (long : DECIDING_BYTES ≤ n) where
   all-there : (c : Contents) → Held c → length (commands c) + suc (looksAt end) ≤ n
   all-there c h =
       let f = h .few in
-      omega (arith, commands-long c, f .few-given, f .few-tables, f .few-rules, f .few-uses, f .few-units, f .few-shown, few-edges c h)
+      omega (arith, commands-long c, f .under sizes, f .under given, f .under table, f .under rule, f .under usage, f .under unit, f .under show, few-edges c h)
 
   -- what a command that is in place looks at is kept
   near : (c : Contents) → Held c → (k : Kind) → InPlace (recordOf c) k → length (commands c) + suc (looksAt k) ≤ n
   unfolding recordOf
-  near c h given i = omega (arith, commands-long c, i .on-time)
-  near c h table i = omega (arith, commands-long c, i .on-time, table-room i, h .few .few-given)
-  near c h rule i = omega (arith, commands-long c, i .on-time, rule-room i, h .few .few-given, h .few .few-tables)
-  near c h usage i = omega (arith, commands-long c, i .on-time, use-room i, h .few .few-given, h .few .few-tables, h .few .few-rules)
+  near c h sizes i = omega (arith, commands-long c, i .on-time)
+  near c h given i = omega (arith, commands-long c, i .on-time, h .few .under sizes)
+  near c h table i = omega (arith, commands-long c, i .on-time, room-left table i, h .few .under sizes, h .few .under given)
+  near c h rule i = omega (arith, commands-long c, i .on-time, room-left rule i, h .few .under sizes, h .few .under given, h .few .under table)
+  near c h usage i =
+      let f = h .few in
+      omega (arith, commands-long c, i .on-time, room-left usage i, f .under sizes, f .under given, f .under table, f .under rule)
   near c h unit i =
-      omega (arith, commands-long c, i .on-time, unit-room i, h .few .few-given, h .few .few-tables, h .few .few-rules, h .few .few-uses)
+      let f = h .few in
+      omega (arith, commands-long c, i .on-time, room-left unit i, f .under sizes, f .under given, f .under table, f .under rule, f .under usage)
   near c h edge i =
       let f = h .few in
-      omega (arith, commands-long c, i .on-time, f .few-given, f .few-tables, f .few-rules, f .few-uses, f .few-units, few-edges c h)
+      omega (arith, commands-long c, i .on-time, f .under sizes, f .under given, f .under table, f .under rule, f .under usage, f .under unit, few-edges c h)
   near c h show i =
       let f = h .few in
-      omega (arith, commands-long c, i .on-time, f .few-given, f .few-tables, f .few-rules, f .few-uses, f .few-units, few-edges c h)
+      omega (arith, commands-long c, i .on-time, f .under sizes, f .under given, f .under table, f .under rule, f .under usage, f .under unit, few-edges c h)
   near c h end i = all-there c h
 
   module _ (result : Reading) (p : Plan) (at : ℕ) (s : List ℕ) (cut : Cut n result p at s) where
@@ -178,7 +183,7 @@ reading-prefix n bytes long =
     let result : Reading = reading (take n bytes) in
     let none : n - 0 ≡ n = omega arith in
     walk-keeps (Cut n result) (λ x. result ≡ x) (λ p q at s k c l. on n long result p at s c q k l)
-    (λ p at s c e. ended-so n long result p at s c (accepted p) (rw e (end-step p at)))
+    (λ p at s c e right. ended-so n long result p at s c (accepted p) (rw e (end-step p at right)))
     (λ p at s f c e. ended-so n long result p at s c (refused f) (ap (stepOf p) e)) emptyPlan 0 bytes
     (record {
       contents = nothing;

@@ -3,7 +3,7 @@
 use mathlib.Core.Path.{_≡_, refl, ap, sym, _∙_, subst}
 use mathlib.Core.List.{List, [], _∷_, _++_, append-assoc, append-nil, flatMap, List·Memᴰ, List·Memᴰ·head, List·Memᴰ·tail}
 use mathlib.Core.List.{List·Memᴰ·append-cases, List·Memᴰ·eq-of-singleton, List·Memᴰ·not-nil}
-use mathlib.Core.Bool.{true}
+use mathlib.Core.Bool.{true, false}
 use mathlib.Core.Logic.{_⊎_, inl, inr}
 use Prim.Native.Nat.{ℕ, suc, _+_, _^_, _≤_, _<_}
 use native.Mathlib.Omega.{arith}
@@ -11,18 +11,22 @@ use lib.ListN.{length, length-append}
 use lib.Pow.{pow-mono}
 use lib.Seq.{drop-at}
 use borrow.Author.Tests.{le-ltb, lt-leb}
+use Rattle.atoms.proofs.Tests.{decided-false}
 use Rattle.plan.specs.Limits.{MAX_TABLES, MAX_RULES, MAX_USES, MAX_UNITS, MAX_EDGES}
 use Rattle.reading.specs.Words.{WORD_VALUES}
-use Rattle.reading.specs.Commands.{Kind, given, table, rule, usage, unit, edge, show, end, byteOf, operandBytes, carrying, late, rows, ofKind, commandAt}
+use Rattle.reading.specs.Commands.{Kind, sizes, given, table, rule, usage, unit, edge, show, end, byteOf, operandBytes}
+use Rattle.reading.specs.Commands.{carrying, late, miscounted, rows, ofKind, commandAt}
 use Rattle.reading.specs.Reading.{onward, ended, stepOf, walk, reading, accepted, commandBytes}
-use Rattle.reading.specs.Layout.{TableWords, RuleWords, TableUse, UnitPair, Contents, givenBytes, tableBytes, ruleBytes, useBytes, unitBytes, edgeBytes}
-use Rattle.reading.specs.Layout.{showBytes, endBytes, commands, layout, recordOf, All, Distinct, GoodTable, GoodRule, GoodUse, GoodEdge, Within}
+use Rattle.reading.specs.Layout.{Sizes, TableWords, RuleWords, TableUse, UnitPair, Contents, Element}
+use Rattle.reading.specs.Layout.{countBytes, givenBytes, tableBytes, ruleBytes, useBytes, unitBytes, edgeBytes}
+use Rattle.reading.specs.Layout.{showBytes, endBytes, commands, layout, recordOf, All, Distinct, GoodTable, GoodRule, GoodUse, GoodEdge, Within, Counted}
 use Rattle.reading.proofs.Commands.{Passed, none-fits, known-command, in-place-passed, adds, step-when}
 use Rattle.reading.proofs.CommandKinds.{kind-of-byte}
 use Rattle.reading.proofs.Walk.{walk-on, walk-ended}
-use Rattle.reading.proofs.Elements.{Element, nothing, with, operandsOf, operands-long, elementAt, read-again, Sized, Fits, right-passed}
+use Rattle.reading.proofs.Elements.{nothing, with, operandsOf, operands-long, elementAt, read-again, Sized, few-so, few-within, Fits, right-passed}
 use Rattle.reading.proofs.Elements.{record-none, record-with}
 use Rattle.reading.proofs.Lists.{length-snoc, all-snoc}
+use Rattle.reading.proofs.Sizes.{decides-miscounted}
 use Rattle.plan.specs.declared.record.Plan.{Plan}
 
 -- a command that no row stops is what it carries
@@ -129,69 +133,90 @@ new-follow most P (x ∷ xs) done l b h d a = (
         go (inl old) = h e (List·Memᴰ·tail m) old
         go (inr q) = d .0 (subst (λ (y : _). List·Memᴰ y xs) (List·Memᴰ·eq-of-singleton q) m)
 
-pub end-step : (p : Plan) (at : ℕ) → stepOf p (commandAt p at endBytes) ≡ ended (accepted p)
+-- what holds of nothing in particular
+all-unit : {A : Type 0} (xs : List A) → All (λ x. Unit {0}) xs
+all-unit [] = tt
+all-unit (x ∷ xs) = (tt, all-unit xs)
+
+pub end-step : (p : Plan) (at : ℕ) → miscounted p ≡ false → stepOf p (commandAt p at endBytes) ≡ ended (accepted p)
 unfolding carrying late
-end-step p at = ap (stepOf p) (read-as p at end [] (refl, (refl, (refl, (refl, tt)))))
+end-step p at right = ap (stepOf p) (read-as p at end [] (refl, (refl, (refl, (right, (refl, tt))))))
 
 -- ---- all groups
 
 module _ (c : Contents) (w : Within c) where
-  given-only : List ℕ → Contents
-  given-only d = record { given = d; tables = []; rules = []; uses = []; units = []; edges = []; shown = [] }
+  counts-only : List Sizes → Contents
+  counts-only d = record { declared = d; given = []; tables = []; rules = []; uses = []; units = []; edges = []; shown = [] }
+
+  given-too : List ℕ → Contents
+  given-too d = record { declared = c .declared; given = d; tables = []; rules = []; uses = []; units = []; edges = []; shown = [] }
 
   tables-too : List TableWords → Contents
-  tables-too d = record { given = c .given; tables = d; rules = []; uses = []; units = []; edges = []; shown = [] }
+  tables-too d = record { declared = c .declared; given = c .given; tables = d; rules = []; uses = []; units = []; edges = []; shown = [] }
 
   rules-too : List RuleWords → Contents
-  rules-too d = record { given = c .given; tables = c .tables; rules = d; uses = []; units = []; edges = []; shown = [] }
+  rules-too d = record { declared = c .declared; given = c .given; tables = c .tables; rules = d; uses = []; units = []; edges = []; shown = [] }
 
   uses-too : List TableUse → Contents
-  uses-too d = record { given = c .given; tables = c .tables; rules = c .rules; uses = d; units = []; edges = []; shown = [] }
+  uses-too d = record { declared = c .declared; given = c .given; tables = c .tables; rules = c .rules; uses = d; units = []; edges = []; shown = [] }
 
   units-too : List ℕ → Contents
-  units-too d = record { given = c .given; tables = c .tables; rules = c .rules; uses = c .uses; units = d; edges = []; shown = [] }
+  units-too d = record { declared = c .declared; given = c .given; tables = c .tables; rules = c .rules; uses = c .uses; units = d; edges = []; shown = [] }
 
   edges-too : List UnitPair → Contents
-  edges-too d = record { given = c .given; tables = c .tables; rules = c .rules; uses = c .uses; units = c .units; edges = d; shown = [] }
+  edges-too d =
+      record {
+        declared = c .declared;
+        given = c .given;
+        tables = c .tables;
+        rules = c .rules;
+        uses = c .uses;
+        units = c .units;
+        edges = d;
+        shown = [];
+      }
 
   shown-too : List ℕ → Contents
-  shown-too d = record { given = c .given; tables = c .tables; rules = c .rules; uses = c .uses; units = c .units; edges = c .edges; shown = d }
+  shown-too d =
+      record {
+        declared = c .declared;
+        given = c .given;
+        tables = c .tables;
+        rules = c .rules;
+        uses = c .uses;
+        units = c .units;
+        edges = c .edges;
+        shown = d;
+      }
 
-  given-taken : Takes (recordOf nothing) (flatMap givenBytes (c .given)) (recordOf (given-only (c .given)))
-  unfolding recordOf given-only
+  counts-taken : Takes (recordOf nothing) (flatMap countBytes (c .declared)) (recordOf (counts-only (c .declared)))
+  unfolding recordOf counts-only
+  counts-taken =
+      group-takes countBytes (λ d. recordOf (counts-only d)) (λ d x. (length d < 1) × Unit {0})
+      (λ d x f. one-takes (counts-only d) sizes x refl (record {
+        few = few-so _ (omega (arith, f .0)) (omega arith) (omega arith) (omega arith) (omega arith) (omega arith) (omega arith) tt;
+        in-place = record { on-time = omega (arith, f .0); room = refl };
+        right = tt;
+      }) tt)
+      (c .declared) [] (few-follow 1 (λ x. Unit {0}) (c .declared) [] (omega (arith, w .one-count)) (all-unit (c .declared)))
+
+  given-taken : Takes (recordOf (counts-only (c .declared))) (flatMap givenBytes (c .given)) (recordOf (given-too (c .given)))
+  unfolding recordOf counts-only given-too
   given-taken =
-      group-takes givenBytes (λ d. recordOf (given-only d)) (λ d x. (length d < 1) × (x < WORD_VALUES))
-      (λ d x f. one-takes (given-only d) given x refl (record {
-        few =
-            record {
-              few-given = omega (arith, f .0);
-              few-tables = omega arith;
-              few-rules = omega arith;
-              few-uses = omega arith;
-              few-units = omega arith;
-              few-shown = omega arith;
-              good-uses = tt;
-            };
+      group-takes givenBytes (λ d. recordOf (given-too d)) (λ d x. (length d < 1) × (x < WORD_VALUES))
+      (λ d x f. one-takes (given-too d) given x refl (record {
+        few = few-so _ (w .one-count) (omega (arith, f .0)) (omega arith) (omega arith) (omega arith) (omega arith) (omega arith) tt;
         in-place = record { on-time = omega (arith, f .0); room = refl };
         right = tt;
       }) (f .1))
       (c .given) [] (few-follow 1 (λ x. x < WORD_VALUES) (c .given) [] (omega (arith, w .one-given)) (w .good-given))
 
-  tables-taken : Takes (recordOf (given-only (c .given))) (flatMap tableBytes (c .tables)) (recordOf (tables-too (c .tables)))
-  unfolding recordOf given-only tables-too
+  tables-taken : Takes (recordOf (given-too (c .given))) (flatMap tableBytes (c .tables)) (recordOf (tables-too (c .tables)))
+  unfolding recordOf given-too tables-too
   tables-taken =
       group-takes tableBytes (λ d. recordOf (tables-too d)) (λ d x. (length d < MAX_TABLES) × GoodTable x)
       (λ d x f. one-takes (tables-too d) table x refl (record {
-        few =
-            record {
-              few-given = w .one-given;
-              few-tables = omega (arith, f .0);
-              few-rules = omega arith;
-              few-uses = omega arith;
-              few-units = omega arith;
-              few-shown = omega arith;
-              good-uses = tt;
-            };
+        few = few-so _ (w .one-count) (w .one-given) (omega (arith, f .0)) (omega arith) (omega arith) (omega arith) (omega arith) tt;
         in-place = record { on-time = omega arith; room = lt-leb _ _ (f .0) };
         right = (f .1 .few-inputs, f .1 .rows-there);
       }) (f .1 .inputs-fit, f .1 .truth-fits))
@@ -202,16 +227,7 @@ module _ (c : Contents) (w : Within c) where
   rules-taken =
       group-takes ruleBytes (λ d. recordOf (rules-too d)) (λ d x. (length d < MAX_RULES) × GoodRule x)
       (λ d x f. one-takes (rules-too d) rule x refl (record {
-        few =
-            record {
-              few-given = w .one-given;
-              few-tables = w .most-tables;
-              few-rules = omega (arith, f .0);
-              few-uses = omega arith;
-              few-units = omega arith;
-              few-shown = omega arith;
-              good-uses = tt;
-            };
+        few = few-so _ (w .one-count) (w .one-given) (w .most-tables) (omega (arith, f .0)) (omega arith) (omega arith) (omega arith) tt;
         in-place = record { on-time = omega arith; room = lt-leb _ _ (f .0) };
         right = (f .1 .some-word, f .1 .none-shared);
       }) (f .1 .head-fits, (f .1 .positive-fits, f .1 .negative-fits)))
@@ -223,16 +239,7 @@ module _ (c : Contents) (w : Within c) where
       let Good = GoodUse (length (c .rules)) (length (c .tables)) in
       group-takes useBytes (λ d. recordOf (uses-too d)) (New MAX_USES Good)
       (λ d x f. one-takes (uses-too d) usage x refl (record {
-        few =
-            record {
-              few-given = w .one-given;
-              few-tables = w .most-tables;
-              few-rules = w .most-rules;
-              few-uses = omega (arith, f .room);
-              few-units = omega arith;
-              few-shown = omega arith;
-              good-uses = f .all-good;
-            };
+        few = few-so _ (w .one-count) (w .one-given) (w .most-tables) (w .most-rules) (omega (arith, f .room)) (omega arith) (omega arith) (f .all-good);
         in-place = record { on-time = omega arith; room = lt-leb _ _ (f .room) };
         right = (f .good, f .new);
       }) tt)
@@ -244,16 +251,7 @@ module _ (c : Contents) (w : Within c) where
       let most : 2 ^ length (c .rules) ≤ WORD_VALUES = pow-mono (w .most-rules) in
       group-takes unitBytes (λ d. recordOf (units-too d)) (λ d x. (length d < MAX_UNITS) × (x < 2 ^ length (c .rules)))
       (λ d x f. one-takes (units-too d) unit x refl (record {
-        few =
-            record {
-              few-given = w .one-given;
-              few-tables = w .most-tables;
-              few-rules = w .most-rules;
-              few-uses = w .most-uses;
-              few-units = omega (arith, f .0);
-              few-shown = omega arith;
-              good-uses = w .good-uses;
-            };
+        few = few-so _ (w .one-count) (w .one-given) (w .most-tables) (w .most-rules) (w .most-uses) (omega (arith, f .0)) (omega arith) (w .good-uses);
         in-place = record { on-time = omega arith; room = lt-leb _ _ (f .0) };
         right = f .1;
       }) (omega (arith, f .1)))
@@ -265,16 +263,7 @@ module _ (c : Contents) (w : Within c) where
       let Good = GoodEdge (length (c .units)) in
       group-takes edgeBytes (λ d. recordOf (edges-too d)) (New MAX_EDGES Good)
       (λ d x f. one-takes (edges-too d) edge x refl (record {
-        few =
-            record {
-              few-given = w .one-given;
-              few-tables = w .most-tables;
-              few-rules = w .most-rules;
-              few-uses = w .most-uses;
-              few-units = w .most-units;
-              few-shown = omega arith;
-              good-uses = w .good-uses;
-            };
+        few = few-so _ (w .one-count) (w .one-given) (w .most-tables) (w .most-rules) (w .most-uses) (w .most-units) (omega arith) (w .good-uses);
         in-place = record { on-time = omega arith; room = refl };
         right = (f .good, f .new);
       }) tt)
@@ -285,16 +274,7 @@ module _ (c : Contents) (w : Within c) where
   shown-taken =
       group-takes showBytes (λ d. recordOf (shown-too d)) (λ d x. (length d < 1) × (x < WORD_VALUES))
       (λ d x f. one-takes (shown-too d) show x refl (record {
-        few =
-            record {
-              few-given = w .one-given;
-              few-tables = w .most-tables;
-              few-rules = w .most-rules;
-              few-uses = w .most-uses;
-              few-units = w .most-units;
-              few-shown = omega (arith, f .0);
-              good-uses = w .good-uses;
-            };
+        few = few-so _ (w .one-count) (w .one-given) (w .most-tables) (w .most-rules) (w .most-uses) (w .most-units) (omega (arith, f .0)) (w .good-uses);
         in-place = record { on-time = omega (arith, f .0); room = refl };
         right = tt;
       }) (f .1))
@@ -303,9 +283,10 @@ module _ (c : Contents) (w : Within c) where
   commands-taken : Takes (recordOf nothing) (commands c) (recordOf c)
   unfolding commands
   commands-taken =
-      takes-both given-taken
+      takes-both counts-taken
+      (takes-both given-taken
       (takes-both tables-taken
-      (takes-both rules-taken (takes-both uses-taken (takes-both units-taken (takes-both edges-taken shown-taken)))))
+      (takes-both rules-taken (takes-both uses-taken (takes-both units-taken (takes-both edges-taken shown-taken))))))
 
   -- behind the commands of lists within the limits reading goes on with their record
   pub commands-read : (rest : List ℕ) → reading (commands c ++ rest) ≡ walk (recordOf c) (length (commands c)) 0 rest
@@ -316,7 +297,8 @@ module _ (c : Contents) (w : Within c) where
       ∙ ap (λ (n : ℕ). walk (recordOf c) n 0 rest) at
 
 -- "reading their layout accepts and gives the record of these lists"
-pub layout-is-read : (c : Contents) → Within c → reading (layout c) ≡ accepted (recordOf c)
-layout-is-read c w =
+pub layout-is-read : (c : Contents) → Within c → Counted c → reading (layout c) ≡ accepted (recordOf c)
+layout-is-read c w right =
     let at : ℕ = length (commands c) in
-    commands-read c w endBytes ∙ walk-ended (recordOf c) at endBytes (accepted (recordOf c)) (end-step (recordOf c) at)
+    let counted : miscounted (recordOf c) ≡ false = decided-false (decides-miscounted c (few-within w)) (λ n. n right) in
+    commands-read c w endBytes ∙ walk-ended (recordOf c) at endBytes (accepted (recordOf c)) (end-step (recordOf c) at counted)

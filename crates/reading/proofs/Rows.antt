@@ -22,24 +22,26 @@ use Rattle.plan.specs.Limits.{MAX_UNITS}
 use Rattle.plan.specs.Record.{usesAt}
 use Rattle.plan.specs.Faults.{number, spot, TableRow, FirstFit}
 use Rattle.reading.specs.Words.{WORD_BYTES, wordAt}
-use Rattle.reading.specs.Commands.{Kind, given, table, rule, usage, unit, edge, show, end, byteOf, kindOf, operandBytes, orderOf, earliestBehind}
-use Rattle.reading.specs.Commands.{carrying, kinds, count, countBehind, late, full}
-use Rattle.reading.specs.Commands.{emptyRule, contradictory, badTable, badUse, absentRule, badEdge, Row, operandRows, rows, firstFit, ofKind, commandAt}
-use Rattle.reading.specs.Layout.{RuleWords, TableUse, UnitPair, Contents, predecessorsOf, recordOf, IsByte, All}
-use Rattle.reading.specs.Refusals.{Begins, countOf, Full, UnknownByte, OutOfGroupOrder, OneTooMany, CutShort, before-end, inside-operands}
+use Rattle.reading.specs.Commands.{Kind, sizes, given, table, rule, usage, unit, edge, show, end, byteOf, kindOf, operandBytes, orderOf, earliestBehind}
+use Rattle.reading.specs.Commands.{Most, once, upTo, runsOutAt, mostOf, carrying, kinds, count, countBehind, late, noRoom, full}
+use Rattle.reading.specs.Commands.{emptyRule, contradictory, badTable, badUse, absentRule, badEdge, miscounted}
+use Rattle.reading.specs.Commands.{Row, operandRows, rows, firstFit, ofKind, commandAt}
+use Rattle.reading.specs.Layout.{RuleWords, TableUse, UnitPair, Contents, Element, predecessorsOf, recordOf, IsByte, All, Counted}
+use Rattle.reading.specs.Refusals.{Begins, countOf, NoRoom, Full, UnknownByte, OutOfGroupOrder, OneTooMany, CutShort, before-end, inside-operands}
 use Rattle.reading.specs.Refusals.{NoTable, WrongTable, NoNewUse, no-such-rule, no-such-table, another-sign, again, WrongUse}
 use Rattle.reading.specs.Refusals.{ZeroRule, ContradictoryRule, NamesAbsentRule, NoNewEdge, no-such-u, no-such-v, to-itself, repeated}
-use Rattle.reading.specs.Refusals.{WrongEdge, BytesAfterEnd}
+use Rattle.reading.specs.Refusals.{WrongEdge, Miscounted, BytesAfterEnd}
 use Rattle.reading.specs.Refusals.{row, readingPlace}
 use Rattle.reading.proofs.Numbers.{word-fits}
 use Rattle.reading.proofs.HighBits.{atom-from}
 use Rattle.reading.proofs.CommandKinds.{kind-of-byte, kind-byte, byte-own, each-kind, Later, later-there, none-behind}
 use Rattle.reading.proofs.Commands.{Passed, none-fits, known-command, unknown-command, not-faulty}
 use Rattle.reading.proofs.Predecessors.{has-member, member-has}
+use Rattle.reading.proofs.Sizes.{decides-miscounted, some-wrong, none-wrong}
 use Rattle.reading.proofs.Tables.{decides-bad-table}
 use Rattle.reading.proofs.Program.{bitOf, use-has}
-use Rattle.reading.proofs.Elements.{Element, operandsOf, elementAt, written-again, read-again, Sized, Few, decides-empty, decides-contradictory}
-use Rattle.reading.proofs.Elements.{row-is, uses-are, bit-of-use}
+use Rattle.reading.proofs.Elements.{operandsOf, elementAt, written-again, read-again, Sized, Few, decides-empty, decides-contradictory}
+use Rattle.reading.proofs.Elements.{count-of, row-is, uses-are, bit-of-use}
 use Rattle.plan.specs.declared.fault.Fault.{Fault}
 use Rattle.plan.specs.declared.fault.Fault.the-variants.{Truncated, UnknownCommand}
 use Rattle.reading.specs.declared.command.Command.{Command}
@@ -120,6 +122,11 @@ begins-own j k operands b = byte-own j k (sym (head-same (b .is)))
 decides-le : (a b : ℕ) → Decides (a ≤ b) (leb a b)
 decides-le a b = record { yes = leb-true a b; no = λ e h. omega (arith, leb-false a b e) }
 
+decides-room : (m : Most) (n : ℕ) → Decides (NoRoom m n) (noRoom m n)
+decides-room once n = record { yes = λ e. true≢false (sym e); no = λ e x. x }
+decides-room (upTo m) n = decides-le m n
+decides-room (runsOutAt m) n = record { yes = λ e. true≢false (sym e); no = λ e x. x }
+
 -- words that are not apart share an atom
 shared-atom : (a b : ℕ) → ¬ Apart a b → (i : ℕ) × Has a i × Has b i
 shared-atom a b n =
@@ -127,27 +134,8 @@ shared-atom a b n =
     (i .0, cut-left a b (i .1), cut-right a b (i .1))
 
 module _ (c : Contents) (few : Few c) where
-  count-of : (k : Kind) → count (recordOf c) k ≡ countOf c k
-  unfolding recordOf
-  count-of given = refl
-  count-of table = refl
-  count-of rule = refl
-  count-of usage = refl
-  count-of unit = refl
-  count-of edge = refl
-  count-of show = refl
-  count-of end = refl
-
   decides-full : (k : Kind) → Decides (Full c k) (full (recordOf c) k)
-  unfolding recordOf
-  decides-full given = record { yes = λ e. true≢false (sym e); no = λ e x. x }
-  decides-full table = decides-le _ _
-  decides-full rule = decides-le _ _
-  decides-full usage = decides-le _ _
-  decides-full unit = decides-le _ _
-  decides-full edge = record { yes = λ e. true≢false (sym e); no = λ e x. x }
-  decides-full show = record { yes = λ e. true≢false (sym e); no = λ e x. x }
-  decides-full end = record { yes = λ e. true≢false (sym e); no = λ e x. x }
+  decides-full k = subst (λ (n : ℕ). Decides (Full c k) (noRoom (mostOf k) n)) (sym (count-of c k)) (decides-room (mostOf k) (countOf c k))
 
   decides-bad-use : (x : TableUse) → Decides (NoNewUse c x) (badUse (recordOf c) (x .rule) (x .table) (x .sign))
   unfolding recordOf badUse
@@ -238,7 +226,7 @@ module _ (c : Contents) (few : Few c) (operands : List ℕ) where
             kind = k;
             begins = begins k;
             before = j .kind;
-            there = subst (λ (n : ℕ). 0 < n) (count-of c few (j .kind)) (j .there);
+            there = subst (λ (n : ℕ). 0 < n) (count-of c (j .kind)) (j .there);
             too-late = j .behind;
           }
 
@@ -246,7 +234,7 @@ module _ (c : Contents) (few : Few c) (operands : List ℕ) where
       in-order h o =
           let too-late : orderOf k < orderOf (earliestBehind (o .before)) =
           subst (λ (j : Kind). orderOf j < orderOf (earliestBehind (o .before))) (own k (o .kind) (o .begins)) (o .too-late) in
-          omega (arith, o .there, count-of c few (o .before), none-behind (recordOf c) (orderOf k) h (o .before) too-late)
+          omega (arith, o .there, count-of c (o .before), none-behind (recordOf c) (orderOf k) h (o .before) too-late)
 
   many-decided : (k : Kind) → Decides (OneTooMany c (byteOf k ∷ operands)) (full (recordOf c) k)
   many-decided k =
@@ -373,6 +361,17 @@ module _ (c : Contents) (few : Few c) (operands : List ℕ) where
         decides-iff (λ w. record { pair = elementAt edge operands; more = behind edge; is = written edge long; wrong = w })
         (λ w. subst (NoNewEdge c) (sym (spelt edge (w .pair) (w .more) (w .is) tt)) (w .wrong)) (decides-bad c few (elementAt edge operands))
 
+    sizes-decided : Decides (Miscounted c (byteOf end ∷ operands)) (miscounted (recordOf c))
+    sizes-decided = decides-iff wrong right (decides-miscounted c few)
+      where
+        wrong : ¬ Counted c → Miscounted c (byteOf end ∷ operands)
+        wrong n =
+            let s = some-wrong c few n in
+            record { more = operands; is = refl; sizes = s .0; declared = s .1; differs = s .2 }
+
+        right : Miscounted c (byteOf end ∷ operands) → ¬ Counted c
+        right m a = none-wrong c a (m .sizes) (m .declared) (m .differs)
+
     end-decided : Decides (BytesAfterEnd (byteOf end ∷ operands)) (ltb 0 (length operands))
     end-decided = go operands
       where
@@ -397,6 +396,7 @@ module _ (c : Contents) (few : Few c) (operands : List ℕ) where
 
     -- the rows that go by the operands of a command of kind j, at a command of kind k
     abbrev ownRows : ℕ → Kind → Kind → List TableRow
+    ownRows at k sizes = []
     ownRows at k given = []
     ownRows at k table = row 18 (WrongTable (byteOf k ∷ operands)) at ∷ []
     ownRows at k rule = row 6 (ZeroRule (byteOf k ∷ operands)) at ∷ row 21 (ContradictoryRule (byteOf k ∷ operands)) at ∷ []
@@ -404,11 +404,12 @@ module _ (c : Contents) (few : Few c) (operands : List ℕ) where
     ownRows at k unit = row 7 (NamesAbsentRule c (byteOf k ∷ operands)) at ∷ []
     ownRows at k edge = row 8 (WrongEdge c (byteOf k ∷ operands)) at ∷ []
     ownRows at k show = []
-    ownRows at k end = row 9 (BytesAfterEnd (byteOf k ∷ operands)) (suc at) ∷ []
+    ownRows at k end = row 23 (Miscounted c (byteOf k ∷ operands)) 0 ∷ row 9 (BytesAfterEnd (byteOf k ∷ operands)) (suc at) ∷ []
 
     -- those of another kind do not fit
     other-skipped : (at : ℕ) (k j : Kind) → eqb (byteOf j) (byteOf k) ≡ false → {rs : List Row} {ts : List TableRow}
         → Agree rs ts → Agree rs (ownRows at k j ++ ts)
+    other-skipped at k sizes e a = a
     other-skipped at k given e a = a
     other-skipped at k table e a = skips (λ (w : WrongTable (byteOf k ∷ operands)). other table k e (w .is)) a
     other-skipped at k rule e a =
@@ -418,11 +419,14 @@ module _ (c : Contents) (few : Few c) (operands : List ℕ) where
     other-skipped at k unit e a = skips (λ (n : NamesAbsentRule c (byteOf k ∷ operands)). other unit k e (n .is)) a
     other-skipped at k edge e a = skips (λ (w : WrongEdge c (byteOf k ∷ operands)). other edge k e (w .is)) a
     other-skipped at k show e a = a
-    other-skipped at k end e a = skips (λ (b : BytesAfterEnd (byteOf k ∷ operands)). other end k e (b .is)) a
+    other-skipped at k end e a =
+        skips (λ (m : Miscounted c (byteOf k ∷ operands)). other end k e (m .is))
+        (skips (λ (b : BytesAfterEnd (byteOf k ∷ operands)). other end k e (b .is)) a)
 
     -- those of its own kind are decided
     own-decided : (at : ℕ) (k : Kind) → operandBytes k ≤ length operands → {ts : List TableRow}
         → Agree [] ts → Agree (operandRows (recordOf c) at k operands) (ownRows at k k ++ ts)
+    own-decided at sizes long a = a
     own-decided at given long a = a
     own-decided at table long a = meets (meet refl refl (table-decided long)) (λ e. a)
     own-decided at rule long a =
@@ -431,7 +435,7 @@ module _ (c : Contents) (few : Few c) (operands : List ℕ) where
     own-decided at unit long a = meets (meet refl refl (absent-decided long)) (λ e. a)
     own-decided at edge long a = meets (meet refl refl (edge-decided long)) (λ e. a)
     own-decided at show long a = a
-    own-decided at end long a = meets (meet refl (add-one at) end-decided) (λ e. a)
+    own-decided at end long a = meets (meet refl refl sizes-decided) (λ e. meets (meet refl (add-one at) end-decided) (λ f. a))
 
     -- the rows of a list of kinds, in which k stands once
     abbrev rowsOf : ℕ → Kind → List Kind → List TableRow
@@ -442,9 +446,9 @@ module _ (c : Contents) (few : Few c) (operands : List ℕ) where
     lacks k [] = true
     lacks k (j ∷ js) = elim (eqb (byteOf j) (byteOf k)) [ true ↦ false | false ↦ lacks k js ]
 
-    abbrev once : Kind → List Kind → Bool
-    once k [] = false
-    once k (j ∷ js) = elim (eqb (byteOf j) (byteOf k)) [ true ↦ lacks k js | false ↦ once k js ]
+    abbrev standsOnce : Kind → List Kind → Bool
+    standsOnce k [] = false
+    standsOnce k (j ∷ js) = elim (eqb (byteOf j) (byteOf k)) [ true ↦ lacks k js | false ↦ standsOnce k js ]
 
     module _ (at : ℕ) (k : Kind) (long : operandBytes k ≤ length operands) where
       none-own : (js : List Kind) → lacks k js ≡ true → Agree [] (rowsOf at k js)
@@ -455,23 +459,23 @@ module _ (c : Contents) (few : Few c) (operands : List ℕ) where
           go true e rec = absurd (true≢false (sym (rw (e, lacks) at h)))
           go false e rec = other-skipped at k j e (rec (rw (e, lacks) at h))
 
-      own-once : (js : List Kind) → once k js ≡ true → Agree (operandRows (recordOf c) at k operands) (rowsOf at k js)
+      own-once : (js : List Kind) → standsOnce k js ≡ true → Agree (operandRows (recordOf c) at k operands) (rowsOf at k js)
       own-once [] h = absurd (true≢false (sym h))
       own-once (j ∷ js) h = go (eqb (byteOf j) (byteOf k)) refl (own-once js)
         where
-          go : (b : Bool) → eqb (byteOf j) (byteOf k) ≡ b → (once k js ≡ true → Agree (operandRows (recordOf c) at k operands) (rowsOf at k js))
+          go : (b : Bool) → eqb (byteOf j) (byteOf k) ≡ b → (standsOnce k js ≡ true → Agree (operandRows (recordOf c) at k operands) (rowsOf at k js))
               → Agree (operandRows (recordOf c) at k operands) (rowsOf at k (j ∷ js))
           go true e rec =
               subst (λ (i : Kind). Agree (operandRows (recordOf c) at k operands) (ownRows at k i ++ rowsOf at k js))
-              (sym (byte-own j k (eqb-true _ _ e))) (own-decided at k long (none-own js (rw (e, once) at h)))
-          go false e rec = other-skipped at k j e (rec (rw (e, once) at h))
+              (sym (byte-own j k (eqb-true _ _ e))) (own-decided at k long (none-own js (rw (e, standsOnce) at h)))
+          go false e rec = other-skipped at k j e (rec (rw (e, standsOnce) at h))
 
     -- the kinds in the order of their rows
     abbrev byRows : List Kind
-    byRows = rule ∷ table ∷ usage ∷ unit ∷ edge ∷ end ∷ given ∷ show ∷ []
+    byRows = rule ∷ table ∷ usage ∷ unit ∷ edge ∷ end ∷ sizes ∷ given ∷ show ∷ []
 
     agree : (at : ℕ) (k : Kind) → Agree (rows (recordOf c) at k operands) (readingPlace c at (byteOf k ∷ operands))
-    agree at k = kind-rows at k (λ long. own-once at k long byRows (each-kind (λ j. once j byRows) refl k))
+    agree at k = kind-rows at k (λ long. own-once at k long byRows (each-kind (λ j. standsOnce j byRows) refl k))
 
 -- ---- the command at the front of s
 

@@ -6,7 +6,7 @@ use Prim.Native.Nat.{ℕ, zero, suc, _+_, _≤_, _<_}
 use native.Mathlib.Omega.{arith}
 use lib.ListN.{length, drop, length-drop}
 use borrow.Author.Tests.{ltb-false}
-use Rattle.reading.specs.Commands.{Kind, end, operandBytes, commandAt}
+use Rattle.reading.specs.Commands.{Kind, end, operandBytes, miscounted, commandAt}
 use Rattle.reading.specs.Reading.{Step, onward, ended, stepOf, walk, accepted, refused, commandBytes}
 use Rattle.reading.specs.Layout.{endBytes}
 use Rattle.reading.proofs.Commands.{Unstopped, Front, unstopped, stopped, front, goesOn, adds, only-end, step-when, Leads, leads-step}
@@ -38,9 +38,12 @@ module _ (p : Plan) (at : ℕ) where
   walk-ended [] r e = ap (readingOf r) e
   walk-ended (b ∷ s) r e = rw (e, walk)
 
--- END with nothing behind it
+-- END with the right sizes, and nothing behind it
+end-counted : (p : Plan) (at : ℕ) (s : List ℕ) → Unstopped end p at s → miscounted p ≡ false
+end-counted p at s u = u .right .0
+
 end-alone : (p : Plan) (at : ℕ) (s : List ℕ) → Unstopped end p at s → s ≡ endBytes
-end-alone p at s u = u .bytes ∙ ap (λ (t : List ℕ). 0x00 ∷ t) (empty (u .operands) (ltb-false _ _ (u .right .0)))
+end-alone p at s u = u .bytes ∙ ap (λ (t : List ℕ). 0x00 ∷ t) (empty (u .operands) (ltb-false _ _ (u .right .1 .0)))
   where
     empty : (l : List ℕ) → length l ≤ 0 → l ≡ []
     empty [] h = refl
@@ -49,7 +52,7 @@ end-alone p at s u = u .bytes ∙ ap (λ (t : List ℕ). 0x00 ∷ t) (empty (u .
 -- what each command keeps holds to the end: I of the record, the place and the bytes from there on; P of what reading gives
 module _ (I : Plan → ℕ → List ℕ → Type 0) (P : Reading → Type 0)
     (on : (p q : Plan) (at : ℕ) (s : List ℕ) (k : Kind) → I p at s → Leads k p at s q → I q (at + commandBytes k) (drop (commandBytes k) s))
-    (well : (p : Plan) (at : ℕ) (s : List ℕ) → I p at s → s ≡ endBytes → P (accepted p))
+    (well : (p : Plan) (at : ℕ) (s : List ℕ) → I p at s → s ≡ endBytes → miscounted p ≡ false → P (accepted p))
     (ill : (p : Plan) (at : ℕ) (s : List ℕ) (f : Fault) → I p at s → commandAt p at s ≡ Faulty f → P (refused f)) where
   module _ (n : ℕ) (rec : (q : Plan) (a : ℕ) (t : List ℕ) → length t < n → I q a t → P (walk q a 0 t)) (p : Plan) (at : ℕ) (s : List ℕ)
       (short : length s < suc n) (i : I p at s) where
@@ -67,7 +70,8 @@ module _ (I : Plan → ℕ → List ℕ → Type 0) (P : Reading → Type 0)
         go true a = one-more k _ (record { read = u; more = a; is = refl })
         go false a =
             let last : Unstopped end p at s = subst (λ (j : Kind). Unstopped j p at s) (only-end k a) u in
-            rw (walk-ended p at s (accepted p) (ap (stepOf p) (u .command) ∙ step-when p k (u .operands) false a)) (well p at s i (end-alone p at s last))
+            rw (walk-ended p at s (accepted p) (ap (stepOf p) (u .command) ∙ step-when p k (u .operands) false a))
+            (well p at s i (end-alone p at s last) (end-counted p at s last))
 
   keeps-within : (n : ℕ) (p : Plan) (at : ℕ) (s : List ℕ) → length s < n → I p at s → P (walk p at 0 s)
   keeps-within zero p at s l i = absurd (omega arith)

@@ -3,88 +3,101 @@
 use mathlib.Core.List.{List, [], _∷_, _++_}
 use mathlib.Core.Bool.{Bool, true, false, not, _||_, _&&_}
 use mathlib.Core.Option.{Option, some, none}
-use Prim.Native.Nat.{ℕ, _+_, _*_, _^_}
+use Prim.Native.Nat.{ℕ, suc, _+_, _*_, _^_}
 use lib.Count.{ones}
 use lib.ListN.{length, getD}
 use lib.Dec.{eqb, ltb, leb}
 use Rattle.atoms.specs.Word.{has, apart}
 use Rattle.reading.specs.Words.{WORD_BYTES, wordAt}
-use Rattle.plan.specs.Limits.{MAX_TABLES, MAX_RULES, MAX_USES, MAX_UNITS, MAX_INPUTS, CONTACT_WORDS}
+use Rattle.plan.specs.Limits.{MAX_TABLES, MAX_RULES, MAX_USES, MAX_UNITS, MAX_EDGES, MAX_INPUTS, CONTACT_WORDS}
 use Rattle.plan.specs.Record.{wantedBit, usesAt}
 use Rattle.plan.specs.declared.record.Plan.{Plan}
 use Rattle.reading.specs.declared.command.Command.{Command}
-use Rattle.reading.specs.declared.command.Command.the-variants.{Given, Table, Rule, Use, Unit as UnitOf, Edge, Show, End, Fault as Faulty}
+use Rattle.reading.specs.declared.command.Command.the-variants.{Count, Given, Table, Rule, Use, Unit as UnitOf, Edge, Show, End, Fault as Faulty}
 use Rattle.plan.specs.declared.fault.Fault.{Fault}
 use Rattle.plan.specs.declared.fault.Fault.the-variants.{Truncated, UnknownCommand, OutOfOrder, TooMany}
-use Rattle.plan.specs.declared.fault.Fault.the-variants.{EmptyRule, ContradictoryBody, BadTable, BadUse, AbsentRule, BadEdge, TrailingBytes}
+use Rattle.plan.specs.declared.fault.Fault.the-variants.{EmptyRule, ContradictoryBody, BadTable, BadUse, AbsentRule, BadEdge, WrongCount, TrailingBytes}
 
--- column "command", GIVEN of document 02, S-1, TABLE and USE of S-4, and SHOW of S-11
+-- column "command", GIVEN of document 02, S-1, TABLE and USE of S-4, COUNT of S-10, and SHOW of S-11
 pub data Kind : Type 0 where
-  given table rule usage unit edge show end : Kind
+  sizes given table rule usage unit edge show end : Kind
+  deriving Discrete as kind-discrete
 
--- column "byte"
+-- all kinds, in the order of their groups: COUNT "may be the first command"; "All RULEs come first, then UNITs, then EDGEs, then END"; GIVEN stands
+-- "before all RULEs", TABLEs "before RULEs, after GIVEN", USE "after RULEs, before UNITs", SHOW "just before END"
+abbrev pub kinds : List Kind
+kinds = sizes ∷ given ∷ table ∷ rule ∷ usage ∷ unit ∷ edge ∷ show ∷ end ∷ []
+
+-- column "most": "may stand once", so that a second one is out of order; at most so many, and one more is 5; or so many because rows of its own stop any
+-- further one
+pub data Most : Type 0 where
+  once : Most
+  upTo : ℕ → Most
+  runsOutAt : ℕ → Most
+
+-- a line of the command table: columns "byte", "operands" in bytes, and "most"; and where the record says how many are read
+pub record CommandLine : Type 0 where
+  pub byte : ℕ
+  pub operands : ℕ
+  pub most : Most
+  pub read : Plan → ℕ
+
+abbrev line : ℕ → ℕ → Most → (Plan → ℕ) → CommandLine
+line b n m r = record { byte = b; operands = n; most = m; read = r }
+
+-- "head, positive, negative: three words"
+abbrev pub RULE_OPERAND_WORDS : ℕ
+RULE_OPERAND_WORDS = 3
+
+-- the command table. "65th RULE, 17th UNIT" and S-4's "17th and the 257th are 5"; a 241st EDGE names no unit, joins a unit to itself or is a repeat, so it
+-- has row 8 alone
+abbrev pub lineOf : Kind → CommandLine
+lineOf sizes = line 0x07 3 once (λ p. p .declared .count)
+lineOf given = line 0x04 WORD_BYTES once (λ p. p .«given_count»)
+lineOf table = line 0x05 (CONTACT_WORDS * WORD_BYTES) (upTo MAX_TABLES) (λ p. p .«table_count»)
+lineOf rule = line 0x01 (RULE_OPERAND_WORDS * WORD_BYTES) (upTo MAX_RULES) (λ p. p .«rule_count»)
+lineOf usage = line 0x06 3 (upTo MAX_USES) (λ p. p .«use_count»)
+lineOf unit = line 0x02 WORD_BYTES (upTo MAX_UNITS) (λ p. p .«unit_count»)
+lineOf edge = line 0x03 2 (runsOutAt MAX_EDGES) (λ p. p .«edge_count»)
+lineOf show = line 0x08 WORD_BYTES once (λ p. p .«show_count»)
+lineOf end = line 0x00 0 (runsOutAt 1) (λ p. 0)
+
 abbrev pub byteOf : Kind → ℕ
-byteOf given = 0x04
-byteOf table = 0x05
-byteOf rule = 0x01
-byteOf usage = 0x06
-byteOf unit = 0x02
-byteOf edge = 0x03
-byteOf show = 0x08
-byteOf end = 0x00
+byteOf k = lineOf k .byte
+
+abbrev pub operandBytes : Kind → ℕ
+operandBytes k = lineOf k .operands
+
+abbrev pub mostOf : Kind → Most
+mostOf k = lineOf k .most
+
+-- how many commands of the kind are read
+abbrev pub count : Plan → Kind → ℕ
+count p k = lineOf k .read p
 
 -- "One byte names a command"
 abbrev pub kindAmong : List Kind → ℕ → Option Kind
 kindAmong [] b = none
 kindAmong (kind ∷ kinds) b = elim (eqb b (byteOf kind)) [ true ↦ some kind | false ↦ kindAmong kinds b ]
 
--- all kinds
-abbrev pub kinds : List Kind
-kinds = given ∷ table ∷ rule ∷ usage ∷ unit ∷ edge ∷ show ∷ end ∷ []
-
 unfoldable pub kindOf : ℕ → Option Kind
 kindOf b = kindAmong kinds b
 
--- "head, positive, negative: three words"
-abbrev pub RULE_OPERAND_WORDS : ℕ
-RULE_OPERAND_WORDS = 3
+-- the place of a kind's group in the order
+abbrev pub placeAmong : List Kind → ℕ → ℕ
+placeAmong [] b = 0
+placeAmong (kind ∷ kinds) b = elim (eqb b (byteOf kind)) [ true ↦ 0 | false ↦ suc (placeAmong kinds b) ]
 
--- column "operands", in bytes
-abbrev pub operandBytes : Kind → ℕ
-operandBytes given = WORD_BYTES
-operandBytes table = CONTACT_WORDS * WORD_BYTES
-operandBytes rule = RULE_OPERAND_WORDS * WORD_BYTES
-operandBytes usage = 3
-operandBytes unit = WORD_BYTES
-operandBytes edge = 2
-operandBytes show = WORD_BYTES
-operandBytes end = 0
-
--- "All RULEs come first, then UNITs, then EDGEs, then END": the groups' order; GIVEN stands "before all RULEs", TABLEs "before RULEs, after
--- GIVEN", USE "after RULEs, before UNITs", SHOW "just before END"
 abbrev pub orderOf : Kind → ℕ
-orderOf given = 0
-orderOf table = 1
-orderOf rule = 2
-orderOf usage = 3
-orderOf unit = 4
-orderOf edge = 5
-orderOf show = 6
-orderOf end = 7
+orderOf k = placeAmong kinds (byteOf k)
 
--- the earliest kind that may come behind a command of this kind: GIVEN and SHOW "may stand once", a group goes on
+-- the earliest kind that may come behind a command of this kind: of those that "may stand once" the next one, and another group goes on
 abbrev pub earliestBehind : Kind → Kind
-earliestBehind given = table
-earliestBehind table = table
-earliestBehind rule = rule
-earliestBehind usage = usage
-earliestBehind unit = unit
-earliestBehind edge = edge
-earliestBehind show = end
-earliestBehind end = end
+earliestBehind k = elim (mostOf k) [ once ↦ getD kinds (suc (orderOf k)) end | upTo n ↦ k | runsOutAt n ↦ k ]
 
--- "A command is one of four kinds carrying its operands": of eight, with GIVEN, TABLE, USE and SHOW
+-- "A command is one of four kinds carrying its operands": of nine, with COUNT, GIVEN, TABLE, USE and SHOW
 unfoldable pub carrying : Kind → List ℕ → Command
+carrying sizes operands = Count (getD operands 0 0) (getD operands 1 0) (getD operands 2 0)
 carrying given operands = Given (wordAt 0 operands)
 carrying table operands = Table (wordAt 0 operands) (wordAt WORD_BYTES operands)
 carrying rule operands = Rule (wordAt 0 operands) (wordAt WORD_BYTES operands) (wordAt (2 * WORD_BYTES) operands)
@@ -94,39 +107,26 @@ carrying edge operands = Edge (getD operands 0 0) (getD operands 1 0)
 carrying show operands = Show (wordAt 0 operands)
 carrying end operands = End
 
--- how many commands of the kind are read
-abbrev pub count : Plan → Kind → ℕ
-count p given = p .«given_count»
-count p table = p .«table_count»
-count p rule = p .«rule_count»
-count p usage = p .«use_count»
-count p unit = p .«unit_count»
-count p edge = p .«edge_count»
-count p show = p .«show_count»
-count p end = 0
-
 -- how many commands are read behind which none of this group may come
 abbrev pub countBehind : Plan → ℕ → List Kind → ℕ
 countBehind p group [] = 0
 countBehind p group (j ∷ js) =
     elim (ltb group (orderOf (earliestBehind j))) [ true ↦ count p j + countBehind p group js | false ↦ countBehind p group js ]
 
--- "command out of group order": there is a command behind which it may not come; "a second or late GIVEN is 4";
+-- "command out of group order": there is a command behind which it may not come; "a second or late GIVEN is 4"; S-10: COUNT "may be the first
+-- command .. Elsewhere it is 4";
 -- S-11: "After SHOW every known command but END is 4."
 unfoldable pub late : Plan → ℕ → Bool
 late p group = ltb 0 (countBehind p group kinds)
 
--- column "most": "65th RULE, 17th UNIT"; a 241st EDGE names no unit, joins a unit to itself or is a repeat, so it has row 8 alone.
--- S-4: "At most 16 tables and 256 USEs; the 17th and the 257th are 5"
+-- 5: one more than column "most" allows, of n that are read
+abbrev pub noRoom : Most → ℕ → Bool
+noRoom once n = false
+noRoom (upTo m) n = leb m n
+noRoom (runsOutAt m) n = false
+
 abbrev pub full : Plan → Kind → Bool
-full p given = false
-full p table = leb MAX_TABLES (p .«table_count»)
-full p rule = leb MAX_RULES (p .«rule_count»)
-full p usage = leb MAX_USES (p .«use_count»)
-full p unit = leb MAX_UNITS (p .«unit_count»)
-full p edge = false
-full p show = false
-full p end = false
+full p k = noRoom (mostOf k) (count p k)
 
 -- "RULE with three zero words"
 unfoldable pub emptyRule : ℕ → ℕ → ℕ → Bool
@@ -153,6 +153,12 @@ absentRule p word = leb (2 ^ p .«rule_count») word
 unfoldable pub badEdge : Plan → ℕ → ℕ → Bool
 badEdge p u v = leb (p .«unit_count») u || leb (p .«unit_count») v || eqb u v || has (getD (p .predecessors) u 0) v
 
+-- S-10: "a declared number differs from what was read": RULEs, UNITs and EDGEs alone are counted
+unfoldable pub miscounted : Plan → Bool
+miscounted p =
+    ltb 0 (p .declared .count)
+    && not (eqb (p .declared .rules) (p .«rule_count») && eqb (p .declared .units) (p .«unit_count») && eqb (p .declared .edges) (p .«edge_count»))
+
 -- a row of the fault table: whether it fits, and its fault with the spot
 pub record Row : Type 0 where
   pub fits : Bool
@@ -165,8 +171,9 @@ row b f = record { fits = b; fault = f }
 abbrev pub kindRows : Plan → ℕ → Kind → List Row
 kindRows p at kind = row (late p (orderOf kind)) (OutOfOrder at) ∷ row (full p kind) (TooMany at) ∷ []
 
--- rows 6, 21, 18, 19 and 7 to 9: what the operands tell
+-- rows 6, 21, 18, 19, 7, 8, 23 and 9: what the operands tell, and at END the sizes; S-10: "found at END before 9, spot 0"
 abbrev pub operandRows : Plan → ℕ → Kind → List ℕ → List Row
+operandRows p at sizes operands = []
 operandRows p at given operands = []
 operandRows p at table operands = row (badTable (wordAt 0 operands) (wordAt WORD_BYTES operands)) (BadTable at) ∷ []
 operandRows p at rule operands =
@@ -177,7 +184,7 @@ operandRows p at usage operands = row (badUse p (getD operands 0 0) (getD operan
 operandRows p at unit operands = row (absentRule p (wordAt 0 operands)) (AbsentRule at) ∷ []
 operandRows p at edge operands = row (badEdge p (getD operands 0 0) (getD operands 1 0)) (BadEdge at) ∷ []
 operandRows p at show operands = []
-operandRows p at end operands = row (ltb 0 (length operands)) (TrailingBytes (at + 1)) ∷ []
+operandRows p at end operands = row (miscounted p) (WrongCount 0) ∷ row (ltb 0 (length operands)) (TrailingBytes (at + 1)) ∷ []
 
 -- the rows that a command of each kind can meet, from top to bottom; row 2 stands between the two
 abbrev pub rows : Plan → ℕ → Kind → List ℕ → List Row

@@ -9,9 +9,16 @@ use lib.ListN.{length, getD}
 use Rattle.atoms.specs.Lists.{padded, tabulate}
 use Rattle.atoms.specs.Word.{EVERY_ATOM, Has, Apart, _∪_, atom}
 use Rattle.reading.specs.Words.{WORD_BYTES, BYTE_VALUES, WORD_VALUES}
+use Rattle.reading.specs.Commands.{Kind, sizes, given, table, rule, usage, unit, edge, show, end}
 use Rattle.plan.specs.Limits.{MAX_TABLES, MAX_RULES, MAX_USES, MAX_UNITS, MAX_EDGES, MAX_INPUTS, FIRST_RULE, RULE_WORDS}
 use Rattle.plan.specs.Record.{wantedBit}
 use Rattle.plan.specs.declared.record.Plan.{Plan}
+
+-- S-10: "three bytes: rules, units, edges"
+pub record Sizes : Type 0 where
+  pub rules : ℕ
+  pub units : ℕ
+  pub edges : ℕ
 
 -- S-4: a TABLE "with an input word of at most six atoms and a truth word"
 pub record TableWords : Type 0 where
@@ -44,6 +51,10 @@ bytesOf (suc k) w = w % BYTE_VALUES ∷ bytesOf k (w / BYTE_VALUES)
 abbrev pub wordBytes : ℕ → List ℕ
 wordBytes w = bytesOf WORD_BYTES w
 
+-- S-10: "Command 0x07, COUNT, .. has three bytes: rules, units, edges"
+abbrev pub countBytes : Sizes → List ℕ
+countBytes s = 0x07 ∷ s .rules ∷ s .units ∷ s .edges ∷ []
+
 -- S-1: "Command 0x04, GIVEN, takes one word"
 abbrev pub givenBytes : ℕ → List ℕ
 givenBytes word = 0x04 ∷ wordBytes word
@@ -75,6 +86,7 @@ endBytes = 0x00 ∷ []
 
 -- what a plan says: its lists
 pub record Contents : Type 0 where
+  pub declared : List Sizes
   pub given : List ℕ
   pub tables : List TableWords
   pub rules : List RuleWords
@@ -83,15 +95,39 @@ pub record Contents : Type 0 where
   pub edges : List UnitPair
   pub shown : List ℕ
 
--- GIVEN "before all RULEs", TABLEs "before RULEs, after GIVEN", USE "after RULEs, before UNITs", "All RULEs come first, then UNITs, then
--- EDGEs", SHOW "just before END": every command but END
+-- what a command of each kind says, and all that those of a kind say
+abbrev pub Element : Kind → Type 0
+Element sizes = Sizes
+Element given = ℕ
+Element table = TableWords
+Element rule = RuleWords
+Element usage = TableUse
+Element unit = ℕ
+Element edge = UnitPair
+Element show = ℕ
+Element end = Unit {0}
+
+abbrev pub listOf : Contents → (kind : Kind) → List (Element kind)
+listOf c sizes = c .declared
+listOf c given = c .given
+listOf c table = c .tables
+listOf c rule = c .rules
+listOf c usage = c .uses
+listOf c unit = c .units
+listOf c edge = c .edges
+listOf c show = c .shown
+listOf c end = []
+
+-- COUNT "may be the first command", GIVEN "before all RULEs", TABLEs "before RULEs, after GIVEN", USE "after RULEs, before UNITs", "All RULEs come first,
+-- then UNITs, then EDGEs", SHOW "just before END": every command but END
 unfoldable pub commands : Contents → List ℕ
 commands c =
-    flatMap givenBytes (c .given)
+    flatMap countBytes (c .declared)
+    ++ (flatMap givenBytes (c .given)
     ++ (flatMap tableBytes (c .tables)
     ++ (flatMap ruleBytes (c .rules)
     ++ (flatMap useBytes (c .uses)
-    ++ (flatMap unitBytes (c .units) ++ (flatMap edgeBytes (c .edges) ++ flatMap showBytes (c .shown))))))
+    ++ (flatMap unitBytes (c .units) ++ (flatMap edgeBytes (c .edges) ++ flatMap showBytes (c .shown)))))))
 
 -- "then END"
 abbrev pub layout : Contents → List ℕ
@@ -118,10 +154,21 @@ ruleWords uses n (r ∷ rules) = r .head ∷ r .positive ∷ r .negative ∷ use
 unfoldable pub predecessorsOf : List UnitPair → ℕ → ℕ
 predecessorsOf edges u = wordOf (λ e. e .u) (λ e. e .v) edges u
 
+-- the sizes of the first COUNT
+abbrev pub firstSizes : List Sizes → Sizes
+firstSizes declared = getD declared 0 (record { rules = 0; units = 0; edges = 0 })
+
 -- the record of the lists
 unfoldable pub recordOf : Contents → Plan
 recordOf c =
     record {
+      declared =
+          record {
+            count = length (c .declared);
+            rules = firstSizes (c .declared) .rules;
+            units = firstSizes (c .declared) .units;
+            edges = firstSizes (c .declared) .edges;
+          };
       given = getD (c .given) 0 0;
       «given_count» = length (c .given);
       rules = padded FIRST_RULE (flatMap twoWords (c .tables)) ++ padded (RULE_WORDS * MAX_RULES) (ruleWords (c .uses) 0 (c .rules));
@@ -174,8 +221,9 @@ pub record GoodEdge (n : ℕ) (e : UnitPair) : Type 0 where
   pub to-there : e .v < n
   pub apart : ¬ (e .u ≡ e .v)
 
--- what a plan may hold: column "most", GIVEN and SHOW once, and rows 6, 21, 18, 19, 7 and 8 of the fault table
+-- what the commands before END may hold: column "most", COUNT, GIVEN and SHOW once, and rows 6, 21, 18, 19, 7 and 8 of the fault table
 pub record Within (c : Contents) : Type 0 where
+  pub one-count : length (c .declared) ≤ 1
   pub one-given : length (c .given) ≤ 1
   pub most-tables : length (c .tables) ≤ MAX_TABLES
   pub most-rules : length (c .rules) ≤ MAX_RULES
@@ -193,9 +241,20 @@ pub record Within (c : Contents) : Type 0 where
   pub no-repeat : Distinct (c .edges)
   pub good-shown : All (λ word. word < WORD_VALUES) (c .shown)
 
--- the bytes are the layout of lists within the limits, and the record is theirs
+-- S-10: the declared numbers are those of the lists
+pub record Agrees (c : Contents) (s : Sizes) : Type 0 where
+  pub rules-are : s .rules ≡ length (c .rules)
+  pub units-are : s .units ≡ length (c .units)
+  pub edges-are : s .edges ≡ length (c .edges)
+
+-- a whole plan's COUNT, if there is one, is right
+abbrev pub Counted : Contents → Type 0
+Counted c = All (Agrees c) (c .declared)
+
+-- the bytes are the layout of lists within the limits, rightly counted, and the record is theirs
 pub record IsPlan (bytes : List ℕ) (plan : Plan) : Type 0 where
   pub contents : Contents
   pub within : Within contents
+  pub counted : Counted contents
   pub bytes-are : bytes ≡ layout contents
   pub record-is : plan ≡ recordOf contents

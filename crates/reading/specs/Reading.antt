@@ -1,12 +1,12 @@
 -- Reading a whole plan: its record, or the first fault from the left.
 use mathlib.Core.List.{List, [], _∷_}
 use Prim.Native.Nat.{ℕ, zero, suc, _+_, _*_}
-use Rattle.plan.specs.Limits.{MAX_TABLES, MAX_RULES, MAX_USES, MAX_UNITS, MAX_EDGES}
-use Rattle.plan.specs.Record.{emptyPlan, withGiven, withTable, withRule, withUse, withUnit, withEdge, withShow}
-use Rattle.reading.specs.Commands.{Kind, given, table, rule, usage, unit, edge, show, end, operandBytes, commandAt}
+use Rattle.plan.specs.Record.{emptyPlan, withCount, withGiven, withTable, withRule, withUse, withUnit, withEdge, withShow}
+use Rattle.reading.specs.Commands.{Kind, sizes, given, table, rule, usage, unit, edge, show, end, kinds, operandBytes, commandAt}
+use Rattle.reading.specs.Commands.{Most, once, upTo, runsOutAt, mostOf}
 use Rattle.plan.specs.declared.record.Plan.{Plan}
 use Rattle.reading.specs.declared.command.Command.{Command}
-use Rattle.reading.specs.declared.command.Command.the-variants.{Given, Table, Rule, Use, Unit as UnitOf, Edge, Show, End, Fault as Faulty}
+use Rattle.reading.specs.declared.command.Command.the-variants.{Count, Given, Table, Rule, Use, Unit as UnitOf, Edge, Show, End, Fault as Faulty}
 use Rattle.plan.specs.declared.fault.Fault.{Fault}
 use Rattle.plan.specs.declared.fault.Outcome.the-variants.{Accepted, Refused}
 use Rattle.reading.specs.declared.reader.Reading.{Reading}
@@ -28,6 +28,7 @@ pub data Step : Type 0 where
   ended : Reading → Step
 
 abbrev pub stepOf : Plan → Command → Step
+stepOf p (Count rules units edges) = onward sizes (withCount p rules units edges)
 stepOf p (Given word) = onward given (withGiven p word)
 stepOf p (Table inputs truth) = onward table (withTable p inputs truth)
 stepOf p (Rule head positive negative) = onward rule (withRule p head positive negative)
@@ -52,18 +53,21 @@ walk p at zero (b ∷ rest) =
 unfoldable pub reading : List ℕ → Reading
 reading bytes = walk emptyPlan 0 0 bytes
 
--- GIVEN and SHOW "may stand once", "At most 16 tables and 256 USEs", "RULE 64, UNIT 16, EDGE 240": the bytes of as many commands before END as there
--- may be
-abbrev MOST_BEFORE_END : ℕ
-MOST_BEFORE_END =
-    commandBytes given + commandBytes table * MAX_TABLES + commandBytes rule * MAX_RULES + commandBytes usage * MAX_USES
-    + commandBytes unit * MAX_UNITS
-    + commandBytes edge * MAX_EDGES
-    + commandBytes show
+-- the number in column "most"
+abbrev pub mostCommands : Most → ℕ
+mostCommands once = 1
+mostCommands (upTo n) = n
+mostCommands (runsOutAt n) = n
 
--- "The longest plan has 2,465 bytes", 9 more with a GIVEN, 1,296 more with all TABLEs and USEs, and 9 more with a SHOW
+-- the bytes of as many commands of these kinds as there may be
+abbrev pub mostBytes : List Kind → ℕ
+mostBytes [] = 0
+mostBytes (kind ∷ kinds) = commandBytes kind * mostCommands (mostOf kind) + mostBytes kinds
+
+-- "The longest plan has 2,465 bytes", 9 more with a GIVEN, 1,296 more with all TABLEs and USEs, 9 more with a SHOW, and 4 more
+-- with a COUNT
 abbrev pub LONGEST_PLAN : ℕ
-LONGEST_PLAN = MOST_BEFORE_END + commandBytes end
+LONGEST_PLAN = mostBytes kinds
 
 -- "every reading fault, a 241st EDGE and bytes after END included, shows within 2,467", and as many more; behind a SHOW it shows within one
 -- byte after END

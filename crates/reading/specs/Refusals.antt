@@ -1,5 +1,5 @@
 -- What reading accepts and refuses, said of a plan's lists and their layout alone: the reader, its record and its steps are not spoken of.
--- Document 01, "Faults, by where they are found", place "reading"; document 02, S-1, S-4, S-6 and S-11.
+-- Document 01, "Faults, by where they are found", place "reading"; document 02, S-1, S-4, S-6, S-10 and S-11.
 use mathlib.Core.Path.{_≡_}
 use mathlib.Core.List.{List, [], _∷_, _++_, List·Memᴰ}
 use mathlib.Core.Logic.{_↔_}
@@ -7,12 +7,13 @@ use Prim.Native.Nat.{ℕ, suc, _^_, _≤_, _<_}
 use lib.Count.{ones}
 use lib.ListN.{length}
 use Rattle.atoms.specs.Word.{Has}
-use Rattle.plan.specs.Limits.{MAX_TABLES, MAX_RULES, MAX_USES, MAX_UNITS, MAX_INPUTS}
+use Rattle.plan.specs.Limits.{MAX_INPUTS}
 use Rattle.plan.specs.Faults.{RefusedBy, TableRow, FirstFit}
 use Rattle.reading.specs.Words.{WORD_VALUES}
-use Rattle.reading.specs.Commands.{Kind, given, table, rule, usage, unit, edge, show, end, byteOf, operandBytes, orderOf, earliestBehind}
-use Rattle.reading.specs.Layout.{TableWords, RuleWords, TableUse, UnitPair, Contents, tableBytes, ruleBytes, useBytes, unitBytes, edgeBytes}
-use Rattle.reading.specs.Layout.{endBytes, commands, layout, Within}
+use Rattle.reading.specs.Commands.{Kind, byteOf, operandBytes, orderOf}
+use Rattle.reading.specs.Commands.{Most, once, upTo, runsOutAt, mostOf, earliestBehind}
+use Rattle.reading.specs.Layout.{Sizes, TableWords, RuleWords, TableUse, UnitPair, Contents, tableBytes, ruleBytes, useBytes, unitBytes, edgeBytes}
+use Rattle.reading.specs.Layout.{listOf, endBytes, commands, layout, Within, Counted}
 use Rattle.plan.specs.declared.fault.Outcome.{Outcome}
 use Rattle.plan.specs.declared.fault.Outcome.the-variants.{Accepted}
 
@@ -25,14 +26,7 @@ pub record Begins (kind : Kind) (rest : List ℕ) : Type 0 where
 
 -- how many commands of the kind there are
 abbrev pub countOf : Contents → Kind → ℕ
-countOf c given = length (c .given)
-countOf c table = length (c .tables)
-countOf c rule = length (c .rules)
-countOf c usage = length (c .uses)
-countOf c unit = length (c .units)
-countOf c edge = length (c .edges)
-countOf c show = length (c .shown)
-countOf c end = 0
+countOf c kind = length (listOf c kind)
 
 -- 3: "unknown command byte"
 pub record UnknownByte (rest : List ℕ) : Type 0 where
@@ -42,6 +36,7 @@ pub record UnknownByte (rest : List ℕ) : Type 0 where
   pub names-none : (kind : Kind) → ¬ (byte ≡ byteOf kind)
 
 -- 4: "command out of group order", a command being there behind which it may not come; "a second or late GIVEN is 4",
+-- COUNT "may be the first command .. Elsewhere it is 4",
 -- "After SHOW every known command but END is 4"
 pub record OutOfGroupOrder (c : Contents) (rest : List ℕ) : Type 0 where
   pub kind : Kind
@@ -51,15 +46,13 @@ pub record OutOfGroupOrder (c : Contents) (rest : List ℕ) : Type 0 where
   pub too-late : orderOf kind < orderOf (earliestBehind before)
 
 -- 5: "65th RULE, 17th UNIT"; a 241st EDGE is 8, or 2 where it is cut short; S-4: "At most 16 tables and 256 USEs; the 17th and the 257th are 5"
+abbrev pub NoRoom : Most → ℕ → Type 0
+NoRoom once n = ⊥
+NoRoom (upTo m) n = m ≤ n
+NoRoom (runsOutAt m) n = ⊥
+
 abbrev pub Full : Contents → Kind → Type 0
-Full c given = ⊥
-Full c table = MAX_TABLES ≤ length (c .tables)
-Full c rule = MAX_RULES ≤ length (c .rules)
-Full c usage = MAX_USES ≤ length (c .uses)
-Full c unit = MAX_UNITS ≤ length (c .units)
-Full c edge = ⊥
-Full c show = ⊥
-Full c end = ⊥
+Full c k = NoRoom (mostOf k) (countOf c k)
 
 pub record OneTooMany (c : Contents) (rest : List ℕ) : Type 0 where
   pub kind : Kind
@@ -137,6 +130,19 @@ pub record WrongEdge (c : Contents) (rest : List ℕ) : Type 0 where
   pub is : rest ≡ edgeBytes pair ++ more
   pub wrong : NoNewEdge c pair
 
+-- 23 (02, S-10): "a declared number differs from what was read, found at END"
+pub data Differs (c : Contents) (s : Sizes) : Type 0 where
+  in-rules : ¬ (s .rules ≡ length (c .rules)) → Differs c s
+  in-units : ¬ (s .units ≡ length (c .units)) → Differs c s
+  in-edges : ¬ (s .edges ≡ length (c .edges)) → Differs c s
+
+pub record Miscounted (c : Contents) (rest : List ℕ) : Type 0 where
+  pub more : List ℕ
+  pub is : rest ≡ endBytes ++ more
+  pub sizes : Sizes
+  pub declared : List·Memᴰ sizes (c .declared)
+  pub differs : Differs c sizes
+
 -- 9: "bytes after END"
 pub record BytesAfterEnd (rest : List ℕ) : Type 0 where
   pub first : ℕ
@@ -161,6 +167,7 @@ readingPlace c offset rest =
     ∷ row 19 (WrongUse c rest) offset
     ∷ row 7 (NamesAbsentRule c rest) offset
     ∷ row 8 (WrongEdge c rest) offset
+    ∷ row 23 (Miscounted c rest) 0
     ∷ row 9 (BytesAfterEnd rest) (suc offset)
     ∷ []
 
@@ -172,7 +179,8 @@ pub record Stopped (bytes : List ℕ) (n s : ℕ) : Type 0 where
   pub split : bytes ≡ commands contents ++ rest
   pub first : FirstFit (readingPlace contents (length (commands contents)) rest) n s
 
--- what reading answers: accepted exactly if the bytes are the layout of lists within the limits, refused exactly by the row that stops them
+-- what reading answers: accepted exactly if the bytes are the layout of lists within the limits, rightly counted; refused exactly by the row that stops
+-- them
 pub record ReadingJudged (bytes : List ℕ) (outcome : Outcome) : Type 0 where
-  pub accepted : (outcome ≡ Accepted) ↔ ((c : Contents) × Within c × (bytes ≡ layout c))
+  pub accepted : (outcome ≡ Accepted) ↔ ((c : Contents) × Within c × Counted c × (bytes ≡ layout c))
   pub refused : (n s : ℕ) → RefusedBy outcome n s ↔ Stopped bytes n s

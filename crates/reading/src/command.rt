@@ -1,8 +1,13 @@
 // What one command of a plan is.
 use plan::Fault;
 
-// "A command is one of four kinds carrying its operands", of eight with GIVEN, TABLE, USE and SHOW, or the fault that stopped it.
+// "A command is one of four kinds carrying its operands", of nine with COUNT, GIVEN, TABLE, USE and SHOW, or the fault that stopped it.
 pub enum Command {
+    Count {
+        rules: u8,
+        units: u8,
+        edges: u8,
+    },
     Given(u64),
     Table {
         inputs: u64,

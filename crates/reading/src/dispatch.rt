@@ -4,9 +4,19 @@ ghost use lib.ListN.{drop};
 ghost use Rattle.plan.specs.Record.{Fitting};
 ghost use Rattle.reading.specs.Commands.{commandAt};
 use crate::command::Command;
+use crate::count::read_count;
 use crate::edge::read_edge;
 use crate::end::read_end;
 use crate::given::read_given;
+use crate::kinds::COUNT;
+use crate::kinds::EDGE;
+use crate::kinds::END;
+use crate::kinds::GIVEN;
+use crate::kinds::RULE;
+use crate::kinds::SHOW;
+use crate::kinds::TABLE;
+use crate::kinds::UNIT;
+use crate::kinds::USE;
 use crate::rule::read_rule;
 use crate::show::read_show;
 use crate::table::read_table;
@@ -14,23 +24,6 @@ use crate::unit::read_unit;
 use crate::usage::read_use;
 use plan::Fault;
 use plan::Plan;
-
-// Column "byte" of the command table.
-const GIVEN: u8 = 0x04;
-
-const TABLE: u8 = 0x05;
-
-const RULE: u8 = 0x01;
-
-const USE: u8 = 0x06;
-
-const UNIT: u8 = 0x02;
-
-const EDGE: u8 = 0x03;
-
-const SHOW: u8 = 0x08;
-
-const END: u8 = 0x00;
 
 // The command at byte `at`, once the commands before it are read.
 pub fn read_command(plan: &[u8], at: usize, read: Plan) -> Command
@@ -43,6 +36,7 @@ pub fn read_command(plan: &[u8], at: usize, read: Plan) -> Command
     let code = plan[at];
     let operands = &plan[at + 1..];
     match code {
+        COUNT => read_count(operands, at, read),
         GIVEN => read_given(operands, at, read),
         TABLE => read_table(operands, at, read),
         RULE => read_rule(operands, at, read),

@@ -3,15 +3,11 @@ ghost use mathlib.Core.Path.{_≡_};
 ghost use Rattle.reading.specs.Commands.{ofKind, edge, badEdge};
 ghost use Rattle.plan.specs.Record.{Fitting};
 use crate::command::Command;
-use crate::order::EDGE_GROUP;
+use crate::kinds::EDGE_GROUP;
+use crate::kinds::EDGE_OPERANDS;
 use crate::order::is_late;
 use plan::Fault;
 use plan::Plan;
-
-// Column "operands", in bytes, and with the command's byte.
-const EDGE_OPERANDS: usize = 2;
-
-pub const EDGE_BYTES: usize = 1 + EDGE_OPERANDS;
 
 // Whether an edge from u to v names no unit, joins a unit to itself, or is there already.
 fn is_bad_edge(u: u8, v: u8, read: Plan) -> bool

@@ -2,17 +2,13 @@
 ghost use mathlib.Core.Path.{_≡_};
 ghost use Rattle.reading.specs.Commands.{ofKind, given};
 use crate::command::Command;
-use crate::order::GIVEN_GROUP;
+use crate::kinds::GIVEN_GROUP;
+use crate::kinds::GIVEN_OPERANDS;
 use crate::order::is_late;
 use crate::words::WORD_BYTES;
 use crate::words::read_word;
 use plan::Fault;
 use plan::Plan;
-
-// Column "operands", in bytes, and with the command's byte.
-const GIVEN_OPERANDS: usize = WORD_BYTES;
-
-pub const GIVEN_BYTES: usize = 1 + GIVEN_OPERANDS;
 
 // The GIVEN with these operands, or the fault that stops it.
 pub fn read_given(operands: &[u8], at: usize, read: Plan) -> Command

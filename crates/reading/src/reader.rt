@@ -1,22 +1,24 @@
-// Reading a plan from the left: a GIVEN, then TABLEs, RULEs, USEs, UNITs, EDGEs, a SHOW, then END. Any of these but END may be missing.
+// Reading a plan from the left: a COUNT, a GIVEN, then TABLEs, RULEs, USEs, UNITs, EDGEs, a SHOW, then END. Any of these but END may be missing.
 ghost use mathlib.Core.Path.{_≡_};
 ghost use Rattle.plan.specs.Record.{Fitting};
-ghost use Rattle.reading.specs.Commands.{table, rule, usage, unit, edge, show, end};
+ghost use Rattle.reading.specs.Commands.{given, table, rule, usage, unit, edge, show, end};
 ghost use Rattle.reading.specs.Progress.{placeAt, Reached};
 ghost use Rattle.reading.specs.Reading.{reading};
 ghost use Rattle.reading.specs.Refusals.{ReadingJudged};
 use crate::command::Command;
 use crate::dispatch::read_command;
-use crate::edge::EDGE_BYTES;
-use crate::given::GIVEN_BYTES;
-use crate::rule::RULE_BYTES;
-use crate::show::SHOW_BYTES;
-use crate::table::TABLE_BYTES;
-use crate::unit::UNIT_BYTES;
-use crate::usage::USE_BYTES;
+use crate::kinds::COUNT_BYTES;
+use crate::kinds::EDGE_BYTES;
+use crate::kinds::GIVEN_BYTES;
+use crate::kinds::RULE_BYTES;
+use crate::kinds::SHOW_BYTES;
+use crate::kinds::TABLE_BYTES;
+use crate::kinds::UNIT_BYTES;
+use crate::kinds::USE_BYTES;
 use plan::Outcome;
 use plan::Plan;
 use plan::empty_plan;
+use plan::with_count;
 use plan::with_edge;
 use plan::with_given;
 use plan::with_rule;
@@ -51,17 +53,36 @@ fn place(bytes: &[u8], taken: Plan, at: usize) -> Progress
     }
 }
 
-// The place behind the GIVEN, if there is one.
-fn read_givens(bytes: &[u8]) -> Progress
-    ensures { λ r. ⌜ Reached table (now (bytes .entry)) r ⌝ }
+// The place behind the COUNT, if there is one.
+fn read_counts(bytes: &[u8]) -> Progress
+    ensures { λ r. ⌜ Reached given (now (bytes .entry)) r ⌝ }
 {
     let progress = place(bytes, empty_plan(), 0);
     let command = progress.command;
-    let Command::Given(word) = command else {
+    let Command::Count {
+        rules,
+        units,
+        edges,
+    } = command
+    else {
         return progress;
     };
-    let taken = with_given(progress.plan, word);
+    let taken = with_count(progress.plan, rules, units, edges);
     let at = progress.at;
+    place(bytes, taken, at + COUNT_BYTES)
+}
+
+// The place behind the GIVEN, if there is one.
+fn read_givens(bytes: &[u8], from: Progress) -> Progress
+    requires { ⌜ Reached given (now bytes) from ⌝ }
+    ensures { λ r. ⌜ Reached table (now (bytes .entry)) r ⌝ }
+{
+    let command = from.command;
+    let Command::Given(word) = command else {
+        return from;
+    };
+    let taken = with_given(from.plan, word);
+    let at = from.at;
     place(bytes, taken, at + GIVEN_BYTES)
 }
 
@@ -174,7 +195,8 @@ pub fn read_plan(plan: &[u8]) -> Reading
     ensures read { λ r. ⌜ r ≡ reading (now (plan .entry)) ⌝ }
     ensures judged { λ r. ⌜ ReadingJudged (now (plan .entry)) (r .outcome) ⌝ }
 {
-    let givens = read_givens(plan);
+    let counts = read_counts(plan);
+    let givens = read_givens(plan, counts);
     let tables = read_tables(plan, givens);
     let rules = read_rules(plan, tables);
     let uses = read_uses(plan, rules);

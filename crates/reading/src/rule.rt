@@ -2,20 +2,14 @@
 ghost use mathlib.Core.Path.{_≡_};
 ghost use Rattle.reading.specs.Commands.{ofKind, rule, emptyRule};
 use crate::command::Command;
-use crate::order::RULE_GROUP;
+use crate::kinds::RULE_GROUP;
+use crate::kinds::RULE_OPERANDS;
 use crate::order::is_late;
 use crate::words::WORD_BYTES;
 use crate::words::read_word;
 use plan::Fault;
 use plan::MAX_RULES;
 use plan::Plan;
-
-// Column "operands", in words, in bytes, and with the command's byte.
-const RULE_OPERAND_WORDS: usize = 3;
-
-const RULE_OPERANDS: usize = RULE_OPERAND_WORDS * WORD_BYTES;
-
-pub const RULE_BYTES: usize = 1 + RULE_OPERANDS;
 
 // Whether a rule of these words says nothing.
 fn is_empty_rule(head: u64, positive: u64, negative: u64) -> bool

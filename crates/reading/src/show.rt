@@ -2,17 +2,13 @@
 ghost use mathlib.Core.Path.{_≡_};
 ghost use Rattle.reading.specs.Commands.{ofKind, show};
 use crate::command::Command;
-use crate::order::SHOW_GROUP;
+use crate::kinds::SHOW_GROUP;
+use crate::kinds::SHOW_OPERANDS;
 use crate::order::is_late;
 use crate::words::WORD_BYTES;
 use crate::words::read_word;
 use plan::Fault;
 use plan::Plan;
-
-// Column "operands", in bytes, and with the command's byte.
-const SHOW_OPERANDS: usize = WORD_BYTES;
-
-pub const SHOW_BYTES: usize = 1 + SHOW_OPERANDS;
 
 // The SHOW with these operands, or the fault that stops it.
 pub fn read_show(operands: &[u8], at: usize, read: Plan) -> Command

@@ -2,20 +2,15 @@
 ghost use mathlib.Core.Path.{_≡_};
 ghost use Rattle.reading.specs.Commands.{ofKind, table, badTable};
 use crate::command::Command;
-use crate::order::TABLE_GROUP;
+use crate::kinds::TABLE_GROUP;
+use crate::kinds::TABLE_OPERANDS;
 use crate::order::is_late;
 use crate::words::WORD_BYTES;
 use crate::words::read_word;
-use plan::CONTACT_WORDS;
 use plan::Fault;
 use plan::MAX_INPUTS;
 use plan::MAX_TABLES;
 use plan::Plan;
-
-// Column "operands", in bytes, and with the command's byte.
-const TABLE_OPERANDS: usize = CONTACT_WORDS * WORD_BYTES;
-
-pub const TABLE_BYTES: usize = 1 + TABLE_OPERANDS;
 
 // Whether a table of these words has too many inputs, or a truth bit behind its last row: there are two to the power of the input count.
 fn is_bad_table(inputs: u64, truth: u64) -> bool

@@ -3,18 +3,14 @@ ghost use mathlib.Core.Path.{_≡_};
 ghost use Rattle.reading.specs.Commands.{ofKind, unit, absentRule};
 ghost use Rattle.plan.specs.Record.{Fitting};
 use crate::command::Command;
-use crate::order::UNIT_GROUP;
+use crate::kinds::UNIT_GROUP;
+use crate::kinds::UNIT_OPERANDS;
 use crate::order::is_late;
 use crate::words::WORD_BYTES;
 use crate::words::read_word;
 use plan::Fault;
 use plan::MAX_UNITS;
 use plan::Plan;
-
-// Column "operands", in bytes, and with the command's byte.
-const UNIT_OPERANDS: usize = WORD_BYTES;
-
-pub const UNIT_BYTES: usize = 1 + UNIT_OPERANDS;
 
 // Whether the word names a rule that is not there: a bit from the count of rules on.
 fn names_absent_rule(word: u64, read: Plan) -> bool

@@ -3,7 +3,8 @@ ghost use mathlib.Core.Path.{_≡_};
 ghost use Rattle.reading.specs.Commands.{ofKind, usage, badUse};
 ghost use Rattle.plan.specs.Record.{Fitting};
 use crate::command::Command;
-use crate::order::USE_GROUP;
+use crate::kinds::USE_GROUP;
+use crate::kinds::USE_OPERANDS;
 use crate::order::is_late;
 use plan::FIRST_RULE;
 use plan::Fault;
@@ -12,11 +13,6 @@ use plan::MAX_USES;
 use plan::Plan;
 use plan::RULE_WORDS;
 use plan::USES;
-
-// Column "operands", in bytes, and with the command's byte.
-const USE_OPERANDS: usize = 3;
-
-pub const USE_BYTES: usize = 1 + USE_OPERANDS;
 
 // The last sign there is: 0 for must be true or 1 for must be false.
 const MUST_BE_FALSE: u8 = 1;

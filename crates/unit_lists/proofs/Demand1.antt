@@ -113,7 +113,7 @@ graph-number (row-14 g a b y c l) r e = omega (arith, told r .0)
 
 module _ {bytes : List ℕ} {c : Contents} (l : Lays bytes c) where
   pub lays-read : reading bytes ≡ accepted (recordOf c)
-  lays-read = ap reading (l .bytes-are) ∙ layout-is-read c (l .within)
+  lays-read = ap reading (l .bytes-are) ∙ layout-is-read c (l .within) (l .counted)
 
   pub lays-accepted : reading bytes .outcome ≡ Accepted
   lays-accepted = ap (λ (r : Reading). r .outcome) lays-read
@@ -134,7 +134,7 @@ listable-lists {r = r} {table′ = table′} demand k long =
     (subst (λ (T : Units). Fits (Shown T)) e (k .last-fits)) (d .in-order) f))
 
 laid : {bytes : List ℕ} → All IsByte bytes → reading bytes .outcome ≡ Accepted → (c : Contents) × Lays bytes c
-laid {bytes} all e = let p = accepted-is-plan bytes all e in (p .contents, record { within = p .within; bytes-are = p .bytes-are })
+laid {bytes} all e = let p = accepted-is-plan bytes all e in (p .contents, record { within = p .within; counted = p .counted; bytes-are = p .bytes-are })
 
 -- ---- where an answer comes from
 

@@ -9,7 +9,7 @@ use Rattle.plan.specs.Limits.{LIST_WORDS, TABLE_WORDS, COUNTS, LAST_COUNT}
 use Rattle.plan.specs.Faults.{RefusedBy}
 use Rattle.plan.specs.declared.fault.Outcome.{Outcome}
 use Rattle.plan.specs.declared.fault.Outcome.the-variants.{Accepted}
-use Rattle.reading.specs.Layout.{Contents, layout, recordOf, Within}
+use Rattle.reading.specs.Layout.{Contents, layout, recordOf, Within, Counted}
 use Rattle.reading.specs.Refusals.{Stopped}
 use Rattle.dependency_graph.specs.Units.{Units}
 use Rattle.dependency_graph.specs.PlanUnits.{unitsOf}
@@ -24,9 +24,10 @@ use Rattle.unit_lists.specs.declared.listing.Listing.{Listing}
 abbrev pub unitsIn : Contents → Units
 unitsIn c = unitsOf (recordOf c)
 
--- the bytes are the layout of these lists, which keep the limits
+-- the bytes are the layout of these lists, which keep the limits; S-10: the declared sizes are theirs
 pub record Lays (bytes : List ℕ) (c : Contents) : Type 0 where
   pub within : Within c
+  pub counted : Counted c
   pub bytes-are : bytes ≡ layout c
 
 -- "Every plan that keeps document 01's byte layout, limits and graph conditions, and whose lists fit"

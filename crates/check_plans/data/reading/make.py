@@ -1,43 +1,14 @@
 #!/usr/bin/env python3
-"""Writes the plans of this folder, each under its name; PLANS.md says what each is."""
+"""make.py [FOLDER]: writes the plans of this folder, each under its name; PLANS.md says what each is."""
 import pathlib
+import sys
 
-HERE = pathlib.Path(__file__).parent
+HERE = pathlib.Path(__file__).resolve().parent
+sys.path.insert(0, str(HERE.parents[3] / "tests"))
+sys.dont_write_bytecode = True
 
+from commands import END, count, edge, given, rule, show, table, unit, use, word
 
-def word(w):
-    return w.to_bytes(8, "little")
-
-
-def given(atoms=0):
-    return b"\x04" + word(atoms)
-
-
-def table(inputs=0, truth=0):
-    return b"\x05" + word(inputs) + word(truth)
-
-
-def rule(head=0, positive=0, negative=0):
-    return b"\x01" + word(head) + word(positive) + word(negative)
-
-
-def use(rule, table, sign):
-    return bytes([6, rule, table, sign])
-
-
-def unit(rules=0):
-    return b"\x02" + word(rules)
-
-
-def edge(u, v):
-    return bytes([3, u, v])
-
-
-def show(atoms=0):
-    return b"\x08" + word(atoms)
-
-
-END = b"\x00"
 FACT = rule(head=1)
 TWO_UNITS = unit() + unit()
 P_RULES = rule(head=3) + rule(head=4, positive=1)
@@ -63,8 +34,12 @@ PLANS = {
     "show": FACT + unit(1) + show(2) + END,
     "show-of-no-atoms": show() + END,
     "show-behind-edge": TWO_UNITS + edge(1, 0) + show(1 << 63) + END,
-    "longest": given() + ALL_TABLES + b"".join(rule(1 << i) for i in range(64)) + ALL_USES + unit(2**64 - 1) + unit() * 15 + EDGES
-    + show() + END,
+    "count": count(1, 1, 0) + FACT + unit(1) + END,
+    "count-of-zeros": count(0, 0, 0) + END,
+    "count-before-given": count(1, 0, 0) + given(2) + FACT + END,
+    "count-of-no-tables-or-uses": count(2, 0, 0) + KEY_AND_FACT + rule(head=2) + use(1, 0, 0) + show(1) + END,
+    "longest": count(64, 16, 240) + given() + ALL_TABLES + b"".join(rule(1 << i) for i in range(64)) + ALL_USES + unit(2**64 - 1)
+    + unit() * 15 + EDGES + show() + END,
 
     "no-end": FACT,
     "rule-without-operands": b"\x01",
@@ -76,9 +51,12 @@ PLANS = {
     "edge-cut-short": TWO_UNITS + edge(1, 0)[:-1],
     "show-cut-short": FACT + show(1)[:-1],
     "show-and-no-end": TWO_UNITS + show(1),
+    "count-cut-short": count(1, 0, 0)[:-1],
+    "count-without-operands": b"\x07",
+    "count-and-no-end": count(1, 0, 0),
 
     "unknown-byte": b"\xff" + END,
-    "unknown-byte-behind-unit": FACT + unit(1) + b"\x07",
+    "unknown-byte-behind-unit": FACT + unit(1) + b"\x0a",
     "command-nine": b"\x09" + word(1) + END,
     "unknown-byte-behind-show": show(1) + b"\xff" + END,
 
@@ -106,6 +84,13 @@ PLANS = {
     "unit-behind-show": show(1) + unit() + END,
     "given-behind-show": show(1) + given(2) + END,
     "rule-behind-show": show(1) + FACT + END,
+    "second-count": count(0, 0, 0) * 2 + END,
+    "second-count-cut-short": count(0, 0, 0) + b"\x07",
+    "count-behind-given": given() + count(0, 0, 0) + END,
+    "count-behind-given-cut-short": given() + b"\x07",
+    "count-behind-rule": FACT + count(1, 0, 0) + END,
+    "count-behind-edge": TWO_UNITS + edge(1, 0) + count(0, 2, 1) + END,
+    "count-behind-show": show(1) + count(0, 0, 0) + END,
     "rule-behind-unit": FACT + unit(1) + FACT + END,
     "rule-behind-edge": TWO_UNITS + edge(1, 0) + FACT + END,
     "unit-behind-edge": TWO_UNITS + edge(1, 0) + unit() + END,
@@ -166,17 +151,30 @@ PLANS = {
     "241st-edge": ALL_UNITS + EDGES + edge(0, 1) + END,
     "241st-edge-cut-short": ALL_UNITS + EDGES + b"\x03",
 
+    "count-of-a-rule-more": count(2, 0, 0) + FACT + END,
+    "count-of-a-rule-fewer": count(0, 0, 0) + FACT + END,
+    "count-of-a-unit-more": count(0, 3, 0) + TWO_UNITS + END,
+    "count-of-an-edge-fewer": count(0, 2, 0) + TWO_UNITS + edge(1, 0) + END,
+    "count-of-a-use-as-edge": count(1, 0, 1) + KEY_AND_FACT + use(0, 0, 0) + END,
+    "count-of-255": count(255, 255, 255) + END,
+    "counted-plan-p-without-edge": count(2, 2, 1) + PLAN_P[:-4] + END,
+    "counted-plan-p-without-rule": count(2, 2, 1) + rule(head=3) + unit(1) + unit(2) + edge(1, 0) + END,
+    "wrong-count-and-a-bad-edge": count(9, 9, 9) + TWO_UNITS + edge(1, 1) + END,
+    "wrong-count-and-a-byte-behind-end": count(1, 0, 0) + END + END,
+
     "two-ends": END + END,
-    "plan-p-and-two-bytes": PLAN_P + b"\x07\x07",
+    "plan-p-and-two-bytes": PLAN_P + b"\x0a\x0a",
     "rule-behind-end": END + FACT,
     "given-behind-end": END + given(1),
     "show-behind-end": END + show(1),
     "byte-behind-show-and-end": show(1) + END + END,
     "unknown-byte-behind-end": END + b"\xff",
+    "right-count-and-a-byte-behind-end": count(0, 0, 0) + END + END,
 
     "5000-ends": END * 5000,
     "200-rules": FACT * 200,
 }
 
+folder = pathlib.Path(sys.argv[1]) if len(sys.argv) > 1 else HERE
 for name, plan in PLANS.items():
-    (HERE / f"{name}.plan").write_bytes(plan)
+    (folder / f"{name}.plan").write_bytes(plan)

@@ -1,4 +1,5 @@
--- `read_end` meets its contract: END has no operands, so nothing but a byte behind it stops it.
+-- `read_end` meets its contract: END has no operands, so nothing but a wrong COUNT and a byte behind it stops it.
+use mathlib.Core.Path.{sym, _∙_}
 use borrow.Author.Needs.{needs}
 use lib.Dec.{leb·suc-zero}
 use borrow.Author.Tests.{lt-ltb, le-ltb}
@@ -8,11 +9,15 @@ use Rattle.reading.proofs.end.read_end.Tie as tie
 
 returns : tie.Need-returns
 unfolding ofKind late
-returns c = simp (leb·suc-zero, lt-ltb _ _ (c .if1 .taken))
+returns c = simp (leb·suc-zero, sym (c .before .is-miscounted .ensures) ∙ c .if1 .taken)
 
 returns-2 : tie.Need-returns-2
+unfolding ofKind late
+returns-2 c = simp (leb·suc-zero, sym (c .before .before .is-miscounted .ensures) ∙ c .before .if1 .left, lt-ltb _ _ (c .if2 .taken))
+
+returns-3 : tie.Need-returns-3
 unfolding ofKind late carrying
-returns-2 c = simp (leb·suc-zero, le-ltb _ _ (c .if1 .left))
+returns-3 c = simp (leb·suc-zero, sym (c .before .before .is-miscounted .ensures) ∙ c .before .if1 .left, le-ltb _ _ (c .if2 .left))
 
 pub read-end-spec : {M : Type 1} → statement M
-read-end-spec = tie.close (tie.spec (λ c. search needs) returns returns-2)
+read-end-spec = tie.close (tie.spec (λ c κs. search needs) returns (λ c. search needs) returns-2 returns-3)

@@ -1,6 +1,6 @@
 -- `is_late` meets its contract: the last group that is read decides.
 use native.Mathlib.Omega.{arith}
-use Rattle.reading.specs.Commands.{given, table, rule, usage, unit, edge, show}
+use Rattle.reading.specs.Commands.{sizes, given, table, rule, usage, unit, edge, show}
 use Rattle.reading.proofs.CommandKinds.{late-behind, late-none}
 use Rattle.reading.proofs.order.is_late.Statement.{statement}
 use Rattle.reading.proofs.order.is_late.Tie as tie
@@ -50,7 +50,28 @@ returns-7 c =
 
 returns-8 : tie.Need-returns-8
 returns-8 c =
-    let no-table = c .before .before in
+    let no-given = c .before .before in
+    let no-table = no-given .before .before in
+    let no-rule = no-table .before .before in
+    let no-use = no-rule .before .before in
+    let no-unit = no-use .before .before in
+    let no-edge = no-unit .before .before in
+    late-behind _ sizes _ (c .if8 .taken)
+    (omega (
+      arith,
+      no-edge .before .before .if1 .left,
+      no-edge .if2 .left,
+      no-unit .if3 .left,
+      no-use .if4 .left,
+      no-rule .if5 .left,
+      no-table .if6 .left,
+      no-given .if7 .left,
+    ))
+
+returns-9 : tie.Need-returns-9
+returns-9 c =
+    let no-given = c .before .before in
+    let no-table = no-given .before .before in
     let no-rule = no-table .before .before in
     let no-use = no-rule .before .before in
     let no-unit = no-use .before .before in
@@ -64,8 +85,9 @@ returns-8 c =
       no-use .if4 .left,
       no-rule .if5 .left,
       no-table .if6 .left,
-      c .if7 .left,
+      no-given .if7 .left,
+      c .if8 .left,
     ))
 
 pub is-late-spec : {M : Type 1} → statement M
-is-late-spec = tie.close (tie.spec returns returns-2 returns-3 returns-4 returns-5 returns-6 returns-7 returns-8)
+is-late-spec = tie.close (tie.spec returns returns-2 returns-3 returns-4 returns-5 returns-6 returns-7 returns-8 returns-9)

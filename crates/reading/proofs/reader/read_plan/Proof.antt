@@ -19,7 +19,7 @@ promised : {bytes : List ℕ} → All IsByte bytes → {r : Reading} → r ≡ r
 promised {bytes} small e = (e, subst (λ (x : Reading). ReadingJudged bytes (x .outcome)) (sym e) (reading-judged bytes small))
 
 abbrev known : tie.After-read-shows → tie.After-shared-slice-known
-known c = c .before .before .before .before .before .before .before
+known c = c .before .before .before .before .before .before .before .before
 
 -- the plan's bytes are bytes
 bytes : (c : tie.After-shared-slice-known) → All IsByte (now (c .before .args .plan))
@@ -40,6 +40,7 @@ pub read-plan-spec : {M : Type 1} → statement M
 read-plan-spec =
     tie.close
     (tie.spec
+    (λ c κs. search needs)
     (λ c κs. search needs)
     (λ c κs. search needs)
     (λ c κs. search needs)

@@ -6,7 +6,7 @@ use Prim.Native.Nat.{_-_}
 use lib.ListN.{length}
 use Rattle.reading.specs.Commands.{rule, usage}
 use Rattle.reading.specs.Progress.{Reached}
-use Rattle.reading.proofs.Commands.{rule-room}
+use Rattle.reading.proofs.Commands.{room-left}
 use Rattle.reading.proofs.Groups.{Turn, taken, taken-fits, taken-there, taken-less, passed-by}
 use borrow.Author.Needs.{needs}
 use Rattle.reading.proofs.reader.read_rules.Statement.{statement}
@@ -34,7 +34,7 @@ read-rules-spec =
     (λ c. c .before .pre)
     (λ c. search needs)
     returns
-    (λ c κs. rule-room (took (c .before) .1 .leads .read .in-place))
+    (λ c κs. room-left rule (took (c .before) .1 .leads .read .in-place))
     (λ c. omega (arith, took (c .before .before) .1 .inside))
     (λ c κs. taken-fits (took (c .before .before) .1) _ (c .with-rule .ensures))
     (λ c. taken-less (took (c .before .before .before) .1) _ (c .before .with-rule .ensures) _ (c .place .ensures))

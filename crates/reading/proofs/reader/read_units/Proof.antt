@@ -6,7 +6,7 @@ use Prim.Native.Nat.{_-_}
 use lib.ListN.{length}
 use Rattle.reading.specs.Commands.{unit, edge}
 use Rattle.reading.specs.Progress.{Reached}
-use Rattle.reading.proofs.Commands.{unit-room}
+use Rattle.reading.proofs.Commands.{room-left}
 use Rattle.reading.proofs.Groups.{Turn, taken, taken-fits, taken-there, taken-less, passed-by}
 use borrow.Author.Needs.{needs}
 use Rattle.reading.proofs.reader.read_units.Statement.{statement}
@@ -34,7 +34,7 @@ read-units-spec =
     (λ c. c .before .pre)
     (λ c. search needs)
     returns
-    (λ c κs. unit-room (took (c .before) .1 .leads .read .in-place))
+    (λ c κs. room-left unit (took (c .before) .1 .leads .read .in-place))
     (λ c. omega (arith, took (c .before .before) .1 .inside))
     (λ c κs. taken-fits (took (c .before .before) .1) _ (c .with-unit .ensures))
     (λ c. taken-less (took (c .before .before .before) .1) _ (c .before .with-unit .ensures) _ (c .place .ensures))

@@ -6,7 +6,7 @@ use Prim.Native.Nat.{_-_}
 use lib.ListN.{length}
 use Rattle.reading.specs.Commands.{usage, unit}
 use Rattle.reading.specs.Progress.{Reached}
-use Rattle.reading.proofs.Commands.{use-room}
+use Rattle.reading.proofs.Commands.{room-left}
 use Rattle.reading.proofs.Groups.{Turn, taken, taken-fits, taken-there, taken-less, passed-by, use-there}
 use borrow.Author.Needs.{needs}
 use Rattle.reading.proofs.reader.read_uses.Statement.{statement}
@@ -30,7 +30,7 @@ with-use-requires c κs =
     let R = c .before .before .before .loop .inv in
     let t = took (c .before) .1 in
     let new = use-there _ _ _ _ _ _ (t .leads .read) (sym (R .command-there) ∙ c .before .command .given .1) in
-    let room = use-room (t .leads .read .in-place) in (
+    let room = room-left usage (t .leads .read .in-place) in (
       omega (arith, new .rule-there, R .fitting .rules-fit),
       omega (arith, new .table-there, R .fitting .tables-fit),
       omega (arith, new .zero-or-one),

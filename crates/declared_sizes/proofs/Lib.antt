@@ -1,0 +1,3 @@
+pub mod Uncounted
+pub mod Tally
+pub mod Lost

@@ -1,0 +1,182 @@
+-- "a plan sent over a noisy link lost one whole EDGE and still read well": with a COUNT no such plan reads. If reading accepted what is left, its bytes
+-- would be a layout with the same COUNT and one command fewer, and that COUNT would be wrong.
+use mathlib.Core.Path.{_≡_, refl, ap, sym, _∙_, subst}
+use mathlib.Core.List.{List, [], _∷_, _++_, flatMap, List·Memᴰ, List·Memᴰ·tail, List·Memᴰ·append-cases, Memᴰ·append-left, Memᴰ·append-right}
+use mathlib.Core.Bool.{true}
+use mathlib.Core.Logic.{_⊎_, inl, inr}
+use Prim.Native.Nat.{ℕ, suc, _+_, _≤_, _<_}
+use native.Mathlib.Omega.{arith}
+use lib.ListN.{length, getD, length-append}
+use Rattle.atoms.proofs.Tests.{decided-true}
+use Rattle.plan.specs.Faults.{RefusedBy}
+use Rattle.plan.specs.declared.fault.Fault.{Fault}
+use Rattle.plan.specs.declared.fault.Fault.the-variants.{WrongCount}
+use Rattle.plan.specs.declared.fault.Outcome.{Outcome}
+use Rattle.plan.specs.declared.fault.Outcome.the-variants.{Accepted, Refused}
+use Rattle.reading.specs.Commands.{end, late, miscounted, ofKind, commandAt}
+use Rattle.reading.specs.Layout.{Sizes, UnitPair, Contents, countBytes, endBytes, commands, layout, firstSizes, recordOf}
+use Rattle.reading.specs.Layout.{IsByte, All, Distinct, GoodEdge, Within, Agrees, Counted}
+use Rattle.reading.specs.Reading.{stepOf, reading, refused}
+use Rattle.reading.specs.declared.reader.Reading.{Reading}
+use Rattle.reading.specs.declared.command.Command.the-variants.{Fault as Faulty}
+use Rattle.reading.proofs.CommandKinds.{kind-of-byte}
+use Rattle.reading.proofs.Commands.{known-command}
+use Rattle.reading.proofs.Elements.{few-within}
+use Rattle.reading.proofs.Sizes.{decides-miscounted}
+use Rattle.reading.proofs.Walk.{walk-ended}
+use Rattle.reading.proofs.RoundTrip.{commands-read}
+use Rattle.reading.proofs.Accepted.{accepted-is-plan}
+use Rattle.declared_sizes.specs.Lost.{having, Lost, a-rule, a-unit, an-edge, Declares}
+use Rattle.declared_sizes.proofs.Tally.{fromCount, grouped, SameSizes, same-sizes}
+
+-- ---- the COUNT of a layout
+
+-- its three bytes stand behind the first one
+record FirstBytes (bytes : List ℕ) (s : Sizes) : Type 0 where
+  rules-byte : getD bytes 1 0 ≡ s .rules
+  units-byte : getD bytes 2 0 ≡ s .units
+  edges-byte : getD bytes 3 0 ≡ s .edges
+
+first-bytes : (c : Contents) → 0 < length (c .declared) → FirstBytes (layout c) (firstSizes (c .declared))
+unfolding flatMap
+first-bytes c some = subst (λ (s : List ℕ). FirstBytes s (firstSizes (c .declared))) (sym (grouped c)) (among (c .declared) _ some)
+  where
+    among : (declared : List Sizes) (rest : List ℕ) → 0 < length declared → FirstBytes (flatMap countBytes declared ++ rest) (firstSizes declared)
+    among [] rest l = absurd (omega arith)
+    among (s ∷ declared) rest l = record { rules-byte = refl; units-byte = refl; edges-byte = refl }
+
+-- the first COUNT agrees where all do
+first-agrees : (c x : Contents) → 0 < length (x .declared) → All (Agrees c) (x .declared) → Agrees c (firstSizes (x .declared))
+first-agrees c x some a = among (x .declared) some a
+  where
+    among : (declared : List Sizes) → 0 < length declared → All (Agrees c) declared → Agrees c (firstSizes declared)
+    among [] l h = absurd (omega arith)
+    among (s ∷ declared) l h = h .0
+
+-- ---- one command fewer
+
+one-fewer : {A : Type 0} (xs front back : List A) (x : A) → xs ≡ front ++ (x ∷ back) → length xs ≡ suc (length (front ++ back))
+one-fewer xs front back x e = omega (arith, ap length e, length-append front (x ∷ back), length-append front back)
+
+-- what is left has the same COUNT, and it is wrong
+record Wrong (c d : Contents) : Type 0 where
+  same-count : d .declared ≡ c .declared
+  wrong : (s : Sizes) → Agrees c s → ¬ Agrees d s
+
+left : (c d : Contents) → Lost c d → Wrong c d
+left c d (a-rule front back r e z) = record { same-count = ap (λ (x : Contents). x .declared) z; wrong = λ s a b. fewer s a b }
+  where
+    fewer : (s : Sizes) → Agrees c s → ¬ Agrees d s
+    fewer s a b = omega (arith, one-fewer (c .rules) front back r e, a .rules-are, b .rules-are, ap (λ (x : Contents). length (x .rules)) z)
+left c d (a-unit front back word e z) = record { same-count = ap (λ (x : Contents). x .declared) z; wrong = λ s a b. fewer s a b }
+  where
+    fewer : (s : Sizes) → Agrees c s → ¬ Agrees d s
+    fewer s a b = omega (arith, one-fewer (c .units) front back word e, a .units-are, b .units-are, ap (λ (x : Contents). length (x .units)) z)
+left c d (an-edge front back p e z) = record { same-count = ap (λ (x : Contents). x .declared) z; wrong = λ s a b. fewer s a b }
+  where
+    fewer : (s : Sizes) → Agrees c s → ¬ Agrees d s
+    fewer s a b = omega (arith, one-fewer (c .edges) front back p e, a .edges-are, b .edges-are, ap (λ (x : Contents). length (x .edges)) z)
+
+module _ (c d : Contents) (whole : Declares c) (lost : Lost c d) where
+  some-left : 0 < length (d .declared)
+  some-left = omega (arith, whole .some, ap length (left c d lost .same-count))
+
+  -- the COUNT of c agrees with c
+  count-agrees : Agrees c (firstSizes (d .declared))
+  count-agrees = subst (λ (l : List Sizes). Agrees c (firstSizes l)) (sym (left c d lost .same-count)) (first-agrees c c (whole .some) (whole .counted))
+
+  -- ---- no such plan reads
+
+  not-accepted : All IsByte (layout d) → ¬ (reading (layout d) .outcome ≡ Accepted)
+  not-accepted small o =
+      let p = accepted-is-plan (layout d) small o in
+      let x = p .contents in
+      let same : SameSizes d x = same-sizes d x (p .bytes-are) in
+      let some : 0 < length (x .declared) = omega (arith, some-left, same .counts) in
+      let first : FirstBytes (layout d) (firstSizes (x .declared)) =
+      subst (λ (s : List ℕ). FirstBytes s (firstSizes (x .declared))) (sym (p .bytes-are)) (first-bytes x some) in
+      let own = first-bytes d some-left in
+      let right : Agrees x (firstSizes (x .declared)) = first-agrees x x some (p .counted) in
+      left c d lost .wrong (firstSizes (d .declared)) count-agrees
+      (record {
+        rules-are = sym (own .rules-byte) ∙ first .rules-byte ∙ right .rules-are ∙ sym (same .rules);
+        units-are = sym (own .units-byte) ∙ first .units-byte ∙ right .units-are ∙ sym (same .units);
+        edges-are = sym (own .edges-byte) ∙ first .edges-byte ∙ right .edges-are ∙ sym (same .edges);
+      })
+
+  -- taking away any one whole RULE, UNIT or EDGE of a plan with a COUNT is refused
+  pub lost-noticed : All IsByte (layout d) → (f : Fault) × (reading (layout d) .outcome ≡ Refused f)
+  lost-noticed small = go (reading (layout d) .outcome) refl
+    where
+      go : (o : Outcome) → reading (layout d) .outcome ≡ o → (f : Fault) × (reading (layout d) .outcome ≡ Refused f)
+      go Accepted e = absurd (not-accepted small e)
+      go (Refused f) e = (f, e)
+
+  -- ---- by 23 at 0, where no other command is at fault
+
+  not-counted : ¬ Counted d
+  not-counted a = left c d lost .wrong (firstSizes (d .declared)) count-agrees (first-agrees d d some-left a)
+
+  module _ (within : Within d) where
+    wrong-there : miscounted (recordOf d) ≡ true
+    wrong-there = decided-true (decides-miscounted d (few-within within)) not-counted
+
+    end-refused : (at : ℕ) → commandAt (recordOf d) at endBytes ≡ Faulty (WrongCount 0)
+    unfolding ofKind late
+    end-refused at = known-command (recordOf d) at 0 [] end (kind-of-byte end) ∙ simp wrong-there
+
+    pub lost-is-23 : RefusedBy (reading (layout d) .outcome) 23 0
+    lost-is-23 =
+        let at : ℕ = length (commands d) in
+        let comes : reading (layout d) ≡ refused (WrongCount 0) =
+        commands-read d within endBytes
+        ∙ walk-ended (recordOf d) at endBytes (refused (WrongCount 0)) (ap (stepOf (recordOf d)) (end-refused at)) in
+        record { fault = WrongCount 0; is = ap (λ (r : Reading). r .outcome) comes; number-is = refl; spot-is = refl }
+
+-- ---- an EDGE that is lost leaves all others as they were
+
+all-left : {A : Type 0} (P : A → Type 0) (front back : List A) (x : A) → All P (front ++ (x ∷ back)) → All P (front ++ back)
+all-left P [] back x a = a .1
+all-left P (y ∷ front) back x a = (a .0, all-left P front back x (a .1))
+
+member-left : {A : Type 0} (front back : List A) (x y : A) → List·Memᴰ y (front ++ back) → List·Memᴰ y (front ++ (x ∷ back))
+member-left front back x y m = go (List·Memᴰ·append-cases front m)
+  where
+    go : List·Memᴰ y front ⊎ List·Memᴰ y back → List·Memᴰ y (front ++ (x ∷ back))
+    go (inl h) = Memᴰ·append-left (x ∷ back) h
+    go (inr h) = Memᴰ·append-right front (List·Memᴰ·tail h)
+
+distinct-left : {A : Type 0} (front back : List A) (x : A) → Distinct (front ++ (x ∷ back)) → Distinct (front ++ back)
+distinct-left [] back x d = d .1
+distinct-left (y ∷ front) back x d = (λ m. d .0 (member-left front back x y m), distinct-left front back x (d .1))
+
+module _ (c : Contents) (whole : Declares c) (front back : List UnitPair) (e : UnitPair) (is : c .edges ≡ front ++ (e ∷ back)) where
+  abbrev without : Contents
+  without = having c (c .rules) (c .units) (front ++ back)
+
+  still-within : Within without
+  still-within =
+      let w = whole .within in
+      record {
+        one-count = w .one-count;
+        one-given = w .one-given;
+        most-tables = w .most-tables;
+        most-rules = w .most-rules;
+        most-uses = w .most-uses;
+        most-units = w .most-units;
+        most-edges = omega (arith, w .most-edges, one-fewer (c .edges) front back e is);
+        one-shown = w .one-shown;
+        good-given = w .good-given;
+        good-tables = w .good-tables;
+        good-rules = w .good-rules;
+        good-uses = w .good-uses;
+        no-use-again = w .no-use-again;
+        good-units = w .good-units;
+        good-edges = all-left (GoodEdge (length (c .units))) front back e (subst (All (GoodEdge (length (c .units)))) is (w .good-edges));
+        no-repeat = distinct-left front back e (subst (λ (edges : List UnitPair). Distinct edges) is (w .no-repeat));
+        good-shown = w .good-shown;
+      }
+
+  -- "lost one whole EDGE": refused 23 at 0
+  pub lost-edge-is-23 : RefusedBy (reading (layout without) .outcome) 23 0
+  lost-edge-is-23 = lost-is-23 c without whole (an-edge front back e is refl) still-within

@@ -1,0 +1,104 @@
+-- A COUNT changes no answer: what is read of a plan with a right COUNT differs from what is read without it in the declared sizes alone, and nothing
+-- above reading looks at these.
+use mathlib.Core.Path.{_≡_, refl, ap, sym, _∙_}
+use mathlib.Core.List.{List}
+use Prim.Native.Nat.{ℕ}
+use native.Mathlib.Omega.{arith}
+use lib.ListN.{replicate}
+use Rattle.plan.specs.Limits.{TABLE_WORDS}
+use Rattle.plan.specs.declared.fault.Outcome.the-variants.{Accepted, Refused as RefusedWith}
+use Rattle.reading.specs.Layout.{Contents, layout, recordOf, Within, Counted}
+use Rattle.reading.specs.Reading.{reading, accepted}
+use Rattle.reading.specs.declared.reader.Reading.{Reading}
+use Rattle.reading.proofs.RoundTrip.{layout-is-read}
+use Rattle.dependency_graph.specs.Units.{Units}
+use Rattle.dependency_graph.specs.PlanUnits.{unitsOf}
+use Rattle.judge.specs.Settled.{settled}
+use Rattle.judge.specs.Answers.{yesNo, judged}
+use Rattle.judge.specs.declared.Answer.{Answer}
+use Rattle.judge.specs.declared.Answer.the-variants.{Refused}
+use Rattle.unit_lists.specs.Answer.{Answer as Listed, unlessRefused, afterGraph, tableOutcome, answer}
+use Rattle.plan_sheet.specs.Sheets.{sheetOf, planSheet}
+use Rattle.finding.specs.declared.least.From.{From}
+use Rattle.stepping.specs.declared.Next.{Next}
+use Rattle.stepping.specs.declared.Next.the-variants.{Refused as NextRefused}
+use Rattle.stepping.specs.Followed.{nextIn, followed}
+use Rattle.declared_sizes.specs.Uncounted.{uncounted, AnsweredAlike}
+
+-- ---- the answers, from what was read
+
+abbrev judgedOf : ℕ → Reading → Answer
+judgedOf M r = elim (r .outcome) [ RefusedWith f ↦ Refused f | Accepted ↦ yesNo (settled (r .plan) M) ]
+
+abbrev listedOf : List ℕ → Reading → Listed
+listedOf table r = unlessRefused (tableOutcome table) table (unlessRefused (r .outcome) table (afterGraph (unitsOf (r .plan)) table))
+
+abbrev nextOf : From → Reading → Next
+nextOf from r = elim (r .outcome) [ RefusedWith f ↦ NextRefused f | Accepted ↦ nextIn (r .plan) from ]
+
+-- ---- a plan and the same without its COUNT
+
+module _ (c : Contents) where
+  -- the graph, the lists and what shows are told from these
+  pub units-alike : unitsOf (recordOf c) ≡ unitsOf (recordOf (uncounted c))
+  unfolding unitsOf recordOf
+  units-alike = refl
+
+  settled-alike : (M : ℕ) → settled (recordOf c) M ≡ settled (recordOf (uncounted c)) M
+  unfolding recordOf
+  settled-alike M = refl
+
+  next-alike : (from : From) → nextIn (recordOf c) from ≡ nextIn (recordOf (uncounted c)) from
+  unfolding recordOf nextIn
+  next-alike from = refl
+
+  pub uncounted-within : Within c → Within (uncounted c)
+  uncounted-within w =
+      record {
+        one-count = omega arith;
+        one-given = w .one-given;
+        most-tables = w .most-tables;
+        most-rules = w .most-rules;
+        most-uses = w .most-uses;
+        most-units = w .most-units;
+        most-edges = w .most-edges;
+        one-shown = w .one-shown;
+        good-given = w .good-given;
+        good-tables = w .good-tables;
+        good-rules = w .good-rules;
+        good-uses = w .good-uses;
+        no-use-again = w .no-use-again;
+        good-units = w .good-units;
+        good-edges = w .good-edges;
+        no-repeat = w .no-repeat;
+        good-shown = w .good-shown;
+      }
+
+  module _ (within : Within c) (counted : Counted c) where
+    whole : reading (layout c) ≡ accepted (recordOf c)
+    whole = layout-is-read c within counted
+
+    plain : reading (layout (uncounted c)) ≡ accepted (recordOf (uncounted c))
+    plain = layout-is-read (uncounted c) (uncounted-within within) tt
+
+    listed-so : (table : List ℕ) → answer (layout c) table ≡ answer (layout (uncounted c)) table
+    unfolding answer
+    listed-so table =
+        let mid : listedOf table (accepted (recordOf c)) ≡ listedOf table (accepted (recordOf (uncounted c))) =
+        ap (λ (S : Units). unlessRefused (tableOutcome table) table (unlessRefused Accepted table (afterGraph S table))) units-alike in
+        ap (listedOf table) whole ∙ mid ∙ sym (ap (listedOf table) plain)
+
+    judged-so : (M : ℕ) → judged (layout c) M ≡ judged (layout (uncounted c)) M
+    unfolding judged
+    judged-so M = ap (judgedOf M) whole ∙ ap yesNo (settled-alike M) ∙ sym (ap (judgedOf M) plain)
+
+    next-so : (from : From) → followed (layout c) from ≡ followed (layout (uncounted c)) from
+    unfolding followed
+    next-so from = ap (nextOf from) whole ∙ next-alike from ∙ sym (ap (nextOf from) plain)
+
+    sheet-so : planSheet (layout c) ≡ planSheet (layout (uncounted c))
+    unfolding planSheet
+    sheet-so = ap sheetOf (listed-so (replicate {A = ℕ} TABLE_WORDS 0))
+
+    pub answered-alike : AnsweredAlike (layout c) (layout (uncounted c))
+    answered-alike = record { judged-alike = judged-so; listed-alike = listed-so; sheet-alike = sheet-so; next-alike = next-so }

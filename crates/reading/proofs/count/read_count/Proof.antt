@@ -1,0 +1,25 @@
+-- `read_count` meets its contract: at each return the tests that led there say which row of the fault table fits.
+use mathlib.Core.Path.{sym, _∙_}
+use borrow.Author.Tests.{lt-ltb, le-ltb}
+use Rattle.reading.specs.Commands.{ofKind, carrying}
+use borrow.Author.Needs.{needs}
+use Rattle.reading.proofs.count.read_count.Statement.{statement}
+use Rattle.reading.proofs.count.read_count.Tie as tie
+
+returns : tie.Need-returns
+unfolding ofKind
+returns c = simp (sym (c .before .is-late .ensures) ∙ c .if1 .taken)
+
+returns-2 : tie.Need-returns-2
+unfolding ofKind
+returns-2 c = simp (sym (c .before .before .is-late .ensures) ∙ c .before .if1 .left, lt-ltb _ _ (c .if2 .taken))
+
+returns-3 : tie.Need-returns-3
+unfolding ofKind carrying
+returns-3 c =
+    let whole = c .before .before .before in
+    simp (sym (whole .before .before .is-late .ensures) ∙ whole .before .if1 .left, le-ltb _ _ (whole .if2 .left))
+
+pub read-count-spec : {M : Type 1} → statement M
+read-count-spec =
+    tie.close (tie.spec (λ c κs. search needs) returns returns-2 (λ c. search needs) (λ c. search needs) (λ c. search needs) returns-3)
