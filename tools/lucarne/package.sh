@@ -1,0 +1,34 @@
+#!/bin/sh
+# tools/lucarne/package.sh [FOLDER]: makes lucarne_VERSION_ARCHITECTURE.deb in this folder (default target). It needs neither the kit nor a compiler
+# where it is installed; gringo is recommended, for sheets with variables and for --check-with clingo.
+set -e
+cd "$(dirname "$0")/../.."
+folder=${1:-target}
+version=$(sed -n 's/^pub const VERSION: &str = "\(.*\)";/\1/p' tools/lucarne/src/lib.rs)
+architecture=$(dpkg --print-architecture)
+root=target/lucarne/package
+tools/lucarne/build.sh target/lucarne/lucarne
+
+rm -rf "$root"
+install -d "$root/DEBIAN" "$root/usr/bin" "$root/usr/share/doc/lucarne/examples" "$folder"
+install -m 755 target/lucarne/lucarne "$root/usr/bin/lucarne"
+install -m 644 tools/lucarne/README.md "$root/usr/share/doc/lucarne/README.md"
+for group in north yard found; do
+    install -d "$root/usr/share/doc/lucarne/examples/$group"
+    install -m 644 "plans/$group"/*.lp "$root/usr/share/doc/lucarne/examples/$group/"
+done
+cat >"$root/DEBIAN/control" <<CONTROL
+Package: lucarne
+Version: $version
+Architecture: $architecture
+Section: science
+Priority: optional
+Recommends: gringo
+Installed-Size: $(du -sk "$root/usr" | cut -f1)
+Maintainer: Lucarnecress <lucarnecress@localhost>
+Description: every settled position of a relay group, by name
+ Reads relays and rules by name from sheets that clingo reads too, works
+ out the links between sheets, and lists every settled position (answer
+ set) by a library that is proved to leave none out.
+CONTROL
+dpkg-deb --root-owner-group --build "$root" "$folder/lucarne_${version}_$architecture.deb"

@@ -1,0 +1,108 @@
+//! What the tool made of the sheets: units and links with the rules that ask for them, what was joined or moved, helpers and tables.
+
+use crate::group::Group;
+use crate::limits::{MAX_ATOMS, MAX_RULES, MAX_TABLES, MAX_UNITS};
+use crate::plan;
+use crate::program::Atom;
+
+pub fn explain(group: &Group) -> String {
+    let parts = [summary(group), units(group), links(group), changes(group), helpers(group), tables(group), keys(group)];
+    parts.iter().filter(|part| !part.is_empty()).map(String::as_str).collect::<Vec<_>>().join("\n")
+}
+
+fn summary(group: &Group) -> String {
+    let atoms = group.program.used_atoms();
+    let helpers = atoms.iter().filter(|&&atom| group.program.atoms[atom].is_helper).count();
+    let listed =
+        if group.listing.unit_counts.is_empty() { "no list".to_string() } else { format!("{} positions", group.listing.positions.len()) };
+    format!(
+        "{}; {} of {} rules, {} relays and {} helpers of {}, {} of {} contact tables, {} of {} units, {} links, {} bytes\n",
+        listed,
+        group.program.rules.len(),
+        MAX_RULES,
+        atoms.len() - helpers,
+        helpers,
+        MAX_ATOMS,
+        group.program.tables.len(),
+        MAX_TABLES,
+        group.layout.units.len(),
+        MAX_UNITS,
+        group.layout.edges.len(),
+        group.plan.bytes.len()
+    )
+}
+
+fn units(group: &Group) -> String {
+    let mut out = String::new();
+    for (number, unit) in group.layout.units.iter().enumerate() {
+        let positions = group.listing.unit_counts.get(number).map_or(String::new(), |count| format!(", {} positions", count));
+        out += &format!("unit {}: {}{}\n", number, unit.name, positions);
+        let mut last = String::new();
+        for &rule in &unit.rules {
+            let told = group.program.rules[rule].told();
+            if told != last {
+                out += &format!("    {}\n", told);
+            }
+            last = told;
+        }
+    }
+    out
+}
+
+fn links(group: &Group) -> String {
+    let mut out = String::new();
+    for (&(from, to), rules) in &group.layout.edges {
+        out += &format!("link: {} depends on {}\n", group.layout.units[from].name, group.layout.units[to].name);
+        asked_by(group, rules).iter().for_each(|(told, labels)| out += &format!("    by {}   ({})\n", labels.join(", "), told));
+    }
+    out
+}
+
+/// The rules that ask for a link, each once, with the relays that they look at.
+pub fn asked_by<'a>(group: &'a Group, rules: &[(usize, Atom)]) -> Vec<(String, Vec<&'a str>)> {
+    let mut by_rule: Vec<(String, Vec<&str>)> = Vec::new();
+    for &(rule, atom) in rules {
+        let (told, label) = (group.program.rules[rule].told(), group.program.label(atom));
+        match by_rule.iter_mut().find(|(other, _)| *other == told) {
+            Some((_, labels)) if labels.contains(&label) => {}
+            Some((_, labels)) => labels.push(label),
+            None => by_rule.push((told, vec![label])),
+        }
+    }
+    by_rule
+}
+
+fn changes(group: &Group) -> String {
+    let moves = group.layout.moved.iter().filter(|moved| !moved.closes_circle).map(|moved| group.layout.move_text(&group.program, moved));
+    group.notes.iter().cloned().chain(moves).map(|note| format!("note: {}\n", note)).collect()
+}
+
+/// Each helper with the rules that drive it.
+fn helpers(group: &Group) -> String {
+    let mut out = String::new();
+    for &atom in group.plan.atoms.iter().filter(|&&atom| group.program.atoms[atom].is_helper) {
+        let rules = group.program.rules.iter().filter(|rule| rule.head.contains(&atom));
+        let written: Vec<String> = rules.map(|rule| group.program.written(rule)).collect();
+        let told = if written.is_empty() { "always up".to_string() } else { written.join(" ") };
+        out += &format!("helper {}: {}\n", group.program.name(atom), told);
+    }
+    out
+}
+
+fn tables(group: &Group) -> String {
+    let mut out = String::new();
+    for table in &group.program.tables {
+        let inputs: Vec<&str> = table.inputs.iter().map(|&atom| group.program.name(atom)).collect();
+        let row = |j: u64| (0..inputs.len()).map(|k| if j >> k & 1 == 1 { '1' } else { '0' }).collect::<String>();
+        let rows: Vec<String> = (0..1u64 << inputs.len()).filter(|&j| table.rows >> j & 1 == 1).map(row).collect();
+        out += &format!("table {}({}) {}\n", table.name, inputs.join(","), rows.join(" "));
+    }
+    out
+}
+
+fn keys(group: &Group) -> String {
+    let turned = plan::given(&group.program);
+    let keys = group.program.keys.keys().filter(|&&atom| !group.program.atoms[atom].is_helper);
+    keys.map(|atom| format!("key {}: {}\n", group.program.label(*atom), if turned.contains(atom) { "turned" } else { "released" }))
+        .collect()
+}

@@ -1,0 +1,52 @@
+//! A group's list in the forms that are asked for. The order of positions is the library's in all of them.
+
+pub mod csv;
+pub mod digest;
+pub mod dot;
+pub mod graph;
+pub mod html;
+pub mod json;
+pub mod names;
+pub mod page;
+pub mod svg;
+pub mod table;
+
+use crate::group::Group;
+use crate::library;
+
+#[derive(Clone, Copy, Debug, PartialEq, Eq)]
+pub enum Form {
+    Names,
+    Table,
+    Csv,
+    Json,
+    Sheet,
+    Dot,
+    Svg,
+    Html,
+}
+
+/// Each form with its name on the command line.
+pub const FORMS: [(&str, Form); 8] = [
+    ("names", Form::Names),
+    ("table", Form::Table),
+    ("csv", Form::Csv),
+    ("json", Form::Json),
+    ("sheet", Form::Sheet),
+    ("dot", Form::Dot),
+    ("svg", Form::Svg),
+    ("html", Form::Html),
+];
+
+pub fn show(group: &Group, form: Form) -> Vec<u8> {
+    match form {
+        Form::Names => names::show(group).into_bytes(),
+        Form::Table => table::show(group).into_bytes(),
+        Form::Csv => csv::show(group).into_bytes(),
+        Form::Json => json::show(group).into_bytes(),
+        Form::Sheet => library::sheet(&group.plan.bytes),
+        Form::Dot => dot::show(group).into_bytes(),
+        Form::Svg => svg::show(group).into_bytes(),
+        Form::Html => page::show(group, None).into_bytes(),
+    }
+}

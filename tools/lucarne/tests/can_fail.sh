@@ -1,0 +1,99 @@
+#!/bin/bash
+# tools/lucarne/tests/can_fail.sh [--all] [part of a name]: shows that the tests notice mistakes. The tool is built in copies with one deliberate
+# mistake each, and each must fail: those that the gate tries, or all of them. What a copy fails by needs no gringo, but for those behind it below.
+set -u
+cd "$(dirname "$0")/../../.." || exit 2
+. tests/build.sh
+. tools/lucarne/tests/parts.sh
+all=
+if [ "${1:-}" = --all ]; then
+    all=1
+    shift
+fi
+named=${1:-} work=target/lucarne-faulty unnoticed=0 tried=0
+
+# with_mistake NAME FILE RIGHT WRONG [gate]: a copy with WRONG in place of RIGHT in a file must fail.
+with_mistake() {
+    local right wrong output
+    [ -n "$all" ] || [ "${5:-}" = gate ] || return 0
+    [[ $1 == *"$named"* ]] || return 0
+    right=$(<"tools/lucarne/src/$2")
+    wrong=${right/"$3"/"$4"}
+    if [ "$wrong" = "$right" ]; then
+        echo "the tool has no line for the mistake: $1" >&2
+        exit 2
+    fi
+    rm -rf "$work" && mkdir -p "$work"
+    cp -r tools/lucarne/src "$work/src"
+    printf '%s\n' "$wrong" >"$work/src/$2"
+    tried=$((tried + 1))
+    if ! output=$(LUCARNE_SOURCE=$work/src LUCARNE_OPT=0 tools/lucarne/build.sh "$work/lucarne" 2>&1); then
+        echo "$output" >&2
+        echo "the copy cannot be built: $1" >&2
+        exit 2
+    fi
+    passed=0 failed=0 skipped=0
+    try_copy >"$work/output" 2>&1
+    if [ "$failed" = 0 ]; then
+        echo "NOT NOTICED: $1"
+        unnoticed=$((unnoticed + 1))
+    else
+        echo "noticed: $1 ($failed failed)"
+    fi
+}
+
+# The quick parts; drawn sheets where the mistake shows in nothing else.
+try_copy() {
+    try_sessions "$work" ""
+    [ "$failed" = 0 ] || return 0
+    build_tests "$work"
+    try_drawn layout "$work" 300 1
+    build_page "$work" && try_drawn page "$work" text
+    [ "$failed" = 0 ] || return 0
+    if is_there clingo "drawn sheets"; then
+        try_drawn sheets "$work" 300 1
+    fi
+}
+
+with_mistake "an edge is dropped" layout.rs 'if from != to {' 'if from != to && to != 0 {' gate
+with_mistake "a helper is shown" program.rs '!named.is_helper && !self.hidden' '!self.hidden' gate
+with_mistake "a choice has no helper" program.rs '[atom, helper].iter().copied()' '[atom].iter().copied().filter(|&atom| atom != helper)' gate
+with_mistake "a relay and its opposite may both be up" reader.rs 'add_opposites(&mut program);' 'let _ = add_opposites;' gate
+with_mistake "a table's rows in the wrong order" text/directives.rs '(j >> k & 1 == 1))' '(j >> (row.len() - 1 - k) & 1 == 1))' gate
+with_mistake "a table's truth word in the order of the sheet" plan.rs 'order.sort_by_key(|&k| plan.bit(inputs[k]));' ''
+with_mistake "a label in the page is more than text" show/html.rs "'<' => out += \"&lt;\"" "'<' => out.push(sign)"
+with_mistake "the page leaves a position out" show/page/grid.rs 'positions.iter().enumerate().map(row)' 'positions.iter().enumerate().skip(1).map(row)'
+with_mistake "the page has another plan" show/page/bytes.rs 'let bytes = &group.plan.bytes;' 'let bytes = &group.plan.bytes[1..].to_vec();'
+with_mistake "units of a picture stand on each other" show/graph.rs '/ 2.0 + GAP' '/ 4.0'
+with_mistake "a constraint is worked on its own sheet" layout.rs 'let place = self.best_place(&wants, self.own(rule));' 'let place = self.own(rule);'
+with_mistake "heads make no link" program.rs 'rule.head.iter().chain(&rule.pos)' 'rule.pos.iter()'
+with_mistake "a key's setting is ignored" text/ground.rs '"true" => Setting::Turned' '"true" => Setting::Released'
+with_mistake "a bare constraint is left out" reader.rs 'rule.pos.insert(up);' 'rule.neg.insert(up);'
+with_mistake "a unit that is too long is the end" group.rs 'Refusal { number: 15, spot }) if spot' 'Refusal { number: 15, spot }) if 99 + spot'
+with_mistake "just one of relays that others drive" reader.rs 'driven[atom.as_str()] > 1' 'driven[atom.as_str()] > 9'
+with_mistake "not in a sum is asked anew" translate.rs 'literal > 0 || !self.loops.hangs_on(-literal, heads)' 'literal > 0 || heads.is_empty() || true'
+with_mistake "a sum's bound is missed by one" sums.rs 'reached(j) >= bound' 'reached(j) > bound'
+with_mistake "a mark joins a condition" gringo.rs '"; "' '", "'
+with_mistake "a full output is no trouble" output.rs 'written.map_err(|error|' 'written.or(Ok(())).map_err(|error: io::Error|'
+with_mistake "the standard input is taken for ground in any case" aspif.rs 'text.starts_with("asp ")' '!text.is_empty()'
+with_mistake "a doubled line is passed over" audit.rs 'Some(_) if self.is_cut => repeats += 1' 'Some(_) if self.is_cut || true => repeats += 1' gate
+with_mistake "lists that differ are fine" audit.rs '        self.report.differences += 1;' '        self.report.differences += usize::from(line.starts_with("NOT"));'
+with_mistake "an empty cell is up" theirs/csv.rs '(UP.contains(&cell.text.as_str()), ' '(UP.contains(&cell.text.as_str()) || cell.text.is_empty(), '
+with_mistake "a short line is filled up" theirs/csv.rs 'row.cells.len() != head.cells.len()' 'row.cells.len() > head.cells.len()'
+with_mistake "of relays that hold each other up one is named" founded.rs 'up.difference(&least)' 'up.difference(&least.into_iter().take(1).collect())'
+with_mistake "the nearest position is any" audit.rs '(ours ^ position).count_ones()' '0 * (ours ^ position)'
+with_mistake "a dropped relay is not asked for" ask.rs 'question.dropped |= bit;' 'question.dropped |= bit & 0;' gate
+with_mistake "the last setting of keys is left out" keys.rs 'for setting in 0..settings {' 'for setting in 0..settings - 1 {'
+with_mistake "the low byte of a reading comes first" readings.rs 'u16::from_be_bytes' 'u16::from_le_bytes'
+with_mistake "rows of the wrong relays" by_relay.rs 'rows.get(bit)' 'rows.get(bit + 1)'
+with_mistake "a key of the command line is gone through too" keys.rs '.filter(|atom| !set(atom))' '.filter(|atom| !set(atom) || true)'
+with_mistake "a stream that nobody takes goes on" output.rs '.map_err(|error| cannot_write(path, &error))
+    }
+
+    /// Nothing' '.or(Ok(())).map_err(|error: io::Error| cannot_write(path, &error))
+    }
+
+    /// Nothing'
+
+echo "$tried wrong tools, $unnoticed not noticed"
+[ "$unnoticed" = 0 ]

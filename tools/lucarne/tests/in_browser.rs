@@ -1,0 +1,339 @@
+//! Pages in a browser: what is shown for a question is what the list holds.
+
+use crate::browser::Browser;
+use crate::tally::Tally;
+use lucarne::group::Group;
+use lucarne::json::{quoted, Value};
+use lucarne::program::Atom;
+use lucarne::show::{page, svg};
+use std::fs;
+
+/// What a page shows: the answer, the rows that are not hidden, the counts at the foot, and which relays are asked.
+const STATE: &str = "{answer: document.getElementById('answer').textContent,
+  rows: [...document.querySelectorAll('#grid tbody tr')].filter((row) => row.getClientRects().length).map((row) => Number(row.cells[0].textContent)),
+  counts: [...document.querySelectorAll('#grid tfoot td:not(.w)')].map((cell) => cell.textContent),
+  asked: [...document.querySelectorAll('#grid thead button')].map((button) => button.getAttribute('aria-pressed') + button.textContent)}";
+
+/// What of the sheets stands in a page.
+const TEXTS: &str = "{hacked: 'hacked' in window, scripts: document.scripts.length, title: document.querySelector('h1').textContent,
+  labels: [...document.querySelectorAll('#grid .l')].map((label) => label.textContent),
+  rules: [...document.querySelectorAll('.rules code')].map((rule) => rule.textContent)}";
+
+/// How a page is laid out for paper.
+const PRINTED: &str = "['#grid thead', '#ask', '.scroll'].map((name) => getComputedStyle(document.querySelector(name)))
+  .map((style) => [style.display, style.overflow, style.maxHeight])";
+
+/// What stands in a picture.
+const PICTURE: &str = "[document.documentElement.nodeName, ...['.unit', '.link', '.joined'].map((name) => document.querySelectorAll(name).length),
+  'hacked' in window]";
+
+/// A question: relays with whether they are up.
+type Question = Vec<(Atom, bool)>;
+
+pub fn try_all(groups: &[Group], program: &str, folder: &str, tally: &mut Tally) {
+    let folder = fs::canonicalize(folder).expect("a folder");
+    let profile = folder.join("browser");
+    let mut browser = Browser::start(program, &profile.to_string_lossy());
+    for (place, group) in groups.iter().enumerate() {
+        let file = |ending: &str| folder.join(format!("page-{}.{}", place, ending));
+        fs::write(file("html"), page::show(group, None)).expect("a page is written");
+        fs::write(file("svg"), svg::show(group)).expect("a picture is written");
+        let mut tried = Tried { group, browser: &mut browser, tally, url: format!("file://{}", file("html").display()) };
+        tried.all();
+        tried.picture(&format!("file://{}", file("svg").display()));
+    }
+    // Last, since a browser that reads aloud is slower from then on.
+    for (place, group) in groups.iter().enumerate().filter(|(_, group)| group.title.starts_with("plans/")) {
+        let url = format!("file://{}", folder.join(format!("page-{}.html", place)).display());
+        Tried { group, browser: &mut browser, tally, url }.headings();
+    }
+    tally.must_have("clicks");
+    tally.must_have("questions");
+    drop(browser);
+    drop(fs::remove_dir_all(profile));
+}
+
+struct Tried<'a> {
+    group: &'a Group,
+    browser: &'a mut Browser,
+    tally: &'a mut Tally,
+    url: String,
+}
+
+impl<'a> Tried<'a> {
+    /// Samples and names with signs of HTML are tried in every way, the others by the address and by a click.
+    fn all(&mut self) {
+        let is_sample = self.group.title.starts_with("plans/");
+        self.asked();
+        if is_sample || self.group.title.contains("hostile") {
+            self.open("");
+            self.shows(&Vec::new(), "the page as it opens");
+            self.texts();
+            self.clicks();
+            self.typed();
+            self.quiet();
+        }
+        if is_sample {
+            self.keys();
+            self.printed();
+            self.without_script();
+        }
+    }
+
+    /// Questions in the address: the page is opened with the first, the others are put in its place, and a click makes the last one another.
+    fn asked(&mut self) {
+        let relays = self.group.shown();
+        let questions = questions(&relays);
+        self.open(&written(self.group, &questions[0]));
+        for (place, question) in questions.iter().enumerate() {
+            if place > 0 {
+                self.browser.evaluate(&format!("location.hash = {}", quoted(&written(self.group, question))));
+            }
+            self.shows(question, "a question in the address");
+            self.tally.count("questions", 1);
+        }
+        if let [.., (last, true)] = questions[questions.len() - 1].as_slice() {
+            self.click(relays.len() - 1);
+            self.shows(&vec![(*last, false)], "a click on what was asked");
+        }
+        self.quiet();
+    }
+
+    fn open(&mut self, question: &str) {
+        self.browser.open(&self.url, question);
+    }
+
+    fn check(&mut self, fits: bool, what: &str, told: &Value) {
+        let title = &self.group.title;
+        self.tally.check(fits, what, || format!("{}: {:?}", title, told));
+    }
+
+    /// The page must show what the list holds for a question.
+    fn shows(&mut self, question: &Question, what: &str) {
+        let state = self.browser.evaluate(STATE);
+        let wanted = expected(self.group, question);
+        let fits = state == wanted;
+        let title = &self.group.title;
+        self.tally.check(fits, what, || format!("{} {:?}\n{:?}\n{:?}", title, question, state, wanted));
+    }
+
+    /// Nothing but the page itself is asked for, and nothing is logged.
+    fn quiet(&mut self) {
+        let requests = self.browser.events_of("Network.requestWillBeSent");
+        let asked: Vec<Value> = requests.iter().filter_map(|params| params.get("request")?.get("url").cloned()).collect();
+        let own = |url: &Value| url.text().map_or(false, |url| url.split(|sign| sign == '?' || sign == '#').next() == Some(self.url.as_str()));
+        let only = asked.len() == 1 && asked.iter().all(own);
+        self.check(only, "the page asks for something", &Value::List(asked));
+        for event in ["Log.entryAdded", "Runtime.exceptionThrown", "Runtime.consoleAPICalled"] {
+            let logged = self.browser.events_of(event);
+            self.check(logged.is_empty(), "the page logs something", &Value::List(logged));
+        }
+    }
+
+    /// Labels and rules are text, and no script but the page's own has run.
+    fn texts(&mut self) {
+        let told = self.browser.evaluate(TEXTS);
+        let group = self.group;
+        let texts = |texts: Vec<String>| Value::List(texts.into_iter().map(Value::Text).collect());
+        let labels = texts(group.shown().iter().map(|&atom| group.program.label(atom).to_string()).collect());
+        let mut rules: Vec<(String, String)> = Vec::new();
+        for unit in &group.layout.units {
+            let in_unit = unit.rules.iter().map(|&rule| &group.program.rules[rule]).map(|rule| (rule.told(), rule.text.clone()));
+            let mut in_unit: Vec<(String, String)> = in_unit.collect();
+            in_unit.dedup();
+            rules.extend(in_unit);
+        }
+        let rules = texts(rules.into_iter().map(|(_, text)| text).collect());
+        let fits = told.get("hacked") == Some(&Value::Bool(false)) && told.get("scripts") == Some(&Value::Number(1.0));
+        self.check(fits && told.get("title").and_then(Value::text) == Some(group.title.as_str()), "more than text comes from the sheets", &told);
+        self.check(told.get("labels") == Some(&labels) && told.get("rules") == Some(&rules), "labels or rules are not those of the sheets", &told);
+    }
+
+    /// What a reader aloud gets: headings of columns and rows by name, and cells in words.
+    fn headings(&mut self) {
+        self.open("");
+        let tree = self.browser.send("Accessibility.getFullAXTree", "{}");
+        let nodes = tree.get("nodes").map_or(&[] as &[Value], Value::list);
+        let value = |node: &Value, field: &str| node.get(field).and_then(|field| field.get("value")).and_then(Value::text).unwrap_or_default().to_string();
+        let names = |role: &str| nodes.iter().filter(|node| value(node, "role") == role).map(|node| value(node, "name")).collect::<Vec<_>>();
+        let group = self.group;
+        let columns = names("columnheader");
+        let labels: Vec<&str> = group.shown().iter().map(|&atom| group.program.label(atom)).collect();
+        let has_all = labels.iter().all(|label| columns.iter().any(|name| name.trim() == label.trim()));
+        self.check(has_all, "a column has no heading", &Value::List(columns.into_iter().map(Value::Text).collect()));
+        let rows = names("rowheader");
+        let has_rows = (1..=group.listing.positions.len()).all(|place| rows.contains(&place.to_string()));
+        self.check(has_rows, "a row has no heading", &Value::Null);
+        let ups: u32 = group.listing.positions.iter().map(|position| position.count_ones()).sum();
+        let cells = names("cell");
+        let counted = cells.iter().filter(|name| name.as_str() == "up").count();
+        self.check(counted == ups as usize, "the cells do not say up", &Value::Number(counted as f64));
+        let buttons = names("button").iter().filter(|name| labels.contains(&name.as_str())).count();
+        self.check(buttons == labels.len(), "a relay has no button", &Value::Number(buttons as f64));
+    }
+
+    /// Clicks on two relays, each up, dropped and either.
+    fn clicks(&mut self) {
+        let relays = self.group.shown();
+        let chosen: Vec<usize> = if relays.len() > 1 { vec![relays.len() / 2, 0] } else { (0..relays.len()).collect() };
+        let mut question = Question::new();
+        for &place in &chosen {
+            for up in [true, false] {
+                self.click(place);
+                question.retain(|(atom, _)| *atom != relays[place]);
+                question.push((relays[place], up));
+                self.shows(&question, "a click");
+            }
+        }
+        for &place in &chosen {
+            self.click(place);
+            question.retain(|(atom, _)| *atom != relays[place]);
+            self.shows(&question, "a click for either");
+        }
+    }
+
+    fn click(&mut self, place: usize) {
+        let middle = format!(
+            "(() => {{ const button = document.querySelectorAll('#grid thead button')[{}]; button.scrollIntoView({{block: 'center', inline: 'center'}});
+               const box = button.getBoundingClientRect(); return [box.x + box.width / 2, box.y + box.height / 2]; }})()",
+            place
+        );
+        let middle = self.browser.evaluate(&middle);
+        if let [Value::Number(x), Value::Number(y)] = middle.list() {
+            self.browser.click(*x, *y);
+            self.tally.count("clicks", 1);
+        }
+    }
+
+    /// The first relay by the tabulator and the space bar, the next by an arrow and Enter.
+    fn keys(&mut self) {
+        let relays = self.group.shown();
+        if relays.len() < 2 {
+            return;
+        }
+        self.open("");
+        for _ in 0..10 {
+            self.browser.press("Tab", 9, "");
+            if self.browser.evaluate("document.activeElement === document.querySelector('#grid thead button')") == Value::Bool(true) {
+                break;
+            }
+        }
+        self.browser.press(" ", 32, " ");
+        self.shows(&vec![(relays[0], true)], "the space bar");
+        self.browser.press("ArrowRight", 39, "");
+        self.browser.press("Enter", 13, "\r");
+        self.shows(&vec![(relays[0], true), (relays[1], true)], "an arrow and Enter");
+    }
+
+    /// A question that is typed, all positions again, and a relay that is not there.
+    fn typed(&mut self) {
+        let relays = self.group.shown();
+        let last = match relays.last() {
+            Some(&last) => last,
+            None => return,
+        };
+        self.browser.evaluate("document.getElementById('question').focus()");
+        self.browser.send("Input.insertText", &format!("{{\"text\":{}}}", quoted(&format!(" not {} ", self.group.program.name(last)))));
+        self.browser.press("Enter", 13, "\r");
+        self.shows(&vec![(last, false)], "a typed question");
+        self.browser.evaluate("document.getElementById('clear').click()");
+        self.shows(&Vec::new(), "all positions again");
+        self.browser.evaluate("location.hash = 'nobody'");
+        let told = self.browser.evaluate("document.getElementById('answer').textContent");
+        self.check(told.text().map_or(false, |text| text.ends_with("Not asked: no relay is called nobody")), "a relay that is not there", &told);
+    }
+
+    /// On paper the headings come again on each sheet, and what asks is left out.
+    fn printed(&mut self) {
+        self.browser.send("Emulation.setEmulatedMedia", "{\"media\":\"print\"}");
+        let told = self.browser.evaluate(PRINTED);
+        let text = format!("{:?}", told);
+        let parts: Vec<String> = told.list().iter().map(|part| format!("{:?}", part)).collect();
+        let wanted = [(0, "table-header-group"), (1, "none"), (2, "visible"), (2, "none")];
+        let fits = wanted.iter().all(|&(place, word)| parts.get(place).map_or(false, |part| part.contains(word)));
+        self.check(fits, "the page does not print well", &Value::Text(text));
+        self.browser.send("Emulation.setEmulatedMedia", "{\"media\":\"\"}");
+    }
+
+    /// Without scripts all positions stand there.
+    fn without_script(&mut self) {
+        self.browser.send("Emulation.setScriptExecutionDisabled", "{\"value\":true}");
+        self.open("");
+        let root = self.browser.send("DOM.getDocument", "{}");
+        let root = root.get("root").and_then(|root| root.get("nodeId")).cloned().unwrap_or(Value::Null);
+        let count = |browser: &mut Browser, what: &str| {
+            let number = if let Value::Number(number) = root { number } else { 0.0 };
+            let found = browser.send("DOM.querySelectorAll", &format!("{{\"nodeId\":{},\"selector\":{}}}", number, quoted(what)));
+            found.get("nodeIds").map_or(0, |ids| ids.list().len())
+        };
+        let rows = count(self.browser, "#grid tbody tr:not([hidden])");
+        let forms = count(self.browser, "form[hidden]");
+        self.browser.send("Emulation.setScriptExecutionDisabled", "{\"value\":false}");
+        self.check(rows == self.group.listing.positions.len() && forms == 1, "the list is not there without scripts", &Value::Number(rows as f64));
+    }
+
+    /// The picture alone is sound, and marks what is joined.
+    fn picture(&mut self, url: &str) {
+        self.browser.open(url, "");
+        let told = self.browser.evaluate(PICTURE);
+        let layout = &self.group.layout;
+        let numbers = [layout.units.len(), layout.edges.len(), layout.units.iter().filter(|unit| unit.is_joined).count()];
+        let mut wanted = vec![Value::Text("svg".to_string())];
+        wanted.extend(numbers.iter().map(|&number| Value::Number(number as f64)));
+        wanted.push(Value::Bool(false));
+        self.check(told == Value::List(wanted), "the picture is not that of the units", &told);
+    }
+}
+
+/// A few questions: one relay dropped, two relays, the last one up.
+fn questions(relays: &[Atom]) -> Vec<Question> {
+    match relays {
+        [] => vec![Vec::new()],
+        [one] => vec![vec![(*one, false)], vec![(*one, true)]],
+        [first, .., last] => vec![vec![(*first, false)], vec![(relays[relays.len() / 2], true), (*last, false)], vec![(*last, true)]],
+    }
+}
+
+/// The question behind # as `lucarne ask` takes it.
+fn written(group: &Group, question: &Question) -> String {
+    let term = |&(atom, up): &(Atom, bool)| {
+        let name = group.program.name(atom);
+        let is_opposite = name.starts_with('-') || group.program.find(&format!("-{}", name)).is_some();
+        format!("{}{}", if up && name.starts_with('-') { "+" } else if up { "" } else if is_opposite { "not " } else { "-" }, name)
+    };
+    let terms: Vec<String> = question.iter().map(term).collect();
+    format!("#{}", terms.join(",").replace('%', "%25"))
+}
+
+/// How a page tells a term of a question: a relay that was asked before with the other sign is asked both ways.
+fn told_of(group: &Group, before: &[(Atom, bool)], &(atom, up): &(Atom, bool)) -> String {
+    let is_contrary = before.iter().any(|&(other, other_up)| other == atom && other_up != up);
+    format!("{} {}", group.program.label(atom), if is_contrary { "both up and dropped" } else if up { "up" } else { "dropped" })
+}
+
+/// What a page must show for a question, worked out from the list.
+fn expected(group: &Group, question: &Question) -> Value {
+    let is_up = |position: u64, atom: Atom| group.plan.word(&[atom]) & position != 0;
+    let all = &group.listing.positions;
+    let shown: Vec<usize> = (0..all.len()).filter(|&place| question.iter().all(|&(atom, up)| is_up(all[place], atom) == up)).collect();
+    let relays = group.shown();
+    let count = |&atom: &Atom| {
+        let count = shown.iter().filter(|&&place| is_up(all[place], atom)).count();
+        Value::Text(format!("{}{}", count, if count > 0 && count == shown.len() { "all" } else { "" }))
+    };
+    let asked = |&atom: &Atom| {
+        let label = group.program.label(atom);
+        let told = question.iter().find(|(other, _)| *other == atom).map(|&(_, up)| if up { "up" } else { "dropped" });
+        Value::Text(told.map_or(format!("false{}", label), |told| format!("true{}, asked {}", label, told)))
+    };
+    let told: Vec<String> = question.iter().enumerate().map(|(place, term)| told_of(group, &question[..place], term)).collect();
+    let with = if told.is_empty() { String::new() } else { format!(" with {}", told.join(", ")) };
+    let answer = format!("{} of {} {}{}", shown.len(), all.len(), if all.len() == 1 { "position" } else { "positions" }, with);
+    let fields = [
+        ("answer", Value::Text(answer)),
+        ("rows", Value::List(shown.iter().map(|&place| Value::Number(place as f64 + 1.0)).collect())),
+        ("counts", Value::List(relays.iter().map(count).collect())),
+        ("asked", Value::List(relays.iter().map(asked).collect())),
+    ];
+    Value::Object(fields.into_iter().map(|(name, value)| (name.to_string(), value)).collect())
+}
