@@ -42,7 +42,9 @@ enum {
     LUCARNECRESS_BAD_USE = 19,
     LUCARNECRESS_BAD_READING = 20,
     LUCARNECRESS_CONTRADICTORY_BODY = 21,
-    LUCARNECRESS_NO_SHEET = 22
+    LUCARNECRESS_NO_SHEET = 22,
+    LUCARNECRESS_WRONG_COUNT = 23,
+    LUCARNECRESS_BAD_SHEET = 24
 };
 
 /* ---- lists ------------------------------------------------------------------------------------------------------------------- */
@@ -70,6 +72,18 @@ uint64_t lucarnecress_list(const uint8_t *plan, size_t plan_length, uint64_t *ta
  * reading. */
 uint64_t lucarnecress_judge(const uint8_t *plan, size_t plan_length, uint64_t position);
 
+/* ---- a whole sheet judged ---------------------------------------------------------------------------------------------------- */
+
+#define LUCARNECRESS_POSITION_BYTES 8u /* bytes of a position, the lowest first */
+#define LUCARNECRESS_ALL_SETTLED 256u  /* the most positions of a sheet; places are below it */
+
+/* Judges up to 256 positions in any order, repeats permitted; `length` is that of their bytes. The plan is read once. Gives
+ * LUCARNECRESS_ALL_SETTLED where lucarnecress_judge would find each of them settled, and so for an empty sheet; or the place from 0 of the first that
+ * is not; or the code of a refusal: of one in reading the plan, and after these LUCARNECRESS_BAD_SHEET at 0 for more than 256 positions or a
+ * length that is no multiple of LUCARNECRESS_POSITION_BYTES. A sheet that passes need not be full: other positions may be settled too;
+ * lucarnecress_list gives them all. */
+uint64_t lucarnecress_judge_sheet(const uint8_t *plan, size_t plan_length, const uint8_t *positions, size_t length);
+
 /* ---- one position after the other -------------------------------------------------------------------------------------------- */
 
 #define LUCARNECRESS_NONE_LEFT 0u
@@ -84,6 +98,20 @@ uint64_t lucarnecress_first(const uint8_t *plan, size_t plan_length, uint64_t *f
  * position on, each call with what the last one found, until none is left, meets every settled position once, rising. Above 0 is not
  * from the start: where 0 is settled, only lucarnecress_first finds it. */
 uint64_t lucarnecress_next(const uint8_t *plan, size_t plan_length, uint64_t position, uint64_t *found, size_t found_length);
+
+/* ---- the constraints to blame ----------------------------------------------------------------------------------------------- */
+
+#define LUCARNECRESS_HELD 0u
+
+/* Says which few constraints leave a plan without a position. Gives LUCARNECRESS_HELD with the word of these constraints in found[0]: bit i
+ * stands for rule i, and only rules without a head have a bit. With exactly these, the given facts and all rules with a head there is no position,
+ * and without any one of them there is one; 0 says that the rules with a head and the given facts have none by themselves. Of several such groups
+ * it is the one that is left where the constraints are gone through by rule number, the lowest first, and each is dropped without which there
+ * still is no position.
+ * A plan that has a position gives LUCARNECRESS_FOUND with the least one in found[0], all its atoms, as lucarnecress_first does. A word is
+ * written as far as there is room; words behind it are left alone. Or gives the code of a refusal in reading, with nothing written. Units and
+ * edges are not looked at. */
+uint64_t lucarnecress_blame(const uint8_t *plan, size_t plan_length, uint64_t *found, size_t found_length);
 
 /* ---- sheets ------------------------------------------------------------------------------------------------------------------ */
 

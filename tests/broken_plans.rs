@@ -1,5 +1,6 @@
 //! Plans with faults: broken graphs, each reading fault, order traps, damaged and random bytes.
 
+use crate::counted_plans;
 use crate::draft::Draft;
 use crate::encode;
 use crate::random::Random;
@@ -9,7 +10,7 @@ use crate::valid_plans;
 type Commands = Vec<Vec<u8>>;
 
 /// A small valid plan to spoil.
-fn sound_draft(random: &mut Random) -> Draft {
+pub fn sound_draft(random: &mut Random) -> Draft {
     match random.below(6) {
         0 => valid_plans::gadgets(random),
         1 => valid_plans::diamond(random),
@@ -35,6 +36,9 @@ pub fn broken_graph(random: &mut Random) -> Vec<u8> {
     let mut draft = sound_draft(random);
     for _ in 0..random.pick(&[1, 1, 2, 3]) {
         break_graph(random, &mut draft);
+    }
+    if random.chance(15) {
+        draft.declared = Some(draft.sizes());
     }
     draft.bytes()
 }
@@ -191,7 +195,7 @@ struct Groups {
 
 impl Groups {
     fn of(draft: &Draft) -> Groups {
-        let tables = usize::from(draft.given.is_some());
+        let tables = usize::from(draft.declared.is_some()) + usize::from(draft.given.is_some());
         let rules = tables + draft.tables.len();
         let uses = rules + draft.rules.len();
         let units = uses + draft.uses.len();
@@ -209,6 +213,9 @@ pub fn broken_reading(random: &mut Random) -> Vec<u8> {
     if random.chance(50) {
         draft.shown.get_or_insert(random.word());
     }
+    if random.chance(40) {
+        draft.declared = Some(counted_plans::near(random, draft.sizes()));
+    }
     let groups = Groups::of(&draft);
     let mut commands = draft.commands();
     for _ in 0..random.pick(&[1, 1, 1, 2, 3]) {
@@ -221,7 +228,7 @@ pub fn broken_reading(random: &mut Random) -> Vec<u8> {
 }
 
 /// A plan with about as many rules, units and edges as a plan may have, and perhaps as many tables and uses.
-fn large_draft(random: &mut Random) -> Draft {
+pub fn large_draft(random: &mut Random) -> Draft {
     let mut draft = full_draft(random.between(62, 64), random.between(14, 16), random.pick(&[0, 3, 239, 240]));
     fill_tables(&mut draft, random.pick(&[0, 1, 15, 16]), random.pick(&[0, 3, 255, 256]));
     draft
@@ -249,7 +256,7 @@ fn break_reading(random: &mut Random, draft: &Draft, groups: &Groups, commands: 
     let (units, rules) = (draft.units.len() as u8, draft.rules.len());
     let edge = (random.byte() % 20, random.byte() % 20);
     let any_word = random.word() >> random.below(64);
-    let (first, last, command) = match random.below(26) {
+    let (first, last, command) = match random.below(30) {
         0 => (0, groups.end, vec![random.byte()]),
         1 => (groups.rules, groups.uses, encode::rule(0, 0, 0)),
         2 => (groups.units, groups.edges, encode::unit(any_word)),
@@ -271,7 +278,10 @@ fn break_reading(random: &mut Random, draft: &Draft, groups: &Groups, commands: 
         18..=20 => (groups.tables, groups.tables, encode::given(any_word)),
         21 => (0, groups.end, encode::show(any_word)),
         22..=24 => (groups.end, groups.end, encode::show(any_word)),
-        _ => (groups.end + 1, groups.end + 1, vec![random.pick(&[0, 1, 2, 3, 4, 5, 6, 8, 9]); random.between(1, 30)]),
+        25 => (0, groups.end, encode::count(counted_plans::near(random, draft.sizes()))),
+        26 => (0, groups.tables, encode::count(draft.sizes())),
+        27 => (1, groups.end, encode::count(draft.sizes())),
+        _ => (groups.end + 1, groups.end + 1, vec![random.pick(&[0, 1, 2, 3, 4, 5, 6, 7, 8, 9]); random.between(1, 30)]),
     };
     let place = random.between(first, last).min(commands.len());
     commands.insert(place, command);
@@ -339,7 +349,7 @@ fn faulty_use(random: &mut Random, draft: &Draft, groups: &Groups) -> (usize, us
 }
 
 /// The bytes up to somewhere inside the command at this place.
-fn cut_inside(random: &mut Random, commands: &Commands, place: usize) -> Vec<u8> {
+pub fn cut_inside(random: &mut Random, commands: &Commands, place: usize) -> Vec<u8> {
     let mut bytes = commands[..place].concat();
     let kept = random.between(0, commands[place].len());
     bytes.extend(&commands[place][..kept]);
@@ -358,12 +368,13 @@ pub fn any_commands(random: &mut Random) -> Vec<u8> {
 }
 
 /// The commands' bytes in the order of their groups; END may stand anywhere.
-const GROUP_ORDER: [u8; 6] = [encode::GIVEN, encode::TABLE, encode::RULE, encode::USE, encode::UNIT, encode::EDGE];
+const GROUP_ORDER: [u8; 7] = [encode::COUNT, encode::GIVEN, encode::TABLE, encode::RULE, encode::USE, encode::UNIT, encode::EDGE];
 
 fn any_command(random: &mut Random) -> Vec<u8> {
     let mut small = || random.word() & random.word() & 7;
     let (head, positive, negative) = (small(), small(), small());
-    match random.below(50) {
+    match random.below(52) {
+        50 | 51 => encode::count([random.byte() % 4, random.byte() % 3, random.byte() % 2]),
         0..=19 => encode::rule(head, positive, negative),
         20..=29 => encode::unit(head),
         30..=35 => encode::edge(random.byte() % 4, random.byte() % 4),
@@ -379,6 +390,7 @@ fn any_command(random: &mut Random) -> Vec<u8> {
 pub fn one_too_many(random: &mut Random) -> Vec<u8> {
     let mut draft = full_draft(random.pick(&[60, 64]), 16, 240);
     draft.given = random.pick(&[None, Some(0), Some(4)]);
+    draft.declared = random.pick(&[None, Some(draft.sizes())]);
     fill_tables(&mut draft, 16, 256);
     let groups = Groups::of(&draft);
     let mut commands = draft.commands();
@@ -425,8 +437,8 @@ fn damage(random: &mut Random, bytes: &mut Vec<u8>) {
         0 | 1 if !bytes.is_empty() => bytes[place] ^= 1 << random.below(8),
         2 if !bytes.is_empty() => bytes[place] = random.byte(),
         3 => bytes.truncate(place),
-        4 => bytes.insert(place, random.pick(&[0, 1, 2, 3, 4, 5, 6, 255])),
-        _ => bytes.push(random.pick(&[0, 1, 2, 3, 4, 5, 6, 255])),
+        4 => bytes.insert(place, random.pick(&[0, 1, 2, 3, 4, 5, 6, 7, 255])),
+        _ => bytes.push(random.pick(&[0, 1, 2, 3, 4, 5, 6, 7, 255])),
     }
 }
 
@@ -434,7 +446,7 @@ fn damage(random: &mut Random, bytes: &mut Vec<u8>) {
 pub fn random_bytes(random: &mut Random) -> Vec<u8> {
     let length = random.between(0, 300);
     let commands_only = random.chance(50);
-    (0..length).map(|_| if commands_only { random.byte() % 7 } else { random.byte() }).collect()
+    (0..length).map(|_| if commands_only { random.byte() % 8 } else { random.byte() }).collect()
 }
 
 pub fn no_bytes(_: &mut Random) -> Vec<u8> {
@@ -444,6 +456,7 @@ pub fn no_bytes(_: &mut Random) -> Vec<u8> {
 /// A longest plan: every command as often as it may stand.
 fn longest_draft() -> Draft {
     let mut draft = full_draft(64, 16, 240);
+    draft.declared = Some(draft.sizes());
     draft.given = Some(4);
     fill_tables(&mut draft, 16, 256);
     draft

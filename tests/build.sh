@@ -27,6 +27,17 @@ need_cc() {
     exit 2
 }
 
+# Makes sure that there is python3; on a Debian machine without it, root installs it.
+need_python() {
+    command -v python3 >/dev/null && return
+    if [ "$(id -u)" = 0 ] && command -v apt-get >/dev/null; then
+        { apt-get update && apt-get install -y python3; } >&2
+    fi
+    command -v python3 >/dev/null && return
+    echo "python3 is missing: install it, on Debian as root with: apt-get update && apt-get install -y python3" >&2
+    exit 2
+}
+
 # Makes sure that there is clingo; on a Debian machine without it, root installs it.
 need_clingo() {
     command -v clingo >/dev/null && return
@@ -35,6 +46,17 @@ need_clingo() {
     fi
     command -v clingo >/dev/null && return
     echo "clingo is missing: install it, on Debian as root with: apt-get update && apt-get install -y gringo" >&2
+    exit 2
+}
+
+# Makes sure that there is a browser; on a Debian machine without it, root installs it.
+need_chromium() {
+    command -v chromium >/dev/null && return
+    if [ "$(id -u)" = 0 ] && command -v apt-get >/dev/null; then
+        { apt-get update && apt-get install -y chromium; } >&2
+    fi
+    command -v chromium >/dev/null && return
+    echo "chromium is missing: install it, on Debian as root with: apt-get update && apt-get install -y chromium" >&2
     exit 2
 }
 

@@ -136,9 +136,9 @@ with_mistake "row 5 after row 2" \
 with_mistake "row 5 before row 4" 'if kind < group ||' 'if kind < group && !plan.has_all(kind) ||'
 with_mistake "row 2 before row 4" \
     'if kind < group ||' 'if kind < group && offset + kind.operand_bytes() < bytes.len() ||'
-with_mistake "a second GIVEN replaces the first" '|| kind == Kind::Given && plan.given.is_some()' ''
+with_mistake "a second GIVEN replaces the first" 'Kind::Given => self.given.is_some(),' 'Kind::Given => false,'
 with_mistake "a second GIVEN cut short is 2" \
-    'plan.given.is_some() {' 'plan.given.is_some() && offset + 8 < bytes.len() {'
+    '|| plan.has_its_one(kind) {' '|| plan.has_its_one(kind) && offset + kind.operand_bytes() < bytes.len() {'
 with_mistake "GIVEN after a RULE is taken" 'if kind < group ||' 'if kind < group && kind != Kind::Given ||'
 with_mistake "bytes after END are not seen" 'refuse(9, next)' 'Ok(plan)'
 with_mistake "a repeated edge is taken" '|| self.edges.contains(&(u, v))' ''
@@ -215,10 +215,32 @@ with_mistake "SHOW: a single position is cut" 'let given = plan.given_atoms();
     Ok('
 with_mistake "SHOW: the sheet is not cut" 'listing.last.iter().map(|position| format!' 'listing.uncut.iter().map(|position| format!'
 with_mistake "SHOW: without it nothing shows" 'self.shown.unwrap_or(!0)' 'self.shown.unwrap_or(0)'
-with_mistake "SHOW: a second one is taken" '|| kind == Kind::Show && plan.shown.is_some() ||' '||'
+with_mistake "SHOW: a second one is taken" 'Kind::Show => self.shown.is_some(),' 'Kind::Show => false,'
 with_mistake "SHOW: EDGE may stand behind it" 'if kind < group ||' 'if kind < group && !(kind == Kind::Edge && group == Kind::Show) ||'
 with_mistake "SHOW: it may stand before EDGEs" '        group = kind;' '        group = if kind == Kind::Show { group } else { kind };'
 with_mistake "SHOW: unknown" '            0x08 => Some(Kind::Show),
+' ''
+
+# Declared sizes
+with_mistake "COUNT: no plan is refused for it" 'if plan.is_miscounted() {' 'if false {'
+with_mistake "COUNT: 23 after 9" 'if plan.is_miscounted() {' 'if plan.is_miscounted() && next == bytes.len() {'
+with_mistake "COUNT: 23 at the offset of END" 'refuse(23, 0)' 'refuse(23, offset)'
+with_mistake "COUNT: edges are counted with uses" 'self.edges.len()];' 'self.edges.len() + self.uses.len()];'
+with_mistake "COUNT: edges are not counted" 'self.edges.len()];' 'self.declared.map_or(0, |declared| usize::from(declared[2]))];'
+with_mistake "COUNT: units before rules" '[self.rules.len(), self.units.len(),' '[self.units.len(), self.rules.len(),'
+with_mistake "COUNT: a declared 0 is not declared" 'declared.map(usize::from) != read' \
+    '(0..3).any(|i| declared[i] != 0 && usize::from(declared[i]) != read[i])'
+with_mistake "COUNT: more than declared is no fault" 'declared.map(usize::from) != read' '(0..3).any(|i| usize::from(declared[i]) > read[i])'
+with_mistake "COUNT: a second one is taken" 'Kind::Count => self.declared.is_some(),' 'Kind::Count => false,'
+with_mistake "COUNT: it may stand behind a GIVEN" 'if kind < group ||' 'if kind < group && !(kind == Kind::Count && group == Kind::Given) ||'
+with_mistake "COUNT: 23 before the faults of other commands" 'if plan.has_all(kind) {' 'if kind == Kind::End && plan.is_miscounted() {
+            return refuse(23, 0);
+        }
+        if plan.declared.is_some_and(|declared| usize::from(declared[1]) < plan.units.len()) {
+            return refuse(23, 0);
+        }
+        if plan.has_all(kind) {'
+with_mistake "COUNT: unknown" '            0x07 => Some(Kind::Count),
 ' ''
 
 # Table and sheet
@@ -275,6 +297,105 @@ with_mistake "walk: every lent word is written" \
     'if let (Ok(Some(position)), Some(word)) = (next, found.first_mut()) {
         *word = position;' 'if let Ok(Some(position)) = next {
         found.fill(position);'
+
+# Whole sheets judged
+with_mistake "judged: places counted from 1" '|(place, _)| place as u64' '|(place, _)| place as u64 + 1'
+with_mistake "judged: the last that is not" 'places.find(' 'places.rfind('
+with_mistake "judged: 24 before the reading refusals" \
+    'read(bytes)?;
+    if sheet.len() / POSITION_BYTES > LIST_WORDS || sheet.len() % POSITION_BYTES != 0 {
+        return refuse(24, 0);
+    }' 'if sheet.len() / POSITION_BYTES > LIST_WORDS || sheet.len() % POSITION_BYTES != 0 {
+        return refuse(24, 0);
+    }
+    read(bytes)?;'
+with_mistake "judged: 24 after the places" \
+    'if sheet.len() / POSITION_BYTES > LIST_WORDS ||' \
+    'let passes = sheet.chunks_exact(POSITION_BYTES).map(word).all(&is_settled);
+    if passes && sheet.len() / POSITION_BYTES > LIST_WORDS || passes &&'
+with_mistake "judged: 256 positions are refused" 'POSITION_BYTES > LIST_WORDS' 'POSITION_BYTES >= LIST_WORDS'
+with_mistake "judged: 257 positions are taken" 'POSITION_BYTES > LIST_WORDS' 'POSITION_BYTES > LIST_WORDS + 1'
+with_mistake "judged: lone bytes are ignored" ' || sheet.len() % POSITION_BYTES != 0' ''
+with_mistake "judged: highest byte first" \
+    'chunks_exact(POSITION_BYTES).map(word)' 'chunks_exact(POSITION_BYTES).map(|bytes| word(bytes).swap_bytes())'
+with_mistake "judged: refused for its graph" \
+    'read(bytes)?;
+    if sheet' 'check_graph(&read(bytes)?)?;
+    if sheet'
+with_mistake "judged: positions are cut to what shows" \
+    '!is_settled(position))' '!is_settled(position & read(bytes).unwrap().shown_atoms()))'
+with_mistake "judged: a repeat is not settled" \
+    'Ok(places.find(|&(_, position)| !is_settled(position))' \
+    'let mut met = std::collections::BTreeSet::new();
+    Ok(places.find(|&(_, position)| !is_settled(position) || !met.insert(position))'
+with_mistake "judged: an empty sheet does not pass" 'let mut places' 'if sheet.is_empty() {
+        return Ok(0);
+    }
+    let mut places'
+with_mistake "judged: the number of positions for all settled" \
+    'map_or(LIST_WORDS as u64' 'map_or((sheet.len() / POSITION_BYTES) as u64'
+# The few constraints that empty a plan
+with_mistake "blame: going down by rule number" \
+    'for rule in plan.constraints() {' 'for rule in plan.constraints().collect::<Vec<_>>().into_iter().rev() {'
+with_mistake "blame: the lowest constraint is dropped though the others are not empty" \
+    'if least(others).is_none() {' 'if least(others).is_none() || held & ((1 << rule) - 1) == 0 {'
+with_mistake "blame: every constraint is held" 'if least(others).is_none() {' 'if least(others).is_none() && held == 0 {'
+with_mistake "blame: each is tried beside all others, not beside those still held" \
+    'let others = held & !(1 << rule);
+        if least(others).is_none() {
+            held = others;' \
+    'let others = plan.constraints().fold(0, |word, other| word | u64::from(other != rule) << other);
+        if least(others).is_none() {
+            held &= others;'
+with_mistake "blame: the lowest constraint is not tried" 'for rule in plan.constraints() {' 'for rule in plan.constraints().skip(1) {'
+with_mistake "blame: headed rule 0 is dropped" \
+    'self.rules[rule].head != 0 || has(held, rule)' 'self.rules[rule].head != 0 && rule != 0 || has(held, rule)'
+with_mistake "blame: headed rules are blamed" \
+    'if let Some(position) = least(held) {' 'if least(0).is_none() {
+        return Blame::Held(!held & ((1u128 << plan.rules.len()) - 1) as u64);
+    }
+    if let Some(position) = least(held) {'
+with_mistake "blame: all constraints are held where the headed rules alone are empty" \
+    'if let Some(position) = least(held) {' 'if least(0).is_none() {
+        return Blame::Held(held);
+    }
+    if let Some(position) = least(held) {'
+with_mistake "blame: given atoms are no facts" \
+    'answer_sets(&plan.rules_with(0), plan.given_atoms());
+    let is_left' 'answer_sets(&plan.rules_with(0), 0);
+    let is_left'
+with_mistake "blame: uses of constraints are not looked at" \
+    'has(held, rule) && plan.rules[rule].body_holds(position)' \
+    'has(held, rule) && Rule { uses: Vec::new(), ..plan.rules[rule].clone() }.body_holds(position)'
+with_mistake "blame: constraints with uses are not tried" \
+    '(0..self.rules.len()).filter(|&rule| self.rules[rule].head == 0)' \
+    '(0..self.rules.len()).filter(|&rule| self.rules[rule].head == 0 && self.rules[rule].uses.is_empty())'
+with_mistake "blame: the least position is cut to the shown atoms" \
+    'return Blame::Position(position);' 'return Blame::Position(position & plan.shown_atoms());'
+with_mistake "blame: the greatest position for the least" 'headed.iter().copied().find(' 'headed.iter().copied().rfind('
+with_mistake "blame: a plan with position 0 gets a word" \
+    'if let Some(position) = least(held) {' 'if let Some(position) = least(held).filter(|&position| position != 0) {'
+with_mistake "blame: bits count constraints, not rules" \
+    '    Blame::Held(held)
+}' '    Blame::Held(plan.constraints().enumerate().fold(0, |word, (place, rule)| word | (held >> rule & 1) << place))
+}'
+with_mistake "blame: refused for its graph" \
+    'let headed = answer_sets(' 'check_graph(&plan)?;
+    let headed = answer_sets('
+with_mistake "blame: a word is told as a position" 'Ok(Blame::Held(held)) => (0, held)' 'Ok(Blame::Held(held)) => (1, held)'
+with_mistake "blame: the word is not written" \
+    'if let Some(first) = found.first_mut() {
+        *first = word;' 'if let Some(first) = found.first_mut().filter(|_| code == 1) {
+        *first = word;'
+with_mistake "blame: a refusal clears the first word" \
+    'Err(refusal) => return refusal.code(),
+    };
+    if let Some(first)' 'Err(refusal) => {
+            found.iter_mut().take(1).for_each(|word| *word = 0);
+            return refusal.code();
+        }
+    };
+    if let Some(first)'
 
 # Questions
 with_mistake "a repeat is counted once" \

@@ -2,7 +2,11 @@
 //!
 //! The last line says how many plans passed and how many failed; the exit status is 1 if any failed.
 
+mod blame_plans;
+mod blames;
 mod broken_plans;
+mod counted_plans;
+mod counted_tally;
 mod draft;
 mod encode;
 mod generator;
@@ -15,6 +19,7 @@ mod random;
 mod readings;
 mod rows;
 mod samples;
+mod sheets;
 mod shown_plans;
 mod shown_tally;
 mod stop_plans;
@@ -88,6 +93,9 @@ fn compare_sample(sample: &Sample, case: &Case, seed: u64, tally: &mut Tally) ->
         return if shows_all { walks::compare_whole(&sample.plan, &samples::positions(sample), tally) } else { Ok(()) };
     }
     compare(case, &mut Random::for_case(seed, 0), tally)?;
+    if let Some(blame) = samples::blamed(sample.name) {
+        blames::ask(&sample.plan, Ok(blame), &mut Random::for_case(seed, 0))?;
+    }
     match lister::read(&sample.plan) {
         Ok(plan) => walks::compare_whole(&sample.plan, &lister::answer_sets(&plan.rules, plan.given_atoms()), tally),
         Err(_) => Ok(()),
@@ -100,11 +108,14 @@ fn compare(case: &Case, random: &mut Random, tally: &mut Tally) -> Result<(), St
     let settled = settled_positions(&case.plan, &outcome);
     tally.tables.note(&case.plan, &outcome);
     tally.shown.note(&case.plan, &outcome);
+    tally.counted.note(&case.plan, &outcome);
     compare_table(case, &outcome, tally)?;
     compare_sheet(&case.plan, &lister::sheet(&outcome))?;
     check_lister(&case.plan, &outcome, tally)?;
     positions::compare(case, &outcome, settled.as_deref().unwrap_or_default(), random, tally)?;
     walks::compare(&case.plan, &outcome, settled.as_deref(), random, tally)?;
+    sheets::compare(&case.plan, settled.as_deref(), random, tally)?;
+    blames::compare(&case.plan, settled.as_deref(), random, tally)?;
     questions::compare(&outcome, random, tally)
 }
 

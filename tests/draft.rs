@@ -1,4 +1,4 @@
-//! A plan being drawn: given atoms, tables, rules, uses, units and edges that can still be changed.
+//! A plan being drawn: declared sizes, given atoms, tables, rules, uses, units and edges that can still be changed.
 
 use crate::encode;
 use crate::random::Random;
@@ -14,6 +14,8 @@ pub type UseNumbers = [usize; 3];
 
 #[derive(Clone, Default)]
 pub struct Draft {
+    /// The numbers of COUNT, if the plan has one: rules, units, edges.
+    pub declared: Option<[u8; 3]>,
     /// The word of GIVEN, if the plan has one.
     pub given: Option<u64>,
     pub tables: Vec<TableWords>,
@@ -83,6 +85,11 @@ impl Draft {
         if u != v && !self.edges.contains(&(u, v)) {
             self.edges.push((u, v));
         }
+    }
+
+    /// How many rules, units and edges there are.
+    pub fn sizes(&self) -> [u8; 3] {
+        [self.rules.len(), self.units.len(), self.edges.len()].map(|size| size as u8)
     }
 
     /// The units that hold a rule.
@@ -168,6 +175,7 @@ impl Draft {
 
     /// The commands in their order, END included.
     pub fn commands(&self) -> Vec<Vec<u8>> {
+        let declared = self.declared.iter().map(|&numbers| encode::count(numbers));
         let given = self.given.iter().map(|&atoms| encode::given(atoms));
         let tables = self.tables.iter().map(|&[inputs, truth]| encode::table(inputs, truth));
         let rules = self.rules.iter().map(|&[head, positive, negative]| encode::rule(head, positive, negative));
@@ -176,7 +184,7 @@ impl Draft {
         let units = self.units.iter().map(|&unit| encode::unit(unit));
         let edges = self.edges.iter().map(|&(u, v)| encode::edge(u as u8, v as u8));
         let shown = self.shown.iter().map(|&atoms| encode::show(atoms));
-        let front = given.chain(tables).chain(rules).chain(uses);
+        let front = declared.chain(given).chain(tables).chain(rules).chain(uses);
         front.chain(units).chain(edges).chain(shown).chain(std::iter::once(encode::end())).collect()
     }
 

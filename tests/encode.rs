@@ -1,5 +1,6 @@
-//! The bytes of each command of a plan.
+//! The bytes of each command of a plan, for all that makes plans in Rust; `commands.py` has them for Python.
 
+pub const COUNT: u8 = 0x07;
 pub const GIVEN: u8 = 0x04;
 pub const TABLE: u8 = 0x05;
 pub const RULE: u8 = 0x01;
@@ -8,6 +9,10 @@ pub const UNIT: u8 = 0x02;
 pub const EDGE: u8 = 0x03;
 pub const SHOW: u8 = 0x08;
 pub const END: u8 = 0x00;
+
+pub fn count([rules, units, edges]: [u8; 3]) -> Vec<u8> {
+    vec![COUNT, rules, units, edges]
+}
 
 pub fn given(atoms: u64) -> Vec<u8> {
     command(GIVEN, &[atoms])

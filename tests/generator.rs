@@ -1,6 +1,8 @@
 //! Draws numbered plans from a seed, family by family.
 
+use crate::blame_plans as blames;
 use crate::broken_plans as broken;
+use crate::counted_plans as counted;
 use crate::draft::Draft;
 use crate::lister::TABLE_WORDS;
 use crate::random::Random;
@@ -45,11 +47,13 @@ static FAMILIES: &[Family] = &[
     family("full size", 10, Draw::Valid(valid::full_size)),
     family("given atoms", 70, Draw::Valid(valid::given_atoms)),
     family("given atoms, many in heads", 10, Draw::ManyAtoms(valid::given_among_many)),
+    family("declared sizes", 60, Draw::Valid(counted::right)),
     family("shown atoms", 80, Draw::Valid(shown::shown_atoms)),
     family("shown atoms, many in heads", 15, Draw::ManyAtoms(shown::shown_among_many)),
     family("relays with helpers", 40, Draw::Valid(shown::helpers)),
     family("over 256 positions until cut", 12, Draw::ManyAtoms(shown::long_until_cut)),
     family("unit list too long, cut list not", 6, Draw::ManyAtoms(shown::unit_list_too_long)),
+    family("groups of constraints to blame", 90, Draw::Valid(blames::groups_of_constraints)),
     family("contradicting constraints", 80, Draw::Valid(stops::contradicting_constraints)),
     family("pigeonholes", 40, Draw::Valid(stops::pigeonholes)),
     family("contradicting parities", 50, Draw::Valid(stops::contradicting_parities)),
@@ -74,6 +78,9 @@ static FAMILIES: &[Family] = &[
     family("any edges", 20, Draw::Broken(broken::any_edges)),
     family("broken reading", 120, Draw::Broken(broken::broken_reading)),
     family("broken tables and uses", 120, Draw::Broken(broken::broken_tables)),
+    family("wrong declared sizes", 60, Draw::Broken(counted::wrong)),
+    family("declared sizes, a command lost or doubled", 70, Draw::Broken(counted::lost_or_doubled)),
+    family("late or cut COUNTs", 30, Draw::Broken(counted::late_or_cut)),
     family("any commands", 30, Draw::Broken(broken::any_commands)),
     family("one too many", 60, Draw::Broken(broken::one_too_many)),
     family("damaged bytes", 70, Draw::Broken(broken::damaged)),

@@ -125,6 +125,7 @@ static void check_shown(void)
 {
     static const char sheet_shown[] = "positions 2\n0000000000000002\n0000000000000004\n";
     static const uint8_t show[SHOW_BYTES + 1] = {0x08, 0x06};
+    static const uint8_t uncut[] = {0x5, 0, 0, 0, 0, 0, 0, 0}, cut[] = {0x4, 0, 0, 0, 0, 0, 0, 0};
     static uint64_t table[LUCARNECRESS_TABLE_WORDS];
     uint64_t counts[LUCARNECRESS_COUNTS];
     uint8_t sheet[LUCARNECRESS_SHEET_BYTES];
@@ -139,12 +140,44 @@ static void check_shown(void)
     same("shown, list, unit 0", 0x1, table[0]);
     same("shown, judge, settled", LUCARNECRESS_SETTLED, lucarnecress_judge(plan, sizeof plan_p + SHOW_BYTES, settled[1]));
     same("shown, judge, its cut", LUCARNECRESS_NOT_SETTLED, lucarnecress_judge(plan, sizeof plan_p + SHOW_BYTES, 0x4));
+    same("shown, sheet judged, uncut", LUCARNECRESS_ALL_SETTLED,
+         lucarnecress_judge_sheet(plan, sizeof plan_p + SHOW_BYTES, uncut, sizeof uncut));
+    same("shown, sheet judged, cut", 0, lucarnecress_judge_sheet(plan, sizeof plan_p + SHOW_BYTES, cut, sizeof cut));
     same("shown, sheet, length", sizeof sheet_shown - 1,
          lucarnecress_sheet(plan, sizeof plan_p + SHOW_BYTES, sheet, sizeof sheet));
     same("shown, sheet, bytes", 0, (uint64_t)(memcmp(sheet, sheet_shown, sizeof sheet_shown - 1) != 0));
     memcpy(plan + sizeof plan_p - 1 + SHOW_BYTES, show, sizeof show);
     same("shown, a second SHOW", refusal(LUCARNECRESS_OUT_OF_ORDER, sizeof plan_p - 1 + SHOW_BYTES),
          lucarnecress_judge(plan, sizeof plan, settled[0]));
+}
+
+/* Plan P with its sizes declared: it is listed as without them; without its EDGE it is refused, and so is a COUNT behind the first command. */
+#define COUNT_BYTES 4u
+
+static void check_counted(void)
+{
+    static const uint8_t count[COUNT_BYTES] = {0x07, 2, 2, 1};
+    static uint64_t table[LUCARNECRESS_TABLE_WORDS];
+    uint64_t counts[LUCARNECRESS_COUNTS], found[1];
+    uint8_t plan[sizeof plan_p + 2 * COUNT_BYTES];
+    memcpy(plan, count, COUNT_BYTES);
+    memcpy(plan + COUNT_BYTES, plan_p, sizeof plan_p);
+    same("counted, list", 0,
+         lucarnecress_list(plan, sizeof plan_p + COUNT_BYTES, table, LUCARNECRESS_TABLE_WORDS, counts, LUCARNECRESS_COUNTS));
+    same("counted, list, last count", 2, counts[LUCARNECRESS_LAST_COUNT]);
+    same("counted, list, second position", settled[1], table[LUCARNECRESS_LAST_LIST + 1]);
+    same("counted, judge", LUCARNECRESS_SETTLED, lucarnecress_judge(plan, sizeof plan_p + COUNT_BYTES, settled[0]));
+    memcpy(plan + COUNT_BYTES, unseen_plan(), UNSEEN_LENGTH);
+    same("counted, list, a lost EDGE", refusal(LUCARNECRESS_WRONG_COUNT, 0),
+         lucarnecress_list(plan, UNSEEN_LENGTH + COUNT_BYTES, table, LUCARNECRESS_TABLE_WORDS, counts, LUCARNECRESS_COUNTS));
+    same("counted, list, refused count", 0, counts[LUCARNECRESS_LAST_COUNT]);
+    same("counted, list, table untouched", settled[1], table[LUCARNECRESS_LAST_LIST + 1]);
+    same("counted, judge, a lost EDGE", refusal(LUCARNECRESS_WRONG_COUNT, 0),
+         lucarnecress_judge(plan, UNSEEN_LENGTH + COUNT_BYTES, settled[0]));
+    same("counted, first, a lost EDGE", refusal(LUCARNECRESS_WRONG_COUNT, 0),
+         lucarnecress_first(plan, UNSEEN_LENGTH + COUNT_BYTES, found, 1));
+    memcpy(plan + COUNT_BYTES, count, COUNT_BYTES);
+    same("counted, a second COUNT", refusal(LUCARNECRESS_OUT_OF_ORDER, COUNT_BYTES), lucarnecress_judge(plan, sizeof plan, settled[0]));
 }
 
 static void check_list(void)
@@ -174,6 +207,55 @@ static void check_judge(void)
     same("judge, not settled", LUCARNECRESS_NOT_SETTLED, lucarnecress_judge(plan_p, sizeof plan_p, 0x7));
     same("judge, no graph", LUCARNECRESS_SETTLED, lucarnecress_judge(unseen_plan(), UNSEEN_LENGTH, settled[1]));
     same("judge, no bytes", refusal(LUCARNECRESS_TRUNCATED, 0), lucarnecress_judge(plan_p, 0, 0));
+}
+
+#define POSITION LUCARNECRESS_POSITION_BYTES
+#define MOST LUCARNECRESS_ALL_SETTLED
+
+/* A sheet of 257 settled positions of plan P, each with many repeats; the bytes of a position are the lowest first. */
+static uint8_t *settled_sheet(void)
+{
+    static uint8_t sheet[(MOST + 1) * POSITION];
+    memset(sheet, 0, sizeof sheet);
+    for (size_t place = 0; place <= MOST; place++)
+        sheet[place * POSITION] = (uint8_t)settled[place % 3 != 0];
+    return sheet;
+}
+
+/* Plan P's reply for the first 256 of them, with position 7, which is not settled, at one place. */
+static uint64_t with_wrong(size_t place)
+{
+    uint8_t *sheet = settled_sheet();
+    sheet[place * POSITION] = 0x7;
+    return lucarnecress_judge_sheet(plan_p, sizeof plan_p, sheet, MOST * POSITION);
+}
+
+static void check_judge_sheet(void)
+{
+    static const uint8_t highest_first[] = {0, 0, 0, 0, 0, 0, 0, 0x2};
+    uint8_t *sheet = settled_sheet();
+    same("sheet judged, empty", LUCARNECRESS_ALL_SETTLED, lucarnecress_judge_sheet(plan_p, sizeof plan_p, sheet, 0));
+    same("sheet judged, one", LUCARNECRESS_ALL_SETTLED, lucarnecress_judge_sheet(plan_p, sizeof plan_p, sheet, POSITION));
+    same("sheet judged, 256 with repeats", LUCARNECRESS_ALL_SETTLED,
+         lucarnecress_judge_sheet(plan_p, sizeof plan_p, sheet, MOST * POSITION));
+    same("sheet judged, 257", refusal(LUCARNECRESS_BAD_SHEET, 0),
+         lucarnecress_judge_sheet(plan_p, sizeof plan_p, sheet, (MOST + 1) * POSITION));
+    same("sheet judged, 2,047 bytes", refusal(LUCARNECRESS_BAD_SHEET, 0),
+         lucarnecress_judge_sheet(plan_p, sizeof plan_p, sheet, MOST * POSITION - 1));
+    same("sheet judged, one byte", refusal(LUCARNECRESS_BAD_SHEET, 0), lucarnecress_judge_sheet(plan_p, sizeof plan_p, sheet, 1));
+    same("sheet judged, no graph", LUCARNECRESS_ALL_SETTLED,
+         lucarnecress_judge_sheet(unseen_plan(), UNSEEN_LENGTH, sheet, MOST * POSITION));
+    same("sheet judged, highest byte first", 0, lucarnecress_judge_sheet(plan_p, sizeof plan_p, highest_first, sizeof highest_first));
+    same("sheet judged, the first wrong", 0, with_wrong(0));
+    same("sheet judged, one in the middle wrong", 100, with_wrong(100));
+    same("sheet judged, the last wrong", MOST - 1, with_wrong(MOST - 1));
+    sheet[100 * POSITION] = 0x7;
+    same("sheet judged, two wrong", 100, lucarnecress_judge_sheet(plan_p, sizeof plan_p, sheet, MOST * POSITION));
+    sheet[0] = 0x7;
+    same("sheet judged, 24 before the places", refusal(LUCARNECRESS_BAD_SHEET, 0),
+         lucarnecress_judge_sheet(plan_p, sizeof plan_p, sheet, (MOST + 1) * POSITION));
+    same("sheet judged, reading before 24", refusal(LUCARNECRESS_TRUNCATED, sizeof plan_p - 1),
+         lucarnecress_judge_sheet(plan_p, sizeof plan_p - 1, sheet, (MOST + 1) * POSITION));
 }
 
 /* One position after the other, from the start to the end of plan P, then from other positions. */
@@ -221,6 +303,30 @@ static void check_walk_edges(void)
     same("next, no END", refusal(LUCARNECRESS_TRUNCATED, sizeof plan_p - 1),
          lucarnecress_next(plan_p, sizeof plan_p - 1, settled[0], found, 2));
     same("first and next, nothing written", 99, found[0]);
+}
+
+/* A rule of one head word and two body words, each below 256. */
+#define RULE(head, positive, negative) 0x01, head, 0, 0, 0, 0, 0, 0, 0, positive, 0, 0, 0, 0, 0, 0, 0, negative, 0, 0, 0, 0, 0, 0, 0
+
+/* What plans are blamed on: relay 0 or 1 is up, and two pairs of constraints forbid both; a rule that leaves no position by itself; plan P. */
+static void check_blame(void)
+{
+    static const uint8_t two_groups[] = {RULE(3, 0, 0), RULE(0, 1, 0), RULE(0, 2, 0), RULE(0, 0, 2), RULE(0, 0, 1), 0x00};
+    static const uint8_t headed_alone[] = {RULE(1, 0, 1), RULE(6, 0, 0), RULE(0, 2, 0), RULE(0, 4, 0), 0x00};
+    uint64_t found[] = {99, 99};
+    same("blame", LUCARNECRESS_HELD, lucarnecress_blame(two_groups, sizeof two_groups, found, 2));
+    same("blame, rules 3 and 4", 0x18, found[0]);
+    same("blame, behind", 99, found[1]);
+    same("blame, headed rules alone", LUCARNECRESS_HELD, lucarnecress_blame(headed_alone, sizeof headed_alone, found, 2));
+    same("blame, headed rules alone: no constraint", 0, found[0]);
+    same("blame, a position", LUCARNECRESS_FOUND, lucarnecress_blame(plan_p, sizeof plan_p, found, 1));
+    same("blame, a position: the least", settled[0], found[0]);
+    same("blame, no graph", LUCARNECRESS_FOUND, lucarnecress_blame(unseen_plan(), UNSEEN_LENGTH, found, 1));
+    found[0] = 99;
+    same("blame, no room", LUCARNECRESS_HELD, lucarnecress_blame(two_groups, sizeof two_groups, found, 0));
+    same("blame, no bytes", refusal(LUCARNECRESS_TRUNCATED, 0), lucarnecress_blame(plan_p, 0, found, 2));
+    same("blame, no END", refusal(LUCARNECRESS_TRUNCATED, sizeof plan_p - 1), lucarnecress_blame(plan_p, sizeof plan_p - 1, found, 2));
+    same("blame, nothing written", 99, found[0]);
 }
 
 static void check_sheet(void)
@@ -342,8 +448,10 @@ static void check_codes(void)
     same("spot of a code", 9, LUCARNECRESS_SPOT(code));
 }
 
-static void (*const checks[])(void) = {check_list,   check_judge,    check_walk,    check_walk_edges, check_sheet,  check_count, check_rows,
-                                       check_common, check_readings, check_largest, check_codes,      check_tables, check_shown};
+static void (*const checks[])(void) = {check_list,     check_judge, check_judge_sheet, check_walk,     check_walk_edges,
+                                       check_blame,    check_sheet, check_count,       check_rows,     check_common,
+                                       check_readings, check_largest, check_codes,     check_tables,   check_shown,
+                                       check_counted};
 
 int main(void)
 {

@@ -16,8 +16,10 @@ extern "C" {
         counts_len: usize,
     ) -> u64;
     fn lucarnecress_judge(plan: *const u8, plan_len: usize, position: u64) -> u64;
+    fn lucarnecress_judge_sheet(plan: *const u8, plan_len: usize, positions: *const u8, positions_len: usize) -> u64;
     fn lucarnecress_first(plan: *const u8, plan_len: usize, found: *mut u64, found_len: usize) -> u64;
     fn lucarnecress_next(plan: *const u8, plan_len: usize, position: u64, found: *mut u64, found_len: usize) -> u64;
+    fn lucarnecress_blame(plan: *const u8, plan_len: usize, found: *mut u64, found_len: usize) -> u64;
     fn lucarnecress_sheet(plan: *const u8, plan_len: usize, sheet: *mut u8, sheet_len: usize) -> u64;
     fn lucarnecress_reading_number(reading: u16) -> u64;
     fn lucarnecress_reading_of(number: u64) -> u64;
@@ -42,6 +44,11 @@ pub fn judge(plan: &[u8], position: u64) -> u64 {
     unsafe { lucarnecress_judge(plan.as_ptr(), plan.len(), position) }
 }
 
+/// 256 where all positions are settled, the place of the first that is not, or the code of a refusal.
+pub fn judge_sheet(plan: &[u8], positions: &[u8]) -> u64 {
+    unsafe { lucarnecress_judge_sheet(plan.as_ptr(), plan.len(), positions.as_ptr(), positions.len()) }
+}
+
 /// 1 with the least position of all, or above one, in the lent words; 0 if none is left, or the code of a refusal.
 pub fn next(plan: &[u8], from: From, found: &mut [u64]) -> u64 {
     let (words, room) = (found.as_mut_ptr(), found.len());
@@ -49,6 +56,11 @@ pub fn next(plan: &[u8], from: From, found: &mut [u64]) -> u64 {
         From::Start => unsafe { lucarnecress_first(plan.as_ptr(), plan.len(), words, room) },
         From::Above(position) => unsafe { lucarnecress_next(plan.as_ptr(), plan.len(), position, words, room) },
     }
+}
+
+/// 1 with the least position, 0 with the held constraints in the lent words, or the code of a refusal.
+pub fn blame(plan: &[u8], found: &mut [u64]) -> u64 {
+    unsafe { lucarnecress_blame(plan.as_ptr(), plan.len(), found.as_mut_ptr(), found.len()) }
 }
 
 /// The sheet's bytes; a length beyond the buffer is reported as it is.

@@ -15,6 +15,7 @@ pub const TABLE_WORDS: usize = LAST_LIST_START + LIST_WORDS;
 pub const COUNTS: usize = MAX_UNITS + 1;
 pub const MAX_QUESTIONS: usize = 64;
 pub const QUESTION_WORDS: usize = 3;
+pub const POSITION_BYTES: usize = 8;
 
 /// What a refused plan gets: the number of the fault and its spot.
 #[derive(Clone, Copy, Debug, PartialEq, Eq)]
@@ -78,7 +79,7 @@ pub struct Rule {
 
 impl Rule {
     /// The position has every positive atom and no negative one, and every use holds.
-    fn body_holds(&self, position: u64) -> bool {
+    pub fn body_holds(&self, position: u64) -> bool {
         is_subset(self.positive, position) && self.negative & position == 0 && self.uses_hold(position)
     }
 
@@ -161,6 +162,8 @@ fn sets_to_try(rules: &[Rule], facts: u64) -> impl Iterator<Item = u64> {
 
 #[derive(Clone, Debug, Default)]
 pub struct Plan {
+    /// The three numbers of COUNT, if there is one: rules, units, edges.
+    pub declared: Option<[u8; 3]>,
     /// The word of GIVEN, if there is one.
     pub given: Option<u64>,
     pub tables: Vec<Table>,
@@ -179,6 +182,7 @@ pub struct Plan {
 /// The kinds of command, in the order of their groups.
 #[derive(Clone, Copy, PartialEq, Eq, PartialOrd, Ord)]
 enum Kind {
+    Count,
     Given,
     Table,
     Rule,
@@ -199,6 +203,7 @@ impl Kind {
             0x04 => Some(Kind::Given),
             0x05 => Some(Kind::Table),
             0x06 => Some(Kind::Use),
+            0x07 => Some(Kind::Count),
             0x08 => Some(Kind::Show),
             _ => None,
         }
@@ -209,7 +214,7 @@ impl Kind {
             Kind::Rule => 24,
             Kind::Table => 16,
             Kind::Given | Kind::Unit | Kind::Show => 8,
-            Kind::Use => 3,
+            Kind::Use | Kind::Count => 3,
             Kind::Edge => 2,
             Kind::End => 0,
         }
@@ -218,17 +223,17 @@ impl Kind {
 
 /// Reads a plan from the left. The rows of the reading place are tried for each command in turn,
 /// in the table's order: 3, 4, 5, 2, then those of the command's operands (6 and 21 of a RULE, 18 of a
-/// TABLE, 19 of a USE, 7 of a UNIT, 8 of an EDGE), then 9.
+/// TABLE, 19 of a USE, 7 of a UNIT, 8 of an EDGE), then 23 and 9 of END.
 pub fn read(bytes: &[u8]) -> Result<Plan, Refusal> {
     let mut plan = Plan::default();
-    let mut group = Kind::Given;
+    let mut group = Kind::Count;
     let mut offset = 0;
     while offset < bytes.len() {
         let kind = match Kind::of(bytes[offset]) {
             Some(kind) => kind,
             None => return refuse(3, offset),
         };
-        if kind < group || kind == Kind::Show && plan.shown.is_some() || kind == Kind::Given && plan.given.is_some() {
+        if kind < group || plan.has_its_one(kind) {
             return refuse(4, offset);
         }
         if plan.has_all(kind) {
@@ -242,6 +247,9 @@ pub fn read(bytes: &[u8]) -> Result<Plan, Refusal> {
             return refuse(number, offset);
         }
         if kind == Kind::End {
+            if plan.is_miscounted() {
+                return refuse(23, 0);
+            }
             return if next < bytes.len() { refuse(9, next) } else { Ok(plan) };
         }
         group = kind;
@@ -269,20 +277,37 @@ impl Plan {
         cut
     }
 
-    /// Is the most of this kind already there? A second GIVEN or SHOW is out of order (row 4), and a 241st EDGE is a fault by itself (row 8).
+    /// Is this the kind of a command that may stand once and is there?
+    fn has_its_one(&self, kind: Kind) -> bool {
+        match kind {
+            Kind::Count => self.declared.is_some(),
+            Kind::Given => self.given.is_some(),
+            Kind::Show => self.shown.is_some(),
+            _ => false,
+        }
+    }
+
+    /// Does a declared number differ from what was read?
+    fn is_miscounted(&self) -> bool {
+        let read = [self.rules.len(), self.units.len(), self.edges.len()];
+        self.declared.is_some_and(|declared| declared.map(usize::from) != read)
+    }
+
+    /// Is the most of this kind already there? A second COUNT, GIVEN or SHOW is out of order (row 4), and a 241st EDGE is a fault by itself (row 8).
     fn has_all(&self, kind: Kind) -> bool {
         match kind {
             Kind::Table => self.tables.len() == MAX_TABLES,
             Kind::Rule => self.rules.len() == MAX_RULES,
             Kind::Use => self.uses.len() == MAX_USES,
             Kind::Unit => self.units.len() == MAX_UNITS,
-            Kind::Given | Kind::Edge | Kind::Show | Kind::End => false,
+            Kind::Count | Kind::Given | Kind::Edge | Kind::Show | Kind::End => false,
         }
     }
 
     /// Adds a command by its complete operands, or returns the number of its fault.
     fn take(&mut self, kind: Kind, operands: &[u8]) -> Option<u64> {
         match kind {
+            Kind::Count => self.take_count([operands[0], operands[1], operands[2]]),
             Kind::Given => self.take_given(operands),
             Kind::Table => self.take_table(operands),
             Kind::Rule => self.take_rule(operands),
@@ -292,6 +317,11 @@ impl Plan {
             Kind::Show => self.take_show(operands),
             Kind::End => None,
         }
+    }
+
+    fn take_count(&mut self, numbers: [u8; 3]) -> Option<u64> {
+        self.declared = Some(numbers);
+        None
     }
 
     fn take_show(&mut self, operands: &[u8]) -> Option<u64> {
@@ -637,6 +667,87 @@ pub fn hand_out(next: Result<Option<u64>, Refusal>, found: &mut [u64]) -> u64 {
         *word = position;
     }
     next.map_or_else(Refusal::code, |position| u64::from(position.is_some()))
+}
+
+// ---- A whole sheet judged: document 02, S-12 ------------------------------------------------
+
+/// 256 if every position of the sheet is settled, or the place from 0 of the first that is not. Only the reading place can refuse the plan; after it
+/// come more than 256 positions, or bytes that are not whole ones.
+pub fn judge_sheet(bytes: &[u8], sheet: &[u8], is_settled: impl Fn(u64) -> bool) -> Result<u64, Refusal> {
+    read(bytes)?;
+    if sheet.len() / POSITION_BYTES > LIST_WORDS || sheet.len() % POSITION_BYTES != 0 {
+        return refuse(24, 0);
+    }
+    let mut places = sheet.chunks_exact(POSITION_BYTES).map(word).enumerate();
+    Ok(places.find(|&(_, position)| !is_settled(position)).map_or(LIST_WORDS as u64, |(place, _)| place as u64))
+}
+
+// ---- The few constraints that empty a plan: document 02, S-13 -----------------------------------
+
+/// What a plan is blamed on.
+#[derive(Clone, Copy, Debug, PartialEq, Eq)]
+pub enum Blame {
+    /// The least position of a plan that has one, uncut.
+    Position(u64),
+    /// The word of the constraints that are held, bit i for rule i.
+    Held(u64),
+}
+
+impl Plan {
+    /// The numbers of the rules with an empty head, rising.
+    fn constraints(&self) -> impl Iterator<Item = usize> + '_ {
+        (0..self.rules.len()).filter(|&rule| self.rules[rule].head == 0)
+    }
+
+    /// The headed rules and those constraints that are held.
+    fn rules_with(&self, held: u64) -> Vec<Rule> {
+        let is_there = |&rule: &usize| self.rules[rule].head != 0 || has(held, rule);
+        (0..self.rules.len()).filter(is_there).map(|rule| self.rules[rule].clone()).collect()
+    }
+}
+
+/// The pass: all constraints are held at first; going up by rule number, one is dropped if the others leave no answer set.
+/// `least` says which answer set the held ones leave, the least one. Only the reading place can refuse.
+fn blame_by(plan: &Plan, least: impl Fn(u64) -> Option<u64>) -> Blame {
+    let mut held = plan.constraints().fold(0, |word, rule| word | 1 << rule);
+    if let Some(position) = least(held) {
+        return Blame::Position(position);
+    }
+    for rule in plan.constraints() {
+        let others = held & !(1 << rule);
+        if least(others).is_none() {
+            held = others;
+        }
+    }
+    Blame::Held(held)
+}
+
+/// By the answer sets of the headed rules and given facts alone: those at which no body of a held constraint holds are left.
+pub fn blame(bytes: &[u8]) -> Result<Blame, Refusal> {
+    let plan = read(bytes)?;
+    let headed = answer_sets(&plan.rules_with(0), plan.given_atoms());
+    let is_left = |held: u64, position: u64| !plan.constraints().any(|rule| has(held, rule) && plan.rules[rule].body_holds(position));
+    Ok(blame_by(&plan, |held| headed.iter().copied().find(|&position| is_left(held, position))))
+}
+
+/// By the definition: every set is tried anew for each question.
+pub fn blame_by_trying_all(bytes: &[u8]) -> Result<Blame, Refusal> {
+    let plan = read(bytes)?;
+    let least = |held: u64| answer_sets(&plan.rules_with(held), plan.given_atoms()).first().copied();
+    Ok(blame_by(&plan, least))
+}
+
+/// The reply: 1 with the position, 0 with the held constraints in the first of the lent words, as far as there is room, or the code of the refusal.
+pub fn hand_blame(blame: Result<Blame, Refusal>, found: &mut [u64]) -> u64 {
+    let (code, word) = match blame {
+        Ok(Blame::Position(position)) => (1, position),
+        Ok(Blame::Held(held)) => (0, held),
+        Err(refusal) => return refusal.code(),
+    };
+    if let Some(first) = found.first_mut() {
+        *first = word;
+    }
+    code
 }
 
 // ---- Questions over a list: document 02, S-2 ------------------------------------------------

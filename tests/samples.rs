@@ -1,5 +1,6 @@
 //! The sample plans of `plans/`: readable text, plan bytes and the sheet that must be printed.
 
+use crate::lister::Blame;
 use crate::{lister, same, text};
 
 pub struct Sample {
@@ -29,6 +30,9 @@ const NOT_BY_FORCE: [&str; 2] = ["clingo-default-misses-ten", "show-two-of-sixte
 samples!(
     "bad-table",
     "bad-use",
+    "blame-headed-rules-alone",
+    "blame-two-groups",
+    "blame-use-and-key",
     "circuit-01-end-only",
     "circuit-01-no-bytes",
     "circuit-02-choice",
@@ -47,6 +51,10 @@ samples!(
     "clingo-default-misses-one",
     "clingo-default-misses-ten",
     "contradictory-body",
+    "count-behind-given",
+    "count-lost-edge",
+    "count-lost-unit",
+    "count-plan-p",
     "eleven-heads",
     "five-of-ten",
     "given-in-heads",
@@ -75,6 +83,23 @@ samples!(
     "table-not-as-rules",
     "tables-in-two-units",
 );
+
+/// What some samples are blamed on, worked out by hand.
+const BLAMED: [(&str, Blame); 8] = [
+    ("blame-headed-rules-alone", Blame::Held(0)),
+    ("blame-two-groups", Blame::Held(0x18)),
+    ("blame-use-and-key", Blame::Held(0xc)),
+    ("circuit-04-odd-loop", Blame::Held(0)),
+    ("circuit-08-split-constraint", Blame::Held(0x4)),
+    ("circuit-09-seen-constraint", Blame::Held(0x4)),
+    ("plan-p", Blame::Position(0x2)),
+    ("show-hides-given", Blame::Position(0x302)),
+];
+
+/// What a sample is blamed on, if that was worked out.
+pub fn blamed(name: &str) -> Option<Blame> {
+    BLAMED.iter().find(|known| known.0 == name).map(|known| known.1)
+}
 
 /// Can the lister list the sample?
 pub fn by_force(name: &str) -> bool {

@@ -5,7 +5,7 @@
 mod lister;
 mod packed;
 
-use lister::{From, Refusal, COUNTS};
+use lister::{Blame, From, Refusal, COUNTS};
 use std::cell::RefCell;
 use std::slice;
 
@@ -46,6 +46,22 @@ pub unsafe extern "C" fn lucarnecress_judge(plan: *const u8, plan_len: usize, po
 }
 
 #[no_mangle]
+pub unsafe extern "C" fn lucarnecress_judge_sheet(
+    plan: *const u8,
+    plan_len: usize,
+    positions: *const u8,
+    positions_len: usize,
+) -> u64 {
+    let plan = slice::from_raw_parts(plan, plan_len);
+    let is_settled = |position| match last_list(plan) {
+        Some(last) => last.contains(&position),
+        None => lister::judge(plan, position) == Ok(true),
+    };
+    let sheet = slice::from_raw_parts(positions, positions_len);
+    lister::judge_sheet(plan, sheet, is_settled).unwrap_or_else(Refusal::code)
+}
+
+#[no_mangle]
 pub unsafe extern "C" fn lucarnecress_first(plan: *const u8, plan_len: usize, found: *mut u64, found_len: usize) -> u64 {
     let next = next(slice::from_raw_parts(plan, plan_len), From::Start);
     lister::hand_out(next, slice::from_raw_parts_mut(found, found_len))
@@ -76,7 +92,7 @@ fn next(plan: &[u8], from: From) -> Result<Option<u64>, Refusal> {
 }
 
 thread_local! {
-    /// The plan that was listed last, and its last list: a walk asks for one plan again and again.
+    /// The plan that was listed last, and its last list: a walk and a sheet ask for one plan again and again.
     static LISTED: RefCell<(Vec<u8>, Option<Vec<u64>>)> = RefCell::default();
 }
 
@@ -88,6 +104,24 @@ fn last_list(plan: &[u8]) -> Option<Vec<u64>> {
         }
         listed.1.clone()
     })
+}
+
+#[no_mangle]
+pub unsafe extern "C" fn lucarnecress_blame(plan: *const u8, plan_len: usize, found: *mut u64, found_len: usize) -> u64 {
+    let blame = blame(slice::from_raw_parts(plan, plan_len));
+    lister::hand_blame(blame, slice::from_raw_parts_mut(found, found_len))
+}
+
+/// What a plan is blamed on.
+fn blame(plan: &[u8]) -> Result<Blame, Refusal> {
+    let rules = lister::read(plan).map_or(Vec::new(), |plan| plan.rules);
+    if lister::head_atoms(&rules).count_ones() > FEW_ATOMS {
+        // Many sets to try: an accepted plan's last list knows its least position.
+        if let Some(&position) = last_list(plan).as_ref().and_then(|last| last.first()) {
+            return Ok(Blame::Position(position));
+        }
+    }
+    lister::blame(plan)
 }
 
 #[no_mangle]

@@ -1,5 +1,7 @@
 //! What was compared, and how it went.
 
+use crate::blames::BlameTally;
+use crate::counted_tally::CountedTally;
 use crate::generator::Case;
 use crate::lister::{Refusal, LIST_WORDS};
 use crate::shown_tally::ShownTally;
@@ -14,7 +16,11 @@ pub struct Tally {
     pub whole_programs: u64,
     pub tables: TableTally,
     pub walks: WalkTally,
+    pub blames: BlameTally,
     pub shown: ShownTally,
+    /// Settled positions of the last plan that had some: for sheets of another plan.
+    pub met: Vec<u64>,
+    pub counted: CountedTally,
     settled: u64,
     not_settled: u64,
     positions_refused: u64,
@@ -26,6 +32,7 @@ pub struct Tally {
     families: BTreeMap<&'static str, u64>,
     readings: BTreeMap<&'static str, u64>,
     rows: BTreeMap<&'static str, u64>,
+    sheets: BTreeMap<&'static str, u64>,
 }
 
 /// The steps of walks from position to position.
@@ -121,6 +128,20 @@ impl Tally {
         }
     }
 
+    /// Counts a sheet of so many positions by its reply.
+    pub fn note_sheet(&mut self, positions: usize, reply: &Result<u64, Refusal>) {
+        let kind = match reply {
+            Ok(place) if *place == LIST_WORDS as u64 && positions == LIST_WORDS => "all of 256 settled",
+            Ok(place) if *place == LIST_WORDS as u64 => "all settled",
+            Ok(0) => "not the first",
+            Ok(place) if *place + 1 == positions as u64 => "not the last",
+            Ok(_) => "not one between",
+            Err(refusal) if refusal.number == 24 => "24",
+            Err(_) => "refused in reading",
+        };
+        *self.sheets.entry(kind).or_default() += 1;
+    }
+
     pub fn note_questions(&mut self, count: usize, answer: &Result<(), Refusal>) {
         match answer {
             Ok(()) => self.questions += count as u64,
@@ -134,6 +155,7 @@ impl Tally {
         println!("refused, by number: {}", listed(&self.refused));
         self.tables.print();
         self.shown.print();
+        self.counted.print();
         println!("of each: result, table with the words behind it, counts, sheet");
         println!(
             "single positions: {} settled, {} not settled, {} refused",
@@ -144,6 +166,8 @@ impl Tally {
             self.walks.found, self.walks.none_left, self.walks.refused, self.walks.ended, self.walks.longest
         );
         println!("plans walked: {}", listed(&self.walks.plans));
+        println!("sheets judged: {}", listed(&self.sheets));
+        self.blames.print();
         println!("questions over lists: {} counted, {} times too many", self.questions, self.questions_refused);
         println!("last list against all answer sets of the whole program: {} plans", self.whole_programs);
         println!("readings: {}", listed(&self.readings));

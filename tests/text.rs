@@ -1,5 +1,6 @@
 //! Plans as readable text, one command per line, and back.
 //!
+//!     count 3 2 1                  (rules, units, edges)
 //!     given 5 6                    (atoms)
 //!     table in=0,1,2 truth=96      (input atoms; truth word in hexadecimal; each part may be left out)
 //!     rule head=0,1 pos=2 neg=3    (each part may be left out)
@@ -32,6 +33,10 @@ fn line_to_bytes(line: &str) -> Option<Vec<u8>> {
     let name = parts.next()?;
     let operands: Vec<&str> = parts.collect();
     match name {
+        "count" if operands.len() == 3 => {
+            let numbers: Option<Vec<u8>> = operands.iter().map(|number| number.parse().ok()).collect();
+            Some(encode::count(numbers?.try_into().ok()?))
+        }
         "given" => Some(encode::given(set(operands.iter().copied())?)),
         "table" => table_to_bytes(&operands),
         "rule" => rule_to_bytes(&operands),
@@ -99,6 +104,7 @@ pub fn to_text(bytes: &[u8]) -> String {
 fn command_to_line(bytes: &[u8]) -> Option<(String, usize)> {
     let word = |place: usize| Some(u64::from_le_bytes(bytes.get(1 + 8 * place..9 + 8 * place)?.try_into().ok()?));
     match *bytes.first()? {
+        encode::COUNT => Some((format!("count {} {} {}", bytes.get(1)?, bytes.get(2)?, bytes.get(3)?), 4)),
         encode::GIVEN => Some((format!("given {}", numbers(word(0)?, " ")).trim_end().to_string(), 9)),
         encode::TABLE => {
             let (inputs, truth) = (word(0)?, word(1)?);
