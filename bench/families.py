@@ -7,8 +7,12 @@ of the whole program, and these are the last list.
 import itertools
 import os
 import random
-import struct
 import sys
+
+sys.path.insert(0, os.path.join(os.path.dirname(os.path.abspath(__file__)), "..", "tests"))
+sys.dont_write_bytecode = True
+
+import commands
 
 MAX_ATOMS = 64
 MAX_TABLES = 16
@@ -86,19 +90,16 @@ class Plan:
         return sorted(needed)
 
     def plan_bytes(self):
-        commands = []
-        for inputs, truth in self.tables:
-            commands.append(struct.pack("<BQQ", 5, word(inputs), word(row for row, answer in enumerate(truth) if answer)))
-        for head, positive, negative, _, _ in self.rules:
-            commands.append(struct.pack("<BQQQ", 1, word(head), word(positive), word(negative)))
+        plan = [commands.table(word(inputs), word(row for row, answer in enumerate(truth) if answer)) for inputs, truth in self.tables]
+        plan += [commands.rule(word(head), word(positive), word(negative)) for head, positive, negative, _, _ in self.rules]
         for i, rule in enumerate(self.rules):
-            commands += [bytes([6, i, table, 0 if wanted else 1]) for table, wanted in rule[3]]
+            plan += [commands.use(i, table, 0 if wanted else 1) for table, wanted in rule[3]]
         for unit in range(self.units):
-            commands.append(struct.pack("<BQ", 2, word(i for i, rule in enumerate(self.rules) if rule[4] == unit)))
-        commands += [bytes([3, u, v]) for u, v in self.edges()]
+            plan.append(commands.unit(word(i for i, rule in enumerate(self.rules) if rule[4] == unit)))
+        plan += [commands.edge(u, v) for u, v in self.edges()]
         if self.shown is not None:
-            commands.append(struct.pack("<BQ", 8, word(self.shown)))
-        return b"".join(commands) + b"\0"
+            plan.append(commands.show(word(self.shown)))
+        return b"".join(plan) + commands.END
 
     def clingo_text(self):
         lines = []
