@@ -3,26 +3,22 @@ use mathlib.Core.Path.{_≡_, sym, _∙_}
 use mathlib.Core.Bool.{Bool, true, false, not, true≢false, false≢true}
 use mathlib.Core.Logic.{_⊎_, inl, inr}
 use mathlib.Core.List.{List}
-use Prim.Native.Nat.{ℕ, _<_, _≤_, _^_}
-use native.Mathlib.Nat.{lt-of-lt-of-le}
-use lib.Count.{ones}
+use Prim.Native.Nat.{ℕ, _<_, _^_}
 use borrow.Author.Tests.{not-true}
 use Rattle.atoms.specs.Word.{ATOMS, Has, _⊆_, Apart, apart, _∪_, atom, outside}
 use Rattle.atoms.specs.Bounded.{Decides}
 use Rattle.atoms.proofs.Tests.{decides-iff, decides-same, decided-false}
-use Rattle.atoms.proofs.Sets.{decides-apart, has-dec, has-lt, subset-refl, subset-trans, subset-antisym, has-left, has-right, has-outside}
-use Rattle.atoms.proofs.Sets.{outside-lacks, has-atom}
-use Rattle.atoms.proofs.Counts.{count-lt, count-proper}
+use Rattle.atoms.proofs.Sets.{decides-apart, has-dec, has-lt, subset-refl, subset-trans, subset-antisym, has-outside, outside-lacks}
 use Rattle.answer_sets.specs.Program.{Program, Body, Satisfies, SatisfiesAll}
 use Rattle.answer_sets.specs.Lent.{lent, Lent}
-use Rattle.answer_sets.specs.State.{Completes, Narrows, undecided}
+use Rattle.states.specs.State.{Completes, undecided}
 use Rattle.answer_sets.specs.RulePass.{Sifted}
 use Rattle.answer_sets.specs.SubsetTest.{Between, Confines, Candidates, InRule, in-head, in-looks}
 use Rattle.answer_sets.specs.Test.{Smaller, SubsetTested}
-use Rattle.answer_sets.specs.declared.state.State.{State}
+use Rattle.states.specs.declared.state.State.{State}
 use Rattle.answer_sets.specs.declared.rule_pass.Passed.{Passed}
-use Rattle.answer_sets.proofs.Narrows.{completes-back, overlap-none, with-up, with-dropped, without-up, without-dropped}
-use Rattle.answer_sets.proofs.HalfDecided.{decided-cases, undecided-up, undecided-dropped, undecided-shrinks}
+use Rattle.states.proofs.Narrows.{completes-back, overlap-none, with-up, with-dropped, without-up, without-dropped}
+use Rattle.states.proofs.HalfDecided.{decided-cases}
 use Rattle.answer_sets.proofs.Bodies.{rest-same}
 use Rattle.answer_sets.proofs.Judged.{decides-smaller}
 
@@ -73,7 +69,7 @@ module _ {P : Program} {which M : ℕ} where
   pub between-clash : {t : State} {r : Bool} → r ≡ apart (t .up) (t .dropped) → not r ≡ true → Decides (Between P which M t) false
   between-clash {t} {r} e f = record {
     yes = λ g. absurd (false≢true g);
-    no = λ g b. overlap-none (decides-apart (t .up) (t .dropped) .no (sym e ∙ not-true r f)) (b .completes);
+    no = λ g b. overlap-none (record { overlap = decides-apart (t .up) (t .dropped) .no (sym e ∙ not-true r f) }) (b .completes);
   }
 
   -- all atoms of M are up: none
@@ -151,35 +147,6 @@ between-stuck {rules} {r = r} {t = t} e k z u = record {
   yes = λ f. absurd (false≢true f);
   no = λ f b. u .1 (settled-rule rules r t (rw e at (k .none-left z)) (b .set) (b .completes) (b .satisfied .each r (u .0)));
 }
-
--- ---- each call has fewer undecided atoms
-
--- a pass that decided some
-pub pass-falls : {K : ℕ → Type 0} {s t : State} {n before after : ℕ} → Narrows K s t → after ≡ undecided (t .up) (t .dropped)
-    → before ≡ undecided (s .up) (s .dropped) → ¬ (after ≡ before) → ones (undecided (s .up) (s .dropped)) ≡ n
-    → ones (undecided (t .up) (t .dropped)) < n
-pass-falls {s = s} {t = t} n e f h m =
-    rw m at
-    (count-proper (undecided (t .up) (t .dropped)) (undecided (s .up) (s .dropped))
-    (undecided-shrinks (s .up) (s .dropped) (t .up) (t .dropped) (n .up-grows) (n .dropped-grows)) (λ g. h (e ∙ g ∙ sym f)))
-
--- an undecided atom goes up, or is dropped
-module _ (up dropped : ℕ) {i x n : ℕ} (a : x ≡ atom i) (h : Has (undecided up dropped) i) (m : ones (undecided up dropped) ≤ n) where
-  pub raise-falls : {w : ℕ} → w ≡ up ∪ x → ones (undecided w dropped) < n
-  raise-falls u =
-      rw (u, a)
-      (lt-of-lt-of-le
-      (count-lt i (undecided (up ∪ atom i) dropped) (undecided up dropped)
-      (undecided-shrinks up dropped (up ∪ atom i) dropped (record { each = λ j p. has-left up (atom i) p }) subset-refl) h
-      (λ p. undecided-up (up ∪ atom i) dropped p (has-right up (atom i) (has-atom i)))) m)
-
-  pub lower-falls : {w : ℕ} → w ≡ dropped ∪ x → ones (undecided up w) < n
-  lower-falls u =
-      rw (u, a)
-      (lt-of-lt-of-le
-      (count-lt i (undecided up (dropped ∪ atom i)) (undecided up dropped)
-      (undecided-shrinks up dropped up (dropped ∪ atom i) subset-refl (record { each = λ j p. has-left dropped (atom i) p })) h
-      (λ p. undecided-dropped up (dropped ∪ atom i) p (has-right dropped (atom i) (has-atom i)))) m)
 
 -- ---- from the facts on
 

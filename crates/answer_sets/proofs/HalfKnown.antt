@@ -9,18 +9,16 @@ use lib.ListN.{getD}
 use Rattle.atoms.specs.Word.{ATOMS, Has, has, _⊆_, _∩_, Apart, _∖_}
 use Rattle.atoms.specs.Bounded.{Decides, someBelow}
 use Rattle.atoms.proofs.Tests.{test-cases, and-true, not-is-true, not-both, true-of-not-false, decided-true, decided as is-decided}
-use Rattle.atoms.proofs.Sets.{ext, has-dec, has-lt, has-cut, cut-left, cut-right, has-without, subset-dec, subset-trans}
-use Rattle.atoms.proofs.Sets.{decides-has, decides-apart}
+use Rattle.atoms.proofs.Sets.{ext, has-dec, has-lt, has-cut, cut-left, cut-right, has-without, subset-dec, subset-trans, decides-has, decides-apart}
 use Rattle.atoms.proofs.Bounded.{some-at, some-intro}
 use Rattle.plan.specs.Limits.{CONTACT_WORDS}
 use Rattle.answer_sets.specs.Program.{Body, Satisfies}
 use Rattle.answer_sets.specs.Lent.{lent, ruleAt, negative, inputs, uses, USE_BITS, tableOf, useHolds}
 use Rattle.answer_sets.specs.Test.{body}
-use Rattle.answer_sets.specs.State.{Completes}
-use Rattle.answer_sets.specs.Known.{halfDecided, Part, positive-word, negative-word, table-use, PartHolds, InBody, has-positive}
-use Rattle.answer_sets.specs.Known.{has-negative, has-use, BodySays}
-use Rattle.answer_sets.specs.declared.state.Truth.{Truth}
-use Rattle.answer_sets.specs.declared.state.Truth.the-variants.{Holds, Fails}
+use Rattle.states.specs.State.{Completes, halfDecided}
+use Rattle.answer_sets.specs.Known.{Part, positive-word, negative-word, table-use, PartHolds, InBody, has-positive, has-negative, has-use, BodySays}
+use Rattle.answer_sets.specs.declared.truth.Truth.{Truth}
+use Rattle.answer_sets.specs.declared.truth.Truth.the-variants.{Holds, Fails}
 use Rattle.answer_sets.proofs.Judged.{decides-body}
 use Rattle.answer_sets.proofs.Bodies.{use-same, body-parts, parts-body}
 use Rattle.answer_sets.proofs.Parts.{known-holds}

@@ -1,12 +1,10 @@
 pub mod Judged
 pub mod Lent
 pub mod Cases
-pub mod HalfDecided
 pub mod Bodies
 pub mod Truths
 pub mod Parts
 pub mod HalfKnown
-pub mod Narrows
 pub mod RulePass
 pub mod Candidates
 pub mod Between

@@ -1,27 +1,25 @@
 -- What is known of a body at a half-decided position, part by part.
 use mathlib.Core.Path.{_≡_, refl, sym, ap, subst, _∙_}
-use mathlib.Core.Bool.{Bool, true, not}
-use mathlib.Core.Logic.{_↔_, _⊎_, inl, inr}
+use mathlib.Core.Bool.{true}
+use mathlib.Core.Logic.{_⊎_, inl, inr}
 use mathlib.Core.List.{List}
 use Prim.Native.Nat.{ℕ, _<_}
 use native.Mathlib.Decide.{ℕ-discrete}
-use Rattle.atoms.specs.Word.{Has, has, _⊆_, _∩_, Apart, _∪_, _∖_, atom, below, Lowest}
+use Rattle.atoms.specs.Word.{Has, _⊆_, _∩_, Apart, _∪_, _∖_, atom, below, Lowest}
 use Rattle.atoms.specs.Collected.{Collects}
 use Rattle.atoms.proofs.Tests.{decided-true}
-use Rattle.atoms.proofs.Sets.{subset-refl, subset-trans, has-dec, has-atom, atom-only, has-left, has-right, union-cases, without-left, without-right}
-use Rattle.atoms.proofs.Sets.{has-cut, cut-left, cut-right, has-below, below-lt, has-none, has-without, decides-has}
-use Rattle.atoms.proofs.TakenNumbers.{taken-cases}
+use Rattle.atoms.proofs.Sets.{subset-refl, subset-trans, has-dec, has-atom, atom-only, has-left, has-right, union-cases, without-left, without-right, has-cut}
+use Rattle.atoms.proofs.Sets.{cut-left, cut-right, has-below, below-lt, has-none, has-without, decides-has}
 use Rattle.contact_tables.specs.Table.{answer, row}
-use Rattle.contact_tables.specs.Rows.{Completion, Reached}
+use Rattle.contact_tables.specs.Rows.{Reached}
 use Rattle.answer_sets.specs.Program.{Body}
 use Rattle.answer_sets.specs.Lent.{lent, negative, uses, USE_BITS}
-use Rattle.answer_sets.specs.State.{Completes}
-use Rattle.answer_sets.specs.Known.{halfDecided, Says, Part, positive-word, negative-word, table-use, PartHolds, PartsSay, BodySays, WordsSay}
-use Rattle.answer_sets.specs.Known.{InBody, has-positive, has-negative, has-use, both, WordSays, RowsSay}
-use Rattle.answer_sets.specs.Known.{IsWord, is-positive, is-negative}
-use Rattle.answer_sets.specs.declared.state.State.{State}
-use Rattle.answer_sets.specs.declared.state.Truth.{Truth}
-use Rattle.answer_sets.specs.declared.state.Truth.the-variants.{Holds, Fails}
+use Rattle.states.specs.State.{Completes, halfDecided}
+use Rattle.answer_sets.specs.Known.{Says, Part, positive-word, negative-word, table-use, PartHolds, PartsSay, BodySays, WordsSay, InBody, has-positive}
+use Rattle.answer_sets.specs.Known.{has-negative, has-use, both, WordSays, RowsSay, IsWord, is-positive, is-negative}
+use Rattle.states.specs.declared.state.State.{State}
+use Rattle.answer_sets.specs.declared.truth.Truth.{Truth}
+use Rattle.answer_sets.specs.declared.truth.Truth.the-variants.{Holds, Fails}
 use Rattle.answer_sets.proofs.Truths.{holds-not-fails, both-holds, both-fails}
 use Rattle.answer_sets.proofs.Bodies.{body-parts, parts-body}
 
@@ -160,7 +158,7 @@ module _ (up dropped : ℕ) where
         each = λ j h.
             let r = c .each j h in
             subst (λ (x : ℕ). Has truth x) (r .is)
-            (decides-has truth (row inputs (r .position)) .yes (f (r .position) (back (r .position) (r .completes))));
+            (decides-has truth (row inputs (r .position)) .yes (f (r .position) (r .completes)));
       }),
     );
     fails = (
@@ -168,19 +166,14 @@ module _ (up dropped : ℕ) where
       λ f. k .fails .1 (record {
         none = λ j h q.
             let r = c .each j h in
-            f (r .position) (back (r .position) (r .completes))
+            f (r .position) (r .completes)
             (decided-true (decides-has truth (row inputs (r .position))) (subst (λ (x : ℕ). Has truth x) (sym (r .is)) q));
       }),
     );
   }
     where
       reached : (N : ℕ) → Completes (halfDecided up dropped) N → Has rows (row inputs N)
-      reached N d =
-          c .all (row inputs N)
-          (record { position = N; completes = record { has-up = d .has-up; no-dropped = d .no-dropped }; is = refl })
-
-      back : (N : ℕ) → Completion up dropped N → Completes (halfDecided up dropped) N
-      back N d = record { has-up = d .has-up; no-dropped = d .no-dropped }
+      reached N d = c .all (row inputs N) (record { position = N; completes = d; is = refl })
 
 -- ---- the whole body: its words, and its uses one by one
 

@@ -6,52 +6,23 @@ use mathlib.Core.List.{List}
 use Prim.Native.Nat.{ℕ}
 use borrow.Author.Tests.{not-true}
 use Rattle.atoms.specs.Word.{Has, _⊆_, subset, Apart, apart, _∪_, _∖_, atom, AtMostOne}
-use Rattle.atoms.proofs.Sets.{has-none, has-without, without-left, without-right, has-dec, some-atom, decides-subset, decides-apart}
-use Rattle.atoms.proofs.Sets.{shared-atom, apart-of-cut, subset-refl, subset-trans, has-atom, atom-only}
+use Rattle.atoms.proofs.Sets.{has-without, without-left, has-dec, decides-subset, decides-apart, shared-atom}
+use Rattle.atoms.proofs.Sets.{apart-of-cut, subset-refl, subset-trans, has-atom, atom-only}
 use Rattle.answer_sets.specs.Program.{Program, Body, Satisfies, SatisfiesAll}
 use Rattle.answer_sets.specs.Lent.{lent}
-use Rattle.answer_sets.specs.State.{Completes, Narrows, clashed}
-use Rattle.answer_sets.specs.Known.{BodySays, halfDecided}
-use Rattle.answer_sets.specs.RulePass.{HeadUp, Held, Forced, Stepped, Met, Sifted}
-use Rattle.answer_sets.specs.declared.state.State.{State}
+use Rattle.states.specs.State.{Completes, halfDecided}
+use Rattle.states.specs.Narrowing.{Narrows, OneGoes, SomeUp}
+use Rattle.answer_sets.specs.Known.{BodySays}
+use Rattle.answer_sets.specs.RulePass.{Held, Stepped, Met, Sifted}
+use Rattle.states.specs.declared.state.State.{State}
 use Rattle.answer_sets.specs.declared.rule_pass.Passed.{Passed}
-use Rattle.answer_sets.specs.declared.state.Truth.{Truth}
-use Rattle.answer_sets.specs.declared.state.Truth.the-variants.{Holds, Fails}
+use Rattle.answer_sets.specs.declared.truth.Truth.{Truth}
+use Rattle.answer_sets.specs.declared.truth.Truth.the-variants.{Holds, Fails}
 use Rattle.answer_sets.proofs.Parts.{known-holds, known-fails, completes-known}
 use Rattle.answer_sets.proofs.Bodies.{parts-body}
-use Rattle.answer_sets.proofs.Narrows.{narrows-refl, narrows-when, clash-overlaps, clash-narrows, up-narrows, down-narrows}
-use Rattle.answer_sets.proofs.Narrows.{with-all-up, with-all-dropped, narrows-trans, narrows-for, completes-back}
-
--- ---- a word of which one atom has to be up; `w` are those that are not dropped
-
--- an atom that is left of a word is not dropped
-not-all-dropped : (word dropped : ℕ) {w : ℕ} → w ≡ word ∖ dropped → ¬ (w ≡ 0) → ¬ (word ⊆ dropped)
-not-all-dropped word dropped {w} e n d =
-    let i = some-atom w n in
-    let k = subst (λ (x : ℕ). Has x (i .0)) e (i .1) in
-    without-right word dropped k (d .each (i .0) (without-left word dropped k))
-
-module _ {word w : ℕ} {s : State} (e : w ≡ word ∖ s .dropped) where
-  -- one that is up is not dropped
-  left-atom : (N : ℕ) → (k : HeadUp word N) → Completes s N → Has w (k .atom)
-  left-atom N k p = rw e (has-without word (s .dropped) (k .in-head) (λ d. p .no-dropped .none (k .atom) d (k .is-up)))
-
-  pub head-clash : {t : State} → w ≡ 0 → t ≡ clashed s → Forced word s t
-  head-clash z f = rw f (record {
-    narrows = clash-narrows s (λ N k p. has-none (rw z at (left-atom N k p)));
-    stops = λ d. clash-overlaps s;
-  })
-
-  pub head-forced : {up : ℕ} → ¬ (w ≡ 0) → AtMostOne w → up ≡ s .up ∪ w → Forced word s (record { up = up; dropped = s .dropped })
-  head-forced n o f =
-      rw f
-      (record {
-        narrows = up-narrows s w (λ N k p. record { each = λ i h. rw (o .same (k .atom) i (left-atom N k p) h) at (k .is-up) });
-        stops = λ d. absurd (not-all-dropped word (s .dropped) e n d);
-      })
-
-  pub head-open : ¬ (w ≡ 0) → Forced word s s
-  head-open n = record { narrows = narrows-refl; stops = λ d. absurd (not-all-dropped word (s .dropped) e n d) }
+use Rattle.states.proofs.OneAtom.{left-goes, none-left}
+use Rattle.states.proofs.Narrows.{narrows-refl, up-narrows, down-narrows, with-all-up, with-all-dropped}
+use Rattle.states.proofs.Narrows.{narrows-trans, narrows-for, completes-back}
 
 -- ---- one rule
 
@@ -72,20 +43,23 @@ module _ (rules : List ℕ) (r : ℕ) {s : State} where
   pub head-met : {h : ℕ} {a : Bool} → h ≡ lent rules .head r → a ≡ apart h (s .up) → not a ≡ true → Stepped rules r s s
   head-met {h} {a} reads e f = record {
     narrows = narrows-refl;
-    stops = λ k d n.
-        decides-apart h (s .up) .no (sym e ∙ not-true a f)
-        (record { none = λ i p u. n .none i u (d .each i (rw reads at p)) });
+    stops = λ k d. record {
+      overlap = λ n. decides-apart h (s .up) .no (sym e ∙ not-true a f) (record { none = λ i p u. n .none i u (d .each i (rw reads at p)) });
+    };
   }
 
   -- where the body is known to hold, a position that satisfies the rule has a head atom
-  pub holds-head : {h : ℕ} {t : State} {k : Truth} → h ≡ lent rules .head r → BodySays rules r (s .up) (s .dropped) k → k ≡ Holds
-      → Forced h s t → Stepped rules r s t
-  holds-head {h} {t} reads e f n = record { narrows = narrows-when up (n .narrows); stops = λ k d. n .stops (rw reads d) }
+  pub holds-head : {h left : ℕ} {t : State} {k : Truth} → h ≡ lent rules .head r → BodySays rules r (s .up) (s .dropped) k → k ≡ Holds
+      → left ≡ h ∖ s .dropped → OneGoes (SomeUp left) left s t → Stepped rules r s t
+  holds-head {h} {t = t} reads e f l n = record {
+    narrows = left-goes l up n;
+    stops = λ k d. n .stops (none-left h (s .dropped) l (rw reads d));
+  }
     where
-      up : (N : ℕ) → Satisfies (lent rules) r N → Completes s N → HeadUp h N
+      up : (N : ℕ) → Satisfies (lent rules) r N → Completes s N → SomeUp h N
       up N k p =
           let a = k .head-up (known-holds rules r (s .up) (s .dropped) e N (completes-known p) f) in
-          record { atom = a .0; in-head = rw reads (a .1); is-up = a .2 }
+          record { atom = a .0; in-word = rw reads (a .1); is-up = a .2 }
 
   -- where it is not, there is no stop
   pub not-held : {t : State} {k : Truth} → BodySays rules r (s .up) (s .dropped) k → ¬ (k ≡ Holds) → Narrows (Satisfies (lent rules) r) s t

@@ -9,10 +9,9 @@ use Rattle.atoms.specs.Word.{_⊆_, subset, Apart, apart}
 use Rattle.atoms.proofs.Sets.{decides-subset, decides-apart, some-atom}
 use Rattle.atoms.proofs.Tests.{not-both, true-of-not-false, false-of-not-true, not-is-true}
 use Rattle.answer_sets.specs.Known.{Says, both, opposite, WordSays, RowsSay}
-use Rattle.answer_sets.specs.State.{Completes}
-use Rattle.answer_sets.specs.declared.state.State.{State}
-use Rattle.answer_sets.specs.declared.state.Truth.{Truth}
-use Rattle.answer_sets.specs.declared.state.Truth.the-variants.{Holds, Fails, Open}
+use Rattle.states.specs.declared.state.State.{State}
+use Rattle.answer_sets.specs.declared.truth.Truth.{Truth}
+use Rattle.answer_sets.specs.declared.truth.Truth.the-variants.{Holds, Fails, Open}
 
 pub holds-not-fails : Holds ≡ Fails → ⊥
 holds-not-fails e = let z : _≡_ {A = ℕ} 0 1 = cc in omega arith

@@ -4,16 +4,12 @@ use mathlib.Core.Bool.{true}
 use mathlib.Core.Logic.{_↔_}
 use mathlib.Core.List.{List}
 use Prim.Native.Nat.{ℕ, _<_}
-use Rattle.atoms.specs.Word.{Has, _⊆_, Apart, _∖_}
+use Rattle.atoms.specs.Word.{Has, _⊆_, Apart}
 use Rattle.answer_sets.specs.Lent.{lent, negative, uses, USE_BITS, useHolds}
-use Rattle.answer_sets.specs.State.{Completes}
-use Rattle.answer_sets.specs.declared.state.State.{State}
-use Rattle.answer_sets.specs.declared.state.Truth.{Truth}
-use Rattle.answer_sets.specs.declared.state.Truth.the-variants.{Holds, Fails, Open}
-
--- "a word of atoms known up and one known dropped (an atom in both counts as up)"
-abbrev pub halfDecided : ℕ → ℕ → State
-halfDecided up dropped = record { up = up; dropped = dropped ∖ up }
+use Rattle.states.specs.State.{Completes, halfDecided}
+use Rattle.states.specs.declared.state.State.{State}
+use Rattle.answer_sets.specs.declared.truth.Truth.{Truth}
+use Rattle.answer_sets.specs.declared.truth.Truth.the-variants.{Holds, Fails, Open}
 
 -- "says holds exactly if it is true in every completion, fails exactly if false in every one"
 pub record Says (Q : ℕ → Type 0) (s : State) (t : Truth) : Type 0 where

@@ -2,7 +2,6 @@ pub mod Program
 pub mod AnswerSet
 pub mod Test
 pub mod Lent
-pub mod State
 pub mod Known
 pub mod RulePass
 pub mod SubsetTest

@@ -4,34 +4,24 @@ use mathlib.Core.Bool.{Bool, true}
 use mathlib.Core.Logic.{_↔_}
 use mathlib.Core.List.{List}
 use Prim.Native.Nat.{ℕ}
-use Rattle.atoms.specs.Word.{Has, _⊆_, Apart}
+use Rattle.atoms.specs.Word.{Has, _⊆_}
 use Rattle.answer_sets.specs.Program.{Program, Satisfies, SatisfiesAll}
 use Rattle.answer_sets.specs.Lent.{lent}
-use Rattle.answer_sets.specs.State.{Completes, Narrows}
-use Rattle.answer_sets.specs.declared.state.State.{State}
+use Rattle.states.specs.State.{Completes, halfDecided}
+use Rattle.states.specs.Narrowing.{Overlaps, Narrows}
+use Rattle.states.specs.declared.state.State.{State}
 use Rattle.answer_sets.specs.declared.rule_pass.Passed.{Passed}
-use Rattle.answer_sets.specs.Known.{halfDecided, Part, PartHolds, InBody}
-
--- the position has an atom of the head
-pub record HeadUp (head N : ℕ) : Type 0 where
-  pub atom : ℕ
-  pub in-head : Has head atom
-  pub is-up : Has N atom
+use Rattle.answer_sets.specs.Known.{Part, PartHolds, InBody}
 
 -- the answer says whether every part of rule r's body is true in every completion
 pub record Held (rules : List ℕ) (r up dropped : ℕ) (answer : Bool) : Type 0 where
   pub exactly : (answer ≡ true) ↔ ((p : Part) → InBody rules r p → (N : ℕ) → Completes (halfDecided up dropped) N → PartHolds rules r p N)
 
--- the state in which an atom of the word is up; where all are dropped, nothing completes it
-pub record Forced (word : ℕ) (s t : State) : Type 0 where
-  pub narrows : Narrows (HeadUp word) s t
-  pub stops : word ⊆ s .dropped → ¬ Apart (t .up) (t .dropped)
-
 -- the state after rule r. S-7: "The search goes no further where some rule's body holds and all its head atoms are dropped": there an
 -- atom is both up and dropped afterwards, so that nothing completes the state
 pub record Stepped (rules : List ℕ) (r : ℕ) (s t : State) : Type 0 where
   pub narrows : Narrows (Satisfies (lent rules) r) s t
-  pub stops : Held rules r (s .up) (s .dropped) true → lent rules .head r ⊆ s .dropped → ¬ Apart (t .up) (t .dropped)
+  pub stops : Held rules r (s .up) (s .dropped) true → lent rules .head r ⊆ s .dropped → Overlaps t
 
 -- every completion of the state satisfies rule r
 pub record Met (P : Program) (r : ℕ) (s : State) : Type 0 where

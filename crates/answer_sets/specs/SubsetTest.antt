@@ -5,8 +5,8 @@ use Prim.Native.Nat.{ℕ, _<_}
 use Rattle.atoms.specs.Word.{ATOMS, Has, _⊆_, _⊂_}
 use Rattle.answer_sets.specs.Program.{Program, Satisfies, SatisfiesAll}
 use Rattle.answer_sets.specs.Lent.{lent, looks}
-use Rattle.answer_sets.specs.State.{Completes}
-use Rattle.answer_sets.specs.declared.state.State.{State}
+use Rattle.states.specs.State.{Completes}
+use Rattle.states.specs.declared.state.State.{State}
 use Rattle.answer_sets.specs.declared.reduct.Found.{Found}
 use Rattle.answer_sets.specs.declared.reduct.Found.the-variants.{Rule, Nothing}
 

@@ -1,16 +1,14 @@
 // A body at a half-decided position.
 use crate::rule::negative_body;
 use crate::rule::positive_body;
-use crate::state::Truth;
+use crate::truth::Truth;
 use crate::truth::both;
 use crate::truth::word_known;
 use crate::uses::uses;
 use crate::uses::with_uses;
-ghost use mathlib.Core.Path.{_≡_};
 ghost use Rattle.atoms.specs.Word.{Apart};
 ghost use Rattle.answer_sets.specs.Lent.{IsLent};
 ghost use Rattle.answer_sets.specs.Known.{BodySays, WordsSay};
-ghost use Rattle.answer_sets.specs.State.{undecided as undecidedOf};
 
 // What is known of the two words of a body; `down` are the atoms that are dropped and not up.
 pub fn words_known(rules: &[u64], rule: usize, up: u64, down: u64) -> Truth
@@ -32,11 +30,4 @@ pub fn body_known(rules: &[u64], rule: usize, up: u64, dropped: u64) -> Truth
         return words;
     }
     with_uses(rules, rule, up, dropped, words)
-}
-
-// The atoms that are neither up nor dropped.
-pub fn undecided(up: u64, dropped: u64) -> u64
-    ensures { λ r. ⌜ r ≡ undecidedOf up dropped ⌝ }
-{
-    atoms::without(atoms::outside(up), dropped)
 }

@@ -1,51 +1,25 @@
 // The rule pass: what every position that satisfies the rules must have or lack, told from what is known of it.
 use crate::known::body_known;
-use crate::known::undecided;
 use crate::known::words_known;
 use crate::rule::head;
 use crate::rule::negative_body;
 use crate::rule::positive_body;
-use crate::state::State;
-use crate::state::Truth;
+use crate::truth::Truth;
 use crate::truth::is_success;
 use crate::uses::used_inputs;
 use crate::uses::uses;
 use crate::uses::with_uses;
+use states::State;
+use states::one_up;
+use states::undecided;
 ghost use mathlib.Core.Path.{_≡_};
 ghost use Prim.Native.Nat.{_<_};
 ghost use Rattle.plan.specs.Limits.{MAX_RULES};
 ghost use Rattle.answer_sets.specs.Program.{Satisfies};
 ghost use Rattle.answer_sets.specs.Lent.{lent, IsLent, Lent};
-ghost use Rattle.answer_sets.specs.State.{Narrows, clashed};
-ghost use Rattle.answer_sets.specs.RulePass.{Held, Forced, Stepped, Sifted};
+ghost use Rattle.states.specs.Narrowing.{Narrows};
+ghost use Rattle.answer_sets.specs.RulePass.{Held, Stepped, Sifted};
 ghost use Rattle.atoms.specs.Word.{_⊆_, _∖_, AtMostOne, atom};
-
-// A state that nothing completes: an atom is both up and dropped.
-pub fn clash(s: State) -> State
-    ensures { λ t. ⌜ t ≡ clashed s ⌝ }
-{
-    State {
-        up: atoms::union(s.up, atoms::single(0)),
-        dropped: atoms::union(s.dropped, atoms::single(0)),
-    }
-}
-
-// One atom of the word is up: the state in which it is so where just one is not dropped; nothing completes it where all are.
-fn forced(word: u64, s: State) -> State
-    ensures { λ t. ⌜ Forced word s t ⌝ }
-{
-    let left = atoms::without(word, s.dropped);
-    if left == 0 {
-        return clash(s);
-    }
-    if atoms::at_most_one(left) {
-        return State {
-            up: atoms::union(s.up, left),
-            dropped: s.dropped,
-        };
-    }
-    s
-}
 
 // Whether the body is known to hold.
 fn is_held(rules: &[u64], rule: usize, up: u64, dropped: u64) -> bool
@@ -113,7 +87,7 @@ pub fn rule_step(rules: &[u64], rule: usize, s: State) -> State
     }
     let truth = body_known(rules, rule, s.up, s.dropped);
     match truth {
-        Truth::Holds => forced(head, s),
+        Truth::Holds => one_up(atoms::without(head, s.dropped), s),
         Truth::Fails => s,
         Truth::Open => denied(rules, rule, s),
     }

@@ -1,12 +1,12 @@
 // The subset test: whether some proper subset of a position has all the facts and satisfies each rule of a word.
 // It grows from the facts: what every such subset must have goes up, and only then is an atom tried both ways.
-use crate::known::undecided;
 use crate::reduct::Found;
 use crate::reduct::find_unsatisfied;
 use crate::rule_pass::rule_pass;
-use crate::state::State;
 use crate::tried::candidates;
 use crate::tried::tried_next;
+use states::State;
+use states::undecided;
 ghost use mathlib.Core.Path.{_≡_};
 ghost use mathlib.Core.Bool.{false};
 ghost use Rattle.atoms.specs.Bounded.{Decides};

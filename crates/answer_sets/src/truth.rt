@@ -1,11 +1,17 @@
 // What is known of a test at a half-decided position, put together from what is known of its parts.
-use crate::state::Truth;
 ghost use mathlib.Core.Path.{_≡_};
 ghost use mathlib.Core.Bool.{true};
 ghost use mathlib.Core.Logic.{_↔_};
-ghost use Rattle.answer_sets.specs.declared.state.Truth.the-variants.{Holds, Fails};
+ghost use Rattle.answer_sets.specs.declared.truth.Truth.the-variants.{Holds, Fails};
 ghost use Rattle.atoms.specs.Word.{Apart};
 ghost use Rattle.answer_sets.specs.Known.{both as bothOf, opposite as oppositeOf, WordSays, RowsSay};
+
+// What is known of a test at a half-decided position.
+pub enum Truth {
+    Holds,
+    Fails,
+    Open,
+}
 
 // Of two tests together: both hold, one fails, or neither is known.
 pub fn both(a: Truth, b: Truth) -> Truth

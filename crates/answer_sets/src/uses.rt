@@ -1,5 +1,5 @@
 // The uses that a rule makes of contact tables: what they ask of a position, and what is known of them at a half-decided one.
-use crate::state::Truth;
+use crate::truth::Truth;
 use crate::truth::both;
 use crate::truth::is_failure;
 use crate::truth::opposite;
@@ -15,7 +15,8 @@ ghost use Prim.Native.Nat.{_<_, _≤_};
 ghost use lib.ListN.{length};
 ghost use Rattle.plan.specs.Limits.{FIRST_RULE as Limits·FIRST_RULE, MAX_TABLES as Limits·MAX_TABLES};
 ghost use Rattle.answer_sets.specs.Lent.{IsLent, USE_BITS as Lent·USE_BITS, uses, tableOf, inputs, truth, useHolds, usesHold, usedInputs};
-ghost use Rattle.answer_sets.specs.Known.{Says, PartsSay, IsWord, BodySays, halfDecided};
+ghost use Rattle.answer_sets.specs.Known.{Says, PartsSay, IsWord, BodySays};
+ghost use Rattle.states.specs.State.{halfDecided};
 
 // A bit for each table that must be true, and one for each that must be false.
 const USE_BITS: usize = 2 * MAX_TABLES;

@@ -11,8 +11,9 @@ use Rattle.atoms.proofs.Bounded.{union-has, union-at}
 use Rattle.atoms.proofs.Sets.{has-cut, cut-left, cut-right, has-atom, atom-only, has-below, below-lt, lt-of-has, has-lt, has-dec, ext}
 use Rattle.atoms.proofs.Sets.{has-without, without-right, has-outside, subset-refl, decides-has, decides-apart}
 use Rattle.plan.specs.Limits.{MAX_INPUTS}
+use Rattle.states.specs.State.{Completes, halfDecided}
 use Rattle.contact_tables.specs.Table.{place, row, answer}
-use Rattle.contact_tables.specs.Rows.{ROWS, Completion, Reached}
+use Rattle.contact_tables.specs.Rows.{ROWS, Reached}
 
 -- an input that is up and has place k
 pub record UpAt (inputs M k : ℕ) : Type 0 where
@@ -67,7 +68,7 @@ answer-same inputs truth M N e = rw (row-same inputs M N e) refl
 module _ {inputs M dropped rows : ℕ} (fits : inputs < 2 ^ ATOMS) (rest : dropped ≡ outside M)
     (c : Collects (Reached inputs M dropped) rows) where
   -- completions have the same inputs up
-  same-inputs : (N : ℕ) → Completion M dropped N → inputs ∩ N ≡ inputs ∩ M
+  same-inputs : (N : ℕ) → Completes (halfDecided M dropped) N → inputs ∩ N ≡ inputs ∩ M
   same-inputs N d = ext (inputs ∩ N) (inputs ∩ M)
       (λ i h. has-cut inputs M (cut-left inputs N h) (go i (cut-left inputs N h) (cut-right inputs N h) (has-dec M i)))
       (λ i h. has-cut inputs N (cut-left inputs M h) (d .has-up .each i (cut-right inputs M h)))

@@ -2,7 +2,7 @@
 use mathlib.Core.Path.{_≡_, refl, sym, ap, _∙_, subst}
 use mathlib.Core.Bool.{Bool, _&&_}
 use mathlib.Core.Logic.{_⊎_, inl, inr}
-use Prim.Native.Nat.{ℕ, zero, suc, _+_, _^_, _<_, _≤_}
+use Prim.Native.Nat.{ℕ, suc, _+_, _^_, _<_, _≤_}
 use native.Mathlib.Decide.{ℕ-discrete, decLt}
 use native.Mathlib.Omega.{arith}
 use Rattle.atoms.specs.Word.{ATOMS, Has, has, _∩_, _∪_, _∖_, atom, below, Lowest}
@@ -13,8 +13,9 @@ use Rattle.atoms.proofs.Bounded.{word-has, word-at}
 use Rattle.atoms.proofs.Sets.{ext, has-dec, decides-has, has-lt, has-below, below-lt, has-cut, cut-left, cut-right, has-none, lt-of-has}
 use Rattle.atoms.proofs.Sets.{has-without, without-left, without-right, has-atom, atom-only, has-left, has-right, union-cases}
 use Rattle.plan.specs.Limits.{MAX_INPUTS}
+use Rattle.states.specs.State.{Completes, halfDecided}
 use Rattle.contact_tables.specs.Table.{place, row}
-use Rattle.contact_tables.specs.Rows.{Completion, Reached, ROWS, Agrees}
+use Rattle.contact_tables.specs.Rows.{Reached, ROWS, Agrees}
 use Rattle.contact_tables.proofs.Places.{place-input, place-le, place-lt, place-one, place-gap, place-found}
 use Rattle.contact_tables.proofs.RowBits.{UpAt, row-bit, row-lt}
 
@@ -152,7 +153,7 @@ module _ {inputs up dropped : ℕ} where
       abbrev whole : ℕ
       whole = up ∪ (wordBelow ATOMS named ∖ dropped)
 
-      whole-completes : Completion up dropped whole
+      whole-completes : Completes (halfDecided up dropped) whole
       whole-completes = record {
         has-up = record { each = λ i h. has-left up (wordBelow ATOMS named ∖ dropped) h };
         no-dropped = record {
@@ -223,7 +224,7 @@ module _ {inputs up dropped : ℕ} where
 
     -- ---- and each completion's row is left
 
-    module _ (N : ℕ) (c : Completion up dropped N) where
+    module _ (N : ℕ) (c : Completes (halfDecided up dropped) N) where
       row-small : row inputs N < 2 ^ k
       row-small = lt-of-has (row inputs N) k (λ i h. let r = row-bit inputs N i .0 h in go i (r .0) (r .1) (input-done (r .1 .at) (r .1 .input)))
         where

@@ -1,19 +1,15 @@
 -- Inner: the rows of a table that a half-decided position leaves.
 use mathlib.Core.Path.{_≡_}
 use Prim.Native.Nat.{ℕ, _^_, _<_}
-use Rattle.atoms.specs.Word.{Has, _⊆_, Apart, _∖_}
+use Rattle.atoms.specs.Word.{Has}
 use Rattle.plan.specs.Limits.{MAX_INPUTS}
+use Rattle.states.specs.State.{Completes, halfDecided}
 use Rattle.contact_tables.specs.Table.{row}
-
--- S-7: "a completion is a position with every up atom and no dropped one"; "an atom in both counts as up"
-pub record Completion (up dropped N : ℕ) : Type 0 where
-  pub has-up : up ⊆ N
-  pub no-dropped : Apart (dropped ∖ up) N
 
 -- some completion has this row
 pub record Reached (inputs up dropped j : ℕ) : Type 0 where
   pub position : ℕ
-  pub completes : Completion up dropped position
+  pub completes : Completes (halfDecided up dropped) position
   pub is : row inputs position ≡ j
 
 -- how many rows a truth word has room for

@@ -14,11 +14,11 @@ use Rattle.atoms.proofs.HighParts.{high-none, high-all, high-with, high-without
 use Rattle.atoms.proofs.Tests.{decided-true}
 use Rattle.answer_sets.specs.AnswerSet.{AnswerSet}
 use Rattle.answer_sets.specs.Lent.{lent}
-use Rattle.answer_sets.specs.State.{Completes}
-use Rattle.answer_sets.specs.declared.state.State.{State}
+use Rattle.states.specs.State.{Completes}
+use Rattle.states.specs.declared.state.State.{State}
 use Rattle.answer_sets.proofs.Judged.{decides-answer-set}
 use Rattle.answer_sets.proofs.Lent.{answer-word}
-use Rattle.answer_sets.proofs.Narrows.{with-up, with-dropped, without-up, without-dropped}
+use Rattle.states.proofs.Narrows.{with-up, with-dropped, without-up, without-dropped}
 use Rattle.unit_search.specs.Witness.{Witnessed, met, none}
 use Rattle.unit_search.specs.declared.witness.Witness.{Witness}
 use Rattle.unit_search.specs.declared.witness.Witness.the-variants.{Member, Nothing}

@@ -12,14 +12,14 @@ use Rattle.atoms.proofs.Sets.{ext, has-cut, cut-right, has-none, has-left, has-
 use Rattle.plan.specs.Limits.{MAX_UNITS}
 use Rattle.answer_sets.specs.Lent.{lent, Lent}
 use Rattle.answer_sets.specs.Test.{answerSet}
-use Rattle.answer_sets.specs.State.{Completes, Narrows}
-use Rattle.answer_sets.specs.declared.state.State.{State}
+use Rattle.states.specs.State.{Completes}
+use Rattle.states.specs.Narrowing.{Narrows, bothOf, Wanted}
+use Rattle.states.specs.declared.state.State.{State}
 use Rattle.learning.specs.Reason.{Remembers}
-use Rattle.unit_steps.specs.Job.{Belongs, Searchable, Wanted}
+use Rattle.unit_steps.specs.Job.{Belongs, Searchable}
 use Rattle.unit_steps.specs.Desk.{LaidOut, Prepared}
 use Rattle.unit_steps.proofs.Desks.{prepared}
 use Rattle.unit_steps.proofs.JoinedLists.{joins-none}
-use Rattle.unit_search.specs.Branch.{bothOf}
 use Rattle.unit_search.specs.Witness.{Witnessed}
 use Rattle.unit_search.specs.declared.witness.Witness.{Witness}
 use Rattle.unit_search.proofs.Witnesses.{witnessed-iff}
@@ -76,7 +76,7 @@ module _ {rules desk : List ℕ} {which facts : ℕ} where
   }
 
   module _ {memory : List ℕ} {root : State} (r : Ready rules desk memory which facts root) where
-    wanted-fitting : {s : State} (M : ℕ) → Wanted rules [] noLists desk (wholeOf which facts) (bothOf root s) M → Fitting rules which facts s M
+    wanted-fitting : {s : State} (M : ℕ) → Wanted (Belongs rules [] noLists desk (wholeOf which facts)) (bothOf root s) M → Fitting rules which facts s M
     wanted-fitting {s} M w = record {
       settled = belongs-settled (record { each = λ i h. w .completes .has-up .each i (has-left (root .up) (s .up) (r .facts-up .each i h)) }) (w .belongs);
       completes = record {
@@ -85,7 +85,7 @@ module _ {rules desk : List ℕ} {which facts : ℕ} where
       };
     }
 
-    fitting-wanted : {s : State} (M : ℕ) → Fitting rules which facts s M → Wanted rules [] noLists desk (wholeOf which facts) (bothOf root s) M
+    fitting-wanted : {s : State} (M : ℕ) → Fitting rules which facts s M → Wanted (Belongs rules [] noLists desk (wholeOf which facts)) (bothOf root s) M
     fitting-wanted {s} M f = record {
       belongs = settled-belongs (f .settled);
       completes = record {
@@ -102,7 +102,7 @@ module _ {rules desk : List ℕ} {which facts : ℕ} where
         down i m (inl h) = r .rooted M (f .settled) .no-dropped .none i h m
         down i m (inr h) = f .completes .no-dropped .none i h m
 
-    pub asked : {s : State} {w : Witness} → Witnessed (Wanted rules [] noLists desk (wholeOf which facts) (bothOf root s)) w
+    pub asked : {s : State} {w : Witness} → Witnessed (Wanted (Belongs rules [] noLists desk (wholeOf which facts)) (bothOf root s)) w
         → Witnessed (Fitting rules which facts s) w
     asked k = witnessed-iff wanted-fitting fitting-wanted k
 

@@ -3,8 +3,8 @@ use mathlib.Core.Path.{_≡_}
 use mathlib.Core.List.{List}
 use Prim.Native.Nat.{ℕ, _+_, _^_, _≤_, _<_}
 use Rattle.atoms.specs.Word.{ATOMS, high}
-use Rattle.answer_sets.specs.State.{Completes}
-use Rattle.answer_sets.specs.declared.state.State.{State}
+use Rattle.states.specs.State.{Completes}
+use Rattle.states.specs.declared.state.State.{State}
 use Rattle.finding.specs.Whole.{Settled}
 use Rattle.finding.specs.declared.least.Exceeding.{Exceeding}
 use Rattle.finding.specs.declared.least.Exceeding.the-variants.{At, Nothing as NoAtom}

@@ -1,7 +1,7 @@
 // Questions to a whole program: is there an answer set that completes a state? The program is a unit with no lists before it.
-use answer_sets::State;
 use narrowing::loops::looped_atoms;
 use plan::MAX_UNITS;
+use states::State;
 use unit_search::begin::begin;
 use unit_search::find::find;
 use unit_search::witness::Witness;

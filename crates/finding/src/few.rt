@@ -2,8 +2,8 @@
 use crate::ask::ask;
 use crate::ask::desk_of;
 use crate::ask::root_of;
-use answer_sets::State;
 use learning::store::empty_store;
+use states::State;
 use unit_search::witness::Witness;
 ghost use Prim.Native.Nat.{_<_};
 ghost use Rattle.atoms.specs.Word.{ATOMS, _∪_};

@@ -2,9 +2,9 @@
 use crate::ask::ask;
 use crate::ask::desk_of;
 use crate::ask::root_of;
-use answer_sets::State;
 use atoms::ATOMS;
 use learning::store::empty_store;
+use states::State;
 use unit_search::witness::Witness;
 use unit_steps::front::Front;
 ghost use Prim.Native.Nat.{_≤_, _<_};

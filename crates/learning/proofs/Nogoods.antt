@@ -1,32 +1,19 @@
 -- Nogoods: what lies within what, what a pair that is avoided says of a state, and resolution.
 use mathlib.Core.Path.{_≡_, refl, sym, subst, _∙_}
-use mathlib.Core.Bool.{Bool, true, false, false≢true}
 use Prim.Native.Nat.{ℕ}
 use native.Mathlib.Decide.{ℕ-discrete}
-use Rattle.atoms.specs.Word.{Has, _⊆_, subset, Apart, _∩_, _∪_, _∖_, atom, AtMostOne}
-use Rattle.atoms.specs.Bounded.{Decides}
-use Rattle.atoms.proofs.Sets.{subset-refl, subset-trans, has-none, has-left, has-right, has-without, without-left, without-right, has-dec}
-use Rattle.atoms.proofs.Sets.{atom-only, empty, some-atom, shared-atom, apart-of-cut, cut-left, decides-subset}
-use Rattle.answer_sets.specs.State.{Completes, Narrows, clashed}
-use Rattle.answer_sets.specs.declared.state.State.{State}
-use Rattle.answer_sets.proofs.Narrows.{narrows-refl, narrows-when, narrows-for, clash-overlaps, clash-narrows, up-narrows, down-narrows}
-use Rattle.learning.specs.Nogood.{Avoids, Nogood, Within, Overlaps, SomeUp, SomeDown, Refuted, resolvent, Resolves}
+use Rattle.atoms.specs.Word.{Has, _⊆_, Apart, _∩_, _∖_, atom}
+use Rattle.atoms.proofs.Sets.{has-none, has-left, has-right, has-without, without-left, without-right, has-dec, atom-only}
+use Rattle.atoms.proofs.Sets.{some-atom, shared-atom, apart-of-cut}
+use Rattle.states.specs.State.{Completes}
+use Rattle.states.specs.Narrowing.{Narrows, Within, Overlaps, SomeUp, SomeDown, OneGoes}
+use Rattle.states.specs.declared.state.State.{State}
+use Rattle.states.proofs.Narrows.{narrows-when, narrows-for, overlap-none}
+use Rattle.states.proofs.Within.{completes-within}
+use Rattle.states.proofs.OneAtom.{none-left}
+use Rattle.learning.specs.Nogood.{Avoids, Nogood, resolvent, Resolves}
 
 -- ---- what lies within what
-
--- a completion of the larger completes the smaller
-pub completes-within : {n s : State} {N : ℕ} → Within n s → Completes s N → Completes n N
-completes-within w c = record {
-  has-up = subset-trans (w .up-within) (c .has-up);
-  no-dropped = record { none = λ i d. c .no-dropped .none i (w .dropped-within .each i d) };
-}
-
--- a state cut to some atoms lies within it
-pub cut-within : (s : State) (w : ℕ) → Within (record { up = s .up ∩ w; dropped = s .dropped ∩ w }) s
-cut-within s w = record {
-  up-within = record { each = λ i h. cut-left (s .up) w h };
-  dropped-within = record { each = λ i h. cut-left (s .dropped) w h };
-}
 
 -- who avoids the smaller avoids the larger, so a pair with a nogood within it is one
 pub avoids-larger : {n m : State} {N : ℕ} → Within n m → Avoids n N → Avoids m N
@@ -41,74 +28,21 @@ nogood-stops g w N k c = g .avoided N k .never (completes-within w c)
 
 -- a state that overlaps is a nogood
 pub overlap-avoided : {s : State} (N : ℕ) → Overlaps s → Avoids s N
-overlap-avoided N o = record {
-  never = λ c. o .overlap (record { none = λ i u d. c .no-dropped .none i d (c .has-up .each i u) });
-}
+overlap-avoided N o = record { never = λ c. overlap-none o c }
 
 -- a step that keeps who avoids the pair keeps whoever has K
 pub nogood-narrows : {K : ℕ → Type 0} {n s t : State} → Nogood K n → Narrows (Avoids n) s t → Narrows K s t
 nogood-narrows g m = narrows-for (λ N k. g .avoided N k) m
 
--- the test of both words
-pub within-decided : (n s : State) {r : Bool} → subset (n .up) (s .up) ≡ true → r ≡ subset (n .dropped) (s .dropped) → Decides (Within n s) r
-within-decided n s u e = record {
-  yes = λ f. record {
-    up-within = decides-subset (n .up) (s .up) .yes u;
-    dropped-within = decides-subset (n .dropped) (s .dropped) .yes (sym e ∙ f);
-  };
-  no = λ f w. decides-subset (n .dropped) (s .dropped) .no (sym e ∙ f) (w .dropped-within);
-}
-
-pub not-within : (n s : State) → subset (n .up) (s .up) ≡ false → Decides (Within n s) false
-not-within n s u = record {
-  yes = λ e. absurd (false≢true e);
-  no = λ e w. decides-subset (n .up) (s .up) .no u (w .up-within);
-}
-
--- ---- a word of which one atom goes one way
-
--- with no atom nothing completes the state
-clash-refuted : {K : ℕ → Type 0} {word : ℕ} {s t : State} → ((N : ℕ) → ¬ K N) → t ≡ clashed s → Refuted K word s t
-clash-refuted {s = s} f e = rw e (record {
-  narrows = clash-narrows s (λ N k p. f N k);
-  stops = λ z. record { overlap = clash-overlaps s };
-})
-
-pub none-up : {word : ℕ} {s t : State} → word ≡ 0 → t ≡ clashed s → Refuted (SomeUp word) word s t
-none-up z e = clash-refuted (λ N k. has-none (rw z at (k .in-word))) e
-
-pub none-down : {word : ℕ} {s t : State} → word ≡ 0 → t ≡ clashed s → Refuted (SomeDown word) word s t
-none-down z e = clash-refuted (λ N k. has-none (rw z at (k .in-word))) e
-
-pub last-up : {word up : ℕ} {s : State} → ¬ (word ≡ 0) → AtMostOne word → up ≡ s .up ∪ word
-    → Refuted (SomeUp word) word s (record { up = up; dropped = s .dropped })
-last-up {word} {s = s} n o e = rw e (record {
-  narrows = up-narrows s word (λ N k p. record { each = λ i h. rw (o .same (k .atom) i (k .in-word) h) at (k .is-up) });
-  stops = λ z. absurd (n z);
-})
-
-pub last-down : {word dropped : ℕ} {s : State} → ¬ (word ≡ 0) → AtMostOne word → dropped ≡ s .dropped ∪ word
-    → Refuted (SomeDown word) word s (record { up = s .up; dropped = dropped })
-last-down {word} {s = s} n o e = rw e (record {
-  narrows = down-narrows s word (λ N k p. record { none = λ i h m. k .is-down (rw (o .same i (k .atom) h (k .in-word)) at m) });
-  stops = λ z. absurd (n z);
-})
-
-pub several : {K : ℕ → Type 0} {word : ℕ} {s : State} → ¬ (word ≡ 0) → Refuted K word s s
-several n = record { narrows = narrows-refl; stops = λ z. absurd (n z) }
-
 -- ---- a pair that is avoided
 
--- where nothing of a word is missing it is within the other, and then nothing is missing
+-- where nothing of a word is missing it is within the other
 missing-none : (a b : ℕ) {w : ℕ} → w ≡ a ∖ b → w ≡ 0 → a ⊆ b
 missing-none a b {w} e z = record { each = λ i h. found i h (has-dec b i) }
   where
     found : (i : ℕ) → Has a i → Dec (Has b i) → Has b i
     found i h (yes k) = k
     found i h (no k) = absurd (has-none (subst (λ (x : ℕ). Has x i) (sym e ∙ z) (has-without a b h k)))
-
-none-missing : (a b : ℕ) {w : ℕ} → w ≡ a ∖ b → a ⊆ b → w ≡ 0
-none-missing a b e f = e ∙ empty (a ∖ b) (λ i h. without-right a b h (f .each i (without-left a b h)))
 
 -- the empty word
 within-all : {w N : ℕ} → w ≡ 0 → w ⊆ N
@@ -153,18 +87,18 @@ module _ (n s : State) {up dropped : ℕ} (u : up ≡ n .up ∖ s .up) (d : drop
           let i = some-atom (up ∖ N) e in
           record { atom = i .0; in-word = without-left up N (i .1); is-down = without-right up N (i .1) }
 
-  pub refuted-up : {t : State} → up ≡ 0 → Refuted (SomeUp dropped) dropped s t → Narrows (Avoids n) s t
+  pub refuted-up : {t : State} → up ≡ 0 → OneGoes (SomeUp dropped) dropped s t → Narrows (Avoids n) s t
   refuted-up z r = narrows-when (avoided-up z) (r .narrows)
 
-  pub refuted-down : {t : State} → dropped ≡ 0 → Refuted (SomeDown up) up s t → Narrows (Avoids n) s t
+  pub refuted-down : {t : State} → dropped ≡ 0 → OneGoes (SomeDown up) up s t → Narrows (Avoids n) s t
   refuted-down z r = narrows-when (avoided-down z) (r .narrows)
 
   -- a pair within the state has nothing missing
   pub within-up : Within n s → up ≡ 0
-  within-up w = none-missing (n .up) (s .up) u (w .up-within)
+  within-up w = none-left (n .up) (s .up) u (w .up-within)
 
   pub within-dropped : Within n s → dropped ≡ 0
-  within-dropped w = none-missing (n .dropped) (s .dropped) d (w .dropped-within)
+  within-dropped w = none-left (n .dropped) (s .dropped) d (w .dropped-within)
 
 -- ---- resolution
 
@@ -203,3 +137,11 @@ resolves-equal first second a {r} e = (e, rw e (resolution first second a))
 -- two nogoods resolve to a nogood
 pub nogood-resolved : {K : ℕ → Type 0} {first second r : State} → Resolves first second r → Nogood K first → Nogood K second → Nogood K r
 nogood-resolved r f g = record { avoided = λ N k. r .avoided N (f .avoided N k) (g .avoided N k) }
+
+-- what is resolved of two pairs does not tell which came first
+pub resolves-either : {n m r : State} → Resolves n m r → Resolves m n r
+resolves-either e = record { avoided = λ N a b. e .avoided N b a }
+
+-- a state that overlaps is a nogood of whatever is of interest
+pub overlap-nogood : {K : ℕ → Type 0} {n : State} → Overlaps n → Nogood K n
+overlap-nogood o = record { avoided = λ N k. overlap-avoided N o }

@@ -1,5 +1,5 @@
 -- Reasons: a goal told by a step, a pair with the reason in the goal's place, and a nogood lifted over a trail.
-use mathlib.Core.Path.{_≡_, refl, _∙_}
+use mathlib.Core.Path.{_≡_, _∙_}
 use mathlib.Core.Bool.{Bool, true, false, true≢false}
 use mathlib.Core.Logic.{_⊎_, inl, inr}
 use mathlib.Core.List.{List}
@@ -8,13 +8,15 @@ use native.Mathlib.Omega.{arith}
 use Rattle.atoms.specs.Word.{Has, Apart, _∩_}
 use Rattle.atoms.specs.Bounded.{Decides}
 use Rattle.atoms.proofs.Sets.{has-cut, has-left, has-right, has-without, has-dec}
-use Rattle.answer_sets.specs.State.{Completes, Narrows}
-use Rattle.answer_sets.specs.declared.state.State.{State}
-use Rattle.learning.specs.Nogood.{Avoids, Nogood, Within, Overlaps}
+use Rattle.states.specs.State.{Completes}
+use Rattle.states.specs.Narrowing.{Narrows, Within, Overlaps}
+use Rattle.states.specs.declared.state.State.{State}
+use Rattle.learning.specs.Nogood.{Avoids, Nogood}
 use Rattle.learning.specs.Store.{AvoidsAll, Empty, Keeps, SamePairs}
 use Rattle.learning.specs.Reason.{Heeds, Remembers, Explains, Tells, beyondOf, replaced, Leads, Lifted}
-use Rattle.learning.proofs.Nogoods.{completes-within, overlap-avoided}
-use Rattle.answer_sets.proofs.Narrows.{narrows-for}
+use Rattle.learning.proofs.Nogoods.{overlap-avoided}
+use Rattle.states.proofs.Within.{completes-within}
+use Rattle.states.proofs.Narrows.{narrows-for}
 use Rattle.learning.proofs.Stores.{keeps-refl, keeps-same}
 
 -- ---- a goal and its reason

@@ -8,8 +8,9 @@ use lib.ListN.{length, getD, set, take, replicate, length-set, length-replicate,
 use lib.Seq.{getD-set-same, getD-set-other, getD-take, length-take-le}
 use borrow.Rule.Slice.PartMut.{midOf, postOf, putMid, same-len-mid}
 use Rattle.atoms.specs.Word.{Has}
-use Rattle.answer_sets.specs.declared.state.State.{State}
-use Rattle.learning.specs.Nogood.{Avoids, Overlaps}
+use Rattle.states.specs.declared.state.State.{State}
+use Rattle.learning.specs.Nogood.{Avoids}
+use Rattle.states.specs.Narrowing.{Overlaps}
 use Rattle.learning.specs.Store.{RING, PAIRS, MEMORY_WORDS, pairAt, AvoidsAll, Empty, Keeps, SamePairs, Written, Learnt}
 use Rattle.learning.proofs.Nogoods.{overlap-avoided}
 

@@ -4,9 +4,10 @@ use mathlib.Core.List.{List}
 use Prim.Native.Nat.{ℕ, _≤_}
 use lib.ListN.{length}
 use Rattle.atoms.specs.Word.{_∩_, _∪_, _∖_}
-use Rattle.answer_sets.specs.State.{Completes}
-use Rattle.answer_sets.specs.declared.state.State.{State}
-use Rattle.learning.specs.Nogood.{Avoids, Within, Overlaps}
+use Rattle.states.specs.State.{Completes}
+use Rattle.states.specs.declared.state.State.{State}
+use Rattle.learning.specs.Nogood.{Avoids}
+use Rattle.states.specs.Narrowing.{Within, Overlaps}
 use Rattle.learning.specs.Store.{MEMORY_WORDS, AvoidsAll, Keeps}
 
 -- N has K and completes no pair that was learnt

@@ -1,8 +1,8 @@
 // Reasons: a part of a state from which a step tells a goal. A pair with a goal in it is no less a nogood with the goal's reason in its place.
-use crate::nogood::lies_within;
 use crate::store::learn;
 use crate::trail::score_atoms;
-use answer_sets::State;
+use states::State;
+use states::lies_within;
 ghost use mathlib.Core.Path.{_≡_};
 ghost use Prim.Native.Nat.{_≤_};
 ghost use lib.ListN.{length};

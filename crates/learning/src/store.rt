@@ -1,6 +1,6 @@
 // The store of learnt pairs, the first words of a lent memory: two words to a pair, first the ring, then the copies. Which pairs are kept is
 // free: a pair that is forgotten costs pruning and no member.
-use answer_sets::State;
+use states::State;
 ghost use mathlib.Core.Path.{_≡_};
 ghost use Prim.Native.Nat.{_*_, _≤_, _<_};
 ghost use lib.ListN.{length};

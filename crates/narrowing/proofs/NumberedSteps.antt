@@ -10,9 +10,9 @@ use Rattle.atoms.proofs.Sets.{decides-has, cut-left, union-cases}
 use Rattle.atoms.proofs.Singles.{has-of-test, lacks-of-test}
 use Rattle.answer_sets.specs.Program.{Satisfies, SatisfiesAll}
 use Rattle.answer_sets.specs.Lent.{lent, Lent}
-use Rattle.answer_sets.specs.State.{Narrows}
-use Rattle.answer_sets.specs.declared.state.State.{State}
-use Rattle.answer_sets.proofs.Narrows.{narrows-for}
+use Rattle.states.specs.Narrowing.{Narrows}
+use Rattle.states.specs.declared.state.State.{State}
+use Rattle.states.proofs.Narrows.{narrows-for}
 use Rattle.answer_sets.proofs.Support.{satisfied}
 use Rattle.narrowing.specs.Inputs.{AnswersInputs}
 use Rattle.narrowing.specs.Backers.{Backers}

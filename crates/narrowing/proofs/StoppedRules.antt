@@ -9,11 +9,11 @@ use borrow.Author.Tests.{not-true, not-false}
 use Rattle.atoms.specs.Word.{Has, _⊆_, subset, Apart, apart, _∩_, _∖_}
 use Rattle.atoms.proofs.Sets.{has-without, without-left, without-right, decides-subset, decides-apart}
 use Rattle.answer_sets.specs.Lent.{lent}
-use Rattle.answer_sets.specs.State.{Completes}
-use Rattle.answer_sets.specs.Known.{halfDecided, Part, PartHolds, InBody, BodySays}
-use Rattle.answer_sets.specs.declared.state.State.{State}
-use Rattle.answer_sets.specs.declared.state.Truth.{Truth}
-use Rattle.answer_sets.specs.declared.state.Truth.the-variants.{Holds, Fails, Open}
+use Rattle.states.specs.State.{Completes, halfDecided}
+use Rattle.answer_sets.specs.Known.{Part, PartHolds, InBody, BodySays}
+use Rattle.states.specs.declared.state.State.{State}
+use Rattle.answer_sets.specs.declared.truth.Truth.{Truth}
+use Rattle.answer_sets.specs.declared.truth.Truth.the-variants.{Holds, Fails, Open}
 use Rattle.answer_sets.proofs.Truths.{holds-not-fails, open-not-holds, open-not-fails}
 use Rattle.answer_sets.proofs.Parts.{up-apart, up-completes, completes-known}
 use Rattle.answer_sets.proofs.HalfKnown.{none-satisfies}

@@ -7,19 +7,20 @@ use Prim.Native.Nat.{ℕ, _^_, _<_}
 use native.Mathlib.Decide.{ℕ-discrete}
 use lib.ListN.{getD}
 use Rattle.atoms.specs.Word.{ATOMS, Has, _∩_, _∪_, _∖_, apart, atom, Lowest}
-use Rattle.atoms.proofs.Sets.{decides-apart, subset-refl, subset-trans, cut-right, has-none, has-atom, atom-only, has-without, without-left}
-use Rattle.atoms.proofs.Sets.{without-right, union-cases}
+use Rattle.atoms.proofs.Sets.{decides-apart, subset-refl, subset-trans, cut-right, has-none, has-atom, atom-only, has-without, without-left, without-right}
+use Rattle.atoms.proofs.Sets.{union-cases}
 use Rattle.atoms.proofs.TakenNumbers.{taken-cases}
 use Rattle.atoms.proofs.Counts.{taken-within}
 use Rattle.answer_sets.specs.Lent.{lent, Lent, negative}
-use Rattle.answer_sets.specs.State.{Completes, Narrows}
+use Rattle.states.specs.State.{Completes}
+use Rattle.states.specs.Narrowing.{Narrows}
 use Rattle.answer_sets.specs.Known.{BodySays}
-use Rattle.answer_sets.specs.declared.state.State.{State}
-use Rattle.answer_sets.specs.declared.state.Truth.{Truth}
-use Rattle.answer_sets.specs.declared.state.Truth.the-variants.{Fails}
+use Rattle.states.specs.declared.state.State.{State}
+use Rattle.answer_sets.specs.declared.truth.Truth.{Truth}
+use Rattle.answer_sets.specs.declared.truth.Truth.the-variants.{Fails}
 use Rattle.answer_sets.proofs.Parts.{known-fails, completes-known}
 use Rattle.answer_sets.proofs.Bodies.{negative-down}
-use Rattle.answer_sets.proofs.Narrows.{narrows-trans, narrows-when, up-narrows, down-narrows}
+use Rattle.states.proofs.Narrows.{narrows-trans, narrows-when, up-narrows, down-narrows}
 use Rattle.narrowing.specs.Inputs.{AnswersInputs}
 use Rattle.narrowing.specs.Backers.{Backs, Backers}
 use Rattle.narrowing.specs.Support.{Supports, Excluded, Supporters, Held}

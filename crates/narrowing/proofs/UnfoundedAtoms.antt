@@ -5,17 +5,17 @@ use mathlib.Core.Logic.{_⊎_, inl, inr}
 use mathlib.Core.List.{List}
 use Prim.Native.Nat.{ℕ}
 use Rattle.atoms.specs.Word.{Has, _∩_, _∪_, _∖_, apart}
-use Rattle.atoms.proofs.Sets.{cut-left, cut-right, has-left, union-cases, has-without, without-left, without-right}
-use Rattle.atoms.proofs.Sets.{shared-atom, apart-of-cut, decides-apart}
+use Rattle.atoms.proofs.Sets.{cut-left, cut-right, has-left, union-cases, has-without, without-left, without-right, shared-atom, apart-of-cut, decides-apart}
 use Rattle.answer_sets.specs.AnswerSet.{ReductModel}
 use Rattle.answer_sets.specs.Lent.{lent, negative}
-use Rattle.answer_sets.specs.State.{Completes, Narrows}
+use Rattle.states.specs.State.{Completes}
+use Rattle.states.specs.Narrowing.{Narrows}
 use Rattle.answer_sets.specs.Known.{BodySays}
-use Rattle.answer_sets.specs.declared.state.State.{State}
-use Rattle.answer_sets.specs.declared.state.Truth.{Truth}
-use Rattle.answer_sets.specs.declared.state.Truth.the-variants.{Fails}
+use Rattle.states.specs.declared.state.State.{State}
+use Rattle.answer_sets.specs.declared.truth.Truth.{Truth}
+use Rattle.answer_sets.specs.declared.truth.Truth.the-variants.{Fails}
 use Rattle.answer_sets.proofs.Support.{least}
-use Rattle.answer_sets.proofs.Narrows.{down-narrows}
+use Rattle.states.proofs.Narrows.{down-narrows}
 use Rattle.answer_sets.proofs.Parts.{known-fails, completes-known}
 use Rattle.answer_sets.proofs.Bodies.{negative-down}
 use Rattle.narrowing.specs.Inputs.{AnswersInputs}

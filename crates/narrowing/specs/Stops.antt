@@ -4,8 +4,8 @@ use Prim.Native.Nat.{ℕ, _<_}
 use Rattle.atoms.specs.Word.{ATOMS, Has, _⊆_, Apart, _∖_}
 use Rattle.answer_sets.specs.Lent.{lent}
 use Rattle.answer_sets.specs.Known.{BodySays}
-use Rattle.answer_sets.specs.declared.state.State.{State}
-use Rattle.answer_sets.specs.declared.state.Truth.the-variants.{Holds, Fails}
+use Rattle.states.specs.declared.state.State.{State}
+use Rattle.answer_sets.specs.declared.truth.Truth.the-variants.{Holds, Fails}
 use Rattle.answer_sets.specs.declared.reduct.Found.{Found}
 use Rattle.answer_sets.specs.declared.reduct.Found.the-variants.{Rule, Nothing}
 use Rattle.narrowing.specs.declared.choice.Standing.{Standing}

@@ -6,8 +6,8 @@ use Prim.Native.Nat.{ℕ}
 use Rattle.atoms.specs.Word.{Has, _⊆_}
 use Rattle.answer_sets.specs.Program.{Program, Body}
 use Rattle.answer_sets.specs.Lent.{lent}
-use Rattle.answer_sets.specs.State.{Completes}
-use Rattle.answer_sets.specs.declared.state.State.{State}
+use Rattle.states.specs.State.{Completes}
+use Rattle.states.specs.declared.state.State.{State}
 
 -- rule r supports atom a in M: its body holds without a, and a is the one head atom that is up
 pub record Supports (P : Program) (r M a : ℕ) : Type 0 where

@@ -4,8 +4,8 @@ use Prim.Native.Nat.{ℕ}
 use Rattle.atoms.specs.Word.{Has, _∖_}
 use Rattle.answer_sets.specs.Program.{Body}
 use Rattle.answer_sets.specs.Lent.{lent}
-use Rattle.answer_sets.specs.State.{Completes}
-use Rattle.answer_sets.specs.declared.state.State.{State}
+use Rattle.states.specs.State.{Completes}
+use Rattle.states.specs.declared.state.State.{State}
 
 -- rule r can do without the atoms of x: where its body holds at a completion, and at the completion without x too, and the completion has a head
 -- atom, it has one outside x

@@ -1,6 +1,5 @@
 // Which undecided atom is decided next, one that stands in most live rules, and in which phase it is tried first. Any would be right; this one
 // leaves little to search. Where a rule is at a stop there is none.
-use answer_sets::State;
 use answer_sets::Truth;
 use answer_sets::known::body_known;
 use answer_sets::reduct::Found;
@@ -8,6 +7,7 @@ use answer_sets::rule::head;
 use answer_sets::rule::rule_atoms;
 use atoms::tally::count_atoms;
 use atoms::tally::most;
+use states::State;
 ghost use mathlib.Core.Path.{_≡_};
 ghost use mathlib.Core.Bool.{true};
 ghost use mathlib.Core.Logic.{_↔_};

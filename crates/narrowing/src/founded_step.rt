@@ -1,17 +1,17 @@
 // The founded step: relays that only hold each other up are down. The closure that finds them is advice: what it leaves out is dropped where the
 // rules can do without it.
 use crate::unfounded::drop_unfounded;
-use answer_sets::State;
 use answer_sets::known::body_known;
 use answer_sets::rule::head;
 use answer_sets::rule::negative_body;
 use answer_sets::rule::positive_body;
 use answer_sets::truth::is_failure;
 use atoms::ATOMS;
+use states::State;
 ghost use Prim.Native.Nat.{_<_};
 ghost use Rattle.atoms.specs.Word.{ATOMS};
 ghost use Rattle.answer_sets.specs.Lent.{IsLent, Lent};
-ghost use Rattle.answer_sets.specs.State.{Narrows};
+ghost use Rattle.states.specs.Narrowing.{Narrows};
 ghost use Rattle.narrowing.specs.Inputs.{AnswersInputs};
 
 // The founded atoms so far; the up head atoms of rules that wait, of which one is taken in at a standstill; and the rules that may still add atoms.

@@ -1,16 +1,16 @@
 // The steps on rules by number: first the rules, then the support of each atom, then the founded step.
 use crate::founded_step::founded_step;
 use crate::support_step::support_step;
-use answer_sets::State;
 use answer_sets::rule_pass::rule_step;
 use atoms::ATOMS;
 use plan::MAX_RULES;
+use states::State;
 ghost use Prim.Native.Nat.{_<_};
 ghost use Rattle.atoms.specs.Word.{ATOMS};
 ghost use Rattle.plan.specs.Limits.{MAX_RULES};
 ghost use Rattle.answer_sets.specs.Program.{SatisfiesAll};
 ghost use Rattle.answer_sets.specs.Lent.{lent, Lent};
-ghost use Rattle.answer_sets.specs.State.{Narrows};
+ghost use Rattle.states.specs.Narrowing.{Narrows};
 ghost use Rattle.narrowing.specs.Inputs.{AnswersInputs};
 ghost use Rattle.narrowing.specs.Backers.{Backers};
 

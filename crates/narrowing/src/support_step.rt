@@ -1,14 +1,14 @@
 // The support step: an atom that is no input is up only through a rule that has no other head atom up.
-use answer_sets::State;
 use answer_sets::Truth;
 use answer_sets::known::body_known;
 use answer_sets::rule::head;
 use answer_sets::rule::negative_body;
 use answer_sets::rule::positive_body;
+use states::State;
 ghost use Prim.Native.Nat.{_<_};
 ghost use Rattle.atoms.specs.Word.{ATOMS};
 ghost use Rattle.answer_sets.specs.Lent.{lent, IsLent, Lent};
-ghost use Rattle.answer_sets.specs.State.{Narrows};
+ghost use Rattle.states.specs.Narrowing.{Narrows};
 ghost use Rattle.narrowing.specs.Support.{Supports, Excluded, Supporters, Held};
 
 // Whether the rule may support the atom at a completion, for all that is known.

@@ -1,14 +1,14 @@
 // Unfounded atoms: atoms that no rule needs are down. Which atoms are asked about is free.
-use answer_sets::State;
 use answer_sets::known::body_known;
 use answer_sets::rule::head;
 use answer_sets::rule::negative_body;
 use answer_sets::rule::positive_body;
 use answer_sets::truth::is_failure;
+use states::State;
 ghost use mathlib.Core.Path.{_≡_};
 ghost use mathlib.Core.Bool.{true};
 ghost use Rattle.answer_sets.specs.Lent.{IsLent, Lent};
-ghost use Rattle.answer_sets.specs.State.{Narrows};
+ghost use Rattle.states.specs.Narrowing.{Narrows};
 ghost use Rattle.narrowing.specs.Inputs.{AnswersInputs};
 ghost use Rattle.narrowing.specs.Unfounded.{Spares, Unfounded};
 

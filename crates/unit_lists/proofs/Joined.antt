@@ -16,7 +16,7 @@ use Rattle.atoms.proofs.Bounded.{some-at, some-intro, all-in-at, all-in-intro}
 use Rattle.atoms.proofs.Rising.{members-rising}
 use Rattle.atoms.proofs.Cuts.{cut-rising, cut-at, cut-has, cut-whole}
 use Rattle.answer_sets.specs.Lent.{lent, ruleAt}
-use Rattle.answer_sets.specs.State.{Completes}
+use Rattle.states.specs.State.{Completes}
 use Rattle.answer_sets.proofs.Judged.{decides-answer-set}
 use Rattle.plan.specs.Limits.{MAX_RULES, MAX_UNITS, LIST_WORDS}
 use Rattle.dependency_graph.specs.Units.{Units, Edge}
@@ -24,8 +24,8 @@ use Rattle.dependency_graph.specs.Graph.{Passes}
 use Rattle.dependency_graph.specs.Heads.{reach, heads, inputHeads}
 use Rattle.splitting.specs.UnitList.{Listed}
 use Rattle.splitting.proofs.Form.{listed-member}
-use Rattle.unit_steps.specs.Job.{isListed}
-use Rattle.unit_steps.specs.Job.{joins, Belongs, Searchable, Wanted}
+use Rattle.unit_steps.specs.Job.{isListed, joins, Belongs, Searchable}
+use Rattle.states.specs.Narrowing.{Wanted}
 use Rattle.unit_steps.specs.declared.unit.Unit.{Unit}
 use Rattle.unit_lists.specs.Lists.{inList, unitList}
 use Rattle.unit_lists.specs.Work.{Told, startWithin, ListStored, MembersStored, Stored, ListsThere}
@@ -145,10 +145,10 @@ module _ {T : Units} {u : ℕ} {rules heads′ table counts : List ℕ} {unit : 
 
   -- what the search stores are the cuts of the unit's list
   pub cuts-stored : (within shown place : ℕ) {table′ counts′ : List ℕ} {fits : Bool} → within ≡ heads T u
-      → ListStored (λ s. CutOf shown (Wanted rules table counts heads′ unit s)) (T .given) within place table counts table′ counts′ fits
+      → ListStored (λ s. CutOf shown (Wanted (Belongs rules table counts heads′ unit) s)) (T .given) within place table counts table′ counts′ fits
       → MembersStored (cutList shown (unitList T u)) place table counts table′ counts′ fits
   cuts-stored within shown place e s =
-      members-stored (λ t. CutOf shown (Wanted rules table counts heads′ unit t)) (T .given) within (cutList shown (unitList T u))
+      members-stored (λ t. CutOf shown (Wanted (Belongs rules table counts heads′ unit) t)) (T .given) within (cutList shown (unitList T u))
       (cut-rising shown (unitList T u))
       (λ x c.
       let w = c .wanted in
@@ -169,7 +169,7 @@ module _ {T : Units} {u : ℕ} {rules heads′ table counts : List ℕ} {unit : 
 
   -- where every atom shows they are the list itself
   pub unit-stored : (within place : ℕ) {table′ counts′ : List ℕ} {fits : Bool} → within ≡ heads T u
-      → ListStored (λ s. CutOf EVERY_ATOM (Wanted rules table counts heads′ unit s)) (T .given) within place table counts table′ counts′ fits
+      → ListStored (λ s. CutOf EVERY_ATOM (Wanted (Belongs rules table counts heads′ unit) s)) (T .given) within place table counts table′ counts′ fits
       → MembersStored (unitList T u) place table counts table′ counts′ fits
   unit-stored within place {table′} {counts′} {fits} e s =
       subst (λ (xs : List ℕ). MembersStored xs place table counts table′ counts′ fits) (cut-whole (unitList T u) (unit-list-rising T u) words)

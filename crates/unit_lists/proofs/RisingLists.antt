@@ -11,7 +11,7 @@ use lib.Seq.{paste}
 use Rattle.atoms.specs.Lists.{padded}
 use Rattle.atoms.specs.Rising.{Rising, rising-nil, rising-cons}
 use Rattle.atoms.proofs.Rising.{above-at, rising-ext}
-use Rattle.answer_sets.specs.declared.state.State.{State}
+use Rattle.states.specs.declared.state.State.{State}
 use Rattle.plan.specs.Limits.{LIST_WORDS}
 use Rattle.unit_search.specs.Listing.{Ordered, Gathered, fits, over}
 use Rattle.unit_lists.specs.Work.{startWithin, Found, ListStored, MembersStored}

@@ -7,7 +7,7 @@ use lib.ListN.{length, getD, set, replicate}
 use lib.Seq.{paste}
 use Rattle.atoms.specs.Word.{ATOMS, Has, has, _⊆_, _∩_, below, outside}
 use Rattle.atoms.specs.Lists.{padded}
-use Rattle.answer_sets.specs.declared.state.State.{State}
+use Rattle.states.specs.declared.state.State.{State}
 use Rattle.plan.specs.Limits.{MAX_UNITS, LIST_WORDS, TABLE_WORDS, COUNTS}
 use Rattle.plan.specs.Record.{Fitting}
 use Rattle.plan.specs.declared.record.Plan.{Plan}

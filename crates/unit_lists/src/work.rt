@@ -2,7 +2,6 @@
 use crate::listing::Listing;
 use crate::listing::refuse;
 use crate::table::clear;
-use answer_sets::State;
 use dependency_graph::head_atoms::HeadAtoms;
 use dependency_graph::head_atoms::head_atoms;
 use dependency_graph::working_order::next_unit;
@@ -12,6 +11,7 @@ use plan::LAST_COUNT;
 use plan::LIST_WORDS;
 use plan::Outcome;
 use plan::Plan;
+use states::State;
 use unit_search::search::search;
 use unit_steps::Unit;
 use unit_steps::nearest::nearest;
@@ -25,7 +25,8 @@ ghost use Rattle.plan.specs.declared.fault.Fault.the-variants.{LongList};
 ghost use Rattle.dependency_graph.specs.Units.{Edge};
 ghost use Rattle.dependency_graph.specs.PlanUnits.{unitsOf};
 ghost use Rattle.splitting.specs.UnitList.{withLast};
-ghost use Rattle.unit_steps.specs.Job.{Searchable, Wanted};
+ghost use Rattle.unit_steps.specs.Job.{Belongs, Searchable};
+ghost use Rattle.states.specs.Narrowing.{Wanted};
 ghost use Rattle.unit_lists.specs.Lists.{unitList, lastList};
 ghost use Rattle.unit_lists.specs.Table.{cleared};
 ghost use Rattle.unit_lists.specs.Answer.{unitWork};
@@ -53,7 +54,7 @@ fn list_one(
 ) -> bool
     requires { ⌜ Searchable (now rules) (now table) (now counts) (now heads) unit
         × (LIST_WORDS * place + LIST_WORDS ≤ length (now table)) × (place < length (now counts)) ⌝ }
-    ensures { λ r. ⌜ ListStored (λ s. CutOf shown (Wanted (now (rules .entry)) (now (table .entry)) (now (counts .entry)) (now (heads .entry)) unit s))
+    ensures { λ r. ⌜ ListStored (λ s. CutOf shown (Wanted (Belongs (now (rules .entry)) (now (table .entry)) (now (counts .entry)) (now (heads .entry)) unit) s))
         given within place (now (table .entry)) (now (counts .entry)) (now (table .exit)) (now (counts .exit)) r ⌝ }
 {
     let mut list = [0u64; LIST_WORDS];

@@ -2,4 +2,4 @@ pub mod Insertion
 pub mod Gathered
 pub mod Witnesses
 pub mod SearchSteps
-pub mod Branches
+pub mod Nodes

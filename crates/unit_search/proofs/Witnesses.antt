@@ -14,9 +14,9 @@ use Rattle.atoms.specs.Rising.{above-cons, Rising, rising-cons}
 use Rattle.atoms.specs.Cuts.{CutOf}
 use Rattle.atoms.proofs.Cuts.{cut-for}
 use Rattle.plan.specs.Limits.{LIST_WORDS, OVERFULL}
-use Rattle.answer_sets.specs.State.{Completes, undecided}
-use Rattle.answer_sets.specs.declared.state.State.{State}
-use Rattle.answer_sets.proofs.HalfDecided.{decided-cases}
+use Rattle.states.specs.State.{Completes, undecided}
+use Rattle.states.specs.declared.state.State.{State}
+use Rattle.states.proofs.HalfDecided.{decided-cases}
 use Rattle.unit_search.specs.Listing.{Gathered, fits, over, Grown}
 use Rattle.unit_search.specs.Witness.{Witnessed, met, none, Met, eitherOf, enough}
 use Rattle.unit_search.specs.declared.witness.Witness.{Witness}

@@ -1,3 +1,4 @@
 pub mod Listing
-pub mod Branch
 pub mod Witness
+pub mod Outlook
+pub mod Node

@@ -42,3 +42,8 @@ pub data Inserted (list : List ℕ) (count value : ℕ) (after : List ℕ) : ℕ
       → after ≡ insertInto value (take count list) ++ drop r list → Inserted list count value after r
   no-room : length (insertInto value (take count list)) ≡ OVERFULL → after ≡ take LIST_WORDS (insertInto value (take count list))
       → Inserted list count value after OVERFULL
+
+-- it is this position, and of interest
+pub record Offered (K : ℕ → Type 0) (position M : ℕ) : Type 0 where
+  pub is : M ≡ position
+  pub belongs : K M

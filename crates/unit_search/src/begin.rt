@@ -3,7 +3,7 @@ use crate::dive::dive_ahead;
 use unit_steps::Unit;
 use unit_steps::front::Front;
 use unit_steps::propagate::propagate;
-ghost use Rattle.answer_sets.specs.State.{Narrows};
+ghost use Rattle.states.specs.Narrowing.{Narrows};
 ghost use Rattle.learning.specs.Reason.{Remembers};
 ghost use Rattle.unit_steps.specs.Filter.{Filtered};
 ghost use Rattle.unit_steps.specs.Desk.{Prepared};

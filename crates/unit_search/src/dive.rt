@@ -1,23 +1,23 @@
 // Ways down before the search: each follows one branch alone and learns from its stop, so that the first atom of the search is chosen by what was
 // learnt. They list nothing.
-use crate::branch::branched;
-use crate::branch::everything;
-use crate::branch::phase_of;
-use crate::branch::pick;
+use crate::outlook::Outlook;
+use crate::outlook::outlook_of;
+use crate::outlook::phase_of;
 use crate::stop::stop;
-use answer_sets::State;
-use answer_sets::known::undecided;
-use narrowing::choice::Choice;
+use states::State;
+use states::everything;
+use states::undecided;
 use unit_steps::Unit;
 use unit_steps::filter::copied;
 use unit_steps::front::Front;
+use unit_steps::front::branched;
 use unit_steps::lift::span;
 use unit_steps::propagate::propagate;
 ghost use mathlib.Core.Path.{_≡_};
 ghost use Prim.Native.Nat.{_<_};
 ghost use lib.Count.{ones};
-ghost use Rattle.answer_sets.specs.State.{undecided as undecidedOf};
-ghost use Rattle.learning.specs.Nogood.{Overlaps};
+ghost use Rattle.states.specs.State.{undecided as undecidedOf};
+ghost use Rattle.states.specs.Narrowing.{Overlaps};
 ghost use Rattle.learning.specs.Reason.{Remembers};
 ghost use Rattle.unit_steps.specs.Filter.{Filtered};
 ghost use Rattle.unit_steps.specs.Desk.{Prepared};
@@ -74,9 +74,8 @@ fn descend(
     ensures falls { λ r. ⌜ ones (undecidedOf (r .state .up) (r .state .dropped)) < ones (undecidedOf (f .state .up) (f .state .dropped)) ⌝ }
 {
     let s = f.state;
-    let free = undecided(s.up, s.dropped);
-    let choice = pick(rules, unit.rules, memory, s, free, s.up);
-    let Choice::Atom(i) = choice else {
+    let next = outlook_of(rules, unit.rules, memory, s, s.up);
+    let Outlook::Open(i) = next else {
         return halted(f);
     };
     let phase = phase_of(rules, desk, unit.rules, memory, s, i);

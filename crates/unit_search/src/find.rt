@@ -1,20 +1,20 @@
 // One member that completes a state, or that there is none.
-use crate::branch::Node;
-use crate::branch::moved;
+use crate::node::root;
 use crate::search::explore;
 use crate::witness::Witness;
-use answer_sets::State;
 use plan::LIST_WORDS;
+use states::State;
 use unit_steps::Unit;
 use unit_steps::filter::full_filter;
 use unit_steps::front::Front;
+use unit_steps::front::moved;
 ghost use Rattle.learning.specs.Reason.{Remembers};
-ghost use Rattle.unit_search.specs.Branch.{bothOf};
+ghost use Rattle.states.specs.Narrowing.{bothOf, Wanted};
 ghost use Rattle.unit_search.specs.Witness.{Witnessed};
 ghost use Rattle.unit_steps.specs.Desk.{Prepared};
-ghost use Rattle.unit_steps.specs.Job.{Belongs, Wanted};
+ghost use Rattle.unit_steps.specs.Job.{Belongs};
 
-// A member that completes the state at the root and this one, or that none does: what shows of the members is nothing, so that the first one
+// A member that completes the state at the start and this one, or that none does: what shows of the members is nothing, so that the first one
 // ends the search. What is learnt on the way is of use for other states too.
 pub fn find(
     rules: &[u64],
@@ -23,30 +23,24 @@ pub fn find(
     desk: &[u64],
     memory: &mut [u64],
     unit: Unit,
-    root: Front,
+    start: Front,
     s: State,
 ) -> Witness
     requires { ⌜ Prepared (now rules) (now table) (now counts) (now desk) unit
         × Remembers (Belongs (now rules) (now table) (now counts) (now desk) unit) (now memory) ⌝ }
-    ensures witnessed { λ r. ⌜ Witnessed (Wanted (now (rules .entry)) (now (table .entry)) (now (counts .entry)) (now (desk .entry)) unit
-        (bothOf (root .state) s)) r ⌝ }
+    ensures witnessed { λ r. ⌜ Witnessed (Wanted (Belongs (now (rules .entry)) (now (table .entry)) (now (counts .entry)) (now (desk .entry)) unit)
+        (bothOf (start .state) s)) r ⌝ }
     ensures remembers { λ _. ⌜ Remembers (Belongs (now (rules .entry)) (now (table .entry)) (now (counts .entry)) (now (desk .entry)) unit)
         (now (memory .exit)) ⌝ }
 {
     let mut list = [0u64; LIST_WORDS];
     let filter = full_filter(counts);
-    let base = root.state;
+    let base = start.state;
     let both = State {
         up: atoms::union(base.up, s.up),
         dropped: atoms::union(base.dropped, s.dropped),
     };
-    let node = Node {
-        unit,
-        shown: 0,
-        count: 0,
-        front: moved(desk, root, both),
-        base,
-    };
+    let node = root(unit, 0, moved(desk, start, both), base);
     let found = explore(rules, table, counts, desk, &mut list, memory, &filter, node);
     let witness = found.witness;
     witness

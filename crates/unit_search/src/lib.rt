@@ -1,10 +1,11 @@
 // The search for the list of one unit.
 pub mod begin;
-mod branch;
 mod dive;
 pub mod find;
 pub mod listing;
 pub mod member;
+mod node;
+mod outlook;
 pub mod search;
 mod stop;
 pub mod witness;

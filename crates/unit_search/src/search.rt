@@ -1,33 +1,28 @@
 // The search over undecided atoms.
 use crate::begin::begin;
-use crate::branch::Found;
-use crate::branch::Node;
-use crate::branch::below;
-use crate::branch::everything;
-use crate::branch::handed;
-use crate::branch::merged;
-use crate::branch::phase_of;
-use crate::branch::pick;
-use crate::branch::way_to;
 use crate::member::offer;
-use crate::stop::stop;
-use crate::witness::Witness;
-use crate::witness::either;
-use crate::witness::is_enough;
-use answer_sets::State;
-use answer_sets::known::undecided;
-use learning::nogood::lies_within;
+use crate::node::Found;
+use crate::node::Node;
+use crate::node::below;
+use crate::node::is_done;
+use crate::node::joined;
+use crate::node::root;
+use crate::outlook::Outlook;
+use crate::outlook::outlook_of;
+use crate::outlook::phase_of;
+use crate::stop::halt;
+use crate::stop::hand_up;
 use learning::store::empty_store;
-use narrowing::choice::Choice;
 use narrowing::loops::looped_atoms;
-use plan::LIST_WORDS;
+use states::State;
+use states::lies_within;
+use states::undecided;
 use unit_steps::Unit;
 use unit_steps::agenda::every_step;
 use unit_steps::desk::lay_out;
 use unit_steps::filter::copied;
 use unit_steps::filter::full_filter;
 use unit_steps::front::Front;
-use unit_steps::lift::blame;
 use unit_steps::propagate::propagate;
 ghost use Prim.Native.Nat.{_≤_};
 ghost use Rattle.plan.specs.Limits.{LIST_WORDS};
@@ -38,7 +33,8 @@ ghost use Rattle.atoms.specs.Cuts.{CutOf};
 ghost use Rattle.unit_search.specs.Witness.{Witnessed};
 ghost use Rattle.unit_steps.specs.Filter.{Filtered};
 ghost use Rattle.unit_steps.specs.Desk.{Prepared};
-ghost use Rattle.unit_steps.specs.Job.{Belongs, Searchable, Wanted};
+ghost use Rattle.unit_steps.specs.Job.{Belongs, Searchable};
+ghost use Rattle.states.specs.Narrowing.{Wanted};
 
 // Adds to the list the cut of every position that belongs there and completes the node's state, of which the filter says which entries may be joined:
 // the new count, or OVERFULL where that is more than LIST_WORDS. Beside it stands a member that was met, or that there is none. The memory keeps what is
@@ -58,10 +54,10 @@ pub fn explore(
         × Remembers (Belongs (now rules) (now table) (now counts) (now desk) (node .unit)) (now memory)
         × Filtered (now table) (now counts) (now desk) (node .unit .nearest) (node .front .state) (now filter) ⌝ }
     ensures gathered { λ r. ⌜ Gathered (Grown (now (list .entry)) (node .count) (CutOf (node .shown)
-        (Wanted (now (rules .entry)) (now (table .entry)) (now (counts .entry)) (now (desk .entry)) (node .unit) (node .front .state))))
+        (Wanted (Belongs (now (rules .entry)) (now (table .entry)) (now (counts .entry)) (now (desk .entry)) (node .unit)) (node .front .state))))
         (now (list .exit)) (r .count) ⌝ }
     ensures witnessed { λ r. ⌜ (r .count ≤ LIST_WORDS → Witnessed
-        (Wanted (now (rules .entry)) (now (table .entry)) (now (counts .entry)) (now (desk .entry)) (node .unit) (node .front .state)) (r .witness)) ⌝ }
+        (Wanted (Belongs (now (rules .entry)) (now (table .entry)) (now (counts .entry)) (now (desk .entry)) (node .unit)) (node .front .state)) (r .witness)) ⌝ }
     ensures remembers { λ _. ⌜ Remembers (Belongs (now (rules .entry)) (now (table .entry)) (now (counts .entry)) (now (desk .entry)) (node .unit))
         (now (memory .exit)) ⌝ }
     ensures nogood { λ r. ⌜ Nogood (Belongs (now (rules .entry)) (now (table .entry)) (now (counts .entry)) (now (desk .entry)) (node .unit)) (r .nogood) ⌝ }
@@ -71,40 +67,26 @@ pub fn explore(
     let mut mine = copied(filter);
     let f = propagate(rules, table, counts, desk, unit, memory, &mut mine, front);
     let t = f.state;
-    let way = way_to(node, f);
-    if !atoms::are_apart(t.up, t.dropped) {
-        let nogood = stop(rules, table, counts, desk, unit, memory, way);
-        return handed(node.count, nogood, Witness::Nothing);
+    let next = outlook_of(rules, unit.rules, memory, t, node.shown);
+    match next {
+        Outlook::Stop => halt(rules, table, counts, desk, memory, node, f),
+        Outlook::Leaf => offer(rules, table, counts, desk, list, memory, node, f),
+        Outlook::Open(i) => {
+            let phase = phase_of(rules, desk, unit.rules, memory, t, i);
+            let one = below(rules, desk, node, node.count, f, i, phase);
+            let first = explore(rules, table, counts, desk, list, memory, &mine, one);
+            if is_done(first, atoms::cut(undecided(t.up, t.dropped), node.shown)) {
+                return first;
+            }
+            if lies_within(first.nogood, t) {
+                return hand_up(rules, table, counts, desk, memory, node, f, first);
+            }
+            let other = below(rules, desk, node, first.count, f, i, !phase);
+            let second = explore(rules, table, counts, desk, list, memory, &mine, other);
+            let both = joined(first, second, t, i, phase);
+            hand_up(rules, table, counts, desk, memory, node, f, both)
+        },
     }
-    let free = undecided(t.up, t.dropped);
-    if free == 0 {
-        return offer(rules, table, counts, desk, list, memory, node, way, t);
-    }
-    let choice = pick(rules, unit.rules, memory, t, free, node.shown);
-    let Choice::Atom(i) = choice else {
-        return handed(node.count, everything(), Witness::Nothing);
-    };
-    let phase = phase_of(rules, desk, unit.rules, memory, t, i);
-    let one = below(rules, desk, node, node.count, f, i, phase);
-    let first = explore(rules, table, counts, desk, list, memory, &mine, one);
-    if LIST_WORDS < first.count {
-        return first;
-    }
-    let met = first.witness;
-    if is_enough(met, atoms::cut(free, node.shown)) {
-        return first;
-    }
-    let n = first.nogood;
-    if lies_within(n, t) {
-        let nogood = blame(rules, table, counts, desk, unit, memory, way, n);
-        return handed(first.count, nogood, met);
-    }
-    let other = below(rules, desk, node, first.count, f, i, !phase);
-    let second = explore(rules, table, counts, desk, list, memory, &mine, other);
-    let left = merged(n, second.nogood, t, i, phase);
-    let nogood = blame(rules, table, counts, desk, unit, memory, way, left);
-    let also = second.witness;
-    handed(second.count, nogood, either(met, also))
 }
 
 // Puts the cut of every position that belongs there and completes the state into an empty list: its count, or OVERFULL where that is more than LIST_WORDS.
@@ -120,7 +102,7 @@ pub fn search(
 ) -> usize
     requires { ⌜ Searchable (now rules) (now table) (now counts) (now heads) unit × Ordered (now list) 0 ⌝ }
     ensures { λ r. ⌜ Gathered (Grown (now (list .entry)) 0 (CutOf shown
-        (Wanted (now (rules .entry)) (now (table .entry)) (now (counts .entry)) (now (heads .entry)) unit s))) (now (list .exit)) r ⌝ }
+        (Wanted (Belongs (now (rules .entry)) (now (table .entry)) (now (counts .entry)) (now (heads .entry)) unit) s))) (now (list .exit)) r ⌝ }
 {
     let looped = looped_atoms(rules, unit.rules);
     let desk = lay_out(rules, heads, unit, looped);
@@ -142,13 +124,7 @@ pub fn search(
         front,
     );
     let base = f.state;
-    let node = Node {
-        unit,
-        shown,
-        count: 0,
-        front: f,
-        base,
-    };
+    let node = root(unit, shown, f, base);
     explore(
         rules,
         table,

@@ -4,12 +4,13 @@ use Prim.Native.Nat.{ℕ, _+_, _*_, _^_, _≤_, _<_}
 use native.Mathlib.Omega.{arith}
 use native.Mathlib.Decide.{ℕ-discrete}
 use lib.Count.{ones}
-use Rattle.atoms.specs.Word.{ATOMS, Has, _∖_, atom}
+use Rattle.atoms.specs.Word.{ATOMS, Has, _∖_}
 use Rattle.atoms.proofs.Sets.{some-atom, without-left, without-right}
 use Rattle.atoms.proofs.Counts.{count-proper, counts-small}
-use Rattle.answer_sets.specs.State.{undecided, Narrows}
-use Rattle.answer_sets.specs.declared.state.State.{State}
-use Rattle.answer_sets.proofs.HalfDecided.{undecided-shrinks}
+use Rattle.states.specs.State.{undecided}
+use Rattle.states.specs.Narrowing.{Narrows}
+use Rattle.states.specs.declared.state.State.{State}
+use Rattle.states.proofs.HalfDecided.{undecided-shrinks}
 use Rattle.unit_steps.specs.Agenda.{weight, Woken}
 use Rattle.unit_steps.specs.declared.agenda.Agenda.{Agenda}
 

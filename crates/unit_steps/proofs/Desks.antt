@@ -11,10 +11,9 @@ use Rattle.atoms.specs.Bounded.{allIn}
 use Rattle.atoms.proofs.Bounded.{all-in-at, all-in-intro}
 use Rattle.atoms.proofs.Tests.{bool-ext}
 use Rattle.plan.specs.Limits.{MAX_UNITS, LIST_WORDS}
-use Rattle.answer_sets.specs.declared.state.State.{State}
 use Rattle.narrowing.specs.Backers.{Backers}
 use Rattle.unit_steps.specs.Agenda.{INDEX_WORDS}
-use Rattle.unit_steps.specs.Job.{isListed, joins, Searchable, Wanted}
+use Rattle.unit_steps.specs.Job.{isListed, joins, Belongs, Searchable}
 use Rattle.unit_steps.specs.Desk.{BACKERS_AT, INDEX_AT, DESK_WORDS, LaidOut, Prepared}
 use Rattle.unit_steps.specs.declared.unit.Unit.{Unit}
 use Rattle.unit_steps.proofs.StoredWords.{stored-parts, first-at, second-part}
@@ -69,23 +68,17 @@ module _ {rules heads desk : List ℕ} {unit : Unit} (l : LaidOut rules heads un
       all-in-alike MAX_UNITS predecessors _ _
       (λ v m. ap (λ (h : ℕ). isListed table (LIST_WORDS * v) (getD counts v 0) (M ∩ h)) (sym (l .same-heads v m)))
 
-  -- so the same belong, and the same are wanted
-  pub wanted-desk : (table counts : List ℕ) {s : State} (M : ℕ) → Wanted rules table counts heads unit s M → Wanted rules table counts desk unit s M
-  wanted-desk table counts M w = record {
-    belongs = record {
-      word = w .belongs .word;
-      joined = sym (joins-desk table counts (unit .predecessors) M) ∙ w .belongs .joined;
-      answers = w .belongs .answers;
-    };
-    completes = w .completes;
+  -- so the same belong
+  pub belongs-desk : (table counts : List ℕ) (M : ℕ) → Belongs rules table counts heads unit M → Belongs rules table counts desk unit M
+  belongs-desk table counts M b = record {
+    word = b .word;
+    joined = sym (joins-desk table counts (unit .predecessors) M) ∙ b .joined;
+    answers = b .answers;
   }
 
-  pub desk-wanted : (table counts : List ℕ) {s : State} (M : ℕ) → Wanted rules table counts desk unit s M → Wanted rules table counts heads unit s M
-  desk-wanted table counts M w = record {
-    belongs = record {
-      word = w .belongs .word;
-      joined = joins-desk table counts (unit .predecessors) M ∙ w .belongs .joined;
-      answers = w .belongs .answers;
-    };
-    completes = w .completes;
+  pub desk-belongs : (table counts : List ℕ) (M : ℕ) → Belongs rules table counts desk unit M → Belongs rules table counts heads unit M
+  desk-belongs table counts M b = record {
+    word = b .word;
+    joined = joins-desk table counts (unit .predecessors) M ∙ b .joined;
+    answers = b .answers;
   }

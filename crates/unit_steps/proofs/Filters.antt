@@ -1,6 +1,6 @@
 -- The filter: a position that joins a list and completes the state is one of the list's agreeing entries, cut to the head atoms, so its bit stays.
 use mathlib.Core.Path.{_≡_, refl, sym, subst, ap, ap₂, _∙_}
-use mathlib.Core.Bool.{true, false}
+use mathlib.Core.Bool.{false}
 use mathlib.Core.Logic.{_⊎_, inl, inr}
 use mathlib.Core.List.{List}
 use Prim.Native.Nat.{ℕ, _+_, _-_, _*_, _/_, _%_, _≤_, _<_, min}
@@ -11,18 +11,18 @@ use lib.ListN.{length, getD, set, length-set}
 use lib.Seq.{getD-set-same, getD-set-other}
 use borrow.Author.Tests.{eqb-true}
 use Rattle.atoms.specs.Word.{ATOMS, Has, _⊆_, subset, _∩_, _∪_, _∖_, atom, below, Lowest}
-use Rattle.atoms.proofs.Sets.{subset-refl, decides-subset, has-cut, cut-left, cut-right, has-left, has-right, union-cases}
-use Rattle.atoms.proofs.Sets.{has-without, without-left, without-right, has-atom, atom-only, has-below, ext}
+use Rattle.atoms.proofs.Sets.{subset-refl, decides-subset, has-cut, cut-left, cut-right, has-left, has-right, union-cases, has-without, without-left}
+use Rattle.atoms.proofs.Sets.{without-right, has-atom, atom-only, has-below, ext}
 use Rattle.atoms.proofs.TakenNumbers.{Taking, taking-start, taking-next, taking-end}
 use Rattle.atoms.proofs.Bounded.{some-at}
 use Rattle.plan.specs.Limits.{MAX_UNITS, LIST_WORDS}
-use Rattle.answer_sets.specs.State.{Completes, Narrows, clashed}
-use Rattle.answer_sets.specs.declared.state.State.{State}
-use Rattle.answer_sets.proofs.Narrows.{clash-narrows, completes-back}
-use Rattle.unit_steps.specs.Job.{isListed}
-use Rattle.unit_steps.specs.Job.{Joinable}
-use Rattle.unit_steps.specs.Filter.{BLOCKS, FILTER_WORDS, Agrees, Spans, EntrySifted, BlockSifted, ListSifted, Picked, Refined}
-use Rattle.unit_steps.specs.Filter.{JoinsAll, Filtered, Full}
+use Rattle.states.specs.State.{Completes}
+use Rattle.states.specs.Narrowing.{Narrows, clashed}
+use Rattle.states.specs.declared.state.State.{State}
+use Rattle.states.proofs.Narrows.{clash-narrows, completes-back}
+use Rattle.unit_steps.specs.Job.{isListed, Joinable}
+use Rattle.unit_steps.specs.Filter.{BLOCKS, FILTER_WORDS, Agrees, Spans, EntrySifted, BlockSifted, ListSifted, Picked, Refined, JoinsAll, Filtered}
+use Rattle.unit_steps.specs.Filter.{Full}
 use Rattle.unit_steps.specs.declared.sift.Sifted.{Sifted}
 use Rattle.unit_steps.proofs.JoinedLists.{joins-one, joined-lt}
 

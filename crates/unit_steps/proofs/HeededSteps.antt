@@ -2,9 +2,9 @@
 use mathlib.Core.Path.{_≡_, sym, subst, _∙_}
 use mathlib.Core.List.{List}
 use Prim.Native.Nat.{ℕ, _<_}
-use Rattle.answer_sets.specs.State.{Narrows}
-use Rattle.answer_sets.specs.declared.state.State.{State}
-use Rattle.answer_sets.proofs.Narrows.{narrows-for}
+use Rattle.states.specs.Narrowing.{Narrows}
+use Rattle.states.specs.declared.state.State.{State}
+use Rattle.states.proofs.Narrows.{narrows-for}
 use Rattle.learning.specs.Nogood.{Avoids}
 use Rattle.learning.specs.Store.{PAIRS, pairAt, AvoidsAll, Keeps, SamePairs}
 use Rattle.learning.proofs.Stores.{keeps-trans, keeps-for, keeps-same}

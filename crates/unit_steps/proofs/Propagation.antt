@@ -3,10 +3,10 @@ use mathlib.Core.List.{List}
 use Prim.Native.Nat.{ℕ, _^_, _<_}
 use Rattle.atoms.specs.Word.{ATOMS, _⊆_, _∩_}
 use Rattle.answer_sets.specs.Lent.{lent}
-use Rattle.answer_sets.specs.State.{Narrows}
-use Rattle.answer_sets.specs.declared.state.State.{State}
+use Rattle.states.specs.Narrowing.{Narrows}
+use Rattle.states.specs.declared.state.State.{State}
 use Rattle.answer_sets.proofs.Judged.{decides-answer-set}
-use Rattle.answer_sets.proofs.Narrows.{narrows-for}
+use Rattle.states.proofs.Narrows.{narrows-for}
 use Rattle.narrowing.specs.Inputs.{AnswersInputs}
 use Rattle.unit_steps.specs.Job.{Belongs}
 use Rattle.unit_steps.specs.Filter.{JoinsAll}

@@ -2,7 +2,7 @@
 use mathlib.Core.Path.{refl, sym, subst, _∙_}
 use mathlib.Core.List.{List}
 use Prim.Native.Nat.{ℕ}
-use Rattle.answer_sets.specs.declared.state.State.{State}
+use Rattle.states.specs.declared.state.State.{State}
 use Rattle.learning.specs.Reason.{Heeds, Explains}
 use Rattle.unit_steps.specs.Claims.{Told}
 use Rattle.unit_steps.specs.declared.reasons.Claim.{Claim}

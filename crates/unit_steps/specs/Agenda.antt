@@ -2,8 +2,8 @@
 use mathlib.Core.Path.{_≡_}
 use Prim.Native.Nat.{ℕ, _+_, _≤_, _<_}
 use lib.Count.{ones}
-use Rattle.answer_sets.specs.State.{undecided}
-use Rattle.answer_sets.specs.declared.state.State.{State}
+use Rattle.states.specs.State.{undecided}
+use Rattle.states.specs.declared.state.State.{State}
 use Rattle.unit_steps.specs.declared.agenda.Agenda.{Agenda}
 use Rattle.unit_steps.specs.declared.agenda.Taken.{Taken}
 

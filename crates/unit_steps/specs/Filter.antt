@@ -6,8 +6,8 @@ use Prim.Native.Nat.{ℕ, _+_, _-_, _*_, _≤_, _<_, min}
 use lib.ListN.{length, getD}
 use Rattle.atoms.specs.Word.{ATOMS, Has, _⊆_, _∩_, below}
 use Rattle.plan.specs.Limits.{MAX_UNITS, LIST_WORDS}
-use Rattle.answer_sets.specs.State.{Completes}
-use Rattle.answer_sets.specs.declared.state.State.{State}
+use Rattle.states.specs.State.{Completes}
+use Rattle.states.specs.declared.state.State.{State}
 use Rattle.unit_steps.specs.Job.{joins}
 use Rattle.unit_steps.specs.declared.sift.Sifted.{Sifted}
 

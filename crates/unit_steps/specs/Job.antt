@@ -10,8 +10,6 @@ use Rattle.atoms.specs.Bounded.{allIn, someBelow}
 use Rattle.plan.specs.Limits.{MAX_UNITS, LIST_WORDS}
 use Rattle.answer_sets.specs.Lent.{lent, Lent}
 use Rattle.answer_sets.specs.Test.{answerSet}
-use Rattle.answer_sets.specs.State.{Completes}
-use Rattle.answer_sets.specs.declared.state.State.{State}
 use Rattle.unit_steps.specs.declared.unit.Unit.{Unit}
 
 -- the value is one of the `count` words from `base` on
@@ -42,13 +40,3 @@ pub record Searchable (rules table counts heads : List ℕ) (unit : Unit) : Type
   pub rules-lent : Lent rules (unit .rules)
   pub joinable : Joinable table counts heads (unit .predecessors)
   pub near : unit .nearest ⊆ unit .predecessors
-
--- it belongs to the list and completes the state
-pub record Wanted (rules table counts heads : List ℕ) (unit : Unit) (s : State) (M : ℕ) : Type 0 where
-  pub belongs : Belongs rules table counts heads unit M
-  pub completes : Completes s M
-
--- it is this position, and it belongs to the list
-pub record Offered (rules table counts heads : List ℕ) (unit : Unit) (position M : ℕ) : Type 0 where
-  pub is : M ≡ position
-  pub belongs : Belongs rules table counts heads unit M

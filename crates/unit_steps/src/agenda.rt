@@ -1,7 +1,5 @@
 // The agenda: which steps may have something new to say. It is advice: a step that is left out costs pruning and no member.
 use crate::unit::Unit;
-use answer_sets::State;
-use answer_sets::known::undecided;
 use answer_sets::rule::head;
 use answer_sets::rule::looks;
 use answer_sets::rule::positive_body;
@@ -15,6 +13,8 @@ use narrowing::woken::SUPPORTS_UP;
 use narrowing::woken::WOKEN_WORDS;
 use narrowing::woken::note_rules;
 use plan::MAX_UNITS;
+use states::State;
+use states::undecided;
 ghost use mathlib.Core.Path.{_≡_};
 ghost use Prim.Native.Nat.{_^_, _≤_, _<_};
 ghost use lib.ListN.{length};

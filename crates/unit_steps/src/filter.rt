@@ -1,16 +1,16 @@
 // The filter: for each list that the search looks at the entries that still agree with the state, BLOCKS words to a list.
 use crate::sift::BLOCKS;
 use crate::sift::join_step;
-use answer_sets::State;
 use atoms::ATOMS;
 use plan::LIST_WORDS;
 use plan::MAX_UNITS;
+use states::State;
 ghost use mathlib.Core.Path.{_≡_};
 ghost use Prim.Native.Nat.{_-_, _*_, _≤_, _<_, min};
 ghost use lib.ListN.{length};
 ghost use Rattle.atoms.specs.Word.{ATOMS, below};
 ghost use Rattle.plan.specs.Limits.{MAX_UNITS};
-ghost use Rattle.answer_sets.specs.State.{Narrows};
+ghost use Rattle.states.specs.Narrowing.{Narrows};
 ghost use Rattle.unit_steps.specs.Job.{Joinable};
 ghost use Rattle.unit_steps.specs.Filter.{BLOCKS, FILTER_WORDS, JoinsAll, Filtered, Full};
 

@@ -3,12 +3,12 @@
 use crate::reasons::Claim;
 use crate::reasons::explain;
 use crate::unit::Unit;
-use answer_sets::State;
 use learning::reason::beyond;
 use learning::reason::learn_once;
 use learning::reason::replace;
 use learning::store::STEPS;
 use learning::trail::read_step;
+use states::State;
 ghost use mathlib.Core.Path.{_≡_};
 ghost use Prim.Native.Nat.{_≤_, _<_};
 ghost use lib.ListN.{length};

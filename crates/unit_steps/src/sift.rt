@@ -1,14 +1,14 @@
 // One predecessor's list: what every position that is in it, cut to its head atoms, must have or lack, told from a state and from the entries that
 // still agree; those that do not leave the filter for good.
-use answer_sets::State;
-use answer_sets::rule_pass::clash;
 use atoms::ATOMS;
 use plan::LIST_WORDS;
+use states::State;
+use states::clash;
 ghost use Prim.Native.Nat.{_+_, _≤_, _<_};
 ghost use lib.ListN.{length};
 ghost use Rattle.atoms.specs.Word.{ATOMS};
 ghost use Rattle.plan.specs.Limits.{LIST_WORDS};
-ghost use Rattle.answer_sets.specs.State.{Narrows};
+ghost use Rattle.states.specs.Narrowing.{Narrows};
 ghost use Rattle.unit_steps.specs.Filter.{BLOCKS, EntrySifted, BlockSifted, ListSifted, Picked, Refined};
 
 // A list's filter has a bit for each of its entries, in this many words.

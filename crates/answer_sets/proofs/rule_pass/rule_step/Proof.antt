@@ -1,6 +1,6 @@
 -- A head atom is up already; or the body is known to hold, and one has to go up; or it is open, and `denied` tells.
 use mathlib.Core.Path.{sym, _∙_}
-use Rattle.answer_sets.proofs.Narrows.{narrows-refl}
+use Rattle.states.proofs.Narrows.{narrows-refl}
 use Rattle.answer_sets.proofs.Truths.{holds-not-fails, open-not-holds}
 use Rattle.answer_sets.proofs.RulePass.{head-met, holds-head, not-held}
 use borrow.Author.Needs.{needs}
@@ -12,9 +12,10 @@ returns c = head-met _ _ (c .before .before .head .ensures) (c .before .are-apar
 
 returns-2 : tie.Need-returns-2
 returns-2 c =
-    let known = c .before .before .before in
-    holds-head _ _ (known .before .before .before .head .ensures) (known .body-known .ensures) (c .before .enum-told .given .1)
-    (c .forced .ensures)
+    let known = c .before .before .before .before in
+    holds-head _ _ (known .before .before .before .head .ensures) (known .body-known .ensures) (c .before .before .enum-told .given .1)
+    (c .before .without .ensures)
+    (c .one-up .ensures)
 
 returns-3 : tie.Need-returns-3
 returns-3 c =
@@ -34,6 +35,7 @@ rule-step-spec =
     returns
     (λ c κs. search needs)
     (λ c. search needs)
+    (λ c κs. search needs)
     (λ c κs. search needs)
     (λ c. search needs)
     (λ c. search needs)

@@ -12,14 +12,15 @@ use Rattle.atoms.specs.Word.{Has, Apart}
 use Rattle.atoms.proofs.Sets.{decides-apart, has-left}
 use Rattle.answer_sets.specs.Program.{Satisfies}
 use Rattle.answer_sets.specs.Lent.{lent, Lent}
-use Rattle.answer_sets.specs.State.{undecided}
+use Rattle.states.specs.State.{undecided}
 use Rattle.answer_sets.specs.SubsetTest.{Confines}
 use Rattle.answer_sets.proofs.Between.{lent-part, confines-more, between-passed, between-clash, between-whole, between-model, between-stuck}
-use Rattle.answer_sets.proofs.Between.{branch-yes, branch-no, pass-falls, raise-falls, lower-falls}
+use Rattle.answer_sets.proofs.Between.{branch-yes, branch-no}
+use Rattle.states.proofs.Branches.{pass-falls, raise-falls, lower-falls}
 use Rattle.answer_sets.proofs.smaller.some_between.Reads as some-between
 use Rattle.answer_sets.proofs.smaller.some_between.Kinds as some-between-kinds
 use Rattle.answer_sets.proofs.smaller.+some_between.Lts-some_between as some-between-lts
-use Rattle.answer_sets.proofs.known.undecided.Reads as undecided-reads
+use Rattle.states.proofs.undecided.Reads as undecided-reads
 use Rattle.answer_sets.proofs.reduct.find_unsatisfied.Reads as find-unsatisfied-reads
 use Rattle.answer_sets.proofs.tried.candidates.Reads as candidates-reads
 use Rattle.answer_sets.proofs.tried.tried_next.Reads as tried-next-reads

@@ -4,7 +4,8 @@ use mathlib.Core.Bool.{Bool, true, not}
 use Prim.Native.Nat.{ℕ}
 use denote.Ref.{now}
 use Rattle.answer_sets.specs.Lent.{useHolds}
-use Rattle.answer_sets.specs.Known.{Says, halfDecided}
+use Rattle.answer_sets.specs.Known.{Says}
+use Rattle.states.specs.State.{halfDecided}
 use Rattle.answer_sets.proofs.Truths.{says-opposite, says-same}
 use Rattle.answer_sets.proofs.Parts.{rows-some, table-says}
 use Rattle.answer_sets.proofs.Bodies.{said, wanted-true, wanted-false}

@@ -2,7 +2,7 @@
 use native.Mathlib.Omega.{arith}
 use lib.Count.{ones}
 use Rattle.atoms.proofs.Counts.{taken-less}
-use Rattle.answer_sets.specs.Known.{halfDecided}
+use Rattle.states.specs.State.{halfDecided}
 use Rattle.answer_sets.proofs.Parts.{UsesDone, uses-start, uses-lt, uses-next, uses-fail, uses-end}
 use borrow.Author.Needs.{needs}
 use Rattle.answer_sets.proofs.uses.with_uses.Statement.{statement}

@@ -1,5 +1,5 @@
 -- Nothing is missing of the up atoms, nothing of the dropped ones, or something of both.
-use Rattle.answer_sets.proofs.Narrows.{narrows-refl}
+use Rattle.states.proofs.Narrows.{narrows-refl}
 use Rattle.learning.proofs.Nogoods.{refuted-up, refuted-down, within-up, within-dropped}
 use borrow.Author.Needs.{needs}
 use Rattle.learning.proofs.nogood.refute.Statement.{statement}

@@ -4,7 +4,7 @@ use Prim.Native.Nat.{ℕ}
 use denote.Ref.{now}
 use Rattle.atoms.specs.Word.{_∪_, _∖_, atom}
 use Rattle.answer_sets.specs.Lent.{lent}
-use Rattle.answer_sets.specs.State.{Narrows}
+use Rattle.states.specs.Narrowing.{Narrows}
 use Rattle.narrowing.specs.Support.{Supports}
 use Rattle.narrowing.proofs.SupportSteps.{supports-narrows}
 use borrow.Author.Needs.{needs}

@@ -1,7 +1,7 @@
 -- The atoms are no inputs, and each rule can do without them.
 use denote.Ref.{now}
 use borrow.Author.Tests.{not-false}
-use Rattle.answer_sets.proofs.Narrows.{narrows-refl}
+use Rattle.states.proofs.Narrows.{narrows-refl}
 use Rattle.narrowing.proofs.UnfoundedAtoms.{unfounded-narrows}
 use borrow.Author.Needs.{needs}
 use Rattle.narrowing.proofs.unfounded.drop_unfounded.Statement.{statement}

@@ -3,7 +3,7 @@
 use mathlib.Core.Path.{_≡_, refl}
 use lib.Count.{ones}
 use lib.ListN.{length}
-use Rattle.answer_sets.specs.State.{undecided}
+use Rattle.states.specs.State.{undecided}
 use Rattle.learning.specs.Reason.{Remembers}
 use Rattle.unit_steps.specs.Job.{Belongs}
 use Rattle.unit_steps.specs.Filter.{Filtered}

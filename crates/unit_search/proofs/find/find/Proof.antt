@@ -10,8 +10,9 @@ use Rattle.unit_search.proofs.find.find.Tie as tie
 
 explore-requires : tie.Need-explore-requires
 explore-requires c κs =
-    let made = c .before .before .before .before .before .before .before in
-    let pre = made .before .before .before .before .before .before .pre in (
+    let made = c .before .before .before .before .before .before .before .before in
+    let pre = made .before .before .before .before .before .before .pre in
+    rw (c .before .before .before .root .ensures) (
       pre .0,
       zeros-ordered,
       pre .1,
@@ -21,14 +22,22 @@ explore-requires c κs =
 returns : tie.Need-returns
 returns c =
     let found = c .before .before .before in
-    let front = found .before .before .before .before in (
-      rw (front .moved .ensures, front .before .before .union .ensures, front .before .union2 .ensures) at
-          (found .explore .ensures .1 .0 (hidden-few (found .explore .ensures .0))),
-      found .explore .ensures .1 .1 .0,
+    let front = found .before .before .before .before .before in
+    let told = rw (found .before .before .before .before .root .ensures) at (found .explore .ensures) in (
+      rw (front .moved .ensures, front .before .before .union .ensures, front .before .union2 .ensures) at (told .1 .0 (hidden-few (told .0))),
+      told .1 .1 .0,
     )
 
 pub find-spec : {M : Type 1} → statement M
-find-spec = tie.close (tie.spec (λ c κs. search needs) (λ c κs. search needs) (λ c κs. search needs) (λ c κs. search needs) (λ c. search needs)
+find-spec =
+    tie.close
+    (tie.spec
+    (λ c κs. search needs)
+    (λ c κs. search needs)
+    (λ c κs. search needs)
+    (λ c κs. search needs)
+    (λ c κs. search needs)
+    (λ c. search needs)
     (λ c. search needs)
     explore-requires
     (λ c. search needs)

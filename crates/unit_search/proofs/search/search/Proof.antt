@@ -4,8 +4,8 @@ use denote.Ref.{now}
 use Rattle.learning.proofs.Reasons.{remembers-empty}
 use Rattle.unit_steps.proofs.JoinedLists.{joinable-some}
 use Rattle.unit_steps.proofs.Filters.{full-filtered}
-use Rattle.unit_steps.proofs.Desks.{prepared}
-use Rattle.unit_search.proofs.SearchSteps.{search-narrowed, search-desk}
+use Rattle.unit_steps.proofs.Desks.{prepared, belongs-desk, desk-belongs}
+use Rattle.unit_search.proofs.SearchSteps.{search-narrowed, search-alike}
 use borrow.Author.Needs.{needs}
 use Rattle.unit_search.proofs.search.search.Statement.{statement}
 use Rattle.unit_search.proofs.search.search.Tie as tie
@@ -33,19 +33,25 @@ begin-requires c κs =
 
 explore-requires : tie.Need-explore-requires
 explore-requires c κs =
-    let begun = c .before .before .before .before .before .before .before in
+    let begun = c .before .before .before .before .before .before .before .before in
     let desk = laid begun in
     let pre = entry desk .pre in
-    (prepared (desk .lay-out .ensures) (pre .0), pre .1, begun .begin .ensures .1 .1, begun .begin .ensures .1 .0)
+    rw (c .before .before .before .before .root .ensures) (
+      prepared (desk .lay-out .ensures) (pre .0),
+      pre .1,
+      begun .begin .ensures .1 .1,
+      begun .begin .ensures .1 .0,
+    )
 
 returns : tie.Need-returns
 returns c =
     let done = c .before .before .before in
-    let begun = done .before .before .before .before .before .before .before .before in
+    let begun = done .before .before .before .before .before .before .before .before .before in
     let desk = laid begun in
     let at = entry desk .args in
-    search-desk (desk .lay-out .ensures) (now (at .list)) 0
-    (search-narrowed (now (at .list)) 0 (begun .begin .ensures .0) (done .explore .ensures .0, done .explore .ensures .1 .0) .0)
+    let told = rw (done .before .before .before .before .before .root .ensures) at (done .explore .ensures) in
+    search-alike (desk-belongs (desk .lay-out .ensures) _ _) (belongs-desk (desk .lay-out .ensures) _ _) (now (at .list)) 0
+    (search-narrowed (now (at .list)) 0 (begun .begin .ensures .0) (told .0, told .1 .0) .0)
 
 pub search-spec : {M : Type 1} → statement M
 search-spec =
@@ -60,7 +66,8 @@ search-spec =
     (λ c. search needs)
     (λ c. search needs)
     begin-requires
-    (λ c. sym (laid (c .before .before .before .before) .lay-out .ensures .long))
+    (λ c κs. search needs)
+    (λ c. sym (laid (c .before .before .before .before .before) .lay-out .ensures .long))
     (λ c. search needs)
     (λ c. search needs)
     explore-requires

@@ -1,5 +1,6 @@
 -- Who completes the reason completes everything, and nobody does.
-use Rattle.unit_search.proofs.Branches.{overlap-nogood, reason-nogood}
+use Rattle.learning.proofs.Nogoods.{overlap-nogood}
+use Rattle.unit_search.proofs.Nodes.{reason-nogood}
 use borrow.Author.Needs.{needs}
 use Rattle.unit_search.proofs.stop.stop_reason.Statement.{statement}
 use Rattle.unit_search.proofs.stop.stop_reason.Tie as tie

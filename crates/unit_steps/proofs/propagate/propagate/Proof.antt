@@ -3,8 +3,8 @@ use Prim.Native.Nat.{_+_, _-_}
 use native.Mathlib.Omega.{arith}
 use lib.ListN.{length}
 use mathlib.Core.Path.{_≡_, refl, sym, _∙_}
-use Rattle.answer_sets.specs.State.{Narrows}
-use Rattle.answer_sets.proofs.Narrows.{narrows-refl, narrows-trans}
+use Rattle.states.specs.Narrowing.{Narrows}
+use Rattle.states.proofs.Narrows.{narrows-refl, narrows-trans}
 use Rattle.learning.specs.Store.{RING}
 use Rattle.learning.specs.Reason.{Remembers}
 use Rattle.learning.proofs.Reasons.{remembers-same, remembers-keeps, remembered-narrows}

@@ -6,8 +6,9 @@ use lib.Count.{ones}
 use mathlib.Core.Path.{refl, sym, _∙_}
 use borrow.Author.Tests.{not-true}
 use Rattle.atoms.specs.Word.{ATOMS}
-use Rattle.answer_sets.specs.State.{undecided, Narrows}
-use Rattle.answer_sets.proofs.Narrows.{narrows-refl, narrows-trans}
+use Rattle.states.specs.State.{undecided}
+use Rattle.states.specs.Narrowing.{Narrows}
+use Rattle.states.proofs.Narrows.{narrows-refl, narrows-trans}
 use Rattle.learning.specs.Store.{SamePairs}
 use Rattle.learning.proofs.Stores.{same-pairs, same-trans}
 use Rattle.unit_steps.specs.Job.{Belongs}

@@ -2,7 +2,7 @@
 use native.Mathlib.Omega.{arith}
 use Rattle.unit_steps.proofs.HeededSteps.{pair-narrows, copied-keeps}
 use Rattle.learning.proofs.Stores.{keeps-refl}
-use Rattle.answer_sets.proofs.Narrows.{narrows-refl}
+use Rattle.states.proofs.Narrows.{narrows-refl}
 use borrow.Author.Needs.{needs}
 use Rattle.unit_steps.proofs.propagate.take_pair.Statement.{statement}
 use Rattle.unit_steps.proofs.propagate.take_pair.Tie as tie

@@ -2,7 +2,7 @@
 use mathlib.Core.Path.{sym, subst, _∙_}
 use denote.Ref.{now}
 use borrow.Author.Tests.{not-true}
-use Rattle.answer_sets.specs.State.{Narrows}
+use Rattle.states.specs.Narrowing.{Narrows}
 use Rattle.unit_steps.specs.Filter.{Picked}
 use Rattle.unit_steps.proofs.Filters.{list-refined, list-clash, list-narrows}
 use borrow.Author.Needs.{needs}

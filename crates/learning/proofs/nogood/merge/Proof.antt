@@ -1,0 +1,16 @@
+-- The atom is resolved whichever of the two has it up.
+use Rattle.learning.proofs.Nogoods.{resolves-either}
+use borrow.Author.Needs.{needs}
+use Rattle.learning.proofs.nogood.merge.Statement.{statement}
+use Rattle.learning.proofs.nogood.merge.Tie as tie
+
+pub merge-spec : {M : Type 1} → statement M
+merge-spec =
+    tie.close
+    (tie.spec
+    (λ c κs. search needs)
+    (λ c. search needs)
+    (λ c κs. search needs)
+    (λ c. resolves-either (c .resolve .ensures .1))
+    (λ c κs. search needs)
+    (λ c. search needs))
