@@ -11,7 +11,7 @@ import subprocess
 import sys
 import tempfile
 
-NODE = "unit_search::search::explore"
+NODE = "searching::search::explore"
 STEP = "answer_sets::smaller::some_between"
 
 

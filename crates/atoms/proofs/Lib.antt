@@ -12,3 +12,4 @@ pub mod Rising
 pub mod Lists
 pub mod Insertion
 pub mod Cuts
+pub mod StoredWords

@@ -77,3 +77,10 @@ decides-at-most-one w r d h e = decides-iff into from (decides-equal d 0)
         ∙ empty (w ∖ atom r)
         (λ i p.
         without-right w (atom r) p (subst (λ (x : ℕ). Has (atom r) x) (o .same r i h (without-left w (atom r) p)) (has-atom r)))
+
+-- a test that the number is in the word, as the code makes it
+pub numbered-by : (w k : ℕ) {x : ℕ} {t : Bool} → x ≡ atom k → t ≡ apart w x → t ≡ false → Has w k
+numbered-by w k e f g = decides-has w k .yes (has-of-test w k e f g)
+
+pub lacked-by : (w k : ℕ) {x : ℕ} {t : Bool} → x ≡ atom k → t ≡ apart w x → t ≡ true → ¬ Has w k
+lacked-by w k e f g = decides-has w k .no (lacks-of-test w k e f g)

@@ -1,5 +1,6 @@
 // A 64-bit word as a set of atoms: atom i is bit i. Code above takes sets apart through these functions alone.
 pub mod tally;
+pub mod words;
 
 ghost use mathlib.Core.Path.{_≡_};
 ghost use Prim.Native.Nat.{_≤_, _<_};

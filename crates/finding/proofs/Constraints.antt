@@ -15,10 +15,10 @@ use Rattle.answer_sets.specs.Lent.{lent, Lent}
 use Rattle.answer_sets.proofs.Judged.{decides-answer-set}
 use Rattle.answer_sets.proofs.Lent.{answer-word}
 use Rattle.answer_sets.proofs.Support.{fewer-constraints}
-use Rattle.unit_search.specs.Witness.{Witnessed}
-use Rattle.unit_search.specs.declared.witness.Witness.{Witness}
-use Rattle.unit_search.specs.declared.witness.Witness.the-variants.{Member, Nothing}
-use Rattle.unit_search.proofs.Witnesses.{witnessed-iff}
+use Rattle.searching.specs.Witness.{Witnessed}
+use Rattle.searching.specs.declared.witness.Witness.{Witness}
+use Rattle.searching.specs.declared.witness.Witness.the-variants.{Member, Nothing}
+use Rattle.searching.proofs.Witnesses.{witnessed-iff}
 use Rattle.finding.specs.Whole.{Fitting}
 use Rattle.finding.proofs.Leasts.{met-as, none-as, nobody}
 use Rattle.finding.specs.Few.{Constraints, NoneSettled, OneSettled, Tried, drops, keeps, Going, done, tries, Blamed}

@@ -19,10 +19,10 @@ use Rattle.states.specs.declared.state.State.{State}
 use Rattle.answer_sets.proofs.Judged.{decides-answer-set}
 use Rattle.answer_sets.proofs.Lent.{answer-word}
 use Rattle.states.proofs.Narrows.{with-up, with-dropped, without-up, without-dropped}
-use Rattle.unit_search.specs.Witness.{Witnessed, met, none}
-use Rattle.unit_search.specs.declared.witness.Witness.{Witness}
-use Rattle.unit_search.specs.declared.witness.Witness.the-variants.{Member, Nothing}
-use Rattle.unit_search.proofs.Witnesses.{witnessed-iff, witnessed-met}
+use Rattle.searching.specs.Witness.{Witnessed, met, none}
+use Rattle.searching.specs.declared.witness.Witness.{Witness}
+use Rattle.searching.specs.declared.witness.Witness.the-variants.{Member, Nothing}
+use Rattle.searching.proofs.Witnesses.{witnessed-iff, witnessed-met}
 use Rattle.finding.specs.Whole.{Settled, Fitting}
 use Rattle.finding.specs.Least.{Behind, from-start, above, LeastOf, least, none as no-least}
 use Rattle.finding.specs.Exceeding.{LikeAbove, Exceeds, Sunk, Lessened, FirstAbove, first-at, nowhere}

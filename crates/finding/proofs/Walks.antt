@@ -7,8 +7,8 @@ use native.Mathlib.Omega.{arith}
 use native.Mathlib.Decide.{ℕ-discrete}
 use Rattle.atoms.specs.Rising.{Rising, rising-nil, rising-cons}
 use Rattle.atoms.proofs.Rising.{above-at}
-use Rattle.unit_search.specs.declared.witness.Witness.{Witness}
-use Rattle.unit_search.specs.declared.witness.Witness.the-variants.{Member, Nothing}
+use Rattle.searching.specs.declared.witness.Witness.{Witness}
+use Rattle.searching.specs.declared.witness.Witness.the-variants.{Member, Nothing}
 use Rattle.finding.specs.Least.{Behind, from-start, above, LeastOf, least, none as no-least}
 use Rattle.finding.specs.Walk.{Walk, ends, goes}
 use Rattle.finding.specs.declared.least.From.{From}

@@ -16,13 +16,13 @@ use Rattle.states.specs.State.{Completes}
 use Rattle.states.specs.Narrowing.{Narrows, bothOf, Wanted}
 use Rattle.states.specs.declared.state.State.{State}
 use Rattle.learning.specs.Reason.{Remembers}
-use Rattle.unit_steps.specs.Job.{Belongs, Searchable}
-use Rattle.unit_steps.specs.Desk.{LaidOut, Prepared}
-use Rattle.unit_steps.proofs.Desks.{prepared}
-use Rattle.unit_steps.proofs.JoinedLists.{joins-none}
-use Rattle.unit_search.specs.Witness.{Witnessed}
-use Rattle.unit_search.specs.declared.witness.Witness.{Witness}
-use Rattle.unit_search.proofs.Witnesses.{witnessed-iff}
+use Rattle.propagating.specs.Job.{Belongs, Searchable}
+use Rattle.propagating.specs.Desk.{LaidOut, Prepared}
+use Rattle.propagating.proofs.Desks.{prepared}
+use Rattle.joining.proofs.JoinedLists.{joins-none}
+use Rattle.searching.specs.Witness.{Witnessed}
+use Rattle.searching.specs.declared.witness.Witness.{Witness}
+use Rattle.searching.proofs.Witnesses.{witnessed-iff}
 use Rattle.finding.specs.Whole.{wholeOf, noLists, Settled, Fitting, Ready}
 
 -- an answer set has the facts

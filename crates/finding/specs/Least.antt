@@ -1,7 +1,7 @@
 -- The least number with a property behind a place (document 02, S-8).
 use Prim.Native.Nat.{ℕ, _≤_, _<_}
-use Rattle.unit_search.specs.declared.witness.Witness.{Witness}
-use Rattle.unit_search.specs.declared.witness.Witness.the-variants.{Member, Nothing}
+use Rattle.searching.specs.declared.witness.Witness.{Witness}
+use Rattle.searching.specs.declared.witness.Witness.the-variants.{Member, Nothing}
 use Rattle.finding.specs.declared.least.From.{From}
 use Rattle.finding.specs.declared.least.From.the-variants.{Start, Above}
 

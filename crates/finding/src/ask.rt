@@ -1,21 +1,21 @@
 // Questions to a whole program: is there an answer set that completes a state? The program is a unit with no lists before it.
+use joining::filter::full_filter;
 use narrowing::loops::looped_atoms;
 use plan::MAX_UNITS;
+use propagating::Unit;
+use propagating::agenda::every_step;
+use propagating::desk::DESK_WORDS;
+use propagating::desk::lay_out;
+use propagating::front::Front;
+use searching::begin::begin;
+use searching::find::find;
+use searching::witness::Witness;
 use states::State;
-use unit_search::begin::begin;
-use unit_search::find::find;
-use unit_search::witness::Witness;
-use unit_steps::Unit;
-use unit_steps::agenda::every_step;
-use unit_steps::desk::DESK_WORDS;
-use unit_steps::desk::lay_out;
-use unit_steps::filter::full_filter;
-use unit_steps::front::Front;
 ghost use mathlib.Core.Path.{_≡_};
 ghost use Rattle.answer_sets.specs.Lent.{Lent};
 ghost use Rattle.learning.specs.Store.{Empty};
-ghost use Rattle.unit_steps.specs.Desk.{LaidOut};
-ghost use Rattle.unit_search.specs.Witness.{Witnessed};
+ghost use Rattle.propagating.specs.Desk.{LaidOut};
+ghost use Rattle.searching.specs.Witness.{Witnessed};
 ghost use Rattle.finding.specs.Whole.{wholeOf, noLists, Fitting, Ready};
 
 // The unit of a program: its rules, its facts for input, and no predecessors.

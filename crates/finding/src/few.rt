@@ -3,14 +3,14 @@ use crate::ask::ask;
 use crate::ask::desk_of;
 use crate::ask::root_of;
 use learning::store::empty_store;
+use searching::witness::Witness;
 use states::State;
-use unit_search::witness::Witness;
 ghost use Prim.Native.Nat.{_<_};
 ghost use Rattle.atoms.specs.Word.{ATOMS, _∪_};
 ghost use Rattle.answer_sets.specs.AnswerSet.{AnswerSet};
 ghost use Rattle.answer_sets.specs.Lent.{lent, Lent};
 ghost use Rattle.finding.specs.Few.{Constraints, NoneSettled, Tried, Blamed};
-ghost use Rattle.unit_search.specs.Witness.{Witnessed};
+ghost use Rattle.searching.specs.Witness.{Witnessed};
 
 // An answer set of the program, or that there is none.
 pub fn any(rules: &[u64], which: u64, facts: u64) -> Witness

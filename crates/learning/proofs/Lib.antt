@@ -1,3 +1,4 @@
 pub mod Nogoods
 pub mod Stores
 pub mod Reasons
+pub mod HeededSteps

@@ -129,3 +129,10 @@ module _ {K : ℕ → Type 0} where
   -- a step that keeps who avoids all pairs keeps whoever has K
   pub remembered-narrows : {memory : List ℕ} {s t : State} → Remembers K memory → Narrows (AvoidsAll memory) s t → Narrows K s t
   remembered-narrows r n = narrows-for (λ N h. r .avoids N h) n
+
+-- who completes a reason of what nothing completes is no member
+pub reason-nogood : {K : ℕ → Type 0} {memory : List ℕ} {part goal : State} → Remembers K memory → Explains (Heeds K memory) part goal → Overlaps goal
+    → Nogood K part
+reason-nogood r e o = record {
+  avoided = λ N h. record { never = λ c. overlap-avoided N o .never (e .completes N (record { has = h; avoids = r .avoids N h }) c) };
+}

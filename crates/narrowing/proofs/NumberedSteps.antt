@@ -1,13 +1,11 @@
 -- The steps by number: what each promises holds of every answer set that has its inputs as facts.
 use mathlib.Core.Path.{_≡_}
-use mathlib.Core.Bool.{Bool, true, false}
 use mathlib.Core.List.{List}
 use mathlib.Core.Logic.{_⊎_, inl, inr}
 use Prim.Native.Nat.{ℕ, _^_, _<_}
 use lib.ListN.{getD}
-use Rattle.atoms.specs.Word.{ATOMS, Has, _⊆_, _∩_, _∪_, atom, apart}
-use Rattle.atoms.proofs.Sets.{decides-has, cut-left, union-cases}
-use Rattle.atoms.proofs.Singles.{has-of-test, lacks-of-test}
+use Rattle.atoms.specs.Word.{ATOMS, Has, _⊆_, _∩_, _∪_}
+use Rattle.atoms.proofs.Sets.{cut-left, union-cases}
 use Rattle.answer_sets.specs.Program.{Satisfies, SatisfiesAll}
 use Rattle.answer_sets.specs.Lent.{lent, Lent}
 use Rattle.states.specs.Narrowing.{Narrows}
@@ -33,13 +31,6 @@ module _ (rules : List ℕ) (which inputs : ℕ) {s t : State} where
 pub rule-narrows : (rules : List ℕ) {which r : ℕ} {s t : State} → Has which r → Narrows (Satisfies (lent rules) r) s t
     → Narrows (SatisfiesAll (lent rules) which) s t
 rule-narrows rules h n = narrows-for (λ M k. k .each _ h) n
-
--- a test that the number is in the word, as the code makes it
-pub numbered-by : (w k : ℕ) {x : ℕ} {t : Bool} → x ≡ atom k → t ≡ apart w x → t ≡ false → Has w k
-numbered-by w k e f g = decides-has w k .yes (has-of-test w k e f g)
-
-pub lacked-by : (w k : ℕ) {x : ℕ} {t : Bool} → x ≡ atom k → t ≡ apart w x → t ≡ true → ¬ Has w k
-lacked-by w k e f g = decides-has w k .no (lacks-of-test w k e f g)
 
 pub backers-lent : {rules : List ℕ} {which : ℕ} {backers : List ℕ} → Lent rules which → Backers rules which backers → (a : ℕ)
     → Lent rules (getD backers a 0)

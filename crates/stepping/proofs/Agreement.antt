@@ -23,7 +23,7 @@ use Rattle.unit_lists.specs.Demands.{lastIn, ListsAll}
 use Rattle.unit_lists.specs.Promised.{Promised}
 use Rattle.unit_lists.specs.declared.listing.Listing.{Listing}
 use Rattle.unit_lists.proofs.Demand1.{lays-read, lays-accepted, listable-lists}
-use Rattle.unit_search.specs.declared.witness.Witness.the-variants.{Member, Nothing}
+use Rattle.searching.specs.declared.witness.Witness.the-variants.{Member, Nothing}
 use Rattle.finding.specs.Least.{Behind, from-start, LeastOf, least, none}
 use Rattle.finding.specs.Walk.{Walk, ends as walk-ends, goes as walk-goes}
 use Rattle.finding.specs.declared.least.From.{From}

@@ -28,8 +28,8 @@ use Rattle.plan_meaning.proofs.RecordMeans.{read-means}
 use Rattle.judge.specs.Settled.{Settles, settled}
 use Rattle.judge.proofs.Settled.{Headed, settled-headed, decides-settled}
 use Rattle.unit_lists.proofs.Answers.{not-accepted}
-use Rattle.unit_search.specs.declared.witness.Witness.{Witness}
-use Rattle.unit_search.specs.declared.witness.Witness.the-variants.{Member, Nothing}
+use Rattle.searching.specs.declared.witness.Witness.{Witness}
+use Rattle.searching.specs.declared.witness.Witness.the-variants.{Member, Nothing}
 use Rattle.finding.specs.Least.{LeastOf, least, none, Behind, from-start, above}
 use Rattle.finding.specs.declared.least.From.{From}
 use Rattle.finding.specs.declared.least.From.the-variants.{Start, Above}

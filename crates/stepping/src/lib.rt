@@ -4,7 +4,7 @@ use finding::least::next;
 use plan::Fault;
 use plan::Outcome;
 use plan::Plan;
-use unit_search::witness::Witness;
+use searching::witness::Witness;
 ghost use Rattle.plan.specs.Record.{Fitting};
 ghost use Rattle.judge.specs.Settled.{Settles};
 ghost use Rattle.finding.specs.Least.{LeastOf, Behind};

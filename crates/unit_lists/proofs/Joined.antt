@@ -24,9 +24,10 @@ use Rattle.dependency_graph.specs.Graph.{Passes}
 use Rattle.dependency_graph.specs.Heads.{reach, heads, inputHeads}
 use Rattle.splitting.specs.UnitList.{Listed}
 use Rattle.splitting.proofs.Form.{listed-member}
-use Rattle.unit_steps.specs.Job.{isListed, joins, Belongs, Searchable}
+use Rattle.propagating.specs.Job.{Belongs, Searchable}
+use Rattle.joining.specs.Joins.{isListed, joins}
 use Rattle.states.specs.Narrowing.{Wanted}
-use Rattle.unit_steps.specs.declared.unit.Unit.{Unit}
+use Rattle.propagating.specs.declared.unit.Unit.{Unit}
 use Rattle.unit_lists.specs.Lists.{inList, unitList}
 use Rattle.unit_lists.specs.Work.{Told, startWithin, ListStored, MembersStored, Stored, ListsThere}
 use Rattle.unit_lists.proofs.Decided.{numbers-fit, unit-list-at, unit-list-has}

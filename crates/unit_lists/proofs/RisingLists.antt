@@ -13,7 +13,7 @@ use Rattle.atoms.specs.Rising.{Rising, rising-nil, rising-cons}
 use Rattle.atoms.proofs.Rising.{above-at, rising-ext}
 use Rattle.states.specs.declared.state.State.{State}
 use Rattle.plan.specs.Limits.{LIST_WORDS}
-use Rattle.unit_search.specs.Listing.{Ordered, Gathered, fits, over}
+use Rattle.searching.specs.Listing.{Ordered, Gathered, fits, over}
 use Rattle.unit_lists.specs.Work.{startWithin, Found, ListStored, MembersStored}
 
 -- ---- members by index

@@ -18,8 +18,8 @@ use Rattle.dependency_graph.specs.Heads.{inputHeads}
 use Rattle.dependency_graph.specs.PlanUnits.{unitsOf, HeadsOf}
 use Rattle.dependency_graph.specs.declared.head_atoms.HeadAtoms.{HeadAtoms}
 use Rattle.splitting.specs.UnitList.{Clean}
-use Rattle.unit_search.specs.Listing.{Gathered, Grown}
-use Rattle.unit_steps.specs.declared.unit.Unit.{Unit}
+use Rattle.searching.specs.Listing.{Gathered, Grown}
+use Rattle.propagating.specs.declared.unit.Unit.{Unit}
 use Rattle.unit_lists.specs.Lists.{unitList}
 use Rattle.unit_lists.specs.Table.{tableWith, countsWith, cleared}
 use Rattle.unit_lists.specs.Answer.{Answer, refuse, workFrom, unitWork}

@@ -1,7 +1,7 @@
 -- At first nothing is learnt and the facts are up.
 use Rattle.learning.proofs.Reasons.{remembers-empty}
-use Rattle.unit_steps.proofs.JoinedLists.{joinable-some}
-use Rattle.unit_steps.proofs.Filters.{full-filtered}
+use Rattle.joining.proofs.JoinedLists.{joinable-some}
+use Rattle.joining.proofs.Filters.{full-filtered}
 use Rattle.finding.proofs.Wholes.{whole-prepared, ready-first}
 use borrow.Author.Needs.{needs}
 use Rattle.finding.proofs.ask.root_of.Statement.{statement}

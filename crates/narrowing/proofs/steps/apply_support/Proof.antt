@@ -2,7 +2,8 @@
 use denote.Ref.{now}
 use native.Mathlib.Omega.{arith}
 use borrow.Author.Tests.{not-false}
-use Rattle.narrowing.proofs.NumberedSteps.{lacked-by, backers-lent, support-narrows}
+use Rattle.narrowing.proofs.NumberedSteps.{backers-lent, support-narrows}
+use Rattle.atoms.proofs.Singles.{lacked-by}
 use borrow.Author.Needs.{needs}
 use Rattle.narrowing.proofs.steps.apply_support.Statement.{statement}
 use Rattle.narrowing.proofs.steps.apply_support.Tie as tie

@@ -6,7 +6,7 @@ use lib.Seq.{paste}
 use borrow.Author.Needs.{needs}
 use Prim.Native.Nat.{_*_}
 use Rattle.plan.specs.Limits.{LIST_WORDS}
-use Rattle.unit_search.proofs.Gathered.{gathered-ordered}
+use Rattle.searching.proofs.Gathered.{gathered-ordered}
 use Rattle.unit_lists.proofs.RisingLists.{zeros-ordered}
 use Rattle.unit_lists.proofs.work.list_one.Statement.{statement}
 use Rattle.unit_lists.proofs.work.list_one.Tie as tie

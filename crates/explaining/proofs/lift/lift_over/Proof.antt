@@ -1,0 +1,22 @@
+-- The step added nothing that the pair names, or its reason takes the place of that.
+use Rattle.learning.proofs.Reasons.{leads-refl, replaced-leads}
+use borrow.Author.Needs.{needs}
+use Rattle.explaining.proofs.lift.lift_over.Statement.{statement}
+use Rattle.explaining.proofs.lift.lift_over.Tie as tie
+
+returns-2 : tie.Need-returns-2
+returns-2 c =
+    let part = c .before in
+    replaced-leads _ _ _ (part .before .before .before .beyond .ensures) (part .explain .ensures) (c .replace .ensures)
+
+pub lift-over-spec : {M : Type 1} → statement M
+lift-over-spec =
+    tie.close
+    (tie.spec
+    (λ c κs. search needs)
+    (λ c κs. search needs)
+    (λ c κs. search needs)
+    (λ c. leads-refl)
+    (λ c κs. search needs)
+    (λ c κs. search needs)
+    returns-2)

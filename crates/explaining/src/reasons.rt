@@ -1,0 +1,420 @@
+// Reasons of a unit's steps, found by running a step again on a smaller state: if it still tells the same, the smaller state is a reason.
+use answer_sets::rule::head;
+use answer_sets::rule::looks;
+use answer_sets::rule::negative_body;
+use answer_sets::rule::positive_body;
+use answer_sets::rule::rule_atoms;
+use atoms::ATOMS;
+use joining::filter::filter_step;
+use joining::filter::full_filter;
+use learning::nogood::refute;
+use learning::reason::tells;
+use learning::store::PAIRS;
+use learning::store::read_pair;
+use learning::trail::decided_since;
+use learning::trail::noted_unfounded;
+use narrowing::founded_step::founded_step;
+use narrowing::steps::SUPPORTS;
+use narrowing::steps::apply;
+use narrowing::unfounded::drop_unfounded;
+use plan::MAX_UNITS;
+use propagating::Unit;
+use propagating::agenda::LISTS;
+use propagating::desk::BACKERS;
+use propagating::desk::INDEX;
+use propagating::desk::backing;
+use propagating::propagate::FOUNDED_STEP;
+use propagating::propagate::PAIR_STEPS;
+use propagating::propagate::UNFOUNDED_STEP;
+use states::State;
+ghost use mathlib.Core.Path.{_≡_};
+ghost use mathlib.Core.Bool.{true};
+ghost use Prim.Native.Nat.{_≤_, _<_};
+ghost use lib.ListN.{length};
+ghost use Rattle.atoms.specs.Word.{ATOMS};
+ghost use Rattle.plan.specs.Limits.{MAX_UNITS};
+ghost use Rattle.answer_sets.specs.Lent.{IsLent, Lent};
+ghost use Rattle.states.specs.Narrowing.{Narrows};
+ghost use Rattle.learning.specs.Store.{MEMORY_WORDS, STEPS, AvoidsAll};
+ghost use Rattle.learning.specs.Reason.{Heeds, Explains};
+ghost use Rattle.propagating.specs.Job.{Belongs};
+ghost use Rattle.joining.specs.Joins.{Joinable};
+ghost use Rattle.joining.specs.Filter.{JoinsAll};
+ghost use Rattle.propagating.specs.Desk.{DESK_WORDS, Prepared};
+ghost use Rattle.explaining.specs.Claims.{Told};
+
+// A step, a part of a state, and what the step is to tell from it; and the atoms that it drops if they are unfounded, where it is the step for that:
+// `explain` finds these by itself.
+pub struct Claim {
+    pub step: usize,
+    pub part: State,
+    pub goal: State,
+    pub unfounded: u64,
+}
+
+// The state after pair i of the memory, if there is one.
+fn pair_again(memory: &[u64], i: usize, s: State) -> State
+    requires { ⌜ MEMORY_WORDS ≤ length (now memory) ⌝ }
+    ensures { λ t. ⌜ Narrows (AvoidsAll (now (memory .entry))) s t ⌝ }
+{
+    if PAIRS <= i {
+        return s;
+    }
+    refute(read_pair(memory, i), s)
+}
+
+// The state after list v, of which all entries are looked at.
+fn list_again(
+    table: &[u64],
+    counts: &[usize],
+    heads: &[u64],
+    near: u64,
+    v: usize,
+    s: State,
+) -> State
+    requires { ⌜ Joinable (now table) (now counts) (now heads) near × (v < MAX_UNITS) ⌝ }
+    ensures { λ t. ⌜ Narrows (JoinsAll (now (table .entry)) (now (counts .entry)) (now (heads .entry)) near) s t ⌝ }
+{
+    let mut filter = full_filter(counts);
+    filter_step(table, counts, heads, near, v, &mut filter, s)
+}
+
+// The state after the step of this number, from any state.
+fn step_again(
+    rules: &[u64],
+    table: &[u64],
+    counts: &[usize],
+    desk: &[u64],
+    memory: &[u64],
+    unit: Unit,
+    step: usize,
+    unfounded: u64,
+    s: State,
+) -> State
+    requires { ⌜ Prepared (now rules) (now table) (now counts) (now desk) unit × (MEMORY_WORDS ≤ length (now memory)) ⌝ }
+    ensures { λ t. ⌜ Narrows (Heeds (Belongs (now (rules .entry)) (now (table .entry)) (now (counts .entry)) (now (desk .entry)) unit)
+        (now (memory .entry))) s t ⌝ }
+{
+    if UNFOUNDED_STEP <= step {
+        return drop_unfounded(rules, unit.rules, unit.inputs, unfounded, s);
+    }
+    if PAIR_STEPS <= step {
+        return pair_again(memory, step - PAIR_STEPS, s);
+    }
+    if LISTS <= step {
+        let list = step - LISTS;
+        if list < MAX_UNITS {
+            return list_again(table, counts, desk, unit.nearest, list, s);
+        }
+    }
+    apply(
+        rules,
+        unit.rules,
+        unit.inputs,
+        &desk[BACKERS..INDEX],
+        step,
+        s,
+    )
+}
+
+// The same atoms up and dropped.
+fn either_way(word: u64) -> State {
+    State {
+        up: word,
+        dropped: word,
+    }
+}
+
+// The atoms of a rule, if it is numbered.
+fn numbered_atoms(rules: &[u64], which: u64, rule: usize) -> u64
+    requires { ⌜ Lent (now rules) which × (rule < ATOMS) ⌝ }
+{
+    if atoms::are_apart(which, atoms::single(rule)) {
+        return 0;
+    }
+    rule_atoms(rules, rule)
+}
+
+// What is seen so far, with the atoms that keep the rule from supporting one where they are up, and those that do where they are dropped.
+fn excluded_by(rules: &[u64], rule: usize, seen: State) -> State
+    requires { ⌜ IsLent (now rules) rule ⌝ }
+{
+    let looked = looks(rules, rule);
+    let inputs = atoms::without(looked, negative_body(rules, rule));
+    let up = atoms::union(head(rules, rule), looked);
+    let dropped = atoms::union(positive_body(rules, rule), inputs);
+    State {
+        up: atoms::union(seen.up, up),
+        dropped: atoms::union(seen.dropped, dropped),
+    }
+}
+
+// The atoms that keep one of the rules from supporting an atom.
+fn excluding(rules: &[u64], which: u64) -> State
+    requires { ⌜ Lent (now rules) which ⌝ }
+{
+    let mut rest = which;
+    let mut seen = State { up: 0, dropped: 0 };
+    while rest != 0 {
+        let rule = atoms::lowest(rest);
+        seen = excluded_by(rules, rule, seen);
+        rest = atoms::drop(rest, rule);
+    }
+    seen
+}
+
+// What is seen so far, with the atoms that keep the rule from founding one of x: those of rules with an atom of x in the head and none in the
+// positive word, since the others cannot.
+fn unfounded_by(rules: &[u64], rule: usize, x: u64, seen: State) -> State
+    requires { ⌜ IsLent (now rules) rule ⌝ }
+{
+    if atoms::are_apart(head(rules, rule), x) {
+        return seen;
+    }
+    if !atoms::are_apart(positive_body(rules, rule), x) {
+        return seen;
+    }
+    excluded_by(rules, rule, seen)
+}
+
+// The atoms of x, and those that keep the rules from founding one of them.
+fn unfounding(rules: &[u64], which: u64, x: u64) -> State
+    requires { ⌜ Lent (now rules) which ⌝ }
+{
+    let mut rest = which;
+    let mut seen = State { up: x, dropped: 0 };
+    while rest != 0 {
+        let rule = atoms::lowest(rest);
+        seen = unfounded_by(rules, rule, x, seen);
+        rest = atoms::drop(rest, rule);
+    }
+    seen
+}
+
+// The atoms of pair i of the memory, if there is one.
+fn pair_atoms(memory: &[u64], i: usize) -> u64
+    requires { ⌜ MEMORY_WORDS ≤ length (now memory) ⌝ }
+{
+    if PAIRS <= i {
+        return 0;
+    }
+    let pair = read_pair(memory, i);
+    atoms::union(pair.up, pair.dropped)
+}
+
+// What the step looks at: atoms that are up, and atoms that are dropped. It is advice: a reason that has too few does not tell the goal.
+fn looked_at(
+    rules: &[u64],
+    desk: &[u64],
+    memory: &[u64],
+    unit: Unit,
+    step: usize,
+    unfounded: u64,
+) -> State
+    requires { ⌜ Lent (now rules) (unit .rules) × (length (now desk) ≡ DESK_WORDS) × (MEMORY_WORDS ≤ length (now memory)) ⌝ }
+{
+    if step < SUPPORTS {
+        return either_way(numbered_atoms(rules, unit.rules, step));
+    }
+    if step < LISTS {
+        return excluding(rules, backing(desk, unit.rules, step - SUPPORTS));
+    }
+    if step < LISTS + MAX_UNITS {
+        return either_way(desk[step - LISTS]);
+    }
+    if step < PAIR_STEPS {
+        return either_way(atoms::first(ATOMS));
+    }
+    if step < UNFOUNDED_STEP {
+        return either_way(pair_atoms(memory, step - PAIR_STEPS));
+    }
+    unfounding(rules, unit.rules, unfounded)
+}
+
+// The atoms that may be spared in a reason: those of rules and pairs are few already.
+fn to_spare(step: usize, part: State) -> u64 {
+    if step < SUPPORTS {
+        return 0;
+    }
+    if step < PAIR_STEPS {
+        return atoms::union(part.up, part.dropped);
+    }
+    if step < UNFOUNDED_STEP {
+        return 0;
+    }
+    atoms::union(part.up, part.dropped)
+}
+
+// Whether the step, run on the part, still tells the goal.
+fn still_tells(
+    rules: &[u64],
+    table: &[u64],
+    counts: &[usize],
+    desk: &[u64],
+    memory: &[u64],
+    unit: Unit,
+    c: Claim,
+) -> bool
+    requires { ⌜ Prepared (now rules) (now table) (now counts) (now desk) unit × (MEMORY_WORDS ≤ length (now memory)) ⌝ }
+    ensures { λ r. ⌜ (r ≡ true → Told (Belongs (now (rules .entry)) (now (table .entry)) (now (counts .entry)) (now (desk .entry)) unit)
+        (now (memory .entry)) (c .goal) c) ⌝ }
+{
+    let part = c.part;
+    let t = step_again(
+        rules,
+        table,
+        counts,
+        desk,
+        memory,
+        unit,
+        c.step,
+        c.unfounded,
+        part,
+    );
+    tells(t, c.goal)
+}
+
+// The claim without the atom in its part if the step can spare it, and else as it is.
+fn spare(
+    rules: &[u64],
+    table: &[u64],
+    counts: &[usize],
+    desk: &[u64],
+    memory: &[u64],
+    unit: Unit,
+    c: Claim,
+    atom: usize,
+) -> Claim
+    requires { ⌜ Prepared (now rules) (now table) (now counts) (now desk) unit × (MEMORY_WORDS ≤ length (now memory)) × (atom < ATOMS)
+        × Told (Belongs (now rules) (now table) (now counts) (now desk) unit) (now memory) (c .goal) c ⌝ }
+    ensures { λ r. ⌜ Told (Belongs (now (rules .entry)) (now (table .entry)) (now (counts .entry)) (now (desk .entry)) unit) (now (memory .entry))
+        (c .goal) r ⌝ }
+{
+    let part = c.part;
+    let goal = c.goal;
+    let fewer = State {
+        up: atoms::drop(part.up, atom),
+        dropped: atoms::drop(part.dropped, atom),
+    };
+    let less = Claim {
+        step: c.step,
+        part: fewer,
+        goal,
+        unfounded: c.unfounded,
+    };
+    if still_tells(rules, table, counts, desk, memory, unit, less) {
+        return less;
+    }
+    c
+}
+
+// The claim without those of the atoms that the step can spare, one after the other.
+fn spare_each(
+    rules: &[u64],
+    table: &[u64],
+    counts: &[usize],
+    desk: &[u64],
+    memory: &[u64],
+    unit: Unit,
+    claim: Claim,
+    which: u64,
+) -> Claim
+    requires { ⌜ Prepared (now rules) (now table) (now counts) (now desk) unit × (MEMORY_WORDS ≤ length (now memory))
+        × Told (Belongs (now rules) (now table) (now counts) (now desk) unit) (now memory) (claim .goal) claim ⌝ }
+    ensures { λ r. ⌜ Told (Belongs (now (rules .entry)) (now (table .entry)) (now (counts .entry)) (now (desk .entry)) unit) (now (memory .entry))
+        (claim .goal) r ⌝ }
+{
+    let mut c = claim;
+    let mut rest = which;
+    while rest != 0 {
+        let atom = atoms::lowest(rest);
+        c = spare(rules, table, counts, desk, memory, unit, c, atom);
+        rest = atoms::drop(rest, atom);
+    }
+    c
+}
+
+// The claim without what its step can spare, what was decided last being tried first: the trail is gone back from step `at`.
+fn shrink(
+    rules: &[u64],
+    table: &[u64],
+    counts: &[usize],
+    desk: &[u64],
+    memory: &[u64],
+    unit: Unit,
+    claim: Claim,
+    at: usize,
+) -> Claim
+    requires { ⌜ Prepared (now rules) (now table) (now counts) (now desk) unit × (MEMORY_WORDS ≤ length (now memory)) × (at < STEPS)
+        × Told (Belongs (now rules) (now table) (now counts) (now desk) unit) (now memory) (claim .goal) claim ⌝ }
+    ensures { λ r. ⌜ Told (Belongs (now (rules .entry)) (now (table .entry)) (now (counts .entry)) (now (desk .entry)) unit) (now (memory .entry))
+        (claim .goal) r ⌝ }
+{
+    let mut c = claim;
+    let mut i = at;
+    let mut rest = to_spare(claim.step, claim.part);
+    while 0 < i && rest != 0 {
+        i -= 1;
+        let new = decided_since(memory, i, rest);
+        c = spare_each(rules, table, counts, desk, memory, unit, c, new);
+        rest = atoms::without(rest, new);
+    }
+    c
+}
+
+// The atoms that the step drops together because they are unfounded: what the founded step drops from the state, or else those that were noted.
+fn unfounded_atoms(rules: &[u64], memory: &[u64], unit: Unit, step: usize, s: State) -> u64
+    requires { ⌜ Lent (now rules) (unit .rules) × (MEMORY_WORDS ≤ length (now memory)) ⌝ }
+{
+    if step != FOUNDED_STEP {
+        return noted_unfounded(memory);
+    }
+    let t = founded_step(rules, unit.rules, unit.inputs, s);
+    atoms::without(t.dropped, s.dropped)
+}
+
+// The step that is run again for this one. What the founded step drops is unfounded, and that is told without another closure.
+fn rerun_as(step: usize) -> usize {
+    if step == FOUNDED_STEP {
+        return UNFOUNDED_STEP;
+    }
+    step
+}
+
+// A reason of the claim's goal, which step `at` of the trail told from the state that is the claim's part: those atoms of it that the step looks at
+// and cannot spare. The goal itself where the step does not tell it from these.
+pub fn explain(
+    rules: &[u64],
+    table: &[u64],
+    counts: &[usize],
+    desk: &[u64],
+    memory: &[u64],
+    unit: Unit,
+    c: Claim,
+    at: usize,
+) -> State
+    requires { ⌜ Prepared (now rules) (now table) (now counts) (now desk) unit × (MEMORY_WORDS ≤ length (now memory)) × (at < STEPS) ⌝ }
+    ensures { λ r. ⌜ Explains (Heeds (Belongs (now (rules .entry)) (now (table .entry)) (now (counts .entry)) (now (desk .entry)) unit)
+        (now (memory .entry))) r (c .goal) ⌝ }
+{
+    let whole = c.part;
+    let unfounded = unfounded_atoms(rules, memory, unit, c.step, whole);
+    let step = rerun_as(c.step);
+    let seen = looked_at(rules, desk, memory, unit, step, unfounded);
+    let part = State {
+        up: atoms::cut(whole.up, seen.up),
+        dropped: atoms::cut(whole.dropped, seen.dropped),
+    };
+    let goal = c.goal;
+    let near = Claim {
+        step,
+        part,
+        goal,
+        unfounded,
+    };
+    if !still_tells(rules, table, counts, desk, memory, unit, near) {
+        return goal;
+    }
+    let least = shrink(rules, table, counts, desk, memory, unit, near, at);
+    least.part
+}

@@ -1,0 +1,60 @@
+-- The lists of direct predecessors: to join all is to join each.
+use mathlib.Core.Path.{_≡_}
+use mathlib.Core.Bool.{true, _&&_}
+use mathlib.Core.List.{List}
+use Prim.Native.Nat.{ℕ, _*_, _<_}
+use native.Mathlib.Omega.{arith}
+use lib.ListN.{getD}
+use Rattle.atoms.specs.Word.{Has, _⊆_, _∩_, _∖_, atom}
+use Rattle.atoms.proofs.Sets.{has-lt, subset-le}
+use Rattle.atoms.proofs.Bounded.{all-in-at, all-in-intro, all-in-none, all-in-take}
+use Rattle.plan.specs.Limits.{MAX_UNITS, LIST_WORDS}
+use Rattle.joining.specs.Joins.{isListed, joins, Joinable}
+use Rattle.joining.specs.Filter.{JoinsAll}
+
+-- no list, or one and then the others
+pub joins-none : (table counts heads : List ℕ) (M : ℕ) → joins table counts heads 0 M ≡ true
+unfolding joins
+joins-none table counts heads M =
+    all-in-none MAX_UNITS (λ v. isListed table (LIST_WORDS * v) (getD counts v 0) (M ∩ getD heads v 0))
+
+pub joins-take : (table counts heads : List ℕ) (w M v : ℕ) → v < MAX_UNITS → Has w v
+    → joins table counts heads w M
+    ≡ (isListed table (LIST_WORDS * v) (getD counts v 0) (M ∩ getD heads v 0) && joins table counts heads (w ∖ atom v) M)
+unfolding joins
+joins-take table counts heads w M v l h =
+    all-in-take MAX_UNITS w (λ u. isListed table (LIST_WORDS * u) (getD counts u 0) (M ∩ getD heads u 0)) v l h
+
+-- to join one is to be in its list
+pub joins-one : (table counts heads : List ℕ) (predecessors M v : ℕ) → v < MAX_UNITS → Has predecessors v
+    → JoinsAll table counts heads predecessors M → isListed table (LIST_WORDS * v) (getD counts v 0) (M ∩ getD heads v 0) ≡ true
+unfolding joins
+joins-one table counts heads predecessors M v l h j =
+    all-in-at MAX_UNITS predecessors (λ u. isListed table (LIST_WORDS * u) (getD counts u 0) (M ∩ getD heads u 0)) (j .joined) v l h
+
+-- a predecessor is below MAX_UNITS, and its list is in the table
+pub joined-lt : {table counts heads : List ℕ} {predecessors rest v : ℕ} → Joinable table counts heads predecessors
+    → rest ⊆ predecessors → Has rest v → v < MAX_UNITS
+joined-lt {predecessors = predecessors} {v = v} j f h = has-lt predecessors MAX_UNITS (j .few) (f .each v h)
+
+-- ---- the nearest predecessors
+
+-- to join all is to join some
+pub joins-some : (table counts heads : List ℕ) (predecessors near M : ℕ) → near ⊆ predecessors
+    → JoinsAll table counts heads predecessors M → JoinsAll table counts heads near M
+unfolding joins
+joins-some table counts heads predecessors near M f j = record {
+  joined = all-in-intro MAX_UNITS near (λ v. isListed table (LIST_WORDS * v) (getD counts v 0) (M ∩ getD heads v 0))
+      (λ v l h.
+      all-in-at MAX_UNITS predecessors (λ u. isListed table (LIST_WORDS * u) (getD counts u 0) (M ∩ getD heads u 0)) (j .joined) v l (f .each v h));
+}
+
+pub joinable-some : {table counts heads : List ℕ} {predecessors near : ℕ} → near ⊆ predecessors
+    → Joinable table counts heads predecessors → Joinable table counts heads near
+joinable-some f j = record {
+  table-long = λ v h. j .table-long v (f .each v h);
+  counts-long = j .counts-long;
+  heads-long = j .heads-long;
+  few = omega (arith, subset-le f, j .few);
+  small = j .small;
+}

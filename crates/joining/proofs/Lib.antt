@@ -1,0 +1,3 @@
+pub mod JoinedLists
+pub mod Filters
+pub mod CoveredUnits

@@ -1,0 +1,40 @@
+-- The list is looked at where its number is in the word.
+use Rattle.atoms.proofs.Singles.{numbered-by}
+use Rattle.joining.proofs.Filters.{step-narrows, step-filtered}
+use borrow.Author.Needs.{needs}
+use native.Mathlib.Omega.{arith}
+use Rattle.joining.proofs.filter.filter_step.Statement.{statement}
+use Rattle.joining.proofs.filter.filter_step.Tie as tie
+
+join-step-requires : tie.Need-join-step-requires
+join-step-requires c κs =
+    let test = c .before .before .before in
+    let start = test .before .before .before .before .before .before in (
+      start .pre .0 .table-long (start .args .v) (numbered-by _ _ (test .before .single .ensures) (test .are-apart .ensures) (c .before .before .if1 .left)),
+      omega (arith, start .pre .1, start .pre .2 .long),
+    )
+
+returns-2 : tie.Need-returns-2
+returns-2 c =
+    let step = c .before .before in
+    let test = step .before .before .before .before in
+    let pre = test .before .before .before .before .before .before .pre in
+    let here = numbered-by _ _ (test .before .single .ensures) (test .are-apart .ensures) (step .before .before .before .if1 .left) in (
+      step-narrows here (pre .2) (step .join-step .ensures .0) (step .join-step .ensures .1),
+      step-filtered here (pre .2) (step .join-step .ensures .0) (step .join-step .ensures .1),
+    )
+
+pub filter-step-spec : {M : Type 1} → statement M
+filter-step-spec =
+    tie.close
+    (tie.spec
+    (λ c κs. search needs)
+    (λ c κs. search needs)
+    (λ c. search needs)
+    (λ c. search needs)
+    (λ c. search needs)
+    (λ c. search needs)
+    (λ c. search needs)
+    join-step-requires
+    (λ c. search needs)
+    returns-2)

@@ -1,0 +1,48 @@
+-- The position's own entry agrees: it has what all have, and some has what it has.
+use mathlib.Core.Path.{sym, subst, _∙_}
+use denote.Ref.{now}
+use borrow.Author.Tests.{not-true}
+use Rattle.states.specs.Narrowing.{Narrows}
+use Rattle.joining.specs.Filter.{Picked}
+use Rattle.joining.proofs.Filters.{list-refined, list-clash, list-narrows}
+use borrow.Author.Needs.{needs}
+use Rattle.joining.proofs.sift.join_step.Statement.{statement}
+use Rattle.joining.proofs.sift.join_step.Tie as tie
+
+returns : tie.Need-returns
+returns c =
+    let test = c .before .before in
+    let found = test .before .before .before in
+    let union = found .before .before in
+    let at = union .before .before .before .before .args in (
+      subst (Narrows (Picked (now (at .words)) (at .base) (at .heads) (now (at .filter)) (at .at)) (at .s)) (sym (c .clash .ensures))
+          (list-clash _ _ _ _ _ _ _ _ _ _ (union .before .cut .ensures) (union .union .ensures) (found .sift-list .ensures)
+          (sym (test .is-subset .ensures) ∙ not-true (test .is-subset .result) (c .before .if1 .taken))),
+      list-refined _ _ _ _ _ _ _ _ _ _ (union .before .cut .ensures) (union .union .ensures) (found .sift-list .ensures),
+    )
+
+returns-2 : tie.Need-returns-2
+returns-2 c =
+    let found = c .before .before .before .before .before .before .before in
+    let union = found .before .before in (
+      list-narrows _ _ _ _ _ _ _ _ _ _ (union .before .cut .ensures) (union .union .ensures) (found .sift-list .ensures) _ _ _
+          (c .before .before .union2 .ensures) (c .before .without .ensures) (c .union3 .ensures),
+      list-refined _ _ _ _ _ _ _ _ _ _ (union .before .cut .ensures) (union .union .ensures) (found .sift-list .ensures),
+    )
+
+pub join-step-spec : {M : Type 1} → statement M
+join-step-spec =
+    tie.close
+    (tie.spec
+    (λ c κs. search needs)
+    (λ c κs. search needs)
+    (λ c κs. search needs)
+    (λ c κs. search needs)
+    (λ c κs. search needs)
+    (λ c. search needs)
+    returns
+    (λ c κs. search needs)
+    (λ c κs. search needs)
+    (λ c κs. search needs)
+    (λ c. search needs)
+    returns-2)

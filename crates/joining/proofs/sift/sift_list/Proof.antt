@@ -1,0 +1,52 @@
+-- The loop carries that the entries of the words that are done are sifted. The measure is how many words are left.
+use Prim.Native.Nat.{_+_, _-_, _<_}
+use native.Mathlib.Omega.{arith}
+use lib.ListN.{length}
+use borrow.Author.Needs.{needs}
+use Rattle.joining.specs.Filter.{BLOCKS}
+use Rattle.joining.proofs.Filters.{Listing, listing-start, listing-next, listing-end}
+use Rattle.joining.proofs.sift.sift_list.Statement.{statement}
+use Rattle.joining.proofs.sift.sift_list.Tie as tie
+
+abbrev Inv-loop : tie.InvT-loop
+Inv-loop words base up decided filter₀ at found₀ k₀ filter found k = Listing words base up decided at filter₀ k filter found
+
+abbrev μ-loop : tie.MeasureT-loop
+μ-loop words base up decided filter₀ at found₀ k₀ filter found k = BLOCKS - k
+
+abbrev start : tie.In-loop Inv-loop μ-loop → tie.Start Inv-loop μ-loop
+start c = c .before .before .before .before .before
+
+-- the word's place is in the filter
+inside : (c : tie.In-loop Inv-loop μ-loop) → start c .args .at + c .before .loop .k < length (c .before .loop .filter)
+inside c = omega (arith, c .loop-test .taken, c .before .loop .inv .same-length, start c .pre .1)
+
+loop-again : tie.Need-loop-again Inv-loop μ-loop
+loop-again c =
+    let in-loop = c .before .before in
+    listing-next _ _ _ _ _ _ _ _ _ _ (in-loop .loop-test .taken)
+    (omega (arith, inside in-loop, in-loop .before .loop .inv .same-length))
+    (in-loop .before .loop .inv) (c .sift-block .ensures)
+
+pub sift-list-spec : {M : Type 1} → statement M
+sift-list-spec =
+    tie.close
+    (tie.spec
+    Inv-loop
+    μ-loop
+    (λ c κs. search needs)
+    (λ c. listing-start _ _ _ _ _ _ _)
+    (λ c. omega (arith, c .loop-test .taken))
+    (λ c. omega (arith, c .loop-test .taken, start c .pre .0))
+    (λ c. omega (arith, inside c))
+    (λ c. omega (arith, inside c))
+    (λ c. inside (c .before))
+    (λ c κs. omega (arith, c .before .loop-test .taken, start (c .before) .pre .0))
+    (λ c. omega (arith, inside (c .before .before)))
+    (λ c. omega (arith, inside (c .before .before)))
+    (λ c. inside (c .before .before))
+    (λ c. omega (arith, c .before .before .loop-test .taken))
+    (λ c. omega (arith, c .before .before .loop-test .taken))
+    loop-again
+    (λ c. c .before .loop .inv .same-length)
+    (λ c. listing-end _ _ _ _ _ _ _ _ _ (c .before .loop .inv) (c .loop-test .left)))

@@ -1,0 +1,3 @@
+pub mod Agendas
+pub mod Desks
+pub mod Propagation

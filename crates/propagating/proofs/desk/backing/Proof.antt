@@ -1,0 +1,21 @@
+-- They are some of the rules.
+use mathlib.Core.Path.{_≡_}
+use Prim.Native.Nat.{ℕ}
+use Rattle.atoms.specs.Word.{_⊆_, _∩_}
+use Rattle.atoms.proofs.Sets.{cut-left}
+use borrow.Author.Needs.{needs}
+use Rattle.propagating.proofs.desk.backing.Statement.{statement}
+use Rattle.propagating.proofs.desk.backing.Tie as tie
+
+cut-within : (w x : ℕ) {r : ℕ} → r ≡ w ∩ x → r ⊆ w
+cut-within w x e = record { each = λ i h. cut-left w x (rw e at h) }
+
+pub backing-spec : {M : Type 1} → statement M
+backing-spec =
+    tie.close
+    (tie.spec
+    (λ c. search needs)
+    (λ c. search needs)
+    (λ c. search needs)
+    (λ c κs. search needs)
+    (λ c. cut-within _ _ (c .cut .ensures)))

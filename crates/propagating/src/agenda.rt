@@ -1,0 +1,210 @@
+// The agenda: which steps may have something new to say. It is advice: a step that is left out costs pruning and no member.
+use crate::unit::Unit;
+use answer_sets::rule::head;
+use answer_sets::rule::looks;
+use answer_sets::rule::positive_body;
+use atoms::ATOMS;
+use narrowing::marks::mark;
+use narrowing::steps::FOUNDED;
+use narrowing::steps::SUPPORTS;
+use narrowing::woken::RULES_DOWN;
+use narrowing::woken::RULES_UP;
+use narrowing::woken::SUPPORTS_UP;
+use narrowing::woken::WOKEN_WORDS;
+use narrowing::woken::note_rules;
+use plan::MAX_UNITS;
+use states::State;
+use states::undecided;
+ghost use mathlib.Core.Path.{_≡_};
+ghost use Prim.Native.Nat.{_^_, _≤_, _<_};
+ghost use lib.ListN.{length};
+ghost use Rattle.atoms.specs.Word.{ATOMS, outside};
+ghost use Rattle.atoms.specs.Bounded.{Decides};
+ghost use Rattle.plan.specs.Limits.{MAX_UNITS};
+ghost use Rattle.answer_sets.specs.Lent.{IsLent, Lent};
+ghost use Rattle.propagating.specs.Agenda.{Idle, TakenFrom, Woken, INDEX_WORDS};
+
+// Steps behind those of the supports: the lists, and the founded step.
+pub const LISTS: usize = FOUNDED;
+
+const FOUNDED_PLACE: usize = MAX_UNITS;
+
+// The index of woken steps: the parts for rules and supports, and one for the lists and the founded step.
+const OTHERS: usize = WOKEN_WORDS;
+
+pub const INDEX_WORDS: usize = WOKEN_WORDS + ATOMS;
+
+// The rules, the atoms whose support, and the lists that are to be looked at; behind these the founded step.
+pub struct Agenda {
+    pub rules: u64,
+    pub supports: u64,
+    pub others: u64,
+}
+
+// A step taken from an agenda, and the rest.
+pub struct Taken {
+    pub step: usize,
+    pub rest: Agenda,
+}
+
+// Whether no step is on the agenda.
+pub fn is_idle(a: Agenda) -> bool
+    ensures { λ r. ⌜ Decides (Idle a) r ⌝ }
+{
+    if a.rules != 0 {
+        return false;
+    }
+    if a.supports != 0 {
+        return false;
+    }
+    a.others == 0
+}
+
+// The first step of the agenda, the cheap ones before the others.
+pub fn take(a: Agenda) -> Taken
+    requires { ⌜ (Idle a → ⊥) ⌝ }
+    ensures { λ r. ⌜ TakenFrom a r ⌝ }
+{
+    if a.rules != 0 {
+        let rule = atoms::lowest(a.rules);
+        let rest = Agenda {
+            rules: atoms::drop(a.rules, rule),
+            supports: a.supports,
+            others: a.others,
+        };
+        return Taken { step: rule, rest };
+    }
+    if a.supports != 0 {
+        let atom = atoms::lowest(a.supports);
+        let rest = Agenda {
+            rules: a.rules,
+            supports: atoms::drop(a.supports, atom),
+            others: a.others,
+        };
+        return Taken {
+            step: SUPPORTS + atom,
+            rest,
+        };
+    }
+    let other = atoms::lowest(a.others);
+    let rest = Agenda {
+        rules: a.rules,
+        supports: a.supports,
+        others: atoms::drop(a.others, other),
+    };
+    Taken {
+        step: LISTS + other,
+        rest,
+    }
+}
+
+// The agenda with the steps that these atoms wake, once they are up (`side` RULES_UP) or dropped (`side` RULES_DOWN).
+fn wake(index: &[u64], which: u64, side: usize, a: Agenda) -> Agenda
+    requires { ⌜ (INDEX_WORDS ≤ length (now index)) × (side ≤ ATOMS) ⌝ }
+{
+    let mut rest = which;
+    let mut r = a;
+    while rest != 0 {
+        let atom = atoms::lowest(rest);
+        r = Agenda {
+            rules: atoms::union(r.rules, index[side + atom]),
+            supports: atoms::union(r.supports, index[SUPPORTS_UP + side + atom]),
+            others: atoms::union(r.others, index[OTHERS + atom]),
+        };
+        rest = atoms::drop(rest, atom);
+    }
+    r
+}
+
+// The agenda after a step: with what the newly decided atoms wake, but not the supports of dropped atoms, which have nothing to say; empty where
+// nothing completes the state.
+pub fn woken(index: &[u64], a: Agenda, before: State, after: State) -> Agenda
+    requires { ⌜ INDEX_WORDS ≤ length (now index) ⌝ }
+    ensures { λ r. ⌜ Woken before after a r ⌝ }
+{
+    if !atoms::are_apart(after.up, after.dropped) {
+        return Agenda {
+            rules: 0,
+            supports: 0,
+            others: 0,
+        };
+    }
+    let new = atoms::without(
+        undecided(before.up, before.dropped),
+        undecided(after.up, after.dropped),
+    );
+    if new == 0 {
+        return a;
+    }
+    let raised = wake(index, atoms::cut(new, after.up), RULES_UP, a);
+    let r = wake(index, atoms::cut(new, after.dropped), RULES_DOWN, raised);
+    Agenda {
+        rules: r.rules,
+        supports: atoms::without(r.supports, after.dropped),
+        others: r.others,
+    }
+}
+
+// Notes for each atom the lists that look at it.
+fn note_lists(heads: &[u64], near: u64, index: &mut [u64])
+    requires { ⌜ (MAX_UNITS ≤ length (now heads)) × (near < 2 ^ MAX_UNITS) × (INDEX_WORDS ≤ length (now index)) ⌝ }
+    ensures { λ _. ⌜ length (now (index .exit)) ≡ length (now (index .entry)) ⌝ }
+{
+    let mut rest = near;
+    while rest != 0 {
+        let v = atoms::lowest(rest);
+        mark(index, OTHERS, heads[v], atoms::single(v));
+        rest = atoms::drop(rest, v);
+    }
+}
+
+// The atoms of a rule that has a looped head atom, and else none.
+fn looped_rule(rules: &[u64], rule: usize, looped: u64) -> u64
+    requires { ⌜ IsLent (now rules) rule ⌝ }
+{
+    let head = head(rules, rule);
+    if atoms::are_apart(head, looped) {
+        return 0;
+    }
+    atoms::union(
+        head,
+        atoms::union(positive_body(rules, rule), looks(rules, rule)),
+    )
+}
+
+// Notes the founded step for the atoms of the rules that have a looped head atom.
+fn note_founded(rules: &[u64], which: u64, looped: u64, index: &mut [u64])
+    requires { ⌜ Lent (now rules) which × (INDEX_WORDS ≤ length (now index)) ⌝ }
+    ensures { λ _. ⌜ length (now (index .exit)) ≡ length (now (index .entry)) ⌝ }
+{
+    let founded = atoms::single(FOUNDED_PLACE);
+    let mut rest = which;
+    while rest != 0 {
+        let rule = atoms::lowest(rest);
+        mark(index, OTHERS, looped_rule(rules, rule, looped), founded);
+        rest = atoms::drop(rest, rule);
+    }
+}
+
+// The index of the steps that a decided atom wakes, in a unit whose looped atoms are these.
+pub fn wake_index(rules: &[u64], heads: &[u64], unit: Unit, looped: u64) -> [u64; INDEX_WORDS]
+    requires { ⌜ Lent (now rules) (unit .rules) × (MAX_UNITS ≤ length (now heads)) × (unit .nearest < 2 ^ MAX_UNITS) ⌝ }
+    ensures { λ r. ⌜ length r ≡ INDEX_WORDS ⌝ }
+{
+    let mut index = [0u64; INDEX_WORDS];
+    note_rules(rules, unit.rules, &mut index);
+    note_lists(heads, unit.nearest, &mut index);
+    note_founded(rules, unit.rules, looped, &mut index);
+    index
+}
+
+// The agenda of all steps; without looped atoms the founded step has nothing to say beyond the supports.
+pub fn every_step(unit: Unit, looped: u64) -> Agenda
+    ensures { λ r. ⌜ (r .rules ≡ unit .rules) × (r .supports ≡ outside (unit .inputs)) ⌝ }
+{
+    Agenda {
+        rules: unit.rules,
+        supports: atoms::outside(unit.inputs),
+        others: atoms::union(unit.nearest, atoms::single_if(looped != 0, FOUNDED_PLACE)),
+    }
+}

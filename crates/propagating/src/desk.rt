@@ -1,0 +1,44 @@
+// The desk: what is told once for a unit and looked at by every step, in one area of words. In front stand the head atoms of each list, then the
+// rules that may back each atom, then the index of woken steps.
+use crate::agenda::INDEX_WORDS;
+use crate::agenda::wake_index;
+use crate::unit::Unit;
+use atoms::ATOMS;
+use atoms::words::store;
+use narrowing::backers::backers;
+use plan::MAX_UNITS;
+ghost use mathlib.Core.Path.{_≡_};
+ghost use Prim.Native.Nat.{_^_, _≤_, _<_};
+ghost use lib.ListN.{length};
+ghost use Rattle.atoms.specs.Word.{ATOMS, _⊆_};
+ghost use Rattle.plan.specs.Limits.{MAX_UNITS};
+ghost use Rattle.answer_sets.specs.Lent.{Lent};
+ghost use Rattle.propagating.specs.Desk.{DESK_WORDS, LaidOut};
+
+pub const BACKERS: usize = MAX_UNITS;
+
+pub const INDEX: usize = BACKERS + ATOMS;
+
+pub const DESK_WORDS: usize = INDEX + INDEX_WORDS;
+
+// The desk of a unit whose looped atoms are these.
+pub fn lay_out(rules: &[u64], heads: &[u64], unit: Unit, looped: u64) -> [u64; DESK_WORDS]
+    requires { ⌜ Lent (now rules) (unit .rules) × (MAX_UNITS ≤ length (now heads)) × (unit .nearest < 2 ^ MAX_UNITS) ⌝ }
+    ensures { λ r. ⌜ LaidOut (now (rules .entry)) (now (heads .entry)) unit r ⌝ }
+{
+    let backers = backers(rules, unit.rules);
+    let index = wake_index(rules, heads, unit, looped);
+    let mut desk = [0u64; DESK_WORDS];
+    store(&heads[0..MAX_UNITS], &mut desk, 0);
+    store(&backers, &mut desk, BACKERS);
+    store(&index, &mut desk, INDEX);
+    desk
+}
+
+// The rules that may back an atom, as the desk has them.
+pub fn backing(desk: &[u64], which: u64, atom: usize) -> u64
+    requires { ⌜ (length (now desk) ≡ DESK_WORDS) × (atom < ATOMS) ⌝ }
+    ensures { λ r. ⌜ r ⊆ which ⌝ }
+{
+    atoms::cut(which, desk[BACKERS + atom])
+}

@@ -1,0 +1,8 @@
+// Propagation: a unit's steps by an agenda, until none has anything new to say.
+pub mod agenda;
+pub mod desk;
+pub mod front;
+pub mod propagate;
+mod unit;
+
+pub use unit::Unit;

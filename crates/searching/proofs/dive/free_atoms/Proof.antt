@@ -1,0 +1,17 @@
+-- None, or just the undecided ones.
+use mathlib.Core.Path.{refl}
+use borrow.Author.Needs.{needs}
+use Rattle.searching.proofs.dive.free_atoms.Statement.{statement}
+use Rattle.searching.proofs.dive.free_atoms.Tie as tie
+
+returns : tie.Need-returns
+returns c n = absurd (n refl)
+
+pub free-atoms-spec : {M : Type 1} → statement M
+free-atoms-spec =
+    tie.close
+    (tie.spec
+    (λ c κs. search needs)
+    returns
+    (λ c κs. search needs)
+    (λ c n. c .undecided .ensures))

@@ -1,0 +1,44 @@
+-- Nothing shows, so the list holds one cut at most, and the witness says whether a member was met.
+use mathlib.Core.Path.{refl}
+use Rattle.joining.proofs.JoinedLists.{joinable-some}
+use Rattle.joining.proofs.Filters.{full-filtered}
+use Rattle.searching.proofs.Witnesses.{hidden-few}
+use Rattle.searching.proofs.Gathered.{zeros-ordered}
+use borrow.Author.Needs.{needs}
+use Rattle.searching.proofs.find.find.Statement.{statement}
+use Rattle.searching.proofs.find.find.Tie as tie
+
+explore-requires : tie.Need-explore-requires
+explore-requires c κs =
+    let made = c .before .before .before .before .before .before .before .before in
+    let pre = made .before .before .before .before .before .before .pre in
+    rw (c .before .before .before .root .ensures) (
+      pre .0,
+      zeros-ordered,
+      pre .1,
+      full-filtered _ _ _ _ _ _ (joinable-some (pre .0 .searchable .near) (pre .0 .searchable .joinable)) (made .full-filter .ensures),
+    )
+
+returns : tie.Need-returns
+returns c =
+    let found = c .before .before .before in
+    let front = found .before .before .before .before .before in
+    let told = rw (found .before .before .before .before .root .ensures) at (found .explore .ensures) in (
+      rw (front .moved .ensures, front .before .before .union .ensures, front .before .union2 .ensures) at (told .1 .0 (hidden-few (told .0))),
+      told .1 .1 .0,
+    )
+
+pub find-spec : {M : Type 1} → statement M
+find-spec =
+    tie.close
+    (tie.spec
+    (λ c κs. search needs)
+    (λ c κs. search needs)
+    (λ c κs. search needs)
+    (λ c κs. search needs)
+    (λ c κs. search needs)
+    (λ c. search needs)
+    (λ c. search needs)
+    explore-requires
+    (λ c. search needs)
+    returns)

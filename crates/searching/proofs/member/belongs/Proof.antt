@@ -1,0 +1,29 @@
+-- It joins the lists, and it is an answer set with its input as facts.
+use mathlib.Core.Path.{ap, sym, _∙_}
+use Prim.Native.Nat.{ℕ}
+use denote.Ref.{now}
+use borrow.Author.Tests.{not-true, not-false}
+use Rattle.answer_sets.specs.Lent.{lent}
+use Rattle.answer_sets.specs.Test.{answerSet}
+use Rattle.searching.proofs.SearchSteps.{not-joined, joined-answers}
+use borrow.Author.Needs.{needs}
+use Rattle.searching.proofs.member.belongs.Statement.{statement}
+use Rattle.searching.proofs.member.belongs.Tie as tie
+
+returns : tie.Need-returns
+returns c =
+    let at = c .before .before .before .before .before .before .args in
+    not-joined (now (at .rules)) (now (at .table)) (now (at .counts)) (now (at .heads)) (at .unit) (at .position)
+    (sym (c .before .joins .ensures) ∙ not-true (c .before .joins .result) (c .if1 .taken))
+
+returns-2 : tie.Need-returns-2
+returns-2 c =
+    let at = c .before .before .before .before .before .before .before .before .args in
+    joined-answers (now (at .rules)) (now (at .table)) (now (at .counts)) (now (at .heads)) (at .unit) (at .position) (c .judge-set .result .answers)
+    (c .before .before .before .before .before .before .before .before .fits .position .fits)
+    (sym (c .before .before .before .joins .ensures) ∙ not-false (c .before .before .before .joins .result) (c .before .before .if1 .left))
+    (c .judge-set .ensures ∙ ap (λ (w : ℕ). answerSet (lent (now (at .rules))) (at .unit .rules) w (at .position)) (c .before .cut .ensures))
+
+pub belongs-spec : {M : Type 1} → statement M
+belongs-spec =
+    tie.close (tie.spec (λ c κs. search needs) returns (λ c κs. search needs) (λ c κs. search needs) returns-2)

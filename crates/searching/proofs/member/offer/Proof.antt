@@ -1,0 +1,47 @@
+-- The position's cut is added where the position belongs to the list.
+use denote.Ref.{now}
+use borrow.Author.Tests.{not-true, not-false}
+use Rattle.learning.proofs.Nogoods.{overlap-nogood}
+use Rattle.searching.proofs.SearchSteps.{offer-none, offer-one}
+use borrow.Author.Needs.{needs}
+use Rattle.searching.proofs.member.offer.Statement.{statement}
+use Rattle.searching.proofs.member.offer.Tie as tie
+
+returns : tie.Need-returns
+returns c =
+    let rejected = c .before .before .before in
+    let test = rejected .before .before .before .before .before in
+    let start = test .before .before .before .before .before .before .before .before .before in
+    let at = start .args in
+    offer-none (now (at .list)) (at .node .count)
+    (at .node .shown) (at .f .state .up) (start .pre .1)
+    (rw (not-true (test .belongs .result .answers) (rejected .before .before .before .if1 .taken)) at (test .belongs .ensures))
+    (c .handed .ensures) (rejected .reject .ensures .0) (rejected .reject .ensures .1)
+
+returns-2 : tie.Need-returns-2
+returns-2 c =
+    let put = c .before .before .before .before in
+    let test = put .before .before .before .before .before in
+    let start = test .before .before .before .before .before .before .before .before .before in
+    let at = start .args in
+    offer-one (now (at .list)) (at .node .count)
+    (at .node .shown) (at .f .state .up) (put .insert .last .0) (start .pre .1)
+    (test .belongs .ensures .yes (not-false (test .belongs .result .answers) (put .before .before .before .if1 .left)))
+    (put .before .cut .ensures) (put .insert .ensures) (c .handed2 .ensures) (start .pre .2) (overlap-nogood (c .before .everything .ensures .0))
+
+pub offer-spec : {M : Type 1} → statement M
+offer-spec =
+    tie.close
+    (tie.spec
+    (λ c κs. c .before .before .before .before .before .before .before .before .pre .0 .searchable)
+    (λ c κs. search needs)
+    (λ c κs. search needs)
+    (λ c κs. search needs)
+    (λ c. search needs)
+    returns
+    (λ c κs. search needs)
+    (λ c κs. search needs)
+    (λ c κs. search needs)
+    (λ c κs. search needs)
+    (λ c. search needs)
+    returns-2)

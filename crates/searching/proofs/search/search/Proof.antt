@@ -1,0 +1,75 @@
+-- At first nothing is learnt, every entry may be joined, and every step is on the agenda. What is wanted through the desk is what is wanted.
+use mathlib.Core.Path.{sym}
+use denote.Ref.{now}
+use Rattle.learning.proofs.Reasons.{remembers-empty}
+use Rattle.joining.proofs.JoinedLists.{joinable-some}
+use Rattle.joining.proofs.Filters.{full-filtered}
+use Rattle.propagating.proofs.Desks.{prepared, belongs-desk, desk-belongs}
+use Rattle.searching.proofs.SearchSteps.{search-narrowed, search-alike}
+use borrow.Author.Needs.{needs}
+use Rattle.searching.proofs.search.search.Statement.{statement}
+use Rattle.searching.proofs.search.search.Tie as tie
+
+abbrev entry : tie.After-lay-out → tie.Start
+entry c = c .before .before .before .before .before .before .before
+
+abbrev laid : tie.After-begin → tie.After-lay-out
+laid c = c .before .before .before .before .before .before .before
+
+lay-out-requires : tie.Need-lay-out-requires
+lay-out-requires c κs =
+    let pre = c .before .before .before .before .before .before .pre .0 in
+    (pre .rules-lent, pre .joinable .heads-long, joinable-some (pre .near) (pre .joinable) .few)
+
+begin-requires : tie.Need-begin-requires
+begin-requires c κs =
+    let full = c .before .before .before .before in
+    let desk = full .before .before in
+    let ready = prepared (desk .lay-out .ensures) (entry desk .pre .0) in (
+      ready,
+      remembers-empty (full .before .empty-store .ensures),
+      full-filtered _ _ _ _ _ _ (joinable-some (ready .searchable .near) (ready .searchable .joinable)) (full .full-filter .ensures),
+    )
+
+explore-requires : tie.Need-explore-requires
+explore-requires c κs =
+    let begun = c .before .before .before .before .before .before .before .before in
+    let desk = laid begun in
+    let pre = entry desk .pre in
+    rw (c .before .before .before .before .root .ensures) (
+      prepared (desk .lay-out .ensures) (pre .0),
+      pre .1,
+      begun .begin .ensures .1 .1,
+      begun .begin .ensures .1 .0,
+    )
+
+returns : tie.Need-returns
+returns c =
+    let done = c .before .before .before in
+    let begun = done .before .before .before .before .before .before .before .before .before in
+    let desk = laid begun in
+    let at = entry desk .args in
+    let told = rw (done .before .before .before .before .before .root .ensures) at (done .explore .ensures) in
+    search-alike (desk-belongs (desk .lay-out .ensures) _ _) (belongs-desk (desk .lay-out .ensures) _ _) (now (at .list)) 0
+    (search-narrowed (now (at .list)) 0 (begun .begin .ensures .0) (told .0, told .1 .0) .0)
+
+pub search-spec : {M : Type 1} → statement M
+search-spec =
+    tie.close
+    (tie.spec
+    (λ c κs. search needs)
+    lay-out-requires
+    (λ c κs. search needs)
+    (λ c κs. search needs)
+    (λ c κs. search needs)
+    (λ c. search needs)
+    (λ c. search needs)
+    (λ c. search needs)
+    begin-requires
+    (λ c κs. search needs)
+    (λ c. sym (laid (c .before .before .before .before .before) .lay-out .ensures .long))
+    (λ c. search needs)
+    (λ c. search needs)
+    explore-requires
+    (λ c. search needs)
+    returns)

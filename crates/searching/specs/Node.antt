@@ -1,0 +1,25 @@
+-- Inner: what is found below a node of the search.
+use mathlib.Core.Path.{_≡_}
+use mathlib.Core.Bool.{Bool, true, false}
+use mathlib.Core.List.{List}
+use Prim.Native.Nat.{ℕ, _<_, _≤_}
+use Rattle.plan.specs.Limits.{LIST_WORDS}
+use Rattle.learning.specs.Reason.{Lifted}
+use Rattle.searching.specs.Witness.{Met}
+use Rattle.searching.specs.declared.node.Found.{Found}
+
+-- nothing more is to be found: the list is too long, or a member was met and nothing is left that shows
+pub data Done (found : Found) (left : ℕ) : Type 0 where
+  too-many : LIST_WORDS < found .count → Done found left
+  enough : found .count ≤ LIST_WORDS → left ≡ 0 → Met (found .witness) → Done found left
+
+-- the answer says whether that is so; where it says no the list has room
+pub record Finishes (found : Found) (left : ℕ) (answer : Bool) : Type 0 where
+  pub done : answer ≡ true → Done found left
+  pub room : answer ≡ false → found .count ≤ LIST_WORDS
+
+-- the same with its pair lifted, while pairs are learnt
+pub record HandedUp (K : ℕ → Type 0) (found : Found) (before after : List ℕ) (r : Found) : Type 0 where
+  pub same-count : r .count ≡ found .count
+  pub same-witness : r .witness ≡ found .witness
+  pub lifted : Lifted K (found .nogood) before after (r .nogood)

@@ -1,0 +1,24 @@
+-- Inner: what a state leaves to search.
+use mathlib.Core.Path.{_≡_}
+use mathlib.Core.Logic.{_⊎_}
+use mathlib.Core.List.{List}
+use Prim.Native.Nat.{ℕ, _<_}
+use Rattle.atoms.specs.Word.{ATOMS, Has, Apart}
+use Rattle.states.specs.State.{undecided}
+use Rattle.states.specs.Narrowing.{Overlaps}
+use Rattle.states.specs.declared.state.State.{State}
+use Rattle.narrowing.specs.Stops.{AtStop, NoStop}
+use Rattle.searching.specs.declared.outlook.Outlook.{Outlook}
+use Rattle.searching.specs.declared.outlook.Outlook.the-variants.{Stop, Leaf, Open}
+
+-- a rule of the word is at a stop
+pub record SomeStop (rules : List ℕ) (which : ℕ) (s : State) : Type 0 where
+  pub rule : ℕ
+  pub in-word : Has which rule
+  pub at-stop : AtStop rules rule s
+
+-- a stop, since an atom is up and dropped or a rule is at a stop; a leaf, where nothing is undecided; or an atom that is, and no rule is at a stop
+abbrev pub Leaves : List ℕ → ℕ → State → Outlook → Type 0
+Leaves rules which s Stop = Overlaps s ⊎ SomeStop rules which s
+Leaves rules which s Leaf = Apart (s .up) (s .dropped) × (undecided (s .up) (s .dropped) ≡ 0)
+Leaves rules which s (Open i) = Has (undecided (s .up) (s .dropped)) i × (i < ATOMS) × NoStop rules which s

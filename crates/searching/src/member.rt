@@ -1,0 +1,82 @@
+// One position and the list of a unit.
+use crate::listing::insert;
+use crate::node::Found;
+use crate::node::Node;
+use crate::node::handed;
+use crate::stop::reject;
+use crate::witness::Witness;
+use answer_sets::Judged;
+use answer_sets::judge_set;
+use joining::join::joins;
+use propagating::Unit;
+use propagating::front::Front;
+use states::everything;
+ghost use Rattle.atoms.specs.Bounded.{Decides};
+ghost use Rattle.learning.specs.Nogood.{Nogood};
+ghost use Rattle.learning.specs.Reason.{Remembers};
+ghost use Rattle.searching.specs.Listing.{Ordered, Gathered, Grown, Offered};
+ghost use Rattle.atoms.specs.Cuts.{CutOf};
+ghost use Rattle.searching.specs.Witness.{Witnessed};
+ghost use Rattle.propagating.specs.Desk.{Prepared};
+ghost use Rattle.propagating.specs.Job.{Belongs, Searchable};
+
+// Whether the position belongs to the unit's list.
+pub fn belongs(
+    rules: &[u64],
+    table: &[u64],
+    counts: &[usize],
+    heads: &[u64],
+    unit: Unit,
+    position: u64,
+) -> Judged
+    requires { ⌜ Searchable (now rules) (now table) (now counts) (now heads) unit ⌝ }
+    ensures { λ r. ⌜ Decides (Belongs (now (rules .entry)) (now (table .entry)) (now (counts .entry)) (now (heads .entry)) unit position) (r .answers) ⌝ }
+{
+    if !joins(table, counts, heads, unit.predecessors, position) {
+        return Judged {
+            answers: false,
+            smaller: position,
+        };
+    }
+    judge_set(
+        rules,
+        unit.rules,
+        atoms::cut(position, unit.inputs),
+        position,
+    )
+}
+
+// Adds the cut of the full position at this front to the list if it belongs there: the new count, or OVERFULL where there is no room; and the position,
+// if it does. Else the pair is one that the position completes, if a smaller set shows it.
+pub fn offer(
+    rules: &[u64],
+    table: &[u64],
+    counts: &[usize],
+    desk: &[u64],
+    list: &mut [u64],
+    memory: &mut [u64],
+    node: Node,
+    f: Front,
+) -> Found
+    requires { ⌜ Prepared (now rules) (now table) (now counts) (now desk) (node .unit) × Ordered (now list) (node .count)
+        × Remembers (Belongs (now rules) (now table) (now counts) (now desk) (node .unit)) (now memory) ⌝ }
+    ensures gathered { λ r. ⌜ Gathered (Grown (now (list .entry)) (node .count) (CutOf (node .shown)
+        (Offered (Belongs (now (rules .entry)) (now (table .entry)) (now (counts .entry)) (now (desk .entry)) (node .unit)) (f .state .up))))
+        (now (list .exit)) (r .count) ⌝ }
+    ensures witnessed { λ r. ⌜ Witnessed
+        (Offered (Belongs (now (rules .entry)) (now (table .entry)) (now (counts .entry)) (now (desk .entry)) (node .unit)) (f .state .up)) (r .witness) ⌝ }
+    ensures remembers { λ _. ⌜ Remembers (Belongs (now (rules .entry)) (now (table .entry)) (now (counts .entry)) (now (desk .entry)) (node .unit))
+        (now (memory .exit)) ⌝ }
+    ensures nogood { λ r. ⌜ Nogood (Belongs (now (rules .entry)) (now (table .entry)) (now (counts .entry)) (now (desk .entry)) (node .unit)) (r .nogood) ⌝ }
+{
+    let unit = node.unit;
+    let s = f.state;
+    let judged = belongs(rules, table, counts, desk, unit, s.up);
+    if !judged.answers {
+        let x = atoms::without(s.up, judged.smaller);
+        let nogood = reject(rules, table, counts, desk, memory, node, f, x);
+        return handed(node.count, nogood, Witness::Nothing);
+    }
+    let after = insert(list, node.count, atoms::cut(s.up, node.shown));
+    handed(after, everything(), Witness::Member(s.up))
+}
