@@ -2,7 +2,7 @@
 use mathlib.Core.Path.{_≡_, refl, sym, ap, _∙_, subst}
 use mathlib.Core.Logic.{_⊎_, inl, inr}
 use mathlib.Core.List.{List, [], _∷_, _++_}
-use Prim.Native.Nat.{ℕ, suc, _+_, _≤_, _<_}
+use Prim.Native.Nat.{ℕ, _+_, _≤_, _<_}
 use native.Mathlib.Omega.{arith}
 use native.Mathlib.Numerals.{add-one}
 use native.Mathlib.Decide.{decLt}
@@ -13,7 +13,6 @@ use Rattle.atoms.specs.Collected.{Collects}
 use Rattle.atoms.proofs.Sets.{has-none}
 use Rattle.atoms.proofs.Collected.{collects-has, collects-below, collects-cut, collects-union, collects-iff}
 use Rattle.questions.specs.Common.{InAll, InSome, CommonAtoms}
-use Rattle.questions.specs.declared.common.Common.{Common}
 
 -- ---- one position more
 
