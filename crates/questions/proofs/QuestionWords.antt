@@ -34,7 +34,9 @@ words-again (a ∷ b ∷ []) = refl
 words-again (a ∷ b ∷ c ∷ ws) = ap (λ (l : List ℕ). a ∷ b ∷ c ∷ l) (words-again ws)
 
 words-long : (ws : List ℕ) → length ws ≡ 3 * length (questionsIn ws) + length (behind ws)
-words-long ws = ap length (words-again ws) ∙ length-append (inWords (questionsIn ws)) (behind ws) ∙ ap (λ (k : ℕ). k + length (behind ws)) (in-words-long (questionsIn ws))
+words-long ws =
+    ap length (words-again ws) ∙ length-append (inWords (questionsIn ws)) (behind ws)
+    ∙ ap (λ (k : ℕ). k + length (behind ws)) (in-words-long (questionsIn ws))
 
 -- "the count of whole questions being a third of the length"
 pub third : (ws : List ℕ) → length (questionsIn ws) ≡ length ws / 3
@@ -72,7 +74,8 @@ module _ (rest : List ℕ) where
 -- ---- the words are taken out
 
 -- the question at a number, from the words
-at-number : (f : Question → ℕ) (at : ℕ → ℕ) → ((rest : List ℕ) (qs : List Question) (i : ℕ) → i < length qs → getD (inWords qs ++ rest) (at i) 0 ≡ f (getD qs i blank))
+at-number : (f : Question → ℕ) (at : ℕ → ℕ)
+    → ((rest : List ℕ) (qs : List Question) (i : ℕ) → i < length qs → getD (inWords qs ++ rest) (at i) 0 ≡ f (getD qs i blank))
     → (ws : List ℕ) (i : ℕ) → i < length (questionsIn ws) → getD ws (at i) 0 ≡ f (getD (questionsIn ws) i blank)
 at-number f at law ws i l = ap (λ (l : List ℕ). getD l (at i) 0) (words-again ws) ∙ law (behind ws) (questionsIn ws) i l
 
