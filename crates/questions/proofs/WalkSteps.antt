@@ -1,9 +1,10 @@
--- The steps that a walk of MIR takes again and again, over those of `types.Run`: a local is read or set, locals are made and freed, and a word is put
--- into a row of words. As there, n is the place of an entry in the context, and `refl` shows what stands there.
+-- The steps that a walk of MIR takes again and again, over those of `types.Run`. As there, n is the place of an entry in the context, and `refl`
+-- shows what stands there.
 --     here, behind n    a local, and what lies behind the pointer in a local, as places
 --     value n, field n k     what a local holds, and field k of a struct in a local
 --     sets rv n, stores rv n     a local that is room, or holds something, is set to rv
 --     alloc4, frees     four locals are made; all locals are freed, if the context begins with them
+--     word-out, word-put     word i is taken out of a row of words, and another is put in its place
 --     returned          a callee's result, and what its contract says
 --     just-made, rooms, deaths     a function's locals in the context: as they were made, their room, and that they die
 use mathlib.Core.Path.{_≡_, refl, subst, sym}

@@ -52,7 +52,7 @@ array = tyArray word 64
 abbrev pub words : List ℕ → Val
 words xs = arrayVal (map (λ x. vint w64 x) xs)
 
--- the words of an array are a value of its
+-- xs are the words of an array of 64
 abbrev pub Lies : List ℕ → Type 0
 Lies xs = Is (Array u64 64) xs (words xs ∷ [])
 
