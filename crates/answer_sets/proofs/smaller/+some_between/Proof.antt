@@ -145,7 +145,9 @@ module _ (t : ℕ) where
       (between-passed (test .before .before .rule-pass .ensures) (between-clash (test .are-apart .ensures) (c .before .if1 .taken)))
 
   whole : some-between-lts.Need-returns-2 (calls t) (some-between-at t) some-between.Post
-  whole c = rw (c .none-smaller2 .ensures) (between-passed (c .before .before .before .before .before .before .rule-pass .ensures) (between-whole (c .before .if2 .taken)))
+  whole c =
+      let start = c .before .before .before .before .before .before in
+      rw (c .none-smaller2 .ensures) (between-passed (start .rule-pass .ensures) (between-whole (c .before .if2 .taken)))
 
   again-requires : some-between-lts.Need-some-between-requires (calls t) (some-between-at t) some-between.Post
   again-requires c κs =
