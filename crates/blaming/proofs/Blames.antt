@@ -24,7 +24,8 @@ use Rattle.blaming.specs.Blamed.{Positionless, Says, with-position, with
 use Rattle.blaming.specs.declared.Blame.{Blame}
 use Rattle.blaming.specs.declared.Blame.the-variants.{Position, Held, Refused}
 use Rattle.blaming.proofs.Passes.{pass-kept, pass-dropped, pass-within, pass-untried, pass-stays, pass-stayed, going-is}
-use Rattle.blaming.proofs.Programs.{constraints-are, constraints-same, top-same, among-rules, whole-rules, leaves-yes, leaves-no, one-leaves, none-leaves}
+use Rattle.blaming.proofs.Programs.{constraints-are, constraints-same, top-same, among-rules, whole-rules}
+use Rattle.blaming.proofs.Programs.{leaves-yes, leaves-no, one-leaves, none-leaves}
 
 -- ---- where a constraint is tried
 

@@ -8,7 +8,8 @@ use lib.Dec.{eqb}
 use Rattle.atoms.specs.Word.{ATOMS, Has, _⊆_, _∪_, _∖_, below}
 use Rattle.atoms.specs.Bounded.{Decides, unionIn}
 use Rattle.atoms.specs.Collected.{Collects}
-use Rattle.atoms.proofs.Sets.{ext, has-left, has-right, union-cases, has-without, without-left, without-right, has-below, below-lt, has-dec, subset-le, lt-of-has}
+use Rattle.atoms.proofs.Sets.{ext, has-left, has-right, union-cases, has-without, without-left, without-right, has-dec}
+use Rattle.atoms.proofs.Sets.{has-below, below-lt, subset-le, lt-of-has}
 use Rattle.atoms.proofs.Bounded.{some-at, some-intro, some-none, union-has}
 use Rattle.atoms.proofs.Collected.{collects-word, collects-iff}
 use Rattle.atoms.proofs.Tests.{not-both, decided-true, decides-equal}
