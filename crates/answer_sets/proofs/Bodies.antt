@@ -1,17 +1,15 @@
 -- The uses of contact tables: what a use asks by its sign, that the rest of a body depends on what it looks at alone, and a body by its parts.
-use mathlib.Core.Path.{_≡_, refl, sym, ap, ap₂, _∙_, subst}
-use mathlib.Core.Bool.{Bool, true, false, not, _&&_}
+use mathlib.Core.Path.{_≡_, refl, sym, ap, ap₂, _∙_}
+use mathlib.Core.Bool.{Bool, not, _&&_}
 use mathlib.Core.Logic.{_↔_}
 use mathlib.Core.List.{List}
 use Prim.Native.Nat.{ℕ, _-_, _<_, _≤_}
-use native.Mathlib.Omega.{arith}
 use borrow.Author.Tests.{lt-ltb, le-ltb}
-use Rattle.atoms.specs.Word.{Has, _∩_, _∪_, apart, below}
+use Rattle.atoms.specs.Word.{Has, _∩_, apart}
 use Rattle.atoms.specs.Bounded.{allIn}
 use Rattle.atoms.proofs.Tests.{and-true, bool-ext, decided-true}
-use Rattle.atoms.proofs.Sets.{ext, has-cut, cut-left, cut-right, has-left, has-right, has-below, below-lt, decides-apart}
-use Rattle.atoms.proofs.Bounded.{all-in-at, all-in-intro, all-in-fails, union-has}
-use Rattle.atoms.proofs.TakenNumbers.{Taking, taking-start}
+use Rattle.atoms.proofs.Sets.{ext, has-cut, cut-left, cut-right, has-left, has-right, decides-apart}
+use Rattle.atoms.proofs.Bounded.{all-in-at, all-in-intro, union-has}
 use Rattle.plan.specs.Limits.{MAX_TABLES}
 use Rattle.contact_tables.specs.Table.{answer}
 use Rattle.contact_tables.proofs.RowBits.{answer-same}
@@ -41,33 +39,6 @@ module _ (rules : List ℕ) (i M : ℕ) where
   pub wanted-false : MAX_TABLES ≤ i → not said ≡ useHolds rules i M
   unfolding useHolds asks
   wanted-false l = rw (le-ltb i MAX_TABLES l, asks) refl
-
--- what was read of the table
-pub said-read : (rules : List ℕ) (i M : ℕ) {table ins tr : ℕ} {t : Bool} → table ≡ tableOf i → ins ≡ inputs rules table → tr ≡ truth rules table
-    → t ≡ answer ins tr M → t ≡ said rules i M
-said-read rules i M e f g h = rw (h, f, g, e) refl
-
--- ---- the uses of a rule, in a loop
-
-pub taking-uses : {v word first rest : ℕ} {Done : ℕ → Type 0} → word ≡ v → first ≡ below USE_BITS → rest ≡ word ∩ first
-    → Taking (v ∩ below USE_BITS) rest Done
-taking-uses {v} {rest = rest} {Done = Done} e f g = subst (λ (w : ℕ). Taking w rest Done) (g ∙ ap₂ _∩_ e f) taking-start
-
-module _ (rules : List ℕ) (r : ℕ) where
-  pub use-lt : {i : ℕ} → Has (uses rules r ∩ below USE_BITS) i → i < USE_BITS
-  use-lt h = below-lt USE_BITS (cut-right (uses rules r) (below USE_BITS) h)
-
-  pub use-fails : (M : ℕ) {i : ℕ} → Has (uses rules r ∩ below USE_BITS) i → useHolds rules i M ≡ false → false ≡ usesHold rules r M
-  unfolding usesHold
-  use-fails M {i} h e =
-      sym (all-in-fails USE_BITS (uses rules r) (λ k. useHolds rules k M) i (use-lt h) (cut-left (uses rules r) (below USE_BITS) h) e)
-
-  pub all-uses-hold : (M : ℕ) → ((i : ℕ) → Has (uses rules r ∩ below USE_BITS) i → useHolds rules i M ≡ true) → true ≡ usesHold rules r M
-  unfolding usesHold
-  all-uses-hold M f =
-      sym
-      (all-in-intro USE_BITS (uses rules r) (λ k. useHolds rules k M)
-      (λ i l h. f i (has-cut (uses rules r) (below USE_BITS) h (has-below USE_BITS i l))))
 
 -- ---- nothing but what is looked at counts
 

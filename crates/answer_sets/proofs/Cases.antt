@@ -1,29 +1,13 @@
 -- Which case of a computing definition the tests of the code pick: the answers' equations come in the order of the code.
 use mathlib.Core.Path.{_≡_, sym, _∙_}
 use mathlib.Core.Bool.{Bool, true, false, not}
-use mathlib.Core.List.{List}
 use Prim.Native.Nat.{ℕ}
 use borrow.Author.Tests.{not-true, not-false}
 use Rattle.atoms.specs.Word.{subset, apart, _∖_, atom}
 use Rattle.answer_sets.specs.Program.{Program}
-use Rattle.answer_sets.specs.Lent.{lent, negative, usesHold}
 use Rattle.answer_sets.specs.Test.{body, satisfies, satisfiesAll, kept, keptIf, someSmaller, answerSet}
 
 -- ---- one rule
-
-module _ (rules : List ℕ) (r M : ℕ) {p : ℕ} {test : Bool} (read : p ≡ lent rules .positive r) (tested : test ≡ subset p M) where
-  pub body-short : not test ≡ true → false ≡ body (lent rules) r M
-  unfolding body
-  body-short e = let f = rw read at tested in simp (sym f, not-true test e)
-
-  module _ {n : ℕ} {free : Bool} (e : not test ≡ false) (m : n ≡ negative rules r) (a : free ≡ apart n M) where
-    pub body-met : not free ≡ true → false ≡ body (lent rules) r M
-    unfolding body lent
-    body-met f = let g = rw read at tested in let b = rw m at a in simp (sym g, not-false test e, sym b, not-true free f)
-
-    pub body-rest : {u : Bool} → not free ≡ false → u ≡ usesHold rules r M → u ≡ body (lent rules) r M
-    unfolding body lent
-    body-rest f h = let g = rw read at tested in let b = rw m at a in simp (h, sym g, not-false test e, sym b, not-false free f)
 
 module _ (P : Program) (r M : ℕ) {b : Bool} (tested : b ≡ body P r M) where
   pub satisfies-fails : not b ≡ true → true ≡ satisfies P r M

@@ -8,7 +8,7 @@ use Prim.Native.Nat.{ℕ, _+_, _*_, _^_, _<_}
 use lib.ListN.{getD}
 use Rattle.atoms.specs.Word.{ATOMS, Has, has, _⊆_, _∩_, Apart, _∖_}
 use Rattle.atoms.specs.Bounded.{Decides, someBelow}
-use Rattle.atoms.proofs.Tests.{test-cases, and-true, not-is-true, not-both, true-of-not-false, decided-true, decided as is-decided}
+use Rattle.atoms.proofs.Tests.{test-cases, and-true, not-is-true, not-both, true-of-not-false, false-of-not-true, decided-true, decided as is-decided}
 use Rattle.atoms.proofs.Sets.{ext, has-dec, has-lt, has-cut, cut-left, cut-right, has-without, subset-dec, subset-trans, decides-has, decides-apart}
 use Rattle.atoms.proofs.Bounded.{some-at, some-intro}
 use Rattle.plan.specs.Limits.{CONTACT_WORDS}
@@ -22,6 +22,7 @@ use Rattle.answer_sets.specs.declared.truth.Truth.the-variants.{Holds, F
 use Rattle.answer_sets.proofs.Judged.{decides-body}
 use Rattle.answer_sets.proofs.Bodies.{use-same, body-parts, parts-body}
 use Rattle.answer_sets.proofs.Parts.{known-holds}
+use Rattle.answer_sets.proofs.Truths.{holds-not-fails}
 
 -- ---- "With everything decided, open can't be said."
 
@@ -103,6 +104,11 @@ module _ (rules : List ℕ) (r M dropped : ℕ) (fits : (i : ℕ) → getD rules
       go : (b : Bool) → Decides (Body (lent rules) r M) b → t ≡ exactly b
       go true d = k .holds .1 (λ p i N c. part-same p N c .0 (body-parts rules r M (d .yes refl) p i))
       go false d = let f = failing-part (d .no refl) in k .fails .1 (f .0, f .1, λ N c h. f .2 (part-same (f .0) N c .1 h))
+
+-- so a test for success is the exact test
+pub success-exactly : {t : Truth} {b answer : Bool} → t ≡ exactly b → (answer ≡ true) ↔ (t ≡ Holds) → answer ≡ b
+success-exactly {b = true} e f = f .1 e
+success-exactly {b = false} {answer = answer} e f = false-of-not-true answer (λ g. holds-not-fails (sym (f .0 g) ∙ e))
 
 -- ---- knowing more
 

@@ -1,13 +1,16 @@
-// A body at a half-decided position.
+// A body at a half-decided position, and at a full one.
 use crate::rule::negative_body;
 use crate::rule::positive_body;
 use crate::truth::Truth;
 use crate::truth::both;
+use crate::truth::is_success;
 use crate::truth::word_known;
 use crate::uses::uses;
 use crate::uses::with_uses;
+ghost use mathlib.Core.Path.{_≡_};
 ghost use Rattle.atoms.specs.Word.{Apart};
-ghost use Rattle.answer_sets.specs.Lent.{IsLent};
+ghost use Rattle.answer_sets.specs.Lent.{lent, IsLent};
+ghost use Rattle.answer_sets.specs.Test.{body};
 ghost use Rattle.answer_sets.specs.Known.{BodySays, WordsSay};
 
 // What is known of the two words of a body; `down` are the atoms that are dropped and not up.
@@ -30,4 +33,12 @@ pub fn body_known(rules: &[u64], rule: usize, up: u64, dropped: u64) -> Truth
         return words;
     }
     with_uses(rules, rule, up, dropped, words)
+}
+
+// Whether the body holds at the position: with everything decided, open can't be said.
+pub fn body_holds(rules: &[u64], rule: usize, position: u64) -> bool
+    requires { ⌜ IsLent (now rules) rule ⌝ }
+    ensures { λ r. ⌜ r ≡ body (lent (now (rules .entry))) rule position ⌝ }
+{
+    is_success(body_known(rules, rule, position, atoms::outside(position)))
 }

@@ -1,17 +1,28 @@
 // A word of rule numbers at a position: whether all are satisfied, and the rules that the reduct keeps.
-use crate::rule::body_holds;
-use crate::rule::satisfies;
+use crate::known::body_holds;
+use crate::rule::head;
 ghost use mathlib.Core.Path.{_≡_};
 ghost use Rattle.answer_sets.specs.Lent.{lent, IsLent, Lent};
 ghost use Prim.Native.Nat.{_<_};
 ghost use Rattle.plan.specs.Limits.{MAX_RULES};
 ghost use Rattle.answer_sets.specs.SubsetTest.{Unsatisfied};
-ghost use Rattle.answer_sets.specs.Test.{satisfiesAll, kept, keptIf};
+ghost use Rattle.answer_sets.specs.Test.{satisfies as satisfiesAt, satisfiesAll, kept, keptIf};
 
 // A rule that a position does not satisfy, if there is one.
 pub enum Found {
     Rule(usize),
     Nothing,
+}
+
+// Whether the position satisfies the rule: its body fails, or a head atom is up.
+fn satisfies(rules: &[u64], rule: usize, position: u64) -> bool
+    requires { ⌜ IsLent (now rules) rule ⌝ }
+    ensures { λ r. ⌜ r ≡ satisfiesAt (lent (now (rules .entry))) rule position ⌝ }
+{
+    if !body_holds(rules, rule, position) {
+        return true;
+    }
+    !atoms::are_apart(head(rules, rule), position)
 }
 
 // A rule numbered in `which` that the position does not satisfy, if there is one.

@@ -1,12 +1,10 @@
-// One lent rule: its words, its body and whether a position satisfies it. Where a rule's words stand is known here alone.
+// One lent rule: its words and its atoms. Where a rule's words stand is known here alone.
 use crate::uses::used_inputs;
-use crate::uses::uses_hold;
 use plan::FIRST_RULE;
 use plan::RULE_WORDS;
 ghost use mathlib.Core.Path.{_≡_};
 ghost use Rattle.atoms.specs.Word.{_∪_};
 ghost use Rattle.answer_sets.specs.Lent.{lent, ruleCount, IsLent, negative, looks};
-ghost use Rattle.answer_sets.specs.Test.{body, satisfies as satisfiesAt};
 
 // How many rules the words hold.
 pub fn rule_count(rules: &[u64]) -> usize
@@ -57,29 +55,4 @@ pub fn rule_atoms(rules: &[u64], rule: usize) -> u64
 {
     let body = atoms::union(positive_body(rules, rule), looks(rules, rule));
     atoms::union(head(rules, rule), body)
-}
-
-// Whether the body holds at the position.
-pub fn body_holds(rules: &[u64], rule: usize, position: u64) -> bool
-    requires { ⌜ IsLent (now rules) rule ⌝ }
-    ensures { λ r. ⌜ r ≡ body (lent (now (rules .entry))) rule position ⌝ }
-{
-    if !atoms::is_subset(positive_body(rules, rule), position) {
-        return false;
-    }
-    if !atoms::are_apart(negative_body(rules, rule), position) {
-        return false;
-    }
-    uses_hold(rules, rule, position)
-}
-
-// Whether the position satisfies the rule: its body fails, or a head atom is up.
-pub fn satisfies(rules: &[u64], rule: usize, position: u64) -> bool
-    requires { ⌜ IsLent (now rules) rule ⌝ }
-    ensures { λ r. ⌜ r ≡ satisfiesAt (lent (now (rules .entry))) rule position ⌝ }
-{
-    if !body_holds(rules, rule, position) {
-        return true;
-    }
-    !atoms::are_apart(head(rules, rule), position)
 }

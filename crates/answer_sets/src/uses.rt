@@ -14,7 +14,7 @@ ghost use mathlib.Core.Bool.{true};
 ghost use Prim.Native.Nat.{_<_, _≤_};
 ghost use lib.ListN.{length};
 ghost use Rattle.plan.specs.Limits.{FIRST_RULE as Limits·FIRST_RULE, MAX_TABLES as Limits·MAX_TABLES};
-ghost use Rattle.answer_sets.specs.Lent.{IsLent, USE_BITS as Lent·USE_BITS, uses, tableOf, inputs, truth, useHolds, usesHold, usedInputs};
+ghost use Rattle.answer_sets.specs.Lent.{IsLent, USE_BITS as Lent·USE_BITS, uses, tableOf, inputs, truth, useHolds, usedInputs};
 ghost use Rattle.answer_sets.specs.Known.{Says, PartsSay, IsWord, BodySays};
 ghost use Rattle.states.specs.State.{halfDecided};
 
@@ -51,36 +51,6 @@ fn table_truth(rules: &[u64], table: usize) -> u64
     ensures { λ r. ⌜ r ≡ truth (now (rules .entry)) table ⌝ }
 {
     rules[CONTACT_WORDS * table + 1]
-}
-
-// Whether the use holds at the position.
-fn use_holds(rules: &[u64], i: usize, position: u64) -> bool
-    requires { ⌜ (Limits·FIRST_RULE ≤ length (now rules)) × (i < Lent·USE_BITS) ⌝ }
-    ensures { λ r. ⌜ r ≡ useHolds (now (rules .entry)) i position ⌝ }
-{
-    let table = table_of(i);
-    let said = contact_tables::answer(
-        table_inputs(rules, table),
-        table_truth(rules, table),
-        position,
-    );
-    if i < MAX_TABLES { said } else { !said }
-}
-
-// Whether all uses of the rule hold at the position.
-pub fn uses_hold(rules: &[u64], rule: usize, position: u64) -> bool
-    requires { ⌜ IsLent (now rules) rule ⌝ }
-    ensures { λ r. ⌜ r ≡ usesHold (now (rules .entry)) rule position ⌝ }
-{
-    let mut rest = atoms::cut(uses(rules, rule), atoms::first(USE_BITS));
-    while rest != 0 {
-        let i = atoms::lowest(rest);
-        if !use_holds(rules, i, position) {
-            return false;
-        }
-        rest = atoms::drop(rest, i);
-    }
-    true
 }
 
 // The input atoms of the tables that the rule uses.

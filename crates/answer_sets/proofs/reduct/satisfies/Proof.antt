@@ -1,8 +1,8 @@
 -- A failing body, or a head atom that is up.
 use Rattle.answer_sets.proofs.Cases.{satisfies-fails, satisfies-holds}
 use borrow.Author.Needs.{needs}
-use Rattle.answer_sets.proofs.rule.satisfies.Statement.{statement}
-use Rattle.answer_sets.proofs.rule.satisfies.Tie as tie
+use Rattle.answer_sets.proofs.reduct.satisfies.Statement.{statement}
+use Rattle.answer_sets.proofs.reduct.satisfies.Tie as tie
 
 returns : tie.Need-returns
 returns c = satisfies-fails _ _ _ (c .before .body-holds .ensures) (c .if1 .taken)
