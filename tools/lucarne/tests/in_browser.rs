@@ -1,12 +1,18 @@
 //! Pages in a browser: what is shown for a question is what the list holds.
 
-use crate::browser::Browser;
+use crate::browser::{Browser, Lost};
+use crate::fresh::Fresh;
 use crate::tally::Tally;
 use lucarne::group::Group;
 use lucarne::json::{quoted, Value};
 use lucarne::program::Atom;
 use lucarne::show::{page, svg};
 use std::fs;
+use std::path::Path;
+use std::time::{Duration, Instant};
+
+/// So long a page may take to show what was asked.
+const A_WHILE: Duration = Duration::from_secs(2);
 
 /// What a page shows: the answer, the rows that are not hidden, the counts at the foot, and which relays are asked.
 const STATE: &str = "{answer: document.getElementById('answer').textContent,
@@ -30,27 +36,34 @@ const PICTURE: &str = "[document.documentElement.nodeName, ...['.unit', '.link',
 /// A question: relays with whether they are up.
 type Question = Vec<(Atom, bool)>;
 
-pub fn try_all(groups: &[Group], program: &str, folder: &str, tally: &mut Tally) {
+/// Tries the pages of all groups; the browser is lost where it opens no page at all.
+pub fn try_all(groups: &[Group], program: &str, folder: &str, tally: &mut Tally) -> Result<(), Lost> {
     let folder = fs::canonicalize(folder).expect("a folder");
-    let profile = folder.join("browser");
-    let mut browser = Browser::start(program, &profile.to_string_lossy());
+    let mut fresh = Fresh::start(program, &folder)?;
     for (place, group) in groups.iter().enumerate() {
-        let file = |ending: &str| folder.join(format!("page-{}.{}", place, ending));
-        fs::write(file("html"), page::show(group, None)).expect("a page is written");
-        fs::write(file("svg"), svg::show(group)).expect("a picture is written");
-        let mut tried = Tried { group, browser: &mut browser, tally, url: format!("file://{}", file("html").display()) };
-        tried.all();
-        tried.picture(&format!("file://{}", file("svg").display()));
+        let url = written_to(&folder, place, "html", &page::show(group, None));
+        let picture = written_to(&folder, place, "svg", &svg::show(group));
+        fresh.work(&url, tally, |browser, tally| {
+            let mut tried = Tried { group, browser, tally, url: url.clone() };
+            tried.all()?;
+            tried.picture(&picture)
+        })?;
     }
     // Last, since a browser that reads aloud is slower from then on.
     for (place, group) in groups.iter().enumerate().filter(|(_, group)| group.title.starts_with("plans/")) {
-        let url = format!("file://{}", folder.join(format!("page-{}.html", place)).display());
-        Tried { group, browser: &mut browser, tally, url }.headings();
+        let url = written_to(&folder, place, "html", &page::show(group, None));
+        fresh.work(&url, tally, |browser, tally| Tried { group, browser, tally, url: url.clone() }.headings())?;
     }
     tally.must_have("clicks");
     tally.must_have("questions");
-    drop(browser);
-    drop(fs::remove_dir_all(profile));
+    Ok(())
+}
+
+/// Writes the page of a group; its address.
+fn written_to(folder: &Path, place: usize, ending: &str, text: &str) -> String {
+    let path = folder.join(format!("page-{}.{}", place, ending));
+    fs::write(&path, text).expect("a page is written");
+    format!("file://{}", path.display())
 }
 
 struct Tried<'a> {
@@ -62,45 +75,47 @@ struct Tried<'a> {
 
 impl<'a> Tried<'a> {
     /// Samples and names with signs of HTML are tried in every way, the others by the address and by a click.
-    fn all(&mut self) {
+    fn all(&mut self) -> Result<(), Lost> {
         let is_sample = self.group.title.starts_with("plans/");
-        self.asked();
+        self.asked()?;
         if is_sample || self.group.title.contains("hostile") {
-            self.open("");
-            self.shows(&Vec::new(), "the page as it opens");
-            self.texts();
-            self.clicks();
-            self.typed();
+            self.open("")?;
+            self.shows(&Vec::new(), "the page as it opens")?;
+            self.texts()?;
+            self.clicks()?;
+            self.typed()?;
             self.quiet();
         }
         if is_sample {
-            self.keys();
-            self.printed();
-            self.without_script();
+            self.keys()?;
+            self.printed()?;
+            self.without_script()?;
         }
+        Ok(())
     }
 
     /// Questions in the address: the page is opened with the first, the others are put in its place, and a click makes the last one another.
-    fn asked(&mut self) {
+    fn asked(&mut self) -> Result<(), Lost> {
         let relays = self.group.shown();
         let questions = questions(&relays);
-        self.open(&written(self.group, &questions[0]));
+        self.open(&written(self.group, &questions[0]))?;
         for (place, question) in questions.iter().enumerate() {
             if place > 0 {
-                self.browser.evaluate(&format!("location.hash = {}", quoted(&written(self.group, question))));
+                self.browser.evaluate(&format!("location.hash = {}", quoted(&written(self.group, question))))?;
             }
-            self.shows(question, "a question in the address");
+            self.shows(question, "a question in the address")?;
             self.tally.count("questions", 1);
         }
         if let [.., (last, true)] = questions[questions.len() - 1].as_slice() {
-            self.click(relays.len() - 1);
-            self.shows(&vec![(*last, false)], "a click on what was asked");
+            self.click(relays.len() - 1)?;
+            self.shows(&vec![(*last, false)], "a click on what was asked")?;
         }
         self.quiet();
+        Ok(())
     }
 
-    fn open(&mut self, question: &str) {
-        self.browser.open(&self.url, question);
+    fn open(&mut self, question: &str) -> Result<(), Lost> {
+        self.browser.open(&self.url, question)
     }
 
     fn check(&mut self, fits: bool, what: &str, told: &Value) {
@@ -108,13 +123,17 @@ impl<'a> Tried<'a> {
         self.tally.check(fits, what, || format!("{}: {:?}", title, told));
     }
 
-    /// The page must show what the list holds for a question.
-    fn shows(&mut self, question: &Question, what: &str) {
-        let state = self.browser.evaluate(STATE);
+    /// The page must show what the list holds for a question, on a busy machine after a while.
+    fn shows(&mut self, question: &Question, what: &str) -> Result<(), Lost> {
         let wanted = expected(self.group, question);
-        let fits = state == wanted;
+        let start = Instant::now();
+        let mut state = self.browser.evaluate(STATE)?;
+        while state != wanted && start.elapsed() < A_WHILE {
+            state = self.browser.evaluate(STATE)?;
+        }
         let title = &self.group.title;
-        self.tally.check(fits, what, || format!("{} {:?}\n{:?}\n{:?}", title, question, state, wanted));
+        self.tally.check(state == wanted, what, || format!("{} {:?}\n{:?}\n{:?}", title, question, state, wanted));
+        Ok(())
     }
 
     /// Nothing but the page itself is asked for, and nothing is logged.
@@ -131,8 +150,8 @@ impl<'a> Tried<'a> {
     }
 
     /// Labels and rules are text, and no script but the page's own has run.
-    fn texts(&mut self) {
-        let told = self.browser.evaluate(TEXTS);
+    fn texts(&mut self) -> Result<(), Lost> {
+        let told = self.browser.evaluate(TEXTS)?;
         let group = self.group;
         let texts = |texts: Vec<String>| Value::List(texts.into_iter().map(Value::Text).collect());
         let labels = texts(group.shown().iter().map(|&atom| group.program.label(atom).to_string()).collect());
@@ -147,12 +166,13 @@ impl<'a> Tried<'a> {
         let fits = told.get("hacked") == Some(&Value::Bool(false)) && told.get("scripts") == Some(&Value::Number(1.0));
         self.check(fits && told.get("title").and_then(Value::text) == Some(group.title.as_str()), "more than text comes from the sheets", &told);
         self.check(told.get("labels") == Some(&labels) && told.get("rules") == Some(&rules), "labels or rules are not those of the sheets", &told);
+        Ok(())
     }
 
     /// What a reader aloud gets: headings of columns and rows by name, and cells in words.
-    fn headings(&mut self) {
-        self.open("");
-        let tree = self.browser.send("Accessibility.getFullAXTree", "{}");
+    fn headings(&mut self) -> Result<(), Lost> {
+        self.open("")?;
+        let tree = self.browser.send("Accessibility.getFullAXTree", "{}")?;
         let nodes = tree.get("nodes").map_or(&[] as &[Value], Value::list);
         let value = |node: &Value, field: &str| node.get(field).and_then(|field| field.get("value")).and_then(Value::text).unwrap_or_default().to_string();
         let names = |role: &str| nodes.iter().filter(|node| value(node, "role") == role).map(|node| value(node, "name")).collect::<Vec<_>>();
@@ -170,118 +190,124 @@ impl<'a> Tried<'a> {
         self.check(counted == ups as usize, "the cells do not say up", &Value::Number(counted as f64));
         let buttons = names("button").iter().filter(|name| labels.contains(&name.as_str())).count();
         self.check(buttons == labels.len(), "a relay has no button", &Value::Number(buttons as f64));
+        Ok(())
     }
 
     /// Clicks on two relays, each up, dropped and either.
-    fn clicks(&mut self) {
+    fn clicks(&mut self) -> Result<(), Lost> {
         let relays = self.group.shown();
         let chosen: Vec<usize> = if relays.len() > 1 { vec![relays.len() / 2, 0] } else { (0..relays.len()).collect() };
         let mut question = Question::new();
         for &place in &chosen {
             for up in [true, false] {
-                self.click(place);
+                self.click(place)?;
                 question.retain(|(atom, _)| *atom != relays[place]);
                 question.push((relays[place], up));
-                self.shows(&question, "a click");
+                self.shows(&question, "a click")?;
             }
         }
         for &place in &chosen {
-            self.click(place);
+            self.click(place)?;
             question.retain(|(atom, _)| *atom != relays[place]);
-            self.shows(&question, "a click for either");
+            self.shows(&question, "a click for either")?;
         }
+        Ok(())
     }
 
-    fn click(&mut self, place: usize) {
+    fn click(&mut self, place: usize) -> Result<(), Lost> {
         let middle = format!(
             "(() => {{ const button = document.querySelectorAll('#grid thead button')[{}]; button.scrollIntoView({{block: 'center', inline: 'center'}});
                const box = button.getBoundingClientRect(); return [box.x + box.width / 2, box.y + box.height / 2]; }})()",
             place
         );
-        let middle = self.browser.evaluate(&middle);
+        let middle = self.browser.evaluate(&middle)?;
         if let [Value::Number(x), Value::Number(y)] = middle.list() {
-            self.browser.click(*x, *y);
+            self.browser.click(*x, *y)?;
             self.tally.count("clicks", 1);
         }
+        Ok(())
     }
 
     /// The first relay by the tabulator and the space bar, the next by an arrow and Enter.
-    fn keys(&mut self) {
+    fn keys(&mut self) -> Result<(), Lost> {
         let relays = self.group.shown();
         if relays.len() < 2 {
-            return;
+            return Ok(());
         }
-        self.open("");
+        self.open("")?;
         for _ in 0..10 {
-            self.browser.press("Tab", 9, "");
-            if self.browser.evaluate("document.activeElement === document.querySelector('#grid thead button')") == Value::Bool(true) {
+            self.browser.press("Tab", 9, "")?;
+            if self.browser.evaluate("document.activeElement === document.querySelector('#grid thead button')")? == Value::Bool(true) {
                 break;
             }
         }
-        self.browser.press(" ", 32, " ");
-        self.shows(&vec![(relays[0], true)], "the space bar");
-        self.browser.press("ArrowRight", 39, "");
-        self.browser.press("Enter", 13, "\r");
-        self.shows(&vec![(relays[0], true), (relays[1], true)], "an arrow and Enter");
+        self.browser.press(" ", 32, " ")?;
+        self.shows(&vec![(relays[0], true)], "the space bar")?;
+        self.browser.press("ArrowRight", 39, "")?;
+        self.browser.press("Enter", 13, "\r")?;
+        self.shows(&vec![(relays[0], true), (relays[1], true)], "an arrow and Enter")
     }
 
     /// A question that is typed, all positions again, and a relay that is not there.
-    fn typed(&mut self) {
+    fn typed(&mut self) -> Result<(), Lost> {
         let relays = self.group.shown();
         let last = match relays.last() {
             Some(&last) => last,
-            None => return,
+            None => return Ok(()),
         };
-        self.browser.evaluate("document.getElementById('question').focus()");
-        self.browser.send("Input.insertText", &format!("{{\"text\":{}}}", quoted(&format!(" not {} ", self.group.program.name(last)))));
-        self.browser.press("Enter", 13, "\r");
-        self.shows(&vec![(last, false)], "a typed question");
-        self.browser.evaluate("document.getElementById('clear').click()");
-        self.shows(&Vec::new(), "all positions again");
-        self.browser.evaluate("location.hash = 'nobody'");
-        let told = self.browser.evaluate("document.getElementById('answer').textContent");
+        self.browser.evaluate("document.getElementById('question').focus()")?;
+        self.browser.send("Input.insertText", &format!("{{\"text\":{}}}", quoted(&format!(" not {} ", self.group.program.name(last)))))?;
+        self.browser.press("Enter", 13, "\r")?;
+        self.shows(&vec![(last, false)], "a typed question")?;
+        self.browser.evaluate("document.getElementById('clear').click()")?;
+        self.shows(&Vec::new(), "all positions again")?;
+        self.browser.evaluate("location.hash = 'nobody'")?;
+        let told = self.browser.evaluate("document.getElementById('answer').textContent")?;
         self.check(told.text().map_or(false, |text| text.ends_with("Not asked: no relay is called nobody")), "a relay that is not there", &told);
+        Ok(())
     }
 
     /// On paper the headings come again on each sheet, and what asks is left out.
-    fn printed(&mut self) {
-        self.browser.send("Emulation.setEmulatedMedia", "{\"media\":\"print\"}");
-        let told = self.browser.evaluate(PRINTED);
+    fn printed(&mut self) -> Result<(), Lost> {
+        self.browser.send("Emulation.setEmulatedMedia", "{\"media\":\"print\"}")?;
+        let told = self.browser.evaluate(PRINTED)?;
         let text = format!("{:?}", told);
         let parts: Vec<String> = told.list().iter().map(|part| format!("{:?}", part)).collect();
         let wanted = [(0, "table-header-group"), (1, "none"), (2, "visible"), (2, "none")];
         let fits = wanted.iter().all(|&(place, word)| parts.get(place).map_or(false, |part| part.contains(word)));
         self.check(fits, "the page does not print well", &Value::Text(text));
-        self.browser.send("Emulation.setEmulatedMedia", "{\"media\":\"\"}");
+        self.browser.send("Emulation.setEmulatedMedia", "{\"media\":\"\"}").map(drop)
     }
 
     /// Without scripts all positions stand there.
-    fn without_script(&mut self) {
-        self.browser.send("Emulation.setScriptExecutionDisabled", "{\"value\":true}");
-        self.open("");
-        let root = self.browser.send("DOM.getDocument", "{}");
+    fn without_script(&mut self) -> Result<(), Lost> {
+        self.browser.send("Emulation.setScriptExecutionDisabled", "{\"value\":true}")?;
+        self.open("")?;
+        let root = self.browser.send("DOM.getDocument", "{}")?;
         let root = root.get("root").and_then(|root| root.get("nodeId")).cloned().unwrap_or(Value::Null);
         let count = |browser: &mut Browser, what: &str| {
             let number = if let Value::Number(number) = root { number } else { 0.0 };
-            let found = browser.send("DOM.querySelectorAll", &format!("{{\"nodeId\":{},\"selector\":{}}}", number, quoted(what)));
-            found.get("nodeIds").map_or(0, |ids| ids.list().len())
+            let found = browser.send("DOM.querySelectorAll", &format!("{{\"nodeId\":{},\"selector\":{}}}", number, quoted(what)))?;
+            Ok(found.get("nodeIds").map_or(0, |ids| ids.list().len()))
         };
-        let rows = count(self.browser, "#grid tbody tr:not([hidden])");
-        let forms = count(self.browser, "form[hidden]");
-        self.browser.send("Emulation.setScriptExecutionDisabled", "{\"value\":false}");
+        let rows = count(self.browser, "#grid tbody tr:not([hidden])")?;
+        let forms = count(self.browser, "form[hidden]")?;
+        self.browser.send("Emulation.setScriptExecutionDisabled", "{\"value\":false}")?;
         self.check(rows == self.group.listing.positions.len() && forms == 1, "the list is not there without scripts", &Value::Number(rows as f64));
+        Ok(())
     }
 
     /// The picture alone is sound, and marks what is joined.
-    fn picture(&mut self, url: &str) {
-        self.browser.open(url, "");
-        let told = self.browser.evaluate(PICTURE);
+    fn picture(&mut self, url: &str) -> Result<(), Lost> {
+        self.browser.open(url, "")?;
+        let told = self.browser.evaluate(PICTURE)?;
         let layout = &self.group.layout;
         let numbers = [layout.units.len(), layout.edges.len(), layout.units.iter().filter(|unit| unit.is_joined).count()];
         let mut wanted = vec![Value::Text("svg".to_string())];
         wanted.extend(numbers.iter().map(|&number| Value::Number(number as f64)));
         wanted.push(Value::Bool(false));
         self.check(told == Value::List(wanted), "the picture is not that of the units", &told);
+        Ok(())
     }
 }
 

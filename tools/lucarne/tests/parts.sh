@@ -76,11 +76,15 @@ try_sessions() {
     done
 }
 
-# try_drawn NAME FOLDER OPERANDS..: a drawn test; its comparisons count.
+# try_drawn NAME FOLDER OPERANDS..: a drawn test; its comparisons count, and what it skips with a word.
 try_drawn() {
     local output
-    output=$("$2/test-$1" "${@:3}" 2>&1)
-    [ $? = 0 ] || printf '%s\n' "$output"
+    if output=$("$2/test-$1" "${@:3}" 2>&1); then
+        grep '^note: \|^skipped, ' <<<"$output"
+    else
+        printf '%s\n' "$output"
+    fi
+    skipped=$((skipped + $(grep -c '^skipped, ' <<<"$output")))
     count_last "$output" "$1"
 }
 
