@@ -4,6 +4,7 @@ use crate::group::Group;
 use crate::limits::{MAX_ATOMS, MAX_RULES, MAX_TABLES, MAX_UNITS};
 use crate::plan;
 use crate::program::Atom;
+use crate::show::html::counted;
 
 pub fn explain(group: &Group) -> String {
     let parts = [summary(group), units(group), links(group), changes(group), helpers(group), tables(group), keys(group)];
@@ -13,21 +14,21 @@ pub fn explain(group: &Group) -> String {
 fn summary(group: &Group) -> String {
     let atoms = group.program.used_atoms();
     let helpers = atoms.iter().filter(|&&atom| group.program.atoms[atom].is_helper).count();
-    let listed =
-        if group.listing.unit_counts.is_empty() { "no list".to_string() } else { format!("{} positions", group.listing.positions.len()) };
+    let listed = counted(group.listing.positions.len(), "position", "positions");
+    let listed = if group.listing.unit_counts.is_empty() { "no list".to_string() } else { listed };
     format!(
-        "{}; {} of {} rules, {} relays and {} helpers of {}, {} of {} contact tables, {} of {} units, {} links, {} bytes\n",
+        "{}; {} of {} rules, {} and {} of {}, {} of {} contact tables, {} of {} units, {}, {} bytes\n",
         listed,
         group.program.rules.len(),
         MAX_RULES,
-        atoms.len() - helpers,
-        helpers,
+        counted(atoms.len() - helpers, "relay", "relays"),
+        counted(helpers, "helper", "helpers"),
         MAX_ATOMS,
         group.program.tables.len(),
         MAX_TABLES,
         group.layout.units.len(),
         MAX_UNITS,
-        group.layout.edges.len(),
+        counted(group.layout.edges.len(), "link", "links"),
         group.plan.bytes.len()
     )
 }
@@ -35,7 +36,7 @@ fn summary(group: &Group) -> String {
 fn units(group: &Group) -> String {
     let mut out = String::new();
     for (number, unit) in group.layout.units.iter().enumerate() {
-        let positions = group.listing.unit_counts.get(number).map_or(String::new(), |count| format!(", {} positions", count));
+        let positions = group.listing.unit_counts.get(number).map_or(String::new(), |&count| format!(", {}", counted(count as usize, "position", "positions")));
         out += &format!("unit {}: {}{}\n", number, unit.name, positions);
         let mut last = String::new();
         for &rule in &unit.rules {
@@ -79,12 +80,13 @@ fn changes(group: &Group) -> String {
 
 /// Each helper with the rules that drive it.
 fn helpers(group: &Group) -> String {
-    let mut out = String::new();
-    for &atom in group.plan.atoms.iter().filter(|&&atom| group.program.atoms[atom].is_helper) {
-        let rules = group.program.rules.iter().filter(|rule| rule.head.contains(&atom));
-        let written: Vec<String> = rules.map(|rule| group.program.written(rule)).collect();
-        let told = if written.is_empty() { "always up".to_string() } else { written.join(" ") };
-        out += &format!("helper {}: {}\n", group.program.name(atom), told);
+    let (program, mut out) = (&group.program, String::new());
+    for atom in group.helpers() {
+        let rules = program.rules.iter().filter(|rule| rule.head.contains(&atom));
+        let written: Vec<String> = rules.map(|rule| program.written(rule)).collect();
+        let undriven = if program.keys.contains_key(&atom) { "always up" } else { "dropped in every position" };
+        let told = if written.is_empty() { undriven.to_string() } else { written.join(" ") };
+        out += &format!("helper {}: {}\n", program.name(atom), told);
     }
     out
 }

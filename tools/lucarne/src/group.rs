@@ -127,6 +127,12 @@ impl Group {
         self.plan.atoms.iter().copied().filter(|atom| self.program.is_shown(*atom) && used.contains(atom)).collect()
     }
 
+    /// The helpers that rules have, in the order of bits; a plan of bytes has a place for 64 atoms in any case.
+    pub fn helpers(&self) -> Vec<Atom> {
+        let used = self.program.used_atoms();
+        self.plan.atoms.iter().copied().filter(|atom| self.program.atoms[*atom].is_helper && used.contains(atom)).collect()
+    }
+
     /// Names of the facts outside the plan that show.
     pub fn shown_always(&self) -> Vec<&str> {
         self.program.always.iter().map(String::as_str).filter(|name| self.program.is_shown_name(name)).collect()

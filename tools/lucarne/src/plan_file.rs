@@ -40,7 +40,8 @@ pub fn names(group: &Group) -> String {
             .enumerate()
             .map(|(number, rule)| format!("rule\t{}\t{}\t{}", number, rule.place(), rule.text.replace('\t', " "))),
     );
-    lines.extend(program.always.iter().map(|name| format!("always\t\t{}", name)));
+    // What shows of a plan's facts stands in no byte of it.
+    lines.extend(group.shown_always().iter().map(|name| format!("always\t\t{}", name)));
     lines.join("\n") + "\n"
 }
 

@@ -27,9 +27,10 @@ impl Body {
     }
 }
 
-/// Folds facts that belong to no statement, then writes out definitions until nothing changes.
+/// Folds facts that belong to no statement and atoms that nothing drives, then writes out definitions until nothing changes.
 pub fn simplify(aspif: &mut Aspif) {
     fold_facts(aspif);
+    while fold_undriven(aspif) {}
     while write_out_one(aspif) {}
     aspif.rules.retain(|rule| !rule.body.is_contradictory());
     just_one(aspif);
@@ -42,24 +43,40 @@ fn fold_facts(aspif: &mut Aspif) {
     let named = facts.iter().filter_map(|fact| aspif.names.remove(fact));
     let named: Vec<String> = named.collect();
     aspif.always.extend(named);
-    aspif.rules.retain_mut(|rule| {
-        let is_met = !rule.is_choice && rule.heads.iter().any(|head| facts.contains(head));
-        let is_idle = rule.body.literals.iter().any(|literal| facts.contains(&-literal));
-        rule.heads.retain(|head| !facts.contains(head));
-        rule.body.literals.retain(|literal| !facts.contains(literal));
-        rule.body.sums.iter_mut().for_each(|(sum, _)| fold_sum(sum, &facts));
-        !is_met && !is_idle && !(rule.is_choice && rule.heads.is_empty())
-    });
+    fold(&mut aspif.rules, &facts);
     let aliases = std::mem::take(&mut aspif.aliases);
     let (up, others): (Vec<_>, Vec<_>) = aliases.into_iter().partition(|(_, atom)| facts.contains(atom));
     aspif.always.extend(up.into_iter().map(|(name, _)| name));
     aspif.aliases = others;
 }
 
-fn fold_sum(sum: &mut Sum, facts: &BTreeSet<Literal>) {
-    let reached: i64 = sum.parts.iter().filter(|(literal, _)| facts.contains(literal)).map(|(_, weight)| weight).sum();
+/// A nameless atom in no head is dropped in every position. gringo leaves some in bodies, such as -a where no rule for it is left, and then adds
+/// `:- a, -a` too.
+fn fold_undriven(aspif: &mut Aspif) -> bool {
+    let heads = aspif.rules.iter().flat_map(|rule| rule.heads.iter().copied());
+    let driven: BTreeSet<Literal> = heads.chain(aspif.externals.iter().map(|&(atom, _)| atom)).chain(aspif.names.keys().copied()).collect();
+    let atoms = aspif.rules.iter().flat_map(RawRule::atoms);
+    let dropped: BTreeSet<Literal> = atoms.filter(|atom| !driven.contains(atom)).map(|atom| -atom).collect();
+    fold(&mut aspif.rules, &dropped);
+    !dropped.is_empty()
+}
+
+/// Takes literals that hold in every position out of all rules, and rules that they make idle.
+fn fold(rules: &mut Vec<RawRule>, sure: &BTreeSet<Literal>) {
+    rules.retain_mut(|rule| {
+        let is_met = !rule.is_choice && rule.heads.iter().any(|head| sure.contains(head));
+        let is_idle = rule.body.literals.iter().any(|literal| sure.contains(&-literal));
+        rule.heads.retain(|head| !sure.contains(head));
+        rule.body.literals.retain(|literal| !sure.contains(literal));
+        rule.body.sums.iter_mut().for_each(|(sum, _)| fold_sum(sum, sure));
+        !is_met && !is_idle && !(rule.is_choice && rule.heads.is_empty())
+    });
+}
+
+fn fold_sum(sum: &mut Sum, sure: &BTreeSet<Literal>) {
+    let reached: i64 = sum.parts.iter().filter(|(literal, _)| sure.contains(literal)).map(|(_, weight)| weight).sum();
     sum.bound -= reached;
-    sum.parts.retain(|(literal, _)| !facts.contains(literal) && !facts.contains(&-literal));
+    sum.parts.retain(|(literal, _)| !sure.contains(literal) && !sure.contains(&-literal));
 }
 
 /// Where atoms stand: how many heads, and which rules have them in a body or a sum.

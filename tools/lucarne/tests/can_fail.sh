@@ -42,7 +42,7 @@ with_mistake() {
     fi
 }
 
-# The quick parts; drawn sheets where the mistake shows in nothing else.
+# The quick parts; drawn sheets, and pages in a browser, where the mistake shows in nothing else.
 try_copy() {
     try_sessions "$work" ""
     [ "$failed" = 0 ] || return 0
@@ -52,6 +52,10 @@ try_copy() {
     [ "$failed" = 0 ] || return 0
     if is_there clingo "drawn sheets"; then
         try_drawn sheets "$work" 300 1
+    fi
+    [ "$failed" = 0 ] || return 0
+    if is_there chromium "pages in a browser"; then
+        try_drawn page "$work" browser chromium "$work"
     fi
 }
 
@@ -64,6 +68,14 @@ with_mistake "a table's truth word in the order of the sheet" plan.rs 'order.sor
 with_mistake "a label in the page is more than text" show/html.rs "'<' => out += \"&lt;\"" "'<' => out.push(sign)"
 with_mistake "the page leaves a position out" show/page/grid.rs 'positions.iter().enumerate().map(row)' 'positions.iter().enumerate().skip(1).map(row)'
 with_mistake "the page has another plan" show/page/bytes.rs 'let bytes = &group.plan.bytes;' 'let bytes = &group.plan.bytes[1..].to_vec();'
+with_mistake "the page counts what is hidden" show/page/page.js 'const count = shown.filter' 'const count = rows.filter'
+with_mistake "a question in the address is not asked" show/page/page.js 'const text = location.hash.slice(1);' 'const text = "";'
+with_mistake "a click on a relay asks nothing" show/page/page.js "addEventListener('click', () => turn" "addEventListener('dblclick', () => turn"
+with_mistake "the largest reading is that of hidden positions" show/page/page.js 'const values = shown.map' 'const values = rows.map'
+with_mistake "the headings are not printed anew" show/page/page.css '#grid thead{display:table-header-group}' '#grid thead{display:table-row-group}'
+with_mistake "facts that do not show are in the compiled plan" plan_file.rs 'group.shown_always()' 'program.always'
+with_mistake "helpers that no rule has are told" group.rs 'is_helper && used.contains(atom)' 'is_helper'
+with_mistake "an opposite that nothing drives is kept" simplify.rs 'while fold_undriven(aspif) {}' 'let _ = fold_undriven;'
 with_mistake "units of a picture stand on each other" show/graph.rs '/ 2.0 + GAP' '/ 4.0'
 with_mistake "a constraint is worked on its own sheet" layout.rs 'let place = self.best_place(&wants, self.own(rule));' 'let place = self.own(rule);'
 with_mistake "heads make no link" program.rs 'rule.head.iter().chain(&rule.pos)' 'rule.pos.iter()'

@@ -3,6 +3,7 @@
 use crate::browser::{Browser, Lost};
 use crate::fresh::Fresh;
 use crate::tally::Tally;
+use crate::text_of_pages::readings_of;
 use lucarne::group::Group;
 use lucarne::json::{quoted, Value};
 use lucarne::program::Atom;
@@ -29,6 +30,10 @@ const TEXTS: &str = "{hacked: 'hacked' in window, scripts: document.scripts.leng
 const PRINTED: &str = "['#grid thead', '#ask', '.scroll'].map((name) => getComputedStyle(document.querySelector(name)))
   .map((style) => [style.display, style.overflow, style.maxHeight])";
 
+/// The readings of the rows that are not hidden, and the foot's word on them.
+const READINGS: &str = "[[...document.querySelectorAll('#grid tbody tr')].filter((row) => row.getClientRects().length)
+    .map((row) => Number(row.cells[1].dataset.v ?? -1)), document.querySelector('#grid tfoot').rows[0].cells[1].textContent]";
+
 /// What stands in a picture.
 const PICTURE: &str = "[document.documentElement.nodeName, ...['.unit', '.link', '.joined'].map((name) => document.querySelectorAll(name).length),
   'hacked' in window]";
@@ -43,10 +48,12 @@ pub fn try_all(groups: &[Group], program: &str, folder: &str, tally: &mut Tally)
     for (place, group) in groups.iter().enumerate() {
         let url = written_to(&folder, place, "html", &page::show(group, None));
         let picture = written_to(&folder, place, "svg", &svg::show(group));
+        let with_readings = written_to(&folder, place, "readings.html", &page::show(group, Some(&readings_of(group))));
         fresh.work(&url, tally, |browser, tally| {
             let mut tried = Tried { group, browser, tally, url: url.clone() };
             tried.all()?;
-            tried.picture(&picture)
+            tried.picture(&picture)?;
+            tried.readings(&with_readings)
         })?;
     }
     // Last, since a browser that reads aloud is slower from then on.
@@ -297,6 +304,19 @@ impl<'a> Tried<'a> {
         Ok(())
     }
 
+    /// Readings stand beside the positions that are shown, and the foot has the largest of them.
+    fn readings(&mut self, url: &str) -> Result<(), Lost> {
+        let (group, tenths) = (self.group, readings_of(self.group).tenths);
+        let question: Question = group.shown().last().map(|&last| (last, false)).into_iter().collect();
+        self.browser.open(url, &written(group, &question))?;
+        let told = self.browser.evaluate(READINGS)?;
+        let shown: Vec<Option<u64>> = shown_for(group, &question).into_iter().map(|place| tenths[place]).collect();
+        let most = shown.iter().flatten().max().map_or(String::new(), |most| format!("most {}.{}", most / 10, most % 10));
+        let values = shown.iter().map(|tenths| Value::Number(tenths.map_or(-1.0, |tenths| tenths as f64))).collect();
+        self.check(told == Value::List(vec![Value::List(values), Value::Text(most)]), "other readings than those of the positions", &told);
+        Ok(())
+    }
+
     /// The picture alone is sound, and marks what is joined.
     fn picture(&mut self, url: &str) -> Result<(), Lost> {
         self.browser.open(url, "")?;
@@ -337,14 +357,22 @@ fn told_of(group: &Group, before: &[(Atom, bool)], &(atom, up): &(Atom, bool)) -
     format!("{} {}", group.program.label(atom), if is_contrary { "both up and dropped" } else if up { "up" } else { "dropped" })
 }
 
+fn is_up(group: &Group, place: usize, atom: Atom) -> bool {
+    group.plan.word(&[atom]) & group.listing.positions[place] != 0
+}
+
+/// The places of the positions that a question fits.
+fn shown_for(group: &Group, question: &Question) -> Vec<usize> {
+    (0..group.listing.positions.len()).filter(|&place| question.iter().all(|&(atom, up)| is_up(group, place, atom) == up)).collect()
+}
+
 /// What a page must show for a question, worked out from the list.
 fn expected(group: &Group, question: &Question) -> Value {
-    let is_up = |position: u64, atom: Atom| group.plan.word(&[atom]) & position != 0;
     let all = &group.listing.positions;
-    let shown: Vec<usize> = (0..all.len()).filter(|&place| question.iter().all(|&(atom, up)| is_up(all[place], atom) == up)).collect();
+    let shown = shown_for(group, question);
     let relays = group.shown();
     let count = |&atom: &Atom| {
-        let count = shown.iter().filter(|&&place| is_up(all[place], atom)).count();
+        let count = shown.iter().filter(|&&place| is_up(group, place, atom)).count();
         Value::Text(format!("{}{}", count, if count > 0 && count == shown.len() { "all" } else { "" }))
     };
     let asked = |&atom: &Atom| {

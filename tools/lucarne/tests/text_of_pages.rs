@@ -50,8 +50,8 @@ fn between(text: &str, start: &str, end: &str) -> Option<String> {
     Some(rest[..rest.find(end)?].to_string())
 }
 
-/// Readings stand beside the positions, those above the limit by a word.
-fn try_readings(group: &Group, tally: &mut Tally) {
+/// A reading for each position, but where there are some the first was not measured; those above the limit are all but two.
+pub fn readings_of(group: &Group) -> Readings {
     let count = group.listing.positions.len();
     let mut readings = Readings { tenths: (0..count as u64).map(Some).collect(), limit: Some(1), source: "<run>".to_string(), ..Readings::default() };
     if count > 2 {
@@ -59,6 +59,12 @@ fn try_readings(group: &Group, tally: &mut Tally) {
         readings.above = (2..count).collect();
         readings.largest = Some((count as u64 - 1, count - 1));
     }
+    readings
+}
+
+/// Readings stand beside the positions, those above the limit by a word.
+fn try_readings(group: &Group, tally: &mut Tally) {
+    let (count, readings) = (group.listing.positions.len(), readings_of(group));
     let html = page::show(group, Some(&readings));
     let mut check = |fits: bool, what: &str| tally.check(fits, what, || group.title.clone());
     check(html.matches("data-v=").count() == readings.tenths.iter().flatten().count(), "a reading is missing");

@@ -41,7 +41,7 @@ fn ours(group: &Group) -> Vec<String> {
         .filter(|(&atom, _)| !program.atoms[atom].is_helper)
         .map(|(&atom, key)| (program.name(atom), setting(key.setting)))
         .collect();
-    let helpers = group.plan.atoms.iter().filter(|&&atom| program.atoms[atom].is_helper).map(|&atom| program.name(atom));
+    let helpers = group.helpers().into_iter().map(|atom| program.name(atom));
     vec![
         format!("    \"relays\": {}", texts(group.shown().into_iter().map(|atom| program.name(atom)))),
         format!("    \"labels\": {}", pairs(labels)),
