@@ -12,10 +12,10 @@ tools/lucarne/build.sh target/lucarne/lucarne
 rm -rf "$root"
 install -d "$root/DEBIAN" "$root/usr/bin" "$root/usr/share/doc/lucarne/examples" "$folder"
 install -m 755 target/lucarne/lucarne "$root/usr/bin/lucarne"
-install -m 644 tools/lucarne/README.md "$root/usr/share/doc/lucarne/README.md"
-for group in north yard found; do
+install -m 644 README.md "$root/usr/share/doc/lucarne/README.md"
+for group in north yard found story; do
     install -d "$root/usr/share/doc/lucarne/examples/$group"
-    install -m 644 "plans/$group"/*.lp "$root/usr/share/doc/lucarne/examples/$group/"
+    install -m 644 "plans/$group"/* "$root/usr/share/doc/lucarne/examples/$group/"
 done
 cat >"$root/DEBIAN/control" <<CONTROL
 Package: lucarne

@@ -130,12 +130,12 @@ impl<'a> Tried<'a> {
         self.tally.check(fits, what, || format!("{}: {:?}", title, told));
     }
 
-    /// The page must show what the list holds for a question, on a busy machine after a while.
+    /// The page must show what the list holds for a question, on a busy machine after a while. Once one has failed, none is waited for.
     fn shows(&mut self, question: &Question, what: &str) -> Result<(), Lost> {
         let wanted = expected(self.group, question);
         let start = Instant::now();
         let mut state = self.browser.evaluate(STATE)?;
-        while state != wanted && start.elapsed() < A_WHILE {
+        while state != wanted && self.tally.failed == 0 && start.elapsed() < A_WHILE {
             state = self.browser.evaluate(STATE)?;
         }
         let title = &self.group.title;
