@@ -176,8 +176,8 @@ fn check(args: &Args) -> Result<(), Fault> {
             Fault::new("no group is named").hint("name a folder of sheets, sheets (*.lp), a plan (*.plan), or - for the standard input")
         );
     }
-    if args.command == Command::Compile && args.output.is_none() {
-        return Err(Fault::new("compile needs a file to write to").hint("lucarne compile GROUP -o X.plan"));
+    if args.command == Command::Compile {
+        needs::plan_to_write(args.output.as_deref())?;
     }
     if args.check_with_clingo && args.command != Command::List {
         return Err(Fault::new("--check-with goes with list").hint("lucarne list GROUP --check-with clingo"));

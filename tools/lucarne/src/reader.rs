@@ -293,6 +293,7 @@ fn hold_bare_constraints(program: &mut Program) {
 
 fn turn_keys(program: &mut Program, turns: &Turns) -> Result<(), Fault> {
     let all = turns.turn.iter().map(|name| (name, Setting::Turned)).chain(turns.release.iter().map(|name| (name, Setting::Released)));
+    let mut set: BTreeMap<Atom, Setting> = BTreeMap::new();
     for (name, setting) in all {
         let by_label = program.labels.iter().find(|(_, label)| *label == name).map(|(atom, _)| atom.clone());
         let atom = program.find(&by_label.unwrap_or_else(|| name.clone())).filter(|&atom| !program.atoms[atom].is_helper);
@@ -304,6 +305,9 @@ fn turn_keys(program: &mut Program, turns: &Turns) -> Result<(), Fault> {
                 "keys are written on a sheet: #external NAME.",
             ))
         })?;
+        if *set.entry(atom).or_insert(setting) != setting {
+            return Err(Fault::new(format!("the key {} is both turned and released", name)).hint("keep one of --turn and --release for it"));
+        }
         program.keys.entry(atom).or_insert(Key { setting, sheet: None, spot: None }).setting = setting;
     }
     Ok(())

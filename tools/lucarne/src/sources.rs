@@ -5,7 +5,7 @@ use crate::fault::{Fault, Spot};
 use crate::text::statements::Sheets;
 use std::fs;
 use std::io::{self, Read};
-use std::path::Path;
+use std::path::{Path, PathBuf};
 use std::sync::Arc;
 
 pub enum Source {
@@ -28,6 +28,10 @@ pub fn load(paths: &[String]) -> Result<Source, Fault> {
     }
     if paths == [STANDARD_INPUT] {
         let text = to_text(STANDARD_INPUT, read_bytes(STANDARD_INPUT)?)?;
+        // gringo writes nothing where it stops with an error, and no rules have one position, all dropped.
+        if text.trim().is_empty() {
+            return Err(Fault::new("the standard input is empty").hint("did the program that writes it stop with an error?"));
+        }
         if aspif::is_aspif(&text) {
             return Ok(Source::Aspif(text));
         }
@@ -59,7 +63,9 @@ fn files(paths: &[String]) -> Result<Vec<String>, Fault> {
         }
         files.extend(found);
     }
-    match files.iter().enumerate().find(|(place, file)| files[..*place].contains(file)) {
+    // One file may be named in several ways.
+    let whole: Vec<PathBuf> = files.iter().map(|file| fs::canonicalize(file).unwrap_or_else(|_| PathBuf::from(file))).collect();
+    match files.iter().enumerate().find(|(place, _)| whole[..*place].contains(&whole[*place])) {
         Some((_, file)) => Err(Fault::new(format!("{} is named twice", file)).hint("name each sheet once")),
         None => Ok(files),
     }

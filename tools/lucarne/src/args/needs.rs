@@ -2,6 +2,7 @@
 
 use super::{Args, Command, OPTIONS};
 use crate::fault::Fault;
+use crate::plan_file::names_path;
 use crate::show::{Form, FORMS};
 use std::path::Path;
 
@@ -43,6 +44,16 @@ fn take_position(paths: &mut Vec<String>) -> Option<u64> {
     let position = u64::from_str_radix(last, 16).ok().filter(|_| is_word)?;
     paths.pop();
     Some(position)
+}
+
+/// A compiled plan goes to a file, and its names beside it.
+pub fn plan_to_write(output: Option<&str>) -> Result<(), Fault> {
+    let fault = match output {
+        None => Fault::new("compile needs a file to write to"),
+        Some(path) if names_path(path) == path => Fault::new(format!("{} would be both the plan and its names", path)),
+        Some(_) => return Ok(()),
+    };
+    Err(fault.hint("lucarne compile GROUP -o X.plan"))
 }
 
 /// Options that one command alone has; whether this is one of them.
