@@ -60,6 +60,7 @@ pub fn read(file: &str, text: &str) -> Result<Aspif, Fault> {
     let mut aspif = Aspif::default();
     let file: Arc<str> = Arc::from(file);
     let mut ended = false;
+    check_version(text.lines().next().unwrap_or_default(), &file)?;
     for (place, line) in text.lines().enumerate().skip(1) {
         let spot = Spot { file: file.clone(), line: place + 1, column: 1 };
         if ended && !line.is_empty() {
@@ -76,6 +77,16 @@ pub fn read(file: &str, text: &str) -> Result<Aspif, Fault> {
         return Err(Fault::at(&spot, "the ground program is cut short: its last line is not 0").hint("did gringo stop with an error?"));
     }
     Ok(aspif)
+}
+
+/// The first line: `asp 1 0 REVISION`.
+fn check_version(line: &str, file: &Arc<str>) -> Result<(), Fault> {
+    let words: Vec<&str> = line.split_ascii_whitespace().collect();
+    if matches!(words.as_slice(), ["asp", "1", "0", revision] if revision.parse::<u32>().is_ok()) {
+        return Ok(());
+    }
+    let spot = Spot { file: file.clone(), line: 1, column: 1 };
+    Err(Fault::at(&spot, "this form of ground programs is not known").text(line).hint("its first line is asp 1 0 0, as gringo 5 writes it"))
 }
 
 /// The numbers of a line, taken one after the other.
@@ -108,6 +119,11 @@ impl<'a> Numbers<'a> {
     fn many(&mut self) -> Result<Vec<i64>, Fault> {
         let count = self.count()?;
         (0..count).map(|_| self.next()).collect()
+    }
+
+    /// Nothing is left of the line.
+    fn end(&mut self) -> Result<(), Fault> {
+        self.words.next().map_or(Ok(()), |_| Err(self.wrong()))
     }
 
     fn wrong(&self) -> Fault {
@@ -144,9 +160,10 @@ fn rule(numbers: &mut Numbers) -> Result<RawRule, Fault> {
     let mut parts = body.sums.iter().flat_map(|(sum, _)| &sum.parts);
     let is_wrong =
         heads.iter().any(|&head| head <= 0) || body.literals.contains(&0) || parts.any(|&(literal, weight)| literal == 0 || weight < 0);
-    if is_wrong || numbers.words.next().is_some() {
+    if is_wrong {
         return Err(numbers.wrong());
     }
+    numbers.end()?;
     Ok(RawRule { is_choice, heads, body, statement: None, line: numbers.spot.line })
 }
 
@@ -164,8 +181,10 @@ fn output(aspif: &mut Aspif, line: &str, spot: &Spot) -> Result<(), Fault> {
     let length = numbers.count()?;
     let start = line.match_indices(' ').nth(1).map_or(line.len(), |(place, _)| place + 1);
     let name = line.get(start..start + length).ok_or_else(|| numbers.wrong())?.to_string();
-    let mut rest = Numbers { words: line.get(start + length..).unwrap_or("").split_ascii_whitespace(), spot, line };
+    let behind = line.get(start + length..).filter(|behind| behind.starts_with(' ')).ok_or_else(|| numbers.wrong())?;
+    let mut rest = Numbers { words: behind.split_ascii_whitespace(), spot, line };
     let condition = rest.many()?;
+    rest.end()?;
     if aspif.always.contains(&name) || aspif.names.values().any(|known| *known == name) {
         return Err(Fault::at(spot, format!("{} is shown a second time; only relays by name can be shown", name))
             .hint("write the name and the number of its arguments: #show lock/1."));
@@ -189,7 +208,12 @@ fn external(numbers: &mut Numbers) -> Result<(Literal, Setting), Fault> {
     let setting = match numbers.next()? {
         0 => Setting::Free,
         1 => Setting::Turned,
-        _ => Setting::Released,
+        2 | 3 => Setting::Released,
+        _ => return Err(numbers.wrong()),
     };
+    if atom <= 0 {
+        return Err(numbers.wrong());
+    }
+    numbers.end()?;
     Ok((atom, setting))
 }

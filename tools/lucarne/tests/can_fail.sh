@@ -78,6 +78,7 @@ with_mistake "helpers that no rule has are told" group.rs 'is_helper && used.con
 with_mistake "an opposite that nothing drives is kept" simplify.rs 'while fold_undriven(aspif) {}' 'let _ = fold_undriven;'
 with_mistake "an empty standard input is listed" sources.rs 'if text.trim().is_empty() {' 'if text == "nothing" {'
 with_mistake "a key is both turned and released" reader.rs 'if *set.entry(atom).or_insert(setting) != setting {' 'if set.insert(atom, setting).is_none() && false {'
+with_mistake "a line of a ground program may go on" aspif.rs '    rest.end()?;' '    let _ = rest.end();'
 with_mistake "units of a picture stand on each other" show/graph.rs '/ 2.0 + GAP' '/ 4.0'
 with_mistake "a constraint is worked on its own sheet" layout.rs 'let place = self.best_place(&wants, self.own(rule));' 'let place = self.own(rule);'
 with_mistake "heads make no link" program.rs 'rule.head.iter().chain(&rule.pos)' 'rule.pos.iter()'
