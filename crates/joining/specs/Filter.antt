@@ -2,7 +2,7 @@
 use mathlib.Core.Path.{_≡_}
 use mathlib.Core.Bool.{true}
 use mathlib.Core.List.{List}
-use Prim.Native.Nat.{ℕ, _+_, _-_, _*_, _≤_, _<_, min}
+use Prim.Native.Nat.{ℕ, _+_, _-_, _*_, _/_, _≤_, _<_, min}
 use lib.ListN.{length, getD}
 use Rattle.atoms.specs.Word.{ATOMS, Has, _⊆_, _∩_, below}
 use Rattle.plan.specs.Limits.{MAX_UNITS, LIST_WORDS}
@@ -13,7 +13,7 @@ use Rattle.joining.specs.declared.sift.Sifted.{Sifted}
 
 -- a list's filter has a bit for each of its LIST_WORDS entries, in BLOCKS words
 abbrev pub BLOCKS : ℕ
-BLOCKS = 4
+BLOCKS = LIST_WORDS / ATOMS
 
 abbrev pub FILTER_WORDS : ℕ
 FILTER_WORDS = BLOCKS * MAX_UNITS

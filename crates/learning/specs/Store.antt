@@ -6,15 +6,15 @@ use lib.ListN.{length, getD}
 use Rattle.states.specs.declared.state.State.{State}
 use Rattle.learning.specs.Nogood.{Avoids}
 
--- how many pairs propagate, how many there are, and how many words they and the advice behind them take
+-- how many pairs propagate, how many copies are kept beside them, and how many pairs there are
 abbrev pub RING : ℕ
 RING = 128
 
-abbrev pub PAIRS : ℕ
-PAIRS = 194
+abbrev pub COPIES : ℕ
+COPIES = 66
 
-abbrev pub MEMORY_WORDS : ℕ
-MEMORY_WORDS = 604
+abbrev pub PAIRS : ℕ
+PAIRS = RING + COPIES
 
 -- where the trail starts, how many steps it has and how many words each, and the word of unfounded atoms behind it
 abbrev pub TRAIL : ℕ
@@ -28,6 +28,10 @@ STEP_WORDS = 3
 
 abbrev pub UNFOUNDED : ℕ
 UNFOUNDED = TRAIL + STEP_WORDS * STEPS
+
+-- how many words the pairs and the advice behind them take, sixteen of scores last
+abbrev pub MEMORY_WORDS : ℕ
+MEMORY_WORDS = UNFOUNDED + 1 + 16
 
 -- pair i: two words
 abbrev pub pairAt : List ℕ → ℕ → State

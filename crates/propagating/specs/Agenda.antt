@@ -2,8 +2,10 @@
 use mathlib.Core.Path.{_≡_}
 use Prim.Native.Nat.{ℕ, _+_, _≤_, _<_}
 use lib.Count.{ones}
+use Rattle.atoms.specs.Word.{ATOMS}
 use Rattle.states.specs.State.{undecided}
 use Rattle.states.specs.declared.state.State.{State}
+use Rattle.narrowing.specs.Woken.{WOKEN_WORDS}
 use Rattle.propagating.specs.declared.agenda.Agenda.{Agenda}
 use Rattle.propagating.specs.declared.agenda.Taken.{Taken}
 
@@ -27,4 +29,4 @@ pub record Woken (before after : State) (a r : Agenda) : Type 0 where
 
 -- the index has a word for each atom in each of its parts
 abbrev pub INDEX_WORDS : ℕ
-INDEX_WORDS = 320
+INDEX_WORDS = WOKEN_WORDS + ATOMS

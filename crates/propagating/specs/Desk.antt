@@ -1,23 +1,24 @@
 -- Inner: the desk of a unit: its lists' head atoms, its atoms' backers and the index of woken steps in one area of words.
 use mathlib.Core.Path.{_≡_}
 use mathlib.Core.List.{List}
-use Prim.Native.Nat.{ℕ, _<_}
+use Prim.Native.Nat.{ℕ, _+_, _<_}
 use lib.ListN.{length, getD, take, drop}
 use Rattle.atoms.specs.Word.{ATOMS}
 use Rattle.plan.specs.Limits.{MAX_UNITS}
 use Rattle.narrowing.specs.Backers.{Backers}
 use Rattle.propagating.specs.Job.{Searchable}
+use Rattle.propagating.specs.Agenda.{INDEX_WORDS}
 use Rattle.propagating.specs.declared.unit.Unit.{Unit}
 
 -- where the backers and the index begin, and how many words there are
 abbrev pub BACKERS_AT : ℕ
-BACKERS_AT = 16
+BACKERS_AT = MAX_UNITS
 
 abbrev pub INDEX_AT : ℕ
-INDEX_AT = 80
+INDEX_AT = BACKERS_AT + ATOMS
 
 abbrev pub DESK_WORDS : ℕ
-DESK_WORDS = 400
+DESK_WORDS = INDEX_AT + INDEX_WORDS
 
 -- the part of the backers
 abbrev pub backersOf : List ℕ → List ℕ
