@@ -1,5 +1,10 @@
+-- The loop that is left with the constraints: one rule of it
 pub mod Sifting
+-- The pass over the constraints, as it is computed
 pub mod Passes
+-- Programs with some of a plan's constraints
 pub mod Programs
+-- What few_constraints promises is the word of the pass, and it is blamed in document 02's words
 pub mod Blames
+-- The results for the bytes of a plan
 pub mod Results

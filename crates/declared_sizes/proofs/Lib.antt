@@ -1,3 +1,6 @@
+-- A COUNT changes no answer
 pub mod Uncounted
+-- How many commands of each kind a layout has, told from its bytes alone
 pub mod Tally
+-- "a plan sent over a noisy link lost one whole EDGE and still read well"
 pub mod Lost

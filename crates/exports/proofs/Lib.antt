@@ -1,9 +1,18 @@
+-- Counts copied word by word, from the front, as far as there is room
 pub mod CopiedCounts
+-- The spot of every refusal fits into its code: a short table's length, a place in the bytes that decide, a rule or a unit
 pub mod Spots
+-- What the codes tell a host, from what the functions below promise
 pub mod HostCodes
+-- Two words handed back as far as there is room
 pub mod CommonWords
+-- Readings for hosts: what is asked by a number, the two words of what was found, and that no answer is taken for a refusal
 pub mod ReadingCodes
+-- What code and word tell a host that goes from one position to the next, from what `next_position` promises
 pub mod NextCodes
+-- The code of what `relay_rows` answers
 pub mod RowCodes
+-- What the number tells a host of a sheet, from what `judge_sheet` promises
 pub mod SheetCodes
+-- What code and word tell a host of the constraints that empty a plan, from what `blame_plan` promises
 pub mod BlameCodes

@@ -1,4 +1,8 @@
+-- Nogoods: what lies within what, what a pair that is avoided says of a state, and resolution
 pub mod Nogoods
+-- The store: what it is at first, and what a write changes
 pub mod Stores
+-- Reasons: a goal told by a step, a pair with the reason in the goal's place, and a nogood lifted over a trail
 pub mod Reasons
+-- Steps run again: what belongs to the list and completes no learnt pair survives each of them
 pub mod HeededSteps

@@ -1,2 +1,4 @@
+-- The computed answer of a contact table is what its words say
 pub mod TruthTables
+-- The record of a plan's lists means what the lists say
 pub mod RecordMeans

@@ -1,3 +1,6 @@
+-- The agenda: each step taken makes it lighter, and it grows only where an atom was decided
 pub mod Agendas
+-- The desk: its parts stand where they are looked for
 pub mod Desks
+-- Propagation: what belongs to the list survives each step, and the filter keeps its entry
 pub mod Propagation

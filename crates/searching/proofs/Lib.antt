@@ -1,5 +1,10 @@
+-- Insertion: the code's loop follows `insertInto`, which keeps a rising list rising and adds one member
 pub mod Insertion
+-- What an insertion adds to a rising list, and how the answers of two searches go together
 pub mod Gathered
+-- Cuts of wanted positions, and members that were met: the same said of other statements, and of two branches together
 pub mod Witnesses
+-- The search: what belongs to the list survives propagation, and the two ways to decide an atom together miss nothing
 pub mod SearchSteps
+-- Nodes: what is known below them, and what they hand back
 pub mod Nodes
