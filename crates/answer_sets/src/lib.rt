@@ -4,7 +4,7 @@ mod position;
 pub mod reduct;
 pub mod rule;
 pub mod rule_pass;
-pub mod smaller;
+mod smaller;
 mod tried;
 pub mod truth;
 mod uses;

@@ -13,7 +13,7 @@ ghost use Rattle.finding.specs.Few.{Constraints, NoneSettled, Tried, Bla
 ghost use Rattle.searching.specs.Witness.{Witnessed};
 
 // An answer set of the program, or that there is none.
-pub fn any(rules: &[u64], which: u64, facts: u64) -> Witness
+fn any(rules: &[u64], which: u64, facts: u64) -> Witness
     requires { ⌜ Lent (now rules) which ⌝ }
     ensures { λ r. ⌜ Witnessed (AnswerSet (lent (now (rules .entry))) which facts) r ⌝ }
 {

@@ -3,4 +3,4 @@ pub mod filter;
 pub mod join;
 mod listed;
 pub mod nearest;
-pub mod sift;
+mod sift;

@@ -26,7 +26,7 @@ pub fn refute(n: State, s: State) -> State
 }
 
 // The pair that is left of two without the atom: of the first, which has it up, and the second, which has it dropped.
-pub fn resolve(first: State, second: State, atom: usize) -> State
+fn resolve(first: State, second: State, atom: usize) -> State
     requires { ⌜ atom < ATOMS ⌝ }
     ensures is { λ r. ⌜ r ≡ resolvent first second atom ⌝ }
     ensures resolves { λ r. ⌜ Resolves first second r ⌝ }

@@ -21,7 +21,7 @@ pub const RULES_DOWN: usize = ATOMS;
 
 pub const SUPPORTS_UP: usize = 2 * ATOMS;
 
-pub const SUPPORTS_DOWN: usize = 3 * ATOMS;
+const SUPPORTS_DOWN: usize = 3 * ATOMS;
 
 pub const WOKEN_WORDS: usize = 4 * ATOMS;
 

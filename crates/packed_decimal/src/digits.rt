@@ -4,12 +4,12 @@ ghost use Prim.Native.Nat.{_≤_, _<_};
 ghost use Rattle.packed_decimal.specs.Digits.{digits, number};
 ghost use Rattle.packed_decimal.specs.Reading.{DIGITS as Reading·DIGITS, DIGIT_VALUES as Reading·DIGIT_VALUES, unpacked, packed, decimal};
 
-pub const DIGITS: usize = 4;
+const DIGITS: usize = 4;
 
 // How many values a decimal digit has, and the four bits that hold it.
-pub const TEN: u64 = 10;
+const TEN: u64 = 10;
 
-pub const DIGIT_VALUES: u64 = 16;
+const DIGIT_VALUES: u64 = 16;
 
 // How many whole numbers four decimal digits say.
 pub const MODULUS: u64 = TEN * TEN * TEN * TEN;

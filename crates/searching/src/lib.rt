@@ -2,8 +2,8 @@
 pub mod begin;
 mod dive;
 pub mod find;
-pub mod listing;
-pub mod member;
+mod listing;
+mod member;
 mod node;
 mod outlook;
 pub mod search;

@@ -21,7 +21,7 @@ ghost use Rattle.propagating.specs.Desk.{Prepared};
 ghost use Rattle.propagating.specs.Job.{Belongs, Searchable};
 
 // Whether the position belongs to the unit's list.
-pub fn belongs(
+fn belongs(
     rules: &[u64],
     table: &[u64],
     counts: &[usize],

@@ -57,7 +57,8 @@ pub fn explore(
         (Wanted (Belongs (now (rules .entry)) (now (table .entry)) (now (counts .entry)) (now (desk .entry)) (node .unit)) (node .front .state))))
         (now (list .exit)) (r .count) ⌝ }
     ensures witnessed { λ r. ⌜ (r .count ≤ LIST_WORDS → Witnessed
-        (Wanted (Belongs (now (rules .entry)) (now (table .entry)) (now (counts .entry)) (now (desk .entry)) (node .unit)) (node .front .state)) (r .witness)) ⌝ }
+        (Wanted (Belongs (now (rules .entry)) (now (table .entry)) (now (counts .entry)) (now (desk .entry)) (node .unit))
+        (node .front .state)) (r .witness)) ⌝ }
     ensures remembers { λ _. ⌜ Remembers (Belongs (now (rules .entry)) (now (table .entry)) (now (counts .entry)) (now (desk .entry)) (node .unit))
         (now (memory .exit)) ⌝ }
     ensures nogood { λ r. ⌜ Nogood (Belongs (now (rules .entry)) (now (table .entry)) (now (counts .entry)) (now (desk .entry)) (node .unit)) (r .nogood) ⌝ }

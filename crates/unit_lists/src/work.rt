@@ -54,7 +54,8 @@ fn list_one(
 ) -> bool
     requires { ⌜ Searchable (now rules) (now table) (now counts) (now heads) unit
         × (LIST_WORDS * place + LIST_WORDS ≤ length (now table)) × (place < length (now counts)) ⌝ }
-    ensures { λ r. ⌜ ListStored (λ s. CutOf shown (Wanted (Belongs (now (rules .entry)) (now (table .entry)) (now (counts .entry)) (now (heads .entry)) unit) s))
+    ensures { λ r. ⌜ ListStored (λ s. CutOf shown
+        (Wanted (Belongs (now (rules .entry)) (now (table .entry)) (now (counts .entry)) (now (heads .entry)) unit) s))
         given within place (now (table .entry)) (now (counts .entry)) (now (table .exit)) (now (counts .exit)) r ⌝ }
 {
     let mut list = [0u64; LIST_WORDS];

@@ -14,11 +14,15 @@ returns c =
 
 returns-2 : tie.Need-returns-2
 returns-2 c =
-    let test = c .before .before .before .are-apart in
-    (decides-apart _ _ .yes (sym (test .ensures) ∙ not-false (test .result) (c .before .before .if1 .left)), sym (c .before .undecided .ensures) ∙ c .if2 .taken)
+    let test = c .before .before .before .are-apart in (
+      decides-apart _ _ .yes (sym (test .ensures) ∙ not-false (test .result) (c .before .before .if1 .left)),
+      sym (c .before .undecided .ensures) ∙ c .if2 .taken,
+    )
 
 returns-3 : tie.Need-returns-3
-returns-3 c = rw (c .before .before .before .before .before .undecided .ensures) at (rw (c .before .choice .given .1) at (c .before .before .before .pick .ensures))
+returns-3 c =
+    let picked = c .before .before .before in
+    rw (picked .before .before .undecided .ensures) at (rw (c .before .choice .given .1) at (picked .pick .ensures))
 
 returns-4 : tie.Need-returns-4
 returns-4 c =

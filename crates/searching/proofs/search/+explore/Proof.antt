@@ -153,17 +153,22 @@ module _ (t : ℕ) where
   -- ---- what the calls ask
 
   propagate-requires : explore-lts.Need-propagate-requires (calls t) (explore-at t) explore′.Post
-  propagate-requires c κs = let pre = c .before .before .before .before .before .before .before .before .before .before .before .before .pre .1 in (pre .0, pre .2, rw (c .before .before .copied .ensures) (pre .3))
+  propagate-requires c κs =
+      let made = c .before .before in
+      let pre = made .before .before .before .before .before .before .before .before .before .before .pre .1 in
+      (pre .0, pre .2, rw (made .copied .ensures) (pre .3))
 
   outlook-of-requires : explore-lts.Need-outlook-of-requires (calls t) (explore-at t) explore′.Post
-  outlook-of-requires c κs = let n = c .before .before .before .before .before in (start n .pre .1 .0 .searchable .rules-lent, n .propagate .ensures .1 .1 .long)
+  outlook-of-requires c κs =
+      let n = c .before .before .before .before .before in (start n .pre .1 .0 .searchable .rules-lent, n .propagate .ensures .1 .1 .long)
 
   halt-requires : explore-lts.Need-halt-requires (calls t) (explore-at t) explore′.Post
   halt-requires c κs = let n = c .before .before .before .before .before .before .before .before .before in (start n .pre .1 .0, n .propagate .ensures .1 .1)
 
   offer-requires : explore-lts.Need-offer-requires (calls t) (explore-at t) explore′.Post
   offer-requires c κs =
-      let n = c .before .before .before .before .before .before .before .before .before .before in (start n .pre .1 .0, start n .pre .1 .1, n .propagate .ensures .1 .1)
+      let n = c .before .before .before .before .before .before .before .before .before .before in
+      (start n .pre .1 .0, start n .pre .1 .1, n .propagate .ensures .1 .1)
 
   phase-of-requires : explore-lts.Need-phase-of-requires (calls t) (explore-at t) explore′.Post
   phase-of-requires c κs =
@@ -193,10 +198,14 @@ module _ (t : ℕ) where
       )
 
   skip-requires : explore-lts.Need-hand-up-requires (calls t) (explore-at t) explore′.Post
-  skip-requires c κs = let s = c .before .before .before .before .before .before .before .before .before .before .before in (start (narrowed (chosen s)) .pre .1 .0, s .explore .ensures .1 .1 .0 .long)
+  skip-requires c κs =
+      let s = c .before .before .before .before .before .before .before .before .before .before .before in
+      (start (narrowed (chosen s)) .pre .1 .0, s .explore .ensures .1 .1 .0 .long)
 
   other-requires : explore-lts.Need-below-requires-2 (calls t) (explore-at t) explore′.Post
-  other-requires c κs = let k = chosen (c .before .before .before .before .before .before .before .before .before .before) in (no-stop k, start (narrowed k) .pre .1 .0 .long, atom-lt k)
+  other-requires c κs =
+      let k = chosen (c .before .before .before .before .before .before .before .before .before .before) in
+      (no-stop k, start (narrowed k) .pre .1 .0 .long, atom-lt k)
 
   second-requires : explore-lts.Need-explore-requires-2 (calls t) (explore-at t) explore′.Post
   second-requires c κs =
@@ -229,7 +238,8 @@ module _ (t : ℕ) where
       let at = start n in
       found-as (stop .halt .ensures .0)
       (search-narrowed (now (at .args .list)) (at .args .node .count) (n .propagate .ensures .0)
-      (search-halt (belongs-answers _ _ _ _ _ (fits at)) (at .pre .1 .1) (rw (stop .before .before .enum-told .given .1) at (stop .before .before .before .before .outlook-of .ensures))))
+      (search-halt (belongs-answers _ _ _ _ _ (fits at)) (at .pre .1 .1)
+      (rw (stop .before .before .enum-told .given .1) at (stop .before .before .before .before .outlook-of .ensures))))
       (stop .halt .ensures .1 .0)
       (stop .halt .ensures .1 .1)
 
@@ -240,7 +250,8 @@ module _ (t : ℕ) where
       let at = start n in
       let told = search-narrowed (now (at .args .list)) (at .args .node .count) (n .propagate .ensures .0)
       (search-leaf (λ M b. b .word) (now (at .args .list)) (at .args .node .count)
-      (rw (leaf .before .before .before .enum-told2 .given .1) at (leaf .before .before .before .before .before .outlook-of .ensures)) (leaf .offer .ensures .0, λ l. leaf .offer .ensures .1 .0)) in
+      (rw (leaf .before .before .before .enum-told2 .given .1) at (leaf .before .before .before .before .before .outlook-of .ensures))
+      (leaf .offer .ensures .0, λ l. leaf .offer .ensures .1 .0)) in
       (told .0, (told .1, leaf .offer .ensures .1 .1))
 
   done : explore-lts.Need-returns (calls t) (explore-at t) explore′.Post
@@ -252,7 +263,8 @@ module _ (t : ℕ) where
       let first = rw (asked s .below .ensures .0) at (s .explore .ensures) in
       let told = search-narrowed (now (at .args .list)) (at .args .node .count) (n .propagate .ensures .0)
       (search-done (now (at .args .list)) (at .args .node .count) (k .next .given .0 .0) (phased s .phase-of .result) (s .explore .result)
-      (asked s .below .ensures .1) (first .0, first .1 .0) (λ M b. b .word) (rw (c .before .before .before .undecided .ensures) at (c .before .before .cut .ensures))
+      (asked s .below .ensures .1) (first .0, first .1 .0) (λ M b. b .word)
+      (rw (c .before .before .before .undecided .ensures) at (c .before .before .cut .ensures))
       (c .before .is-done .ensures .done (c .if1 .taken))) in
       (told .0, (told .1, first .1 .1))
 
@@ -266,7 +278,8 @@ module _ (t : ℕ) where
       found-handed (c .before .before .hand-up .ensures) (first .1 .1 .0) (first .1 .1 .1)
       (search-narrowed (now (at .args .list)) (at .args .node .count) (n .propagate .ensures .0)
       (search-skip (now (at .args .list)) (at .args .node .count) (k .next .given .0 .0) (phased s .phase-of .result) (s .explore .result)
-      (asked s .below .ensures .1) (first .0, first .1 .0) (first .1 .1 .1) (c .before .before .before .before .before .lies-within .ensures .yes (c .before .before .before .before .if2 .taken))))
+      (asked s .below .ensures .1) (first .0, first .1 .0) (first .1 .1 .1)
+      (c .before .before .before .before .before .lies-within .ensures .yes (c .before .before .before .before .if2 .taken))))
 
   both-searched : explore-lts.Need-returns-5 (calls t) (explore-at t) explore′.Post
   both-searched c =
@@ -307,7 +320,9 @@ pub +explore-spec : {M : Type 1} → statement M
     (λ c κs. search needs)
     (λ c κs. search needs)
     (λ c. c .before .before .before .before .before .before .before .before .explore .kept .1 .1 .1 .1 .0)
-    (λ c. let s = c .before .before .before .before .before .before .before .before in s .explore .kept .1 .1 .1 .1 .1 .0 ∙ narrowed t (chosen t s) .propagate .kept .1 .1 .1 .1 .1 .0)
+    (λ c.
+    let s = c .before .before .before .before .before .before .before .before in
+    s .explore .kept .1 .1 .1 .1 .1 .0 ∙ narrowed t (chosen t s) .propagate .kept .1 .1 .1 .1 .1 .0)
     (done t)
     (λ c κs. search needs)
     (skip-requires t)
@@ -317,16 +332,20 @@ pub +explore-spec : {M : Type 1} → statement M
     c .before .before .hand-up .kept .1 .1 .1 .1 .0 ∙ s .explore .kept .1 .1 .1 .1 .1 .0 ∙ narrowed t (chosen t s) .propagate .kept .1 .1 .1 .1 .1 .0)
     (skipped t)
     (other-requires t)
-    (λ c. sym (narrowed t (chosen t (c .before .before .before .before .before .before .before .before .before .before .before .before .before .before)) .propagate .ensures .1 .0 .long))
+    (λ c.
+    let s = c .before .before .before .before .before .before .before .before .before .before .before .before .before .before in
+    sym (narrowed t (chosen t s) .propagate .ensures .1 .0 .long))
     (second-requires t)
-    (λ c κs. atom-lt t (chosen t (c .before .before .before .before .before .before .before .before .before .before .before .before .before .before .before .before .before .before .before)))
+    (λ c κs. atom-lt t (chosen t (searched t (c .before .before .before .before))))
     (both-requires t)
     (λ c. search needs)
     (halted t)
     (λ c. search needs)
     (λ c. search needs)
     (offered t)
-    (λ c. let h = c .before .before .before .before .before .before .before .before .before in h .explore2 .kept .1 .1 .1 .1 .0 ∙ searched t h .explore .kept .1 .1 .1 .1 .0)
+    (λ c.
+    let h = c .before .before .before .before .before .before .before .before .before in
+    h .explore2 .kept .1 .1 .1 .1 .0 ∙ searched t h .explore .kept .1 .1 .1 .1 .0)
     (λ c.
     let h = c .before .before .before .before .before .before .before .before .before in
     let s = searched t h in
