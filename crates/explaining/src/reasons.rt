@@ -9,23 +9,20 @@ use joining::filter::filter_step;
 use joining::filter::full_filter;
 use learning::nogood::refute;
 use learning::reason::tells;
-use learning::store::PAIRS;
 use learning::store::read_pair;
 use learning::trail::decided_since;
 use learning::trail::noted_unfounded;
 use narrowing::founded_step::founded_step;
-use narrowing::steps::SUPPORTS;
-use narrowing::steps::apply;
+use narrowing::steps::apply_rule;
+use narrowing::steps::apply_support;
 use narrowing::unfounded::drop_unfounded;
-use plan::MAX_UNITS;
 use propagating::Unit;
-use propagating::agenda::LISTS;
 use propagating::desk::BACKERS;
 use propagating::desk::INDEX;
 use propagating::desk::backing;
-use propagating::propagate::FOUNDED_STEP;
-use propagating::propagate::PAIR_STEPS;
-use propagating::propagate::UNFOUNDED_STEP;
+use propagating::step::Step;
+use propagating::step::UNFOUNDED_STEP;
+use propagating::step::decode;
 use states::State;
 ghost use mathlib.Core.Path.{_≡_};
 ghost use mathlib.Core.Bool.{true};
@@ -35,7 +32,7 @@ ghost use Rattle.atoms.specs.Word.{ATOMS};
 ghost use Rattle.plan.specs.Limits.{MAX_UNITS};
 ghost use Rattle.answer_sets.specs.Lent.{IsLent, Lent};
 ghost use Rattle.states.specs.Narrowing.{Narrows};
-ghost use Rattle.learning.specs.Store.{MEMORY_WORDS, STEPS, AvoidsAll};
+ghost use Rattle.learning.specs.Store.{MEMORY_WORDS, STEPS};
 ghost use Rattle.learning.specs.Reason.{Heeds, Explains};
 ghost use Rattle.propagating.specs.Job.{Belongs};
 ghost use Rattle.joining.specs.Joins.{Joinable};
@@ -50,17 +47,6 @@ pub struct Claim {
     pub part: State,
     pub goal: State,
     pub unfounded: u64,
-}
-
-// The state after pair i of the memory, if there is one.
-fn pair_again(memory: &[u64], i: usize, s: State) -> State
-    requires { ⌜ MEMORY_WORDS ≤ length (now memory) ⌝ }
-    ensures { λ t. ⌜ Narrows (AvoidsAll (now (memory .entry))) s t ⌝ }
-{
-    if PAIRS <= i {
-        return s;
-    }
-    refute(read_pair(memory, i), s)
 }
 
 // The state after list v, of which all entries are looked at.
@@ -79,7 +65,7 @@ fn list_again(
     filter_step(table, counts, heads, near, v, &mut filter, s)
 }
 
-// The state after the step of this number, from any state.
+// The state after the claim's step, run on its part.
 fn step_again(
     rules: &[u64],
     table: &[u64],
@@ -87,34 +73,28 @@ fn step_again(
     desk: &[u64],
     memory: &[u64],
     unit: Unit,
-    step: usize,
-    unfounded: u64,
-    s: State,
+    c: Claim,
 ) -> State
     requires { ⌜ Prepared (now rules) (now table) (now counts) (now desk) unit × (MEMORY_WORDS ≤ length (now memory)) ⌝ }
     ensures { λ t. ⌜ Narrows (Heeds (Belongs (now (rules .entry)) (now (table .entry)) (now (counts .entry)) (now (desk .entry)) unit)
-        (now (memory .entry))) s t ⌝ }
+        (now (memory .entry))) (c .part) t ⌝ }
 {
-    if UNFOUNDED_STEP <= step {
-        return drop_unfounded(rules, unit.rules, unit.inputs, unfounded, s);
+    let s = c.part;
+    match decode(c.step) {
+        Step::Rule(rule) => apply_rule(rules, unit.rules, rule, s),
+        Step::Support(atom) => apply_support(
+            rules,
+            unit.rules,
+            unit.inputs,
+            &desk[BACKERS..INDEX],
+            atom,
+            s,
+        ),
+        Step::List(list) => list_again(table, counts, desk, unit.nearest, list, s),
+        Step::Founded => founded_step(rules, unit.rules, unit.inputs, s),
+        Step::Pair(i) => refute(read_pair(memory, i), s),
+        Step::Unfounded => drop_unfounded(rules, unit.rules, unit.inputs, c.unfounded, s),
     }
-    if PAIR_STEPS <= step {
-        return pair_again(memory, step - PAIR_STEPS, s);
-    }
-    if LISTS <= step {
-        let list = step - LISTS;
-        if list < MAX_UNITS {
-            return list_again(table, counts, desk, unit.nearest, list, s);
-        }
-    }
-    apply(
-        rules,
-        unit.rules,
-        unit.inputs,
-        &desk[BACKERS..INDEX],
-        step,
-        s,
-    )
 }
 
 // The same atoms up and dropped.
@@ -191,15 +171,9 @@ fn unfounding(rules: &[u64], which: u64, x: u64) -> State
     seen
 }
 
-// The atoms of pair i of the memory, if there is one.
-fn pair_atoms(memory: &[u64], i: usize) -> u64
-    requires { ⌜ MEMORY_WORDS ≤ length (now memory) ⌝ }
-{
-    if PAIRS <= i {
-        return 0;
-    }
-    let pair = read_pair(memory, i);
-    atoms::union(pair.up, pair.dropped)
+// The atoms that the state, or the pair, has decided.
+fn decided(s: State) -> u64 {
+    atoms::union(s.up, s.dropped)
 }
 
 // What the step looks at: atoms that are up, and atoms that are dropped. It is advice: a reason that has too few does not tell the goal.
@@ -213,36 +187,23 @@ fn looked_at(
 ) -> State
     requires { ⌜ Lent (now rules) (unit .rules) × (length (now desk) ≡ DESK_WORDS) × (MEMORY_WORDS ≤ length (now memory)) ⌝ }
 {
-    if step < SUPPORTS {
-        return either_way(numbered_atoms(rules, unit.rules, step));
+    match decode(step) {
+        Step::Rule(rule) => either_way(numbered_atoms(rules, unit.rules, rule)),
+        Step::Support(atom) => excluding(rules, backing(desk, unit.rules, atom)),
+        Step::List(list) => either_way(desk[list]),
+        Step::Founded => either_way(atoms::first(ATOMS)),
+        Step::Pair(i) => either_way(decided(read_pair(memory, i))),
+        Step::Unfounded => unfounding(rules, unit.rules, unfounded),
     }
-    if step < LISTS {
-        return excluding(rules, backing(desk, unit.rules, step - SUPPORTS));
-    }
-    if step < LISTS + MAX_UNITS {
-        return either_way(desk[step - LISTS]);
-    }
-    if step < PAIR_STEPS {
-        return either_way(atoms::first(ATOMS));
-    }
-    if step < UNFOUNDED_STEP {
-        return either_way(pair_atoms(memory, step - PAIR_STEPS));
-    }
-    unfounding(rules, unit.rules, unfounded)
 }
 
 // The atoms that may be spared in a reason: those of rules and pairs are few already.
 fn to_spare(step: usize, part: State) -> u64 {
-    if step < SUPPORTS {
-        return 0;
+    match decode(step) {
+        Step::Rule(_) => 0,
+        Step::Pair(_) => 0,
+        _ => decided(part),
     }
-    if step < PAIR_STEPS {
-        return atoms::union(part.up, part.dropped);
-    }
-    if step < UNFOUNDED_STEP {
-        return 0;
-    }
-    atoms::union(part.up, part.dropped)
 }
 
 // Whether the step, run on the part, still tells the goal.
@@ -259,18 +220,7 @@ fn still_tells(
     ensures { λ r. ⌜ (r ≡ true → Told (Belongs (now (rules .entry)) (now (table .entry)) (now (counts .entry)) (now (desk .entry)) unit)
         (now (memory .entry)) (c .goal) c) ⌝ }
 {
-    let part = c.part;
-    let t = step_again(
-        rules,
-        table,
-        counts,
-        desk,
-        memory,
-        unit,
-        c.step,
-        c.unfounded,
-        part,
-    );
+    let t = step_again(rules, table, counts, desk, memory, unit, c);
     tells(t, c.goal)
 }
 
@@ -366,19 +316,21 @@ fn shrink(
 fn unfounded_atoms(rules: &[u64], memory: &[u64], unit: Unit, step: usize, s: State) -> u64
     requires { ⌜ Lent (now rules) (unit .rules) × (MEMORY_WORDS ≤ length (now memory)) ⌝ }
 {
-    if step != FOUNDED_STEP {
-        return noted_unfounded(memory);
+    match decode(step) {
+        Step::Founded => {
+            let t = founded_step(rules, unit.rules, unit.inputs, s);
+            atoms::without(t.dropped, s.dropped)
+        }
+        _ => noted_unfounded(memory),
     }
-    let t = founded_step(rules, unit.rules, unit.inputs, s);
-    atoms::without(t.dropped, s.dropped)
 }
 
 // The step that is run again for this one. What the founded step drops is unfounded, and that is told without another closure.
 fn rerun_as(step: usize) -> usize {
-    if step == FOUNDED_STEP {
-        return UNFOUNDED_STEP;
+    match decode(step) {
+        Step::Founded => UNFOUNDED_STEP,
+        _ => step,
     }
-    step
 }
 
 // A reason of the claim's goal, which step `at` of the trail told from the state that is the claim's part: those atoms of it that the step looks at

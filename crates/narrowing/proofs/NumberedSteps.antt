@@ -19,8 +19,8 @@ use Rattle.narrowing.proofs.SupportSteps.{answers-held}
 
 module _ (rules : List ℕ) (which inputs : ℕ) {s t : State} where
   -- an answer set satisfies each rule
-  pub rules-narrow : Narrows (SatisfiesAll (lent rules) which) s t → Narrows (AnswersInputs rules which inputs) s t
-  rules-narrow n =
+  pub satisfying-narrow : Narrows (SatisfiesAll (lent rules) which) s t → Narrows (AnswersInputs rules which inputs) s t
+  satisfying-narrow n =
       narrows-for (λ M p. record { each = λ r h. satisfied (lent rules) which (M ∩ inputs) M r (p .answer) h }) n
 
   -- and its atoms that are no inputs are held by their backers

@@ -1,3 +1,4 @@
 pub mod Job
 pub mod Agenda
 pub mod Desk
+pub mod Step

@@ -1,18 +1,18 @@
 // The agenda: which steps may have something new to say. It is advice: a step that is left out costs pruning and no member.
+use crate::step::FOUNDED_STEP;
+use crate::step::LISTS;
+use crate::step::SUPPORTS;
 use crate::unit::Unit;
 use answer_sets::rule::head;
 use answer_sets::rule::looks;
 use answer_sets::rule::positive_body;
 use atoms::ATOMS;
 use narrowing::marks::mark;
-use narrowing::steps::FOUNDED;
-use narrowing::steps::SUPPORTS;
 use narrowing::woken::RULES_DOWN;
 use narrowing::woken::RULES_UP;
 use narrowing::woken::SUPPORTS_UP;
 use narrowing::woken::WOKEN_WORDS;
 use narrowing::woken::note_rules;
-use plan::MAX_UNITS;
 use states::State;
 use states::undecided;
 ghost use mathlib.Core.Path.{_≡_};
@@ -24,10 +24,8 @@ ghost use Rattle.plan.specs.Limits.{MAX_UNITS};
 ghost use Rattle.answer_sets.specs.Lent.{IsLent, Lent};
 ghost use Rattle.propagating.specs.Agenda.{Idle, TakenFrom, Woken, INDEX_WORDS};
 
-// Steps behind those of the supports: the lists, and the founded step.
-pub const LISTS: usize = FOUNDED;
-
-const FOUNDED_PLACE: usize = MAX_UNITS;
+// The founded step's place in the agenda's third word, behind the lists.
+const FOUNDED_PLACE: usize = FOUNDED_STEP - LISTS;
 
 // The index of woken steps: the parts for rules and supports, and one for the lists and the founded step.
 const OTHERS: usize = WOKEN_WORDS;

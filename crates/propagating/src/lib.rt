@@ -3,6 +3,7 @@ pub mod agenda;
 pub mod desk;
 pub mod front;
 pub mod propagate;
+pub mod step;
 mod unit;
 
 pub use unit::Unit;

@@ -1,5 +1,4 @@
 // Propagation: steps until none has anything new to say.
-use crate::agenda::LISTS;
 use crate::agenda::is_idle;
 use crate::agenda::take;
 use crate::agenda::woken;
@@ -7,18 +6,21 @@ use crate::desk::BACKERS;
 use crate::desk::DESK_WORDS;
 use crate::desk::INDEX;
 use crate::front::Front;
+use crate::step::PAIR_STEPS;
+use crate::step::Step;
+use crate::step::decode;
 use crate::unit::Unit;
 use joining::filter::filter_step;
 use learning::nogood::refute;
 use learning::store::COPIES;
-use learning::store::PAIRS;
 use learning::store::RING;
 use learning::store::copy_pair;
 use learning::store::next_pair;
 use learning::store::read_pair;
 use learning::trail::note_step;
-use narrowing::steps::apply;
-use plan::MAX_UNITS;
+use narrowing::founded_step::founded_step;
+use narrowing::steps::apply_rule;
+use narrowing::steps::apply_support;
 use states::State;
 ghost use mathlib.Core.Path.{_≡_};
 ghost use Prim.Native.Nat.{_≤_};
@@ -30,14 +32,7 @@ ghost use Rattle.propagating.specs.Job.{Belongs};
 ghost use Rattle.joining.specs.Filter.{Filtered};
 ghost use Rattle.propagating.specs.Desk.{DESK_WORDS, Prepared};
 
-// Behind the lists the founded step, then the pairs of the memory, and last the step that drops given atoms if they are unfounded.
-pub const FOUNDED_STEP: usize = LISTS + MAX_UNITS;
-
-pub const PAIR_STEPS: usize = FOUNDED_STEP + 1;
-
-pub const UNFOUNDED_STEP: usize = PAIR_STEPS + PAIRS;
-
-// The state after the step of this number; a list's step is one over the entries that the filter has.
+// The state after the step of this number; a list's step is one over the entries that the filter has. Pairs and unfounded atoms are on no agenda.
 fn take_step(
     rules: &[u64],
     table: &[u64],
@@ -52,20 +47,21 @@ fn take_step(
     ensures narrows { λ t. ⌜ Narrows (Belongs (now (rules .entry)) (now (table .entry)) (now (counts .entry)) (now (desk .entry)) unit) s t ⌝ }
     ensures filtered { λ t. ⌜ Filtered (now (table .entry)) (now (counts .entry)) (now (desk .entry)) (unit .nearest) t (now (filter .exit)) ⌝ }
 {
-    if LISTS <= step {
-        let list = step - LISTS;
-        if list < MAX_UNITS {
-            return filter_step(table, counts, desk, unit.nearest, list, filter, s);
-        }
+    match decode(step) {
+        Step::Rule(rule) => apply_rule(rules, unit.rules, rule, s),
+        Step::Support(atom) => apply_support(
+            rules,
+            unit.rules,
+            unit.inputs,
+            &desk[BACKERS..INDEX],
+            atom,
+            s,
+        ),
+        Step::List(list) => filter_step(table, counts, desk, unit.nearest, list, filter, s),
+        Step::Founded => founded_step(rules, unit.rules, unit.inputs, s),
+        Step::Pair(_) => s,
+        Step::Unfounded => s,
     }
-    apply(
-        rules,
-        unit.rules,
-        unit.inputs,
-        &desk[BACKERS..INDEX],
-        step,
-        s,
-    )
 }
 
 // The front after the steps of the agenda and those that they wake, each noted in the trail.

@@ -17,7 +17,7 @@ use learning::trail::read_step;
 use narrowing::unfounded::drop_unfounded;
 use propagating::Unit;
 use propagating::front::Front;
-use propagating::propagate::UNFOUNDED_STEP;
+use propagating::step::UNFOUNDED_STEP;
 use states::State;
 use states::everything;
 ghost use mathlib.Core.Path.{_≡_};

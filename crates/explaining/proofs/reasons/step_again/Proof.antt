@@ -1,52 +1,87 @@
--- A pair, a list with all its entries, or a step on rules.
+-- Each kind of step tells of what belongs to the list and heeds the memory.
 use Prim.Native.Nat.{_^_, _<_}
 use native.Mathlib.Omega.{arith}
 use Rattle.atoms.specs.Word.{ATOMS}
+use Rattle.learning.specs.Store.{PAIRS}
 use Rattle.joining.proofs.JoinedLists.{joinable-some}
-use Rattle.propagating.proofs.Propagation.{lists-narrow, rules-narrow}
-use Rattle.learning.proofs.HeededSteps.{heeds-narrows, pairs-narrow}
+use Rattle.propagating.proofs.Propagation.{lists-narrow, rules-narrow, satisfying-belong}
+use Rattle.learning.proofs.HeededSteps.{heeds-narrows, pairs-narrow, pair-narrows}
 use borrow.Author.Needs.{needs}
 use Rattle.explaining.proofs.reasons.step_again.Statement.{statement}
 use Rattle.explaining.proofs.reasons.step_again.Tie as tie
+
+abbrev start : tie.After-decode → tie.Start
+start c = c .before .before .before .before .before .before .before
 
 -- rule numbers are bits of a word
 fits : (c : tie.Start) → c .args .unit .rules < 2 ^ ATOMS
 fits c = omega arith
 
-drop-unfounded-requires : tie.Need-drop-unfounded-requires
-drop-unfounded-requires c κs = c .before .before .before .before .before .before .pre .0 .searchable .rules-lent
+apply-rule-requires : tie.Need-apply-rule-requires
+apply-rule-requires c κs =
+    let decoded = c .before .before .before in
+    (start decoded .pre .0 .searchable .rules-lent, (rw (c .before .rule .given .1) at (decoded .decode .ensures)) .0)
 
-returns : tie.Need-returns
-returns c =
-    let start = c .before .before .before .before .before .before .before in heeds-narrows (rules-narrow _ _ _ _ _ (fits start) (c .drop-unfounded .ensures))
+apply-support-requires : tie.Need-apply-support-requires
+apply-support-requires c κs =
+    let decoded = c .before .before .before .before in
+    let ready = start decoded .pre .0 in
+    (ready .searchable .rules-lent, ready .backed, (rw (c .before .before .atom .given .1) at (decoded .decode .ensures)) .0)
 
 list-again-requires : tie.Need-list-again-requires
 list-again-requires c κs =
-    let pre = c .before .before .before .before .before .before .before .before .before .pre in
-    (joinable-some (pre .0 .searchable .near) (pre .0 .searchable .joinable), search needs)
+    let decoded = c .before .before .before in
+    let asked = start decoded .pre .0 .searchable in
+    (joinable-some (asked .near) (asked .joinable), (rw (c .before .list .given .1) at (decoded .decode .ensures)) .0)
+
+-- the pair is one of the memory
+in-memory : (c : tie.After-known-told4) → c .before .i .given .0 .0 < PAIRS
+in-memory c = (rw (c .before .i .given .1) at (c .before .before .before .decode .ensures)) .0
+
+returns : tie.Need-returns
+returns c = heeds-narrows (satisfying-belong _ _ _ _ _ (fits (start (c .before .before .before .before))) (c .apply-rule .ensures))
+
+returns-2 : tie.Need-returns-2
+returns-2 c = heeds-narrows (rules-narrow _ _ _ _ _ (fits (start (c .before .before .before .before .before))) (c .apply-support .ensures))
 
 returns-3 : tie.Need-returns-3
 returns-3 c =
-    let pre = c .before .before .before .before .before .before .before .before .before .before .pre in
-    heeds-narrows (lists-narrow _ _ _ _ _ (pre .0 .searchable .near) (c .list-again .ensures))
+    let asked = start (c .before .before .before .before) .pre .0 .searchable in
+    heeds-narrows (lists-narrow _ _ _ _ _ (asked .near) (c .list-again .ensures))
 
 returns-4 : tie.Need-returns-4
-returns-4 c =
-    let start = c .before .before .before .before .before .before .before .before .before .before in
-    heeds-narrows (rules-narrow _ _ _ _ _ (fits start) (c .apply .ensures))
+returns-4 c = heeds-narrows (rules-narrow _ _ _ _ _ (fits (start (c .before .before .before))) (c .founded-step .ensures))
+
+returns-5 : tie.Need-returns-5
+returns-5 c = pairs-narrow (pair-narrows _ (in-memory (c .before .before)) (c .before .read-pair .ensures) (c .refute .ensures .0))
+
+returns-6 : tie.Need-returns-6
+returns-6 c = heeds-narrows (rules-narrow _ _ _ _ _ (fits (start (c .before .before .before))) (c .drop-unfounded .ensures))
 
 pub step-again-spec : {M : Type 1} → statement M
 step-again-spec =
     tie.close
     (tie.spec
-    drop-unfounded-requires
-    returns
     (λ c κs. search needs)
-    (λ c. pairs-narrow (c .pair-again .ensures))
+    (λ c. search needs)
+    apply-rule-requires
+    (λ c. search needs)
+    (λ c. search needs)
+    (λ c. search needs)
+    (λ c. search needs)
+    apply-support-requires
+    (λ c. search needs)
     list-again-requires
-    returns-3
-    (λ c. search needs)
-    (λ c. search needs)
     (λ c. search needs)
     (λ c κs. search needs)
-    returns-4)
+    (λ c. search needs)
+    (λ c κs. (start (c .before .before .before) .pre .1, in-memory c))
+    (λ c κs. search needs)
+    (λ c. search needs)
+    (λ c κs. search needs)
+    returns
+    returns-2
+    returns-3
+    returns-4
+    returns-5
+    returns-6)

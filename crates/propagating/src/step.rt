@@ -1,0 +1,49 @@
+// The steps by number, as the agenda and the trail have them: the rules, the supports of the atoms, the lists, the founded step, the pairs of the
+// memory, and last the step that drops given atoms if they are unfounded.
+use atoms::ATOMS;
+use learning::store::PAIRS;
+use plan::MAX_RULES;
+use plan::MAX_UNITS;
+ghost use Rattle.propagating.specs.Step.{Decoded};
+
+pub const SUPPORTS: usize = MAX_RULES;
+
+pub const LISTS: usize = SUPPORTS + ATOMS;
+
+pub const FOUNDED_STEP: usize = LISTS + MAX_UNITS;
+
+pub const PAIR_STEPS: usize = FOUNDED_STEP + 1;
+
+pub const UNFOUNDED_STEP: usize = PAIR_STEPS + PAIRS;
+
+// A step: a rule, an atom's support, a list, the founded step, a pair of the memory, or that given atoms are unfounded.
+pub enum Step {
+    Rule(usize),
+    Support(usize),
+    List(usize),
+    Founded,
+    Pair(usize),
+    Unfounded,
+}
+
+// The step of this number; behind the pairs each is the unfounded step's.
+pub fn decode(number: usize) -> Step
+    ensures { λ r. ⌜ Decoded number r ⌝ }
+{
+    if number < SUPPORTS {
+        return Step::Rule(number);
+    }
+    if number < LISTS {
+        return Step::Support(number - SUPPORTS);
+    }
+    if number < FOUNDED_STEP {
+        return Step::List(number - LISTS);
+    }
+    if number < PAIR_STEPS {
+        return Step::Founded;
+    }
+    if number < UNFOUNDED_STEP {
+        return Step::Pair(number - PAIR_STEPS);
+    }
+    Step::Unfounded
+}
