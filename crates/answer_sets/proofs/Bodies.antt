@@ -11,26 +11,26 @@ use Rattle.atoms.proofs.Tests.{and-true, bool-ext, decided-true}
 use Rattle.atoms.proofs.Sets.{ext, has-cut, cut-left, cut-right, has-left, has-right, decides-apart}
 use Rattle.atoms.proofs.Bounded.{all-in-at, all-in-intro, union-has}
 use Rattle.plan.specs.Limits.{MAX_TABLES}
-use Rattle.contact_tables.specs.Table.{answer}
+use Rattle.contact_tables.specs.Table.{tableAnswer}
 use Rattle.contact_tables.proofs.RowBits.{answer-same}
 use Rattle.answer_sets.specs.Program.{Body}
-use Rattle.answer_sets.specs.Lent.{lent, negative, inputs, truth, uses, USE_BITS, tableOf, asks, useHolds, usesHold, usedInputs, looks}
+use Rattle.answer_sets.specs.Lent.{lent, negative, inputs, truth, uses, USE_BITS, usedTable, asks, useHolds, usesHold, usedInputs, looks}
 use Rattle.answer_sets.specs.Known.{Part, positive-word, negative-word, table-use, PartHolds, InBody, has-positive, has-negative, has-use}
 
 -- ---- what a use asks
 
-pub table-first : (i : ℕ) → i < MAX_TABLES → i ≡ tableOf i
-unfolding tableOf
-table-first i l = rw (lt-ltb i MAX_TABLES l, tableOf) refl
+pub table-first : (i : ℕ) → i < MAX_TABLES → i ≡ usedTable i
+unfolding usedTable
+table-first i l = rw (lt-ltb i MAX_TABLES l, usedTable) refl
 
-pub table-second : (i : ℕ) → MAX_TABLES ≤ i → i - MAX_TABLES ≡ tableOf i
-unfolding tableOf
-table-second i l = rw (le-ltb i MAX_TABLES l, tableOf) refl
+pub table-second : (i : ℕ) → MAX_TABLES ≤ i → i - MAX_TABLES ≡ usedTable i
+unfolding usedTable
+table-second i l = rw (le-ltb i MAX_TABLES l, usedTable) refl
 
 module _ (rules : List ℕ) (i M : ℕ) where
   -- what the table of use i says at M
   abbrev pub said : Bool
-  said = answer (inputs rules (tableOf i)) (truth rules (tableOf i)) M
+  said = tableAnswer (inputs rules (usedTable i)) (truth rules (usedTable i)) M
 
   pub wanted-true : i < MAX_TABLES → said ≡ useHolds rules i M
   unfolding useHolds asks
@@ -42,24 +42,24 @@ module _ (rules : List ℕ) (i M : ℕ) where
 
 -- ---- nothing but what is looked at counts
 
-pub use-same : (rules : List ℕ) (i M N : ℕ) → inputs rules (tableOf i) ∩ M ≡ inputs rules (tableOf i) ∩ N → useHolds rules i M ≡ useHolds rules i N
+pub use-same : (rules : List ℕ) (i M N : ℕ) → inputs rules (usedTable i) ∩ M ≡ inputs rules (usedTable i) ∩ N → useHolds rules i M ≡ useHolds rules i N
 unfolding useHolds
-use-same rules i M N e = ap (asks i) (answer-same (inputs rules (tableOf i)) (truth rules (tableOf i)) M N e)
+use-same rules i M N e = ap (asks i) (answer-same (inputs rules (usedTable i)) (truth rules (usedTable i)) M N e)
 
 module _ (rules : List ℕ) (r M N : ℕ) (same : (a : ℕ) → Has (looks rules r) a → Has M a ↔ Has N a) where
   -- the inputs of a table that is used
-  inputs-same : (i : ℕ) → i < USE_BITS → Has (uses rules r) i → inputs rules (tableOf i) ∩ M ≡ inputs rules (tableOf i) ∩ N
+  inputs-same : (i : ℕ) → i < USE_BITS → Has (uses rules r) i → inputs rules (usedTable i) ∩ M ≡ inputs rules (usedTable i) ∩ N
   unfolding usedInputs
   inputs-same i l h =
-      ext (inputs rules (tableOf i) ∩ M) (inputs rules (tableOf i) ∩ N)
-      (λ a p. let q = cut-left (inputs rules (tableOf i)) M p in
-      has-cut (inputs rules (tableOf i)) N q (same a (used a q) .0 (cut-right (inputs rules (tableOf i)) M p)))
-      (λ a p. let q = cut-left (inputs rules (tableOf i)) N p in
-      has-cut (inputs rules (tableOf i)) M q (same a (used a q) .1 (cut-right (inputs rules (tableOf i)) N p)))
+      ext (inputs rules (usedTable i) ∩ M) (inputs rules (usedTable i) ∩ N)
+      (λ a p. let q = cut-left (inputs rules (usedTable i)) M p in
+      has-cut (inputs rules (usedTable i)) N q (same a (used a q) .0 (cut-right (inputs rules (usedTable i)) M p)))
+      (λ a p. let q = cut-left (inputs rules (usedTable i)) N p in
+      has-cut (inputs rules (usedTable i)) M q (same a (used a q) .1 (cut-right (inputs rules (usedTable i)) N p)))
     where
-      used : (a : ℕ) → Has (inputs rules (tableOf i)) a → Has (looks rules r) a
+      used : (a : ℕ) → Has (inputs rules (usedTable i)) a → Has (looks rules r) a
       used a q =
-          has-right (negative rules r) (usedInputs rules r) (union-has USE_BITS (uses rules r) (λ k. inputs rules (tableOf k)) i a l h q)
+          has-right (negative rules r) (usedInputs rules r) (union-has USE_BITS (uses rules r) (λ k. inputs rules (usedTable k)) i a l h q)
 
   uses-same : usesHold rules r M ≡ usesHold rules r N
   unfolding usesHold

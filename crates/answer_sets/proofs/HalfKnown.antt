@@ -13,7 +13,7 @@ use Rattle.atoms.proofs.Sets.{ext, has-dec, has-lt, has-cut, cut-left, cut-righ
 use Rattle.atoms.proofs.Bounded.{some-at, some-intro}
 use Rattle.plan.specs.Limits.{CONTACT_WORDS}
 use Rattle.answer_sets.specs.Program.{Body, Satisfies}
-use Rattle.answer_sets.specs.Lent.{lent, ruleAt, negative, inputs, uses, USE_BITS, tableOf, useHolds}
+use Rattle.answer_sets.specs.Lent.{lent, ruleAt, negative, inputs, uses, USE_BITS, usedTable, useHolds}
 use Rattle.answer_sets.specs.Test.{body}
 use Rattle.states.specs.State.{Completes, halfDecided}
 use Rattle.answer_sets.specs.Known.{Part, positive-word, negative-word, table-use, PartHolds, InBody, has-positive, has-negative, has-use, BodySays}
@@ -60,7 +60,7 @@ module _ (rules : List ℕ) (r M dropped : ℕ) (fits : (i : ℕ) → getD rules
     λ f. record { none = λ i h k. f .none i h (c .has-up .each i k) },
   )
   part-same (table-use i) N c =
-      let e = use-same rules i M N (same-inputs (tableOf i) N c) in
+      let e = use-same rules i M N (same-inputs (usedTable i) N c) in
       (λ f. sym e ∙ f, λ f. e ∙ f)
 
   -- a body that fails fails by a part

@@ -10,7 +10,7 @@ use Rattle.atoms.specs.Collected.{Collects}
 use Rattle.atoms.proofs.Tests.{decided-true}
 use Rattle.atoms.proofs.Sets.{subset-refl, subset-trans, has-dec, has-atom, atom-only, has-left, has-right, union-cases, without-left, without-right, has-cut}
 use Rattle.atoms.proofs.Sets.{cut-left, cut-right, has-below, below-lt, has-none, has-without, decides-has}
-use Rattle.contact_tables.specs.Table.{answer, row}
+use Rattle.contact_tables.specs.Table.{tableAnswer, row}
 use Rattle.contact_tables.specs.Rows.{Reached}
 use Rattle.answer_sets.specs.Program.{Body}
 use Rattle.answer_sets.specs.Lent.{lent, negative, uses, USE_BITS}
@@ -149,8 +149,8 @@ module _ (up dropped : ℕ) where
       })))
 
   pub table-says : {inputs truth rows : ℕ} {t : Truth} → Collects (Reached inputs up dropped) rows → RowsSay rows truth t
-      → Says (λ N. answer inputs truth N ≡ true) (halfDecided up dropped) t
-  unfolding answer
+      → Says (λ N. tableAnswer inputs truth N ≡ true) (halfDecided up dropped) t
+  unfolding tableAnswer
   table-says {inputs} {truth} {rows} c k = record {
     holds = (
       λ f N d. decided-true (decides-has truth (row inputs N)) (k .holds .0 f .each (row inputs N) (reached N d)),

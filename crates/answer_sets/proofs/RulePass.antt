@@ -13,7 +13,7 @@ use Rattle.answer_sets.specs.Lent.{lent}
 use Rattle.states.specs.State.{Completes, halfDecided}
 use Rattle.states.specs.Narrowing.{Narrows, OneGoes, SomeUp}
 use Rattle.answer_sets.specs.Known.{BodySays}
-use Rattle.answer_sets.specs.RulePass.{Held, Stepped, Met, Sifted}
+use Rattle.answer_sets.specs.RulePass.{HeldInAll, Stepped, Met, Sifted}
 use Rattle.states.specs.declared.state.State.{State}
 use Rattle.answer_sets.specs.declared.rule_pass.Passed.{Passed}
 use Rattle.answer_sets.specs.declared.truth.Truth.{Truth}
@@ -31,12 +31,12 @@ pub subset-read : {read word whole : ℕ} {r : Bool} → read ≡ word → r ≡
 subset-read {read} {word} {whole} e f t = rw e at (decides-subset read whole .yes (sym f ∙ t))
 
 pub held-known : {rules : List ℕ} {r up dropped : ℕ} {t : Truth} {answer : Bool} → BodySays rules r up dropped t
-    → (answer ≡ true) ↔ (t ≡ Holds) → Held rules r up dropped answer
+    → (answer ≡ true) ↔ (t ≡ Holds) → HeldInAll rules r up dropped answer
 held-known k e = record { exactly = (λ f. k .holds .0 (e .0 f), λ f. e .1 (k .holds .1 f)) }
 
 module _ (rules : List ℕ) (r : ℕ) {s : State} where
   -- a body that is known to hold is told so
-  held-told : {t : Truth} → BodySays rules r (s .up) (s .dropped) t → Held rules r (s .up) (s .dropped) true → t ≡ Holds
+  held-told : {t : Truth} → BodySays rules r (s .up) (s .dropped) t → HeldInAll rules r (s .up) (s .dropped) true → t ≡ Holds
   held-told k h = k .holds .1 (h .exactly .0 refl)
 
   -- a head atom is up already
@@ -68,7 +68,7 @@ module _ (rules : List ℕ) (r : ℕ) {s : State} where
 
 -- ---- the last open atom
 
-held-holds : (rules : List ℕ) (r up dropped : ℕ) {answer : Bool} → Held rules r up dropped answer → answer ≡ true → (N : ℕ)
+held-holds : (rules : List ℕ) (r up dropped : ℕ) {answer : Bool} → HeldInAll rules r up dropped answer → answer ≡ true → (N : ℕ)
     → Completes (halfDecided up dropped) N → Body (lent rules) r N
 held-holds rules r up dropped h e N c = parts-body rules r N (λ p i. h .exactly .0 e p i N c)
 
@@ -78,7 +78,7 @@ module _ (rules : List ℕ) (r : ℕ) {s : State} (gone : lent rules .head r ⊆
   body-fails N k p b = let h = k .head-up b in p .no-dropped .none (h .0) (gone .each (h .0) (h .1)) (h .2)
 
   -- it would hold with that atom up
-  pub last-dropped : {up down : ℕ} {answer : Bool} → up ≡ s .up ∪ left → Held rules r up (s .dropped) answer → answer ≡ true → down ≡ s .dropped ∪ left
+  pub last-dropped : {up down : ℕ} {answer : Bool} → up ≡ s .up ∪ left → HeldInAll rules r up (s .dropped) answer → answer ≡ true → down ≡ s .dropped ∪ left
       → Narrows (Satisfies (lent rules) r) s (record { up = s .up; dropped = down })
   last-dropped {up} e b f g =
       rw g (down-narrows s left (λ N k p. record { none = λ i h m. body-fails N k p (holds N p (whole N i h m)) }))
@@ -92,7 +92,7 @@ module _ (rules : List ℕ) (r : ℕ) {s : State} (gone : lent rules .head r ⊆
           (completes-known {s = record { up = up; dropped = s .dropped }} (rw e (with-all-up s left p w)))
 
   -- it would hold with that atom dropped
-  pub last-up : {up down : ℕ} {answer : Bool} → down ≡ s .dropped ∪ left → Held rules r (s .up) down answer → answer ≡ true → up ≡ s .up ∪ left
+  pub last-up : {up down : ℕ} {answer : Bool} → down ≡ s .dropped ∪ left → HeldInAll rules r (s .up) down answer → answer ≡ true → up ≡ s .up ∪ left
       → Narrows (Satisfies (lent rules) r) s (record { up = up; dropped = s .dropped })
   last-up {down = down} e b f g =
       rw g (up-narrows s left (λ N k p. record { each = λ i h. found N k p i h (has-dec N i) }))

@@ -7,7 +7,7 @@ use lib.ListN.{length, getD}
 use Rattle.atoms.specs.Word.{Has, _∩_, _∪_, below, apart}
 use Rattle.atoms.specs.Bounded.{allIn, unionIn}
 use Rattle.plan.specs.Limits.{MAX_RULES, MAX_TABLES, CONTACT_WORDS, RULE_WORDS, FIRST_RULE, USES}
-use Rattle.contact_tables.specs.Table.{answer}
+use Rattle.contact_tables.specs.Table.{tableAnswer}
 use Rattle.answer_sets.specs.Program.{Program}
 
 -- where the words of rule r start
@@ -33,8 +33,8 @@ abbrev pub uses : List ℕ → ℕ → ℕ
 uses rules r = getD rules (ruleAt r + USES) 0
 
 -- the table that use i is of
-unfoldable pub tableOf : ℕ → ℕ
-tableOf i = elim (ltb i MAX_TABLES) [ true ↦ i | false ↦ i - MAX_TABLES ]
+unfoldable pub usedTable : ℕ → ℕ
+usedTable i = elim (ltb i MAX_TABLES) [ true ↦ i | false ↦ i - MAX_TABLES ]
 
 -- what use i asks of its table: "0 for must be true or 1 for must be false"
 unfoldable pub asks : ℕ → Bool → Bool
@@ -42,7 +42,7 @@ asks i said = elim (ltb i MAX_TABLES) [ true ↦ said | false ↦ not said ]
 
 -- use i holds at M
 unfoldable pub useHolds : List ℕ → ℕ → ℕ → Bool
-useHolds rules i M = asks i (answer (inputs rules (tableOf i)) (truth rules (tableOf i)) M)
+useHolds rules i M = asks i (tableAnswer (inputs rules (usedTable i)) (truth rules (usedTable i)) M)
 
 -- all uses of rule r hold at M
 unfoldable pub usesHold : List ℕ → ℕ → ℕ → Bool
@@ -50,7 +50,7 @@ usesHold rules r M = allIn USE_BITS (uses rules r) (λ i. useHolds rules i M)
 
 -- the input atoms of the tables that rule r uses, "whichever the sign"
 unfoldable pub usedInputs : List ℕ → ℕ → ℕ
-usedInputs rules r = unionIn USE_BITS (uses rules r) (λ i. inputs rules (tableOf i))
+usedInputs rules r = unionIn USE_BITS (uses rules r) (λ i. inputs rules (usedTable i))
 
 -- the atoms that the rest of the body looks at: its negative atoms, and the inputs of the tables it uses
 abbrev pub looks : List ℕ → ℕ → ℕ

@@ -14,14 +14,14 @@ use Rattle.answer_sets.specs.declared.rule_pass.Passed.{Passed}
 use Rattle.answer_sets.specs.Known.{Part, PartHolds, InBody}
 
 -- the answer says whether every part of rule r's body is true in every completion
-pub record Held (rules : List ℕ) (r up dropped : ℕ) (answer : Bool) : Type 0 where
+pub record HeldInAll (rules : List ℕ) (r up dropped : ℕ) (answer : Bool) : Type 0 where
   pub exactly : (answer ≡ true) ↔ ((p : Part) → InBody rules r p → (N : ℕ) → Completes (halfDecided up dropped) N → PartHolds rules r p N)
 
 -- the state after rule r. S-7: "The search goes no further where some rule's body holds and all its head atoms are dropped": there an
 -- atom is both up and dropped afterwards, so that nothing completes the state
 pub record Stepped (rules : List ℕ) (r : ℕ) (s t : State) : Type 0 where
   pub narrows : Narrows (Satisfies (lent rules) r) s t
-  pub stops : Held rules r (s .up) (s .dropped) true → lent rules .head r ⊆ s .dropped → Overlaps t
+  pub stops : HeldInAll rules r (s .up) (s .dropped) true → lent rules .head r ⊆ s .dropped → Overlaps t
 
 -- every completion of the state satisfies rule r
 pub record Met (P : Program) (r : ℕ) (s : State) : Type 0 where

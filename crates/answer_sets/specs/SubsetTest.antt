@@ -7,8 +7,8 @@ use Rattle.answer_sets.specs.Program.{Program, Satisfies, SatisfiesAll}
 use Rattle.answer_sets.specs.Lent.{lent, looks}
 use Rattle.states.specs.State.{Completes}
 use Rattle.states.specs.declared.state.State.{State}
-use Rattle.answer_sets.specs.declared.reduct.Found.{Found}
-use Rattle.answer_sets.specs.declared.reduct.Found.the-variants.{Rule, Nothing}
+use Rattle.answer_sets.specs.declared.reduct.FoundRule.{FoundRule}
+use Rattle.answer_sets.specs.declared.reduct.FoundRule.the-variants.{Rule, Nothing}
 
 -- some completion of the state is a proper subset of M and satisfies each rule of the word
 pub record Between (P : Program) (which M : ℕ) (s : State) : Type 0 where
@@ -22,7 +22,7 @@ pub record Confines (M dropped : ℕ) : Type 0 where
   pub outside : (i : ℕ) → i < ATOMS → ¬ Has M i → Has dropped i
 
 -- a rule of the word that the position does not satisfy, or it satisfies them all
-abbrev pub Unsatisfied : Program → ℕ → ℕ → Found → Type 0
+abbrev pub Unsatisfied : Program → ℕ → ℕ → FoundRule → Type 0
 Unsatisfied P which M (Rule r) = Has which r × ¬ Satisfies P r M
 Unsatisfied P which M Nothing = SatisfiesAll P which M
 

@@ -9,7 +9,7 @@ ghost use Rattle.answer_sets.specs.SubsetTest.{Unsatisfied};
 ghost use Rattle.answer_sets.specs.Test.{satisfies as satisfiesAt, satisfiesAll, kept, keptIf};
 
 // A rule that a position does not satisfy, if there is one.
-pub enum Found {
+pub enum FoundRule {
     Rule(usize),
     Nothing,
 }
@@ -26,7 +26,7 @@ fn satisfies(rules: &[u64], rule: usize, position: u64) -> bool
 }
 
 // A rule numbered in `which` that the position does not satisfy, if there is one.
-pub fn find_unsatisfied(rules: &[u64], which: u64, position: u64) -> Found
+pub fn find_unsatisfied(rules: &[u64], which: u64, position: u64) -> FoundRule
     requires { ⌜ Lent (now rules) which ⌝ }
     ensures { λ r. ⌜ Unsatisfied (lent (now (rules .entry))) which position r ⌝ }
 {
@@ -34,11 +34,11 @@ pub fn find_unsatisfied(rules: &[u64], which: u64, position: u64) -> Found
     while rest != 0 {
         let rule = atoms::lowest(rest);
         if !satisfies(rules, rule, position) {
-            return Found::Rule(rule);
+            return FoundRule::Rule(rule);
         }
         rest = atoms::drop(rest, rule);
     }
-    Found::Nothing
+    FoundRule::Nothing
 }
 
 // Whether the position satisfies each rule numbered in `which`.
@@ -48,8 +48,8 @@ pub fn all_satisfied(rules: &[u64], which: u64, position: u64) -> bool
 {
     let found = find_unsatisfied(rules, which, position);
     match found {
-        Found::Nothing => true,
-        Found::Rule(_) => false,
+        FoundRule::Nothing => true,
+        FoundRule::Rule(_) => false,
     }
 }
 

@@ -18,13 +18,13 @@ ghost use Rattle.plan.specs.Limits.{MAX_RULES};
 ghost use Rattle.answer_sets.specs.Program.{Satisfies};
 ghost use Rattle.answer_sets.specs.Lent.{lent, IsLent, Lent};
 ghost use Rattle.states.specs.Narrowing.{Narrows};
-ghost use Rattle.answer_sets.specs.RulePass.{Held, Stepped, Sifted};
+ghost use Rattle.answer_sets.specs.RulePass.{HeldInAll, Stepped, Sifted};
 ghost use Rattle.atoms.specs.Word.{_⊆_, _∖_, AtMostOne, atom};
 
 // Whether the body is known to hold.
 fn is_held(rules: &[u64], rule: usize, up: u64, dropped: u64) -> bool
     requires { ⌜ IsLent (now rules) rule ⌝ }
-    ensures { λ r. ⌜ Held (now (rules .entry)) rule up dropped r ⌝ }
+    ensures { λ r. ⌜ HeldInAll (now (rules .entry)) rule up dropped r ⌝ }
 {
     let words = words_known(rules, rule, up, atoms::without(dropped, up));
     if uses(rules, rule) == 0 {

@@ -1,6 +1,6 @@
 // The subset test: whether some proper subset of a position has all the facts and satisfies each rule of a word.
 // It grows from the facts: what every such subset must have goes up, and only then is an atom tried both ways.
-use crate::reduct::Found;
+use crate::reduct::FoundRule;
 use crate::reduct::find_unsatisfied;
 use crate::rule_pass::rule_pass;
 use crate::tried::candidates;
@@ -49,7 +49,7 @@ fn some_between(rules: &[u64], which: u64, position: u64, up: u64, dropped: u64)
         return some_between(rules, left, position, t.up, t.dropped);
     }
     let found = find_unsatisfied(rules, left, t.up);
-    let Found::Rule(rule) = found else {
+    let FoundRule::Rule(rule) = found else {
         return Smaller {
             found: true,
             set: t.up,

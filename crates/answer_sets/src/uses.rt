@@ -14,7 +14,7 @@ ghost use mathlib.Core.Bool.{true};
 ghost use Prim.Native.Nat.{_<_, _≤_};
 ghost use lib.ListN.{length};
 ghost use Rattle.plan.specs.Limits.{FIRST_RULE as Limits·FIRST_RULE, MAX_TABLES as Limits·MAX_TABLES};
-ghost use Rattle.answer_sets.specs.Lent.{IsLent, USE_BITS as Lent·USE_BITS, uses, tableOf, inputs, truth, useHolds, usedInputs};
+ghost use Rattle.answer_sets.specs.Lent.{IsLent, USE_BITS as Lent·USE_BITS, uses, usedTable, inputs, truth, useHolds, usedInputs};
 ghost use Rattle.answer_sets.specs.Known.{Says, PartsSay, IsWord, BodySays};
 ghost use Rattle.states.specs.State.{halfDecided};
 
@@ -32,7 +32,7 @@ pub fn uses(rules: &[u64], rule: usize) -> u64
 // The table that the use is of.
 fn table_of(i: usize) -> usize
     requires { ⌜ i < Lent·USE_BITS ⌝ }
-    ensures { λ r. ⌜ (r ≡ tableOf i) × (r < Limits·MAX_TABLES) ⌝ }
+    ensures { λ r. ⌜ (r ≡ usedTable i) × (r < Limits·MAX_TABLES) ⌝ }
 {
     if i < MAX_TABLES { i } else { i - MAX_TABLES }
 }

@@ -12,8 +12,8 @@ use Rattle.atoms.specs.Word.{has, subset, apart, _∩_, _∪_, _∖_, atom, bel
 use Rattle.atoms.specs.Bounded.{allBelow, someBelow, wordBelow, unionIn}
 use Rattle.atoms.specs.Collected.{lowest, lowestOf}
 use Rattle.atoms.specs.Lists.{padded, tabulate}
-use Rattle.answer_sets.specs.Lent.{tableOf, asks, usedInputs, lent}
-use Rattle.reading.specs.Words.{BYTE_VALUES, number, wordAt}
+use Rattle.answer_sets.specs.Lent.{usedTable, asks, usedInputs, lent}
+use Rattle.reading.specs.Words.{BYTE_VALUES, spelled, wordAt}
 use Rattle.plan.specs.Record.{emptyPlan, withTable, withRule, withUse, withUnit, withEdge, withShow}
 use Rattle.reading.specs.Commands.{kindOf, carrying, late, emptyRule, contradictory, badTable, badUse, absentRule, badEdge, miscounted, ofKind, commandAt}
 use Rattle.reading.specs.Reading.{walk, reading}
@@ -22,7 +22,7 @@ use Rattle.dependency_graph.specs.Heads.{through, reachVia, reach, own}
 use Rattle.dependency_graph.specs.PlanUnits.{unitsOf}
 use Rattle.dependency_graph.specs.Offenders.{twiceBelow, seen, unseenHeads, nonmonotonicUnseenIn, monotonicSeenIn}
 use Rattle.dependency_graph.specs.Offenders.{givenInHead, ruleInNoUnit, headedRuleInSeveral, cycle, nonmonotonicUnseen, monotonicUnseen}
-use Rattle.dependency_graph.specs.Check.{row, verdict}
+use Rattle.dependency_graph.specs.Check.{faultOr, verdict}
 use Rattle.dependency_graph.proofs.Verdicts.{passes-of-verdict}
 use Rattle.circuit_theorem.proofs.Circuits.{circuit-7}
 use Rattle.antichains.specs.HeadAtoms.{headAtoms, FewHeads}
@@ -48,7 +48,7 @@ headCount bytes = ones (headAtoms (unitsOf (reading bytes .plan)))
 
 pub head-counts : (headCount circuit-7 ≡ 5) × (headCount circuit-12 ≡ 16)
 unfolding headAtoms unitsOf lent reading walk commandAt ofKind kindOf carrying late emptyRule contradictory absentRule badEdge badTable badUse miscounted
-    emptyPlan withTable withRule withUse withUnit withEdge withShow number wordAt padded tabulate unionIn has subset apart _∩_ _∪_ _∖_ atom below ones flatMap
+    emptyPlan withTable withRule withUse withUnit withEdge withShow spelled wordAt padded tabulate unionIn has subset apart _∩_ _∪_ _∖_ atom below ones flatMap
 head-counts = (refl, refl)
 
 -- ---- circuit 7 is such a plan
@@ -67,9 +67,9 @@ are-bytes (b ∷ bytes) e = go (ltb b BYTE_VALUES) refl (are-bytes bytes)
 
 pub circuit-7-ten-headed : (c : Contents) × TenHeaded circuit-7 c
 unfolding headAtoms unitsOf lent reading walk commandAt ofKind kindOf carrying late emptyRule contradictory absentRule badEdge badTable badUse miscounted
-    emptyPlan withTable withRule withUse withUnit withEdge withShow number wordAt padded tabulate unionIn has subset apart _∩_ _∪_ _∖_ atom below ones
-    tableOf asks usedInputs allBelow someBelow wordBelow twiceBelow own reach reachVia through verdict row givenInHead ruleInNoUnit headedRuleInSeveral cycle
-    nonmonotonicUnseen monotonicUnseen nonmonotonicUnseenIn monotonicSeenIn seen unseenHeads lowestOf lowest
+    emptyPlan withTable withRule withUse withUnit withEdge withShow spelled wordAt padded tabulate unionIn has subset apart _∩_ _∪_ _∖_ atom below ones
+    usedTable asks usedInputs allBelow someBelow wordBelow twiceBelow own reach reachVia through verdict faultOr givenInHead ruleInNoUnit headedRuleInSeveral
+    cycle nonmonotonicUnseen monotonicUnseen nonmonotonicUnseenIn monotonicSeenIn seen unseenHeads lowestOf lowest
 circuit-7-ten-headed =
     ten-headed circuit-7 (are-bytes circuit-7 refl) refl (passes-of-verdict (unitsOf (reading circuit-7 .plan)) refl)
     (record { count = omega (arith, head-counts .0) })

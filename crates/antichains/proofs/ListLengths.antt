@@ -15,7 +15,7 @@ use Rattle.dependency_graph.specs.Graph.{Passes}
 use Rattle.splitting.specs.UnitList.{Listed, Clean, withLast}
 use Rattle.splitting.proofs.Last.{last-passes}
 use Rattle.splitting.proofs.Antichain.{list-antichain}
-use Rattle.unit_lists.specs.Demands.{Shown, ListOf}
+use Rattle.demands.specs.Demands.{Shown, ListOf}
 use Rattle.antichains.specs.Family.{Incomparable, Antichain, antichain-nil, antichain-cons, middleBinomial}
 use Rattle.antichains.specs.HeadAtoms.{headAtoms, FewHeads}
 use Rattle.antichains.proofs.Sperner.{sperner-around}

@@ -15,7 +15,7 @@ use Rattle.plan.specs.declared.fault.Outcome.{Outcome}
 use Rattle.plan.specs.declared.fault.Outcome.the-variants.{Accepted}
 use Rattle.plan.proofs.Refusals.{told, refused-for}
 use Rattle.reading.specs.Reading.{reading}
-use Rattle.reading.specs.Layout.{Contents, Within, recordOf, predecessorsOf, IsByte, All}
+use Rattle.reading.specs.Layout.{Contents, WithinLimits, recordOf, predecessorsOf, IsByte, All}
 use Rattle.reading.proofs.Accepted.{accepted-is-plan}
 use Rattle.reading.proofs.Lists.{all-member}
 use Rattle.reading.proofs.Predecessors.{pair, has-member}
@@ -23,16 +23,16 @@ use Rattle.dependency_graph.specs.Units.{Units}
 use Rattle.dependency_graph.specs.Graph.{Passes}
 use Rattle.dependency_graph.specs.PlanUnits.{unitsOf}
 use Rattle.splitting.specs.UnitList.{Listed, Clean}
-use Rattle.unit_lists.specs.Lists.{unitList, lastList}
-use Rattle.unit_lists.specs.Demands.{Shown, Fits}
-use Rattle.unit_lists.specs.Demand1.{unitsIn, Listable, AllListed, table-place}
-use Rattle.unit_lists.specs.Promised.{Promised}
-use Rattle.unit_lists.specs.declared.listing.Listing.{Listing}
-use Rattle.unit_lists.proofs.Answers.{not-accepted}
-use Rattle.unit_lists.proofs.Enumerations.{fits-iff, unit-list-of, last-list-of}
-use Rattle.unit_lists.proofs.Demand1.{listable-lists}
+use Rattle.demands.specs.Lists.{unitList, lastList}
+use Rattle.demands.specs.Demands.{Shown, Fits}
+use Rattle.demands.specs.Demand1.{unitsIn, Listable, AllListed, table-place}
+use Rattle.demands.specs.Promised.{Promised}
+use Rattle.demands.specs.declared.listing.Listing.{Listing}
+use Rattle.demands.proofs.Answers.{not-accepted}
+use Rattle.demands.proofs.Enumerations.{fits-iff, unit-list-of, last-list-of}
+use Rattle.demands.proofs.Demand1.{listable-lists}
 use Rattle.sheet.specs.Sheet.{positionsSheet, refusalSheet, positionsWord, refusedWord, atWord, decimal, places, placesWithin}
-use Rattle.plan_sheet.specs.Sheets.{planSheet, Says, KEPT_BYTES, SheetKept}
+use Rattle.plan_sheet.specs.Sheets.{planSheet, SheetSays, KEPT_BYTES, SheetKept}
 use Rattle.plan_sheet.specs.declared.Sheet.{Sheet}
 use Rattle.exports.specs.Handed.{ListHanded, SheetHanded}
 use Rattle.antichains.specs.Family.{middleBinomial}
@@ -44,7 +44,7 @@ use Rattle.antichains.proofs.ListLengths.{list-most, last-most}
 -- ---- such a plan is listed
 
 -- lists within the limits name no predecessor that is not there
-within-clean : (c : Contents) → Within c → Clean (unitsIn c)
+within-clean : (c : Contents) → WithinLimits c → Clean (unitsIn c)
 unfolding unitsOf recordOf
 within-clean c w = record { there = there }
   where
@@ -138,7 +138,7 @@ one-not-fifteen : (s u : ℕ) → ¬ (refusalSheet 1 s ≡ refusalSheet 15 u)
 unfolding refusalSheet refusedWord atWord decimal places placesWithin
 one-not-fifteen s u e = let tenth : _≡_ {A = ℕ} 32 53 = ap (λ (xs : List ℕ). getD xs 9 0) e in omega arith
 
-pub sheet-fits : {bytes table sheet : List ℕ} {c : Contents} → Says bytes table sheet → TenHeaded bytes c → SheetFits c table sheet
+pub sheet-fits : {bytes table sheet : List ℕ} {c : Contents} → SheetSays bytes table sheet → TenHeaded bytes c → SheetFits c table sheet
 sheet-fits {bytes} {table} {sheet} {c} says t =
     record { not-long = λ u e. go u e (decLt (length table) TABLE_WORDS); positions = says .positions c (listable t) }
   where

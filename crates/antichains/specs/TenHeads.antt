@@ -8,9 +8,9 @@ use Rattle.plan.specs.Faults.{RefusedBy, CODE_STEP}
 use Rattle.plan.specs.declared.fault.Outcome.the-variants.{Accepted}
 use Rattle.reading.specs.Layout.{Contents, recordOf}
 use Rattle.dependency_graph.specs.Graph.{Passes}
-use Rattle.unit_lists.specs.Demand1.{unitsIn, Lays, AllListed}
-use Rattle.unit_lists.specs.Demands.{ListsAll}
-use Rattle.unit_lists.specs.declared.listing.Listing.{Listing}
+use Rattle.demands.specs.Demand1.{unitsIn, Lays, AllListed}
+use Rattle.demands.specs.Demands.{ListsAll}
+use Rattle.demands.specs.declared.listing.Listing.{Listing}
 use Rattle.sheet.specs.Sheet.{positionsSheet, refusalSheet}
 use Rattle.plan_sheet.specs.Sheets.{Positions}
 use Rattle.antichains.specs.Family.{middleBinomial}

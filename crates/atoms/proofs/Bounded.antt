@@ -1,13 +1,13 @@
 -- The laws of "each" and "some" below a bound, of "each in a word", and of the word of those of which a test holds.
 use mathlib.Core.Path.{_≡_, refl, sym, ap, _∙_, subst}
-use mathlib.Core.Bool.{Bool, true, false, not, _&&_, _||_}
+use mathlib.Core.Bool.{Bool, true, false, not, _||_}
 use mathlib.Core.Logic.{_⊎_, inl, inr}
-use Prim.Native.Nat.{ℕ, zero, suc, _≤_, _<_}
+use Prim.Native.Nat.{ℕ, zero, suc, _<_}
 use native.Mathlib.Omega.{arith}
 use native.Mathlib.Decide.{ℕ-discrete}
 use Rattle.atoms.specs.Word.{Has, has, _∩_, _∪_, _∖_, atom, below}
 use Rattle.atoms.specs.Bounded.{Decides, allBelow, someBelow, allIn, wordBelow, unionIn}
-use Rattle.atoms.proofs.Tests.{decides, decided-true, false-of-not-true, not-both, test-cases, bool-ext, and-true, implies-true}
+use Rattle.atoms.proofs.Tests.{decides, decided-true, false-of-not-true, not-both, bool-ext, implies-true}
 use Rattle.atoms.proofs.Sets.{decides-has, has-cut, cut-left, has-left, has-right, union-cases, has-without, without-left}
 use Rattle.atoms.proofs.Sets.{has-atom, atom-only, has-none, has-below, ext, empty}
 
@@ -104,21 +104,6 @@ all-in-cut n w p =
 
 pub all-in-none : (n : ℕ) (p : ℕ → Bool) → allIn n 0 p ≡ true
 all-in-none n p = all-in-intro n 0 p (λ i l h. absurd (has-none h))
-
--- one member is tried, and then the rest
-pub all-in-take : (n w : ℕ) (p : ℕ → Bool) (i : ℕ) → i < n → Has w i → allIn n w p ≡ (p i && allIn n (w ∖ atom i) p)
-all-in-take n w p i l h =
-    bool-ext (allIn n w p) (p i && allIn n (w ∖ atom i) p)
-    (λ e. and-true (p i) (allIn n (w ∖ atom i) p) .1 (all-in-at n w p e i l h, left e))
-    (λ e. let r = and-true (p i) (allIn n (w ∖ atom i) p) .0 e in all-in-intro n w p (λ j k q. go j k q (r .0) (r .1) (ℕ-discrete i j)))
-  where
-    left : allIn n w p ≡ true → allIn n (w ∖ atom i) p ≡ true
-    left e = all-in-intro n (w ∖ atom i) p (λ j k q. all-in-at n w p e j k (without-left w (atom i) q))
-
-    go : (j : ℕ) → j < n → Has w j → p i ≡ true → allIn n (w ∖ atom i) p ≡ true → Dec (i ≡ j) → p j ≡ true
-    go j k q here rest (yes e) = ap p (sym e) ∙ here
-    go j k q here rest (no e) =
-        all-in-at n (w ∖ atom i) p rest j k (has-without w (atom i) q (λ r. e (atom-only i r)))
 
 -- ---- the word of those of which a test holds
 

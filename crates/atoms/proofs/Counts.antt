@@ -1,14 +1,13 @@
 -- How many atoms a word has, and its lowest atom. The count of a smaller set is smaller: this is what recursion over undecided atoms falls by.
-use mathlib.Core.Path.{_≡_, refl, sym, ap, _∙_, subst}
-use mathlib.Core.Logic.{_⊎_, inl, inr}
-use Prim.Native.Nat.{ℕ, zero, suc, _+_, _-_, _*_, _/_, _%_, _^_, _≤_, _<_}
+use mathlib.Core.Path.{_≡_, refl, sym, _∙_, subst}
+use Prim.Native.Nat.{ℕ, zero, suc, _-_, _/_, _%_, _^_, _≤_, _<_}
 use native.Mathlib.Omega.{arith}
 use native.Mathlib.Nat.{pow-suc}
 use native.Mathlib.Decide.{ℕ-discrete}
 use lib.Count.{ones, ones-step, ones-le, leadingZeros, leading-le, trailingZeros, trailing-le, under}
 use lib.Arith.{bin-ind}
-use Rattle.atoms.specs.Word.{digit, Has, _⊆_, _⊂_, _∖_, atom, Lowest}
-use Rattle.atoms.proofs.Digits.{digit-lt, digit-low, digit-next}
+use Rattle.atoms.specs.Word.{digit, Has, _⊆_, _∖_, atom, Lowest}
+use Rattle.atoms.proofs.Digits.{digit-low, digit-next}
 use Rattle.atoms.proofs.Sets.{has-dec, has-none, some-atom, has-without, without-left, without-right, has-atom, subset-antisym}
 
 has-half : {w i : ℕ} → Has w (suc i) → Has (w / 2) i

@@ -2,8 +2,8 @@
 use mathlib.Core.Path.{_≡_, refl, sym, ap, ap₂, _∙_}
 use Prim.Native.Nat.{ℕ, zero, suc, _+_, _-_, _*_, _/_, _%_, _^_, _≤_, _<_, min, max}
 use native.Mathlib.Omega.{arith}
-use native.Mathlib.Nat.{pow-suc, div-one, div-eq-of-lt, div-add-mod', mod-lt}
-use lib.Bits.{bitAnd, bitOr, and-step, or-step, and-shr, or-shr, and-le-l, and-mask, and-comm}
+use native.Mathlib.Nat.{pow-suc, div-one, div-eq-of-lt}
+use lib.Bits.{bitAnd, bitOr, and-step, or-step, and-shr, or-shr, and-le-l}
 use lib.Arith.{bin-ind}
 use lib.Pow.{pow-mono, pow-pos, shl-exact, shr-shr}
 use Rattle.atoms.specs.Word.{digit}

@@ -1,17 +1,15 @@
 -- The laws of words as sets: each operation by its members, extensionality, and what the tests say.
 -- Everything above cites these; the digits stand behind them and nowhere else.
-use mathlib.Core.Path.{_≡_, refl, sym, ap, _∙_, subst}
-use mathlib.Core.Bool.{Bool, true, false}
-use mathlib.Core.Logic.{_↔_, _⊎_, inl, inr}
-use Prim.Native.Nat.{ℕ, zero, suc, _+_, _-_, _*_, _/_, _%_, _^_, _≤_, _<_, min, max}
+use mathlib.Core.Path.{_≡_, refl, sym, _∙_, subst}
+use mathlib.Core.Logic.{_⊎_, inl, inr}
+use Prim.Native.Nat.{ℕ, suc, _+_, _-_, _*_, _/_, _^_, _≤_, _<_}
 use native.Mathlib.Omega.{arith}
 use native.Mathlib.Decide.{ℕ-discrete, decLt}
-use native.Mathlib.Nat.{div-lt-iff-lt-mul, eq-zero-or-pos}
-use lib.Bits.{bitAnd, bitOr, and-le-l, and-le-r, or-lt}
-use lib.Dec.{eqb}
+use native.Mathlib.Nat.{div-lt-iff-lt-mul}
+use lib.Bits.{bitAnd, and-le-l, and-le-r, or-lt}
 use lib.Pow.{pow-pos}
 use lib.Arith.{bin-ind}
-use borrow.Author.Tests.{eqb-true, eqb-false, eq-eqb}
+use borrow.Author.Tests.{eqb-true, eq-eqb}
 use Rattle.atoms.specs.Word.{digit, Has, has, _⊆_, subset, _⊂_, Apart, apart, _∩_, _∪_, _∖_, atom, below, outside, ATOMS}
 use Rattle.atoms.specs.Bounded.{Decides}
 use Rattle.atoms.proofs.Digits.{digit-lt, digit-zero, digit-low, digit-next, and-at, or-at, sub-at, same-digits}
@@ -256,6 +254,18 @@ union-assoc a b c = ext ((a ∪ b) ∪ c) (a ∪ (b ∪ c)) (λ i p. left i (uni
     right : (i : ℕ) → Has a i ⊎ Has (b ∪ c) i → Has ((a ∪ b) ∪ c) i
     right i (inl p) = has-left (a ∪ b) c (has-left a b p)
     right i (inr p) = right-in i (union-cases b c p)
+
+-- b before a
+pub union-swap : (a b c : ℕ) → a ∪ (b ∪ c) ≡ b ∪ (a ∪ c)
+union-swap a b c = ext (a ∪ (b ∪ c)) (b ∪ (a ∪ c)) (λ i p. to a b i (union-cases a (b ∪ c) p)) (λ i p. to b a i (union-cases b (a ∪ c) p))
+  where
+    inner : (x y i : ℕ) → Has y i ⊎ Has c i → Has (y ∪ (x ∪ c)) i
+    inner x y i (inl p) = has-left y (x ∪ c) p
+    inner x y i (inr p) = has-right y (x ∪ c) (has-right x c p)
+
+    to : (x y i : ℕ) → Has x i ⊎ Has (y ∪ c) i → Has (y ∪ (x ∪ c)) i
+    to x y i (inl p) = has-right y (x ∪ c) (has-left x c p)
+    to x y i (inr p) = inner x y i (union-cases y c p)
 
 -- ---- sizes
 

@@ -1,6 +1,6 @@
 -- "Each" and "some" over the numbers below a bound, computed, and the word of those of which a test holds.
 use mathlib.Core.Path.{_≡_}
-use mathlib.Core.Bool.{Bool, true, false, not, _||_, _&&_}
+use mathlib.Core.Bool.{Bool, true, false, not, _||_}
 use Prim.Native.Nat.{ℕ, zero, suc}
 use Rattle.atoms.specs.Word.{has, atom, _∪_}
 

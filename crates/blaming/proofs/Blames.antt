@@ -1,28 +1,26 @@
 -- What few_constraints promises is the word of the pass, and it is blamed in document 02's words; there is just one such word, and it is 0 where the
 -- headed rules and given facts alone have no answer set.
-use mathlib.Core.Path.{_≡_, refl, sym, ap, _∙_, subst}
-use mathlib.Core.Bool.{Bool, true, false}
+use mathlib.Core.Path.{_≡_, sym, ap, subst}
+use mathlib.Core.Bool.{true, false}
 use mathlib.Core.Logic.{_⊎_, inl, inr}
-use mathlib.Core.List.{List}
-use Prim.Native.Nat.{ℕ, zero, suc, _^_, _≤_, _<_}
+use Prim.Native.Nat.{ℕ, zero, suc, _≤_, _<_}
 use native.Mathlib.Omega.{arith}
 use native.Mathlib.Decide.{ℕ-discrete, decLt}
-use Rattle.atoms.specs.Word.{ATOMS, Has, _⊆_, _∪_, _∖_, atom, below}
+use Rattle.atoms.specs.Word.{Has, _⊆_, _∖_, atom, below}
 use Rattle.atoms.specs.Collected.{Collects}
 use Rattle.atoms.proofs.Sets.{ext, empty, has-none, has-dec, has-without, without-left, without-right, has-atom, atom-only, subset-refl}
-use Rattle.atoms.proofs.Tests.{test-cases, not-both}
-use Rattle.atoms.proofs.Collected.{collects-same, collects-iff}
+use Rattle.atoms.proofs.Tests.{test-cases}
+use Rattle.atoms.proofs.Collected.{collects-same}
 use Rattle.plan.specs.Record.{Fitting}
 use Rattle.plan.specs.declared.record.Plan.{Plan}
 use Rattle.answer_sets.specs.AnswerSet.{AnswerSet}
 use Rattle.answer_sets.specs.Lent.{lent}
 use Rattle.answer_sets.proofs.Support.{fewer-constraints}
-use Rattle.judge.specs.Settled.{Settles}
-use Rattle.finding.specs.Few.{Blamed as Found}
+use Rattle.finding.specs.Few.{FewBlamed}
 use Rattle.blaming.specs.Blamed.{Constraint, Among, headed-rule, constraint, Empties, Leaves, StillHeld, stays, untried, Tried, Blames}
-use Rattle.blaming.specs.Blamed.{Positionless, Says, with-position, without, constraintsIn, rulesWith, leaves, passed, heldIn}
+use Rattle.blaming.specs.Blamed.{LeastOrBlamed, with-position, without, constraintsIn, leaves, passed, heldIn}
 use Rattle.blaming.specs.declared.Blame.{Blame}
-use Rattle.blaming.specs.declared.Blame.the-variants.{Position, Held, Refused}
+use Rattle.blaming.specs.declared.Blame.the-variants.{Position, Held}
 use Rattle.blaming.proofs.Passes.{pass-kept, pass-dropped, pass-within, pass-untried, pass-stays, pass-stayed, going-is}
 use Rattle.blaming.proofs.Programs.{constraints-are, constraints-same, top-same, among-rules, whole-rules}
 use Rattle.blaming.proofs.Programs.{leaves-yes, leaves-no, one-leaves, none-leaves}
@@ -88,7 +86,7 @@ module _ (p : Plan) (fits : Fitting p) where
 
   -- ---- what few_constraints found
 
-  module _ {w : ℕ} (f : Found (p .rules) (below (p .«rule_count») ∖ constraintsIn p) (constraintsIn p) (p .given) w) where
+  module _ {w : ℕ} (f : FewBlamed (p .rules) (below (p .«rule_count») ∖ constraintsIn p) (constraintsIn p) (p .given) w) where
     found-held : w ≡ heldIn p
     unfolding heldIn
     found-held =
@@ -107,10 +105,10 @@ module _ (p : Plan) (fits : Fitting p) where
 
   -- by the words of the code
   pub few-found : {all cons top w : ℕ} → all ≡ below (p .«rule_count») → Collects (λ r. Has all r × (lent (p .rules) .head r ≡ 0)) cons → top ≡ all ∖ cons
-      → Found (p .rules) top cons (p .given) w → (w ≡ heldIn p) × Blames p w
+      → FewBlamed (p .rules) top cons (p .given) w → (w ≡ heldIn p) × Blames p w
   few-found {all} {cons} {top} {w} a c t f = (found-held here, found-blames here)
     where
-      here : Found (p .rules) (below (p .«rule_count») ∖ constraintsIn p) (constraintsIn p) (p .given) w
+      here : FewBlamed (p .rules) (below (p .«rule_count») ∖ constraintsIn p) (constraintsIn p) (p .given) w
       here = rw (top-same p a c t, constraints-same p a c) at f
 
 -- ---- the meaning fixes the word
@@ -178,7 +176,7 @@ module _ {p : Plan} where
         ext v w (λ i h. all-same (suc i) .into i (omega arith) h) (λ i h. all-same (suc i) .from i (omega arith) h)
 
 -- so does what is said of a plan
-pub says-only : {p : Plan} {a b : Blame} → Says p a → Says p b → a ≡ b
+pub says-only : {p : Plan} {a b : Blame} → LeastOrBlamed p a → LeastOrBlamed p b → a ≡ b
 says-only (with-position {M = M} s l) (with-position {M = N} t k) = ap Position (same (l N t) (k M s))
   where
     same : {x y : ℕ} → x ≤ y → y ≤ x → x ≡ y
@@ -208,7 +206,7 @@ settles-among : (p : Plan) → Collects (Among p (constraintsIn p)) (below (p .�
 settles-among p = rw (← whole-rules p) (among-rules p (constraintsIn p) subset-refl)
 
 -- S-13: where they have no answer set, the word is 0
-pub headed-alone : {p : Plan} {r : Blame} → Empties p 0 → Says p r → r ≡ Held 0
+pub headed-alone : {p : Plan} {r : Blame} → Empties p 0 → LeastOrBlamed p r → r ≡ Held 0
 headed-alone {p} e (with-position {M = M} s l) = absurd (e .none M (alone (settles-among p) (e .rules-are) s))
 headed-alone {p} e (without {w = w} n b) = ap Held (empty w (λ c h.
     let x = b .each c h in

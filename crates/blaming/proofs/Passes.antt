@@ -1,13 +1,11 @@
 -- The pass over the constraints, as it is computed: one number more, what is held before and behind, and that the pass of `few_constraints` is the same.
-use mathlib.Core.Path.{_≡_, refl, sym, ap, _∙_, subst}
+use mathlib.Core.Path.{_≡_, refl, sym, _∙_, subst}
 use mathlib.Core.Bool.{Bool, true, false}
-use mathlib.Core.Logic.{_⊎_, inl, inr}
 use mathlib.Core.List.{List}
-use Prim.Native.Nat.{ℕ, zero, suc, _+_, _-_, _≤_, _<_}
+use Prim.Native.Nat.{ℕ, zero, suc, _-_, _≤_, _<_}
 use native.Mathlib.Omega.{arith}
-use native.Mathlib.Decide.{ℕ-discrete, decLt}
-use Rattle.atoms.specs.Word.{Has, has, _⊆_, _∪_, _∖_, atom, Lowest}
-use Rattle.atoms.specs.Bounded.{Decides}
+use native.Mathlib.Decide.{decLt}
+use Rattle.atoms.specs.Word.{Has, _⊆_, _∪_, _∖_, atom}
 use Rattle.atoms.proofs.Sets.{decides-has, has-dec, has-none, has-without, without-left, without-right, has-atom, atom-only, subset-refl, subset-trans}
 use Rattle.atoms.proofs.Tests.{decided-true, decided-false}
 use Rattle.finding.specs.Few.{NoneSettled, OneSettled, Tried, drops, keeps, Going, done, tries}

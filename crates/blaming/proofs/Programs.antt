@@ -1,8 +1,8 @@
 -- Programs with some of a plan's constraints: which rules they have, and that the bounded test finds an answer set of theirs if there is one.
 use mathlib.Core.Path.{_≡_, sym, ap₂, _∙_, subst}
-use mathlib.Core.Bool.{Bool, true, false}
+use mathlib.Core.Bool.{true, false}
 use mathlib.Core.Logic.{_⊎_, inl, inr}
-use Prim.Native.Nat.{ℕ, suc, _^_, _≤_, _<_}
+use Prim.Native.Nat.{ℕ, suc, _^_, _<_}
 use native.Mathlib.Omega.{arith}
 use lib.Dec.{eqb}
 use Rattle.atoms.specs.Word.{ATOMS, Has, _⊆_, _∪_, _∖_, below}
@@ -22,7 +22,7 @@ use Rattle.answer_sets.specs.Test.{answerSet}
 use Rattle.answer_sets.proofs.Judged.{decides-answer-set}
 use Rattle.answer_sets.proofs.Support.{Supported, supported}
 use Rattle.finding.specs.Few.{Constraints, NoneSettled, OneSettled}
-use Rattle.stepping.specs.Followed.{headed}
+use Rattle.stepping.specs.Followed.{mayBeUp}
 use Rattle.blaming.specs.Blamed.{Constraint, Among, headed-rule, constraint, Empties, Leaves, Positionless, constraintsIn, rulesWith, leaves}
 
 -- ---- the constraints
@@ -89,13 +89,13 @@ module _ (p : Plan) where
           has-left (below (p .«rule_count») ∖ constraintsIn p) (constraintsIn p) (has-without (below (p .«rule_count»)) (constraintsIn p) h k)
 
   -- an answer set of theirs has only atoms that are given or in heads
-  answer-within : (w M : ℕ) → w ⊆ constraintsIn p → AnswerSet (lent (p .rules)) (rulesWith p w) (p .given) M → M ⊆ headed p
+  answer-within : (w M : ℕ) → w ⊆ constraintsIn p → AnswerSet (lent (p .rules)) (rulesWith p w) (p .given) M → M ⊆ mayBeUp p
   answer-within w M f a = record { each = λ i h. go i (supported (lent (p .rules)) (rulesWith p w) (p .given) M i a h) }
     where
       heads : ℕ → ℕ
       heads r = lent (p .rules) .head r
 
-      go : (i : ℕ) → Supported (lent (p .rules)) (rulesWith p w) (p .given) i → Has (headed p) i
+      go : (i : ℕ) → Supported (lent (p .rules)) (rulesWith p w) (p .given) i → Has (mayBeUp p) i
       go i (inl h) = has-left (p .given) (unionIn (p .«rule_count») (below (p .«rule_count»)) heads) h
       go i (inr t) =
           let l = number-lt w f (t .0) (t .1) in
@@ -115,13 +115,13 @@ module _ (p : Plan) (fits : Fitting p) where
   pub leaves-yes : (w : ℕ) → w ⊆ constraintsIn p → leaves p w ≡ true → Leaves p w
   unfolding leaves
   leaves-yes w f e =
-      let t = some-at (suc (headed p)) (λ M. answerSet (lent (p .rules)) (rulesWith p w) (p .given) M) e in
+      let t = some-at (suc (mayBeUp p)) (λ M. answerSet (lent (p .rules)) (rulesWith p w) (p .given) M) e in
       record { which = rulesWith p w; rules-are = among-rules p w f; position = t .0; answers = decides-answers w (t .0) f .yes (t .2) }
 
   answer-leaves : (w M : ℕ) → w ⊆ constraintsIn p → AnswerSet (lent (p .rules)) (rulesWith p w) (p .given) M → leaves p w ≡ true
   unfolding leaves
   answer-leaves w M f a =
-      some-intro (suc (headed p)) (λ N. answerSet (lent (p .rules)) (rulesWith p w) (p .given) N) M
+      some-intro (suc (mayBeUp p)) (λ N. answerSet (lent (p .rules)) (rulesWith p w) (p .given) N) M
       (omega (arith, subset-le (answer-within p w M f a)))
       (decided-true (decides-answers w M f) a)
 
@@ -137,7 +137,7 @@ module _ (p : Plan) (fits : Fitting p) where
   pub none-leaves : (w : ℕ) → w ⊆ constraintsIn p → NoneSettled (p .rules) (rulesWith p w) (p .given) → leaves p w ≡ false
   unfolding leaves
   none-leaves w f n =
-      some-none (suc (headed p)) (λ M. answerSet (lent (p .rules)) (rulesWith p w) (p .given) M) (λ M l e. n .nobody M (decides-answers w M f .yes e))
+      some-none (suc (mayBeUp p)) (λ M. answerSet (lent (p .rules)) (rulesWith p w) (p .given) M) (λ M l e. n .nobody M (decides-answers w M f .yes e))
 
 -- ---- what few_constraints is asked, by the words of the code
 

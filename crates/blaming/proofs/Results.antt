@@ -1,7 +1,7 @@
 -- The results for the bytes of a plan: the definition and what is said of the plan, from what reading, the next position and few_constraints gave.
-use mathlib.Core.Path.{_≡_, refl, sym, ap, _∙_, subst}
+use mathlib.Core.Path.{_≡_, sym, ap, _∙_, subst}
 use mathlib.Core.List.{List}
-use Prim.Native.Nat.{ℕ, _≤_}
+use Prim.Native.Nat.{ℕ}
 use native.Mathlib.Omega.{arith}
 use Rattle.plan.specs.declared.fault.Fault.{Fault}
 use Rattle.plan.specs.declared.fault.Outcome.{Outcome}
@@ -16,10 +16,9 @@ use Rattle.searching.specs.declared.witness.Witness.the-variants.{Member, Nothi
 use Rattle.finding.specs.Least.{Behind, from-start, LeastOf, least, none}
 use Rattle.finding.specs.declared.least.From.the-variants.{Start}
 use Rattle.stepping.specs.Followed.{followed}
-use Rattle.stepping.specs.declared.Next.{Next}
 use Rattle.stepping.specs.declared.Next.the-variants.{Position as NextPosition, NoneLeft, Refused as NextRefused}
 use Rattle.stepping.proofs.Nexts.{follows-only, found-follows, none-follows, followed-refused, followed-follows}
-use Rattle.blaming.specs.Blamed.{Blames, Positionless, Says, with-position, without, heldIn, blamed, Blamed}
+use Rattle.blaming.specs.Blamed.{Blames, Positionless, LeastOrBlamed, with-position, without, heldIn, blamed, Blamed}
 use Rattle.blaming.specs.declared.Blame.{Blame}
 use Rattle.blaming.specs.declared.Blame.the-variants.{Position, Held, Refused}
 
@@ -48,7 +47,7 @@ nobody-settles {p} e l = go (subst (LeastOf (λ N. Settles p N × Behind Start N
     go : LeastOf (λ N. Settles p N × Behind Start N) Nothing → Positionless p
     go (none n) = record { none = λ N s. n N (s, from-start) }
 
-least-says : {p : Plan} {M : ℕ} → LeastOf (λ N. Settles p N × Behind Start N) (Member M) → Says p (Position M)
+least-says : {p : Plan} {M : ℕ} → LeastOf (λ N. Settles p N × Behind Start N) (Member M) → LeastOrBlamed p (Position M)
 least-says (least q l) = with-position (q .0) (λ N s. l N (s, from-start))
 
 -- ---- the results of the code
@@ -68,11 +67,11 @@ module _ (bytes : List ℕ) {r : Reading} (read : r ≡ reading bytes) where
       is : (f : Fault) → reading bytes .outcome ≡ RefusedWith f → blamed bytes ≡ Refused f
       is f o = blamed-refused bytes f (followed-refused bytes Start f o)
 
-  accepted-blamed : {x : Blame} → r .outcome ≡ Accepted → x ≡ blamed bytes → Says (r .plan) x → Blamed bytes x
+  accepted-blamed : {x : Blame} → r .outcome ≡ Accepted → x ≡ blamed bytes → LeastOrBlamed (r .plan) x → Blamed bytes x
   accepted-blamed {x} e q s = record {
     is = q;
     refused = λ f o. absurd (not-accepted f (sym (outcome-is e) ∙ o));
-    says = λ _. subst (λ (y : Reading). Says (y .plan) x) read s;
+    says = λ _. subst (λ (y : Reading). LeastOrBlamed (y .plan) x) read s;
     meaning = read-means bytes;
   }
 

@@ -19,7 +19,7 @@ use Rattle.reading.specs.Reading.{reading}
 use Rattle.plan_meaning.specs.Meaning.{ReadMeans}
 use Rattle.judge.specs.Settled.{Settles}
 use Rattle.finding.specs.declared.least.From.the-variants.{Start}
-use Rattle.stepping.specs.Followed.{headed, followed}
+use Rattle.stepping.specs.Followed.{mayBeUp, followed}
 use Rattle.stepping.specs.declared.Next.the-variants.{Position as NextPosition, NoneLeft, Refused as NextRefused}
 use Rattle.blaming.specs.declared.Blame.{Blame}
 use Rattle.blaming.specs.declared.Blame.the-variants.{Position, Held, Refused}
@@ -73,9 +73,9 @@ pub record Positionless (p : Plan) : Type 0 where
   pub none : (M : ℕ) → ¬ Settles p M
 
 -- the least answer set, uncut, or what is blamed where there is none
-pub data Says (p : Plan) : Blame → Type 0 where
-  with-position : {M : ℕ} → Settles p M → ((N : ℕ) → Settles p N → M ≤ N) → Says p (Position M)
-  without : {w : ℕ} → Positionless p → Blames p w → Says p (Held w)
+pub data LeastOrBlamed (p : Plan) : Blame → Type 0 where
+  with-position : {M : ℕ} → Settles p M → ((N : ℕ) → Settles p N → M ≤ N) → LeastOrBlamed p (Position M)
+  without : {w : ℕ} → Positionless p → Blames p w → LeastOrBlamed p (Held w)
 
 -- ---- computed
 
@@ -89,7 +89,7 @@ rulesWith p w = (below (p .«rule_count») ∖ constraintsIn p) ∪ w
 
 -- they leave an answer set; none is above the word of the atoms that may be up
 unfoldable pub leaves : Plan → ℕ → Bool
-leaves p w = someBelow (suc (headed p)) (λ M. answerSet (lent (p .rules)) (rulesWith p w) (p .given) M)
+leaves p w = someBelow (suc (mayBeUp p)) (λ M. answerSet (lent (p .rules)) (rulesWith p w) (p .given) M)
 
 -- constraint c is tried
 abbrev pub tried : (ℕ → Bool) → ℕ → ℕ → ℕ
@@ -115,7 +115,7 @@ blamed bytes =
 pub record Blamed (bytes : List ℕ) (r : Blame) : Type 0 where
   pub is : r ≡ blamed bytes
   pub refused : (f : Fault) → reading bytes .outcome ≡ RefusedWith f → r ≡ Refused f
-  pub says : reading bytes .outcome ≡ Accepted → Says (reading bytes .plan) r
+  pub says : reading bytes .outcome ≡ Accepted → LeastOrBlamed (reading bytes .plan) r
   pub meaning : ReadMeans bytes
 
 -- the result as one number, beside the word

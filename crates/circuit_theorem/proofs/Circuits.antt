@@ -13,10 +13,10 @@ use Rattle.atoms.specs.Collected.{lowest, lowestOf}
 use Rattle.atoms.specs.Rising.{members, insertInto}
 use Rattle.atoms.specs.Cuts.{cutList}
 use Rattle.atoms.specs.Lists.{padded, tabulate}
-use Rattle.contact_tables.specs.Table.{place, row as tableRow, answer as said}
-use Rattle.answer_sets.specs.Lent.{tableOf, asks, useHolds, usesHold, usedInputs, lent}
+use Rattle.contact_tables.specs.Table.{place, row as tableRow, tableAnswer as said}
+use Rattle.answer_sets.specs.Lent.{usedTable, asks, useHolds, usesHold, usedInputs, lent}
 use Rattle.answer_sets.specs.Test.{body, satisfies, satisfiesAll, kept, keptIf, someSmaller, answerSet}
-use Rattle.reading.specs.Words.{number, wordAt}
+use Rattle.reading.specs.Words.{spelled, wordAt}
 use Rattle.plan.specs.Record.{emptyPlan, withCount, withGiven, withTable, withRule, withUse, withUnit, withEdge, withShow}
 use Rattle.reading.specs.Commands.{kindOf, carrying, late, emptyRule, contradictory, badTable, badUse, absentRule, badEdge, miscounted, ofKind, commandAt}
 use Rattle.reading.specs.Reading.{walk, reading}
@@ -28,13 +28,13 @@ use Rattle.dependency_graph.specs.Order.{ready, nextUnit, orderFrom, workingOrd
 use Rattle.dependency_graph.specs.PlanUnits.{unitsOf}
 use Rattle.dependency_graph.specs.Offenders.{twiceBelow, seen, unseenHeads, nonmonotonicUnseenIn, monotonicSeenIn}
 use Rattle.dependency_graph.specs.Offenders.{givenInHead, ruleInNoUnit, headedRuleInSeveral, cycle, nonmonotonicUnseen, monotonicUnseen}
-use Rattle.dependency_graph.specs.Check.{row, verdict}
+use Rattle.dependency_graph.specs.Check.{faultOr, verdict}
 use Rattle.splitting.specs.UnitList.{withLast}
 use Rattle.judge.specs.Answers.{judged}
 use Rattle.judge.specs.declared.Answer.the-variants.{NotSettled}
-use Rattle.unit_lists.specs.Lists.{isInput, inList, unitList, lastList}
-use Rattle.unit_lists.specs.Table.{listAt, runs, tableWith, countsWith, noCounts}
-use Rattle.unit_lists.specs.Answer.{unlessRefused, workFrom, tableOutcome, answer}
+use Rattle.demands.specs.Lists.{isInput, inList, unitList, lastList}
+use Rattle.demands.specs.Table.{listAt, runs, tableWith, countsWith, noCounts}
+use Rattle.demands.specs.Answer.{unlessRefused, workFrom, tableOutcome, answer}
 
 -- a word below 256 in a plan
 abbrev word : ℕ → List ℕ
@@ -160,10 +160,10 @@ answered bytes =
 -- the results of all of them; and of circuit 2: "Position 3 isn't settled."
 pub circuits : (map answered plans ≡ results) × (judged circuit-2 3 ≡ NotSettled)
 unfolding judged answered answer tableOutcome reading walk commandAt ofKind kindOf carrying late emptyRule contradictory absentRule badEdge badTable
-    badUse miscounted emptyPlan withCount withGiven withTable withRule withUse withUnit withEdge withShow number wordAt unlessRefused workFrom noCounts
+    badUse miscounted emptyPlan withCount withGiven withTable withRule withUse withUnit withEdge withShow spelled wordAt unlessRefused workFrom noCounts
     tableWith countsWith listAt runs padded tabulate lastList cutList insertInto unitList inList isInput members allBelow someBelow wordBelow unionIn twiceBelow
-    heads inputHeads own reach reachVia through withLast unitsOf lent usesHold useHolds tableOf asks usedInputs said tableRow place ones answerSet
-    someSmaller satisfiesAll satisfies body kept keptIf has subset apart _∩_ _∪_ _∖_ atom below verdict row givenInHead ruleInNoUnit
+    heads inputHeads own reach reachVia through withLast unitsOf lent usesHold useHolds usedTable asks usedInputs said tableRow place ones answerSet
+    someSmaller satisfiesAll satisfies body kept keptIf has subset apart _∩_ _∪_ _∖_ atom below verdict faultOr givenInHead ruleInNoUnit
     headedRuleInSeveral cycle nonmonotonicUnseen monotonicUnseen nonmonotonicUnseenIn monotonicSeenIn seen unseenHeads lowestOf lowest workingOrder
     orderFrom nextUnit ready
 circuits = (refl, refl)

@@ -7,7 +7,7 @@ use Rattle.atoms.specs.Bounded.{unionIn}
 use Rattle.atoms.proofs.Bounded.{union-has, union-at}
 use Rattle.atoms.proofs.Sets.{has-cut, cut-left, cut-right, has-atom, atom-only, has-below, below-lt, lt-of-has}
 use Rattle.plan.specs.Limits.{MAX_INPUTS}
-use Rattle.contact_tables.specs.Table.{place, row, answer}
+use Rattle.contact_tables.specs.Table.{place, row, tableAnswer}
 use Rattle.contact_tables.specs.Rows.{ROWS}
 
 -- an input that is up and has place k
@@ -54,6 +54,6 @@ pub row-same : (inputs M N : ℕ) → inputs ∩ M ≡ inputs ∩ N → row inpu
 unfolding row
 row-same inputs M N e = rw e refl
 
-pub answer-same : (inputs truth M N : ℕ) → inputs ∩ M ≡ inputs ∩ N → answer inputs truth M ≡ answer inputs truth N
-unfolding answer
+pub answer-same : (inputs truth M N : ℕ) → inputs ∩ M ≡ inputs ∩ N → tableAnswer inputs truth M ≡ tableAnswer inputs truth N
+unfolding tableAnswer
 answer-same inputs truth M N e = rw (row-same inputs M N e) refl

@@ -15,5 +15,5 @@ unfoldable pub row : ℕ → ℕ → ℕ
 row inputs M = unionIn ATOMS (inputs ∩ M) (λ a. atom (place inputs a)) ∩ below MAX_INPUTS
 
 -- "Bit j of the truth word is the answer"
-unfoldable pub answer : ℕ → ℕ → ℕ → Bool
-answer inputs truth M = has truth (row inputs M)
+unfoldable pub tableAnswer : ℕ → ℕ → ℕ → Bool
+tableAnswer inputs truth M = has truth (row inputs M)

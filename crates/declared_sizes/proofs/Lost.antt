@@ -4,7 +4,7 @@ use mathlib.Core.Path.{_≡_, refl, ap, sym, _∙_, subst}
 use mathlib.Core.List.{List, [], _∷_, _++_, flatMap, List·Memᴰ, List·Memᴰ·tail, List·Memᴰ·append-cases, Memᴰ·append-left, Memᴰ·append-right}
 use mathlib.Core.Bool.{true}
 use mathlib.Core.Logic.{_⊎_, inl, inr}
-use Prim.Native.Nat.{ℕ, suc, _+_, _≤_, _<_}
+use Prim.Native.Nat.{ℕ, suc, _+_, _<_}
 use native.Mathlib.Omega.{arith}
 use lib.ListN.{length, getD, length-append}
 use Rattle.atoms.proofs.Tests.{decided-true}
@@ -15,7 +15,7 @@ use Rattle.plan.specs.declared.fault.Outcome.{Outcome}
 use Rattle.plan.specs.declared.fault.Outcome.the-variants.{Accepted, Refused}
 use Rattle.reading.specs.Commands.{end, late, miscounted, ofKind, commandAt}
 use Rattle.reading.specs.Layout.{Sizes, UnitPair, Contents, countBytes, endBytes, commands, layout, firstSizes, recordOf}
-use Rattle.reading.specs.Layout.{IsByte, All, Distinct, GoodEdge, Within, Agrees, Counted}
+use Rattle.reading.specs.Layout.{IsByte, All, Distinct, GoodEdge, WithinLimits, Agrees, Counted}
 use Rattle.reading.specs.Reading.{stepOf, reading, refused}
 use Rattle.reading.specs.declared.reader.Reading.{Reading}
 use Rattle.reading.specs.declared.command.Command.the-variants.{Fault as Faulty}
@@ -27,7 +27,7 @@ use Rattle.reading.proofs.Walk.{walk-ended}
 use Rattle.reading.proofs.RoundTrip.{commands-read}
 use Rattle.reading.proofs.Accepted.{accepted-is-plan}
 use Rattle.declared_sizes.specs.Lost.{having, Lost, a-rule, a-unit, an-edge, Declares}
-use Rattle.declared_sizes.proofs.Tally.{fromCount, grouped, SameSizes, same-sizes}
+use Rattle.declared_sizes.proofs.Tally.{grouped, SameSizes, same-sizes}
 
 -- ---- the COUNT of a layout
 
@@ -117,7 +117,7 @@ module _ (c d : Contents) (whole : Declares c) (lost : Lost c d) where
   not-counted : ¬ Counted d
   not-counted a = left c d lost .wrong (firstSizes (d .declared)) count-agrees (first-agrees d d some-left a)
 
-  module _ (within : Within d) where
+  module _ (within : WithinLimits d) where
     wrong-there : miscounted (recordOf d) ≡ true
     wrong-there = decided-true (decides-miscounted d (few-within within)) not-counted
 
@@ -154,7 +154,7 @@ module _ (c : Contents) (whole : Declares c) (front back : List UnitPair) (e : U
   abbrev without : Contents
   without = having c (c .rules) (c .units) (front ++ back)
 
-  still-within : Within without
+  still-within : WithinLimits without
   still-within =
       let w = whole .within in
       record {

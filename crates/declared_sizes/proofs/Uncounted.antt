@@ -7,7 +7,7 @@ use native.Mathlib.Omega.{arith}
 use lib.ListN.{replicate}
 use Rattle.plan.specs.Limits.{TABLE_WORDS}
 use Rattle.plan.specs.declared.fault.Outcome.the-variants.{Accepted, Refused as RefusedWith}
-use Rattle.reading.specs.Layout.{Contents, layout, recordOf, Within, Counted}
+use Rattle.reading.specs.Layout.{Contents, layout, recordOf, WithinLimits, Counted}
 use Rattle.reading.specs.Reading.{reading, accepted}
 use Rattle.reading.specs.declared.reader.Reading.{Reading}
 use Rattle.reading.proofs.RoundTrip.{layout-is-read}
@@ -17,7 +17,7 @@ use Rattle.judge.specs.Settled.{settled}
 use Rattle.judge.specs.Answers.{yesNo, judged}
 use Rattle.judge.specs.declared.Answer.{Answer}
 use Rattle.judge.specs.declared.Answer.the-variants.{Refused}
-use Rattle.unit_lists.specs.Answer.{Answer as Listed, unlessRefused, afterGraph, tableOutcome, answer}
+use Rattle.demands.specs.Answer.{Answer as Listed, unlessRefused, afterGraph, tableOutcome, answer}
 use Rattle.plan_sheet.specs.Sheets.{sheetOf, planSheet}
 use Rattle.finding.specs.declared.least.From.{From}
 use Rattle.stepping.specs.declared.Next.{Next}
@@ -52,7 +52,7 @@ module _ (c : Contents) where
   unfolding recordOf nextIn
   next-alike from = refl
 
-  pub uncounted-within : Within c → Within (uncounted c)
+  pub uncounted-within : WithinLimits c → WithinLimits (uncounted c)
   uncounted-within w =
       record {
         one-count = omega arith;
@@ -74,7 +74,7 @@ module _ (c : Contents) where
         good-shown = w .good-shown;
       }
 
-  module _ (within : Within c) (counted : Counted c) where
+  module _ (within : WithinLimits c) (counted : Counted c) where
     whole : reading (layout c) ≡ accepted (recordOf c)
     whole = layout-is-read c within counted
 

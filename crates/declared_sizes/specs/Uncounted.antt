@@ -4,7 +4,7 @@ use mathlib.Core.List.{List, []}
 use Prim.Native.Nat.{ℕ}
 use Rattle.reading.specs.Layout.{Contents}
 use Rattle.judge.specs.Answers.{judged}
-use Rattle.unit_lists.specs.Answer.{answer}
+use Rattle.demands.specs.Answer.{answer}
 use Rattle.plan_sheet.specs.Sheets.{planSheet}
 use Rattle.finding.specs.declared.least.From.{From}
 use Rattle.stepping.specs.Followed.{followed}

@@ -8,7 +8,7 @@ use Rattle.atoms.specs.Bounded.{unionIn, wordBelow}
 use Rattle.atoms.specs.Collected.{lowest, lowestOf}
 use Rattle.plan.specs.Limits.{FIRST_RULE}
 use Rattle.plan.specs.Record.{undeclared}
-use Rattle.answer_sets.specs.Lent.{lent, usedInputs, tableOf}
+use Rattle.answer_sets.specs.Lent.{lent, usedInputs, usedTable}
 use Rattle.plan.specs.declared.record.Plan.{Plan}
 use Rattle.plan.specs.declared.fault.Fault.{Fault}
 use Rattle.plan.specs.declared.fault.Outcome.{Outcome}
@@ -18,7 +18,7 @@ use Rattle.dependency_graph.specs.Order.{ready, nextUnit, orderFrom, wor
 use Rattle.dependency_graph.specs.PlanUnits.{unitsOf}
 use Rattle.dependency_graph.specs.Offenders.{twiceBelow, seen, unseenHeads, nonmonotonicUnseenIn, monotonicSeenIn}
 use Rattle.dependency_graph.specs.Offenders.{givenInHead, ruleInNoUnit, headedRuleInSeveral, cycle, nonmonotonicUnseen, monotonicUnseen}
-use Rattle.dependency_graph.specs.Check.{row, verdict}
+use Rattle.dependency_graph.specs.Check.{faultOr, verdict}
 
 -- the words of rules without uses
 abbrev plain : List ℕ → List ℕ
@@ -96,9 +96,9 @@ verdicts =
     ∷ []
 
 pub circuits : map (λ p. verdict (unitsOf p)) graphs ≡ verdicts
-unfolding verdict row givenInHead ruleInNoUnit headedRuleInSeveral cycle nonmonotonicUnseen monotonicUnseen
+unfolding verdict faultOr givenInHead ruleInNoUnit headedRuleInSeveral cycle nonmonotonicUnseen monotonicUnseen
     nonmonotonicUnseenIn monotonicSeenIn seen unseenHeads twiceBelow unionIn wordBelow
-    lowestOf lowest reach reachVia through unitsOf lent usedInputs tableOf has apart _∩_ _∪_ _∖_ atom below
+    lowestOf lowest reach reachVia through unitsOf lent usedInputs usedTable has apart _∩_ _∪_ _∖_ atom below
 circuits = refl
 
 -- a low unit that waits for a high one is worked after it

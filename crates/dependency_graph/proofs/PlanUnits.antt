@@ -5,6 +5,7 @@ use Prim.Native.Nat.{ℕ, _<_}
 use lib.ListN.{getD}
 use Rattle.atoms.specs.Word.{_∪_}
 use Rattle.atoms.specs.Bounded.{unionIn}
+use Rattle.atoms.proofs.Sets.{union-swap}
 use Rattle.atoms.proofs.Bounded.{union-in-same}
 use Rattle.answer_sets.proofs.Bodies.{rest-same}
 use Rattle.plan.specs.declared.record.Plan.{Plan}
@@ -27,25 +28,23 @@ module _ (p : Plan) where
   heads-at owns reached o t u l =
       rw (o u l, t u l, union-in-same (p .«unit_count») (reach (unitsOf p) u) (λ v. getD owns v 0) (own (unitsOf p)) o)
 
-  pub heads-filled : {zeros zeros′ owns reached before unions between after : List ℕ} → Filled (p .«unit_count») (own (unitsOf p)) zeros owns
+  pub heads-filled : {zeros zeros′ owns reached before unions after : List ℕ} → Filled (p .«unit_count») (own (unitsOf p)) zeros owns
       → Filled (p .«unit_count») (reach (unitsOf p)) zeros′ reached
-      → Filled (p .«unit_count») (λ u. unionIn (p .«unit_count») (getD reached u 0) (λ v. getD owns v 0)) before unions
-      → Filled (p .«unit_count») (λ u. getD owns u 0 ∪ getD unions u 0) unions between
-      → Filled (p .«unit_count») (λ u. p .given ∪ getD between u 0) between after
+      → Filled (p .«unit_count») (λ u. p .given ∪ unionIn (p .«unit_count») (getD reached u 0) (λ v. getD owns v 0)) before unions
+      → Filled (p .«unit_count») (λ u. getD owns u 0 ∪ getD unions u 0) unions after
       → Filled (p .«unit_count») (heads (unitsOf p)) before after
-  heads-filled {owns = owns} {reached = reached} o t j a g =
-      filled-same (filled-again (filled-again j a) g) (heads (unitsOf p))
-      (λ u l. ap (λ (w : ℕ). p .given ∪ w) (a .filled u l ∙ ap (λ (w : ℕ). getD owns u 0 ∪ w) (j .filled u l))
+  heads-filled {owns = owns} {reached = reached} o t j a =
+      filled-same (filled-again j a) (heads (unitsOf p))
+      (λ u l. ap (λ (w : ℕ). getD owns u 0 ∪ w) (j .filled u l)
+      ∙ union-swap (getD owns u 0) (p .given) (unionIn (p .«unit_count») (getD reached u 0) (λ v. getD owns v 0))
       ∙ heads-at owns reached (o .filled) (t .filled) u l)
 
   -- Hp(u) from the table of all H(v)
-  pub inputs-filled : {zeros table before unions after : List ℕ} → Filled (p .«unit_count») (heads (unitsOf p)) zeros table
-      → Filled (p .«unit_count») (λ u. unionIn (p .«unit_count») (getD (p .predecessors) u 0) (λ v. getD table v 0)) before unions
-      → Filled (p .«unit_count») (λ u. p .given ∪ getD unions u 0) unions after
+  pub inputs-filled : {zeros table before after : List ℕ} → Filled (p .«unit_count») (heads (unitsOf p)) zeros table
+      → Filled (p .«unit_count») (λ u. p .given ∪ unionIn (p .«unit_count») (getD (p .predecessors) u 0) (λ v. getD table v 0)) before after
       → Filled (p .«unit_count») (inputHeads (unitsOf p)) before after
   unfolding inputHeads unitsOf
-  inputs-filled {table = table} h t g =
-      filled-same (filled-again t g) (inputHeads (unitsOf p))
+  inputs-filled {table = table} h t =
+      filled-same t (inputHeads (unitsOf p))
       (λ u l. ap (λ (w : ℕ). p .given ∪ w)
-      (t .filled u l
-      ∙ union-in-same (p .«unit_count») (getD (p .predecessors) u 0) (λ v. getD table v 0) (heads (unitsOf p)) (h .filled)))
+      (union-in-same (p .«unit_count») (getD (p .predecessors) u 0) (λ v. getD table v 0) (heads (unitsOf p)) (h .filled)))

@@ -6,15 +6,14 @@ use native.Mathlib.Omega.{arith}
 use native.Mathlib.Decide.{ℕ-discrete}
 use Rattle.atoms.specs.Word.{ATOMS}
 use Rattle.atoms.specs.Collected.{Collects, lowestOf, Least}
-use Rattle.atoms.proofs.Sets.{some-atom}
-use Rattle.atoms.proofs.Collected.{collects-none, collects-least, least-same, lowest-of-lowest}
+use Rattle.atoms.proofs.Collected.{collects-none, least-same, collects-lowest-of}
 use Rattle.plan.specs.declared.fault.Fault.{Fault}
 use Rattle.plan.specs.declared.fault.Outcome.{Outcome}
 use Rattle.plan.specs.declared.fault.Outcome.the-variants.{Accepted, Refused}
 use Rattle.dependency_graph.specs.Units.{Units}
 use Rattle.dependency_graph.specs.Graph.{Passes}
 use Rattle.dependency_graph.specs.Offenders.{GivenInHead, RuleInNoUnit, HeadedRuleInSeveral, Cycle, NonmonotonicUnseen, MonotonicUnseen}
-use Rattle.dependency_graph.specs.Check.{row, verdict, Right, passes, row-16, row-10, row-11, row-12, row-13, row-14}
+use Rattle.dependency_graph.specs.Check.{faultOr, verdict, Right, passes, row-16, row-10, row-11, row-12, row-13, row-14}
 use Rattle.dependency_graph.proofs.Heads.{path-start}
 use Rattle.dependency_graph.proofs.Rows.{row-misses, row-fits}
 use Rattle.dependency_graph.proofs.Offenders.{collects-given-in-head, collects-rule-in-no-unit, collects-headed-rule-in-several, collects-cycle}
@@ -27,33 +26,28 @@ never : (f : Fault) → Refused f ≡ Accepted → ⊥
 never f e = let z : _≡_ {A = ℕ} 0 1 = cc in omega arith
 
 -- a row passes only where it misses
-row-passes : (w : ℕ) (f : ℕ → Fault) (v : Outcome) → row w f v ≡ Accepted → (w ≡ 0) × (v ≡ Accepted)
+row-passes : (w : ℕ) (f : ℕ → Fault) (v : Outcome) → faultOr w f v ≡ Accepted → (w ≡ 0) × (v ≡ Accepted)
 row-passes w f v e = go (ℕ-discrete w 0)
   where
     go : Dec (w ≡ 0) → (w ≡ 0) × (v ≡ Accepted)
     go (yes k) = (k, sym (row-misses w f v k) ∙ e)
     go (no k) = absurd (never (f (lowestOf w)) (sym (row-fits w f v k) ∙ e))
 
--- the lowest number of a word is the least with what the word collects
-least-of : {K : ℕ → Type 0} {w : ℕ} → Collects K w → ((r : ℕ) → K r → r < ATOMS) → ¬ (w ≡ 0) → Least K (lowestOf w)
-least-of {w = w} c small n =
-    let s = some-atom w n in collects-least c (lowest-of-lowest w (s .0) (s .1) (small (s .0) (c .each (s .0) (s .1))))
-
 -- a row is right where its fault is, and where it misses the rows below are
 row-right : (S : Units) {K : ℕ → Type 0} {w : ℕ} {C : Type 0} (f : ℕ → Fault) (v : Outcome) → Collects K w → ((r : ℕ) → K r → r < ATOMS)
-    → (w ≡ 0) ↔ C → (Least K (lowestOf w) → Right S (Refused (f (lowestOf w)))) → (C → Right S v) → Right S (row w f v)
+    → (w ≡ 0) ↔ C → (Least K (lowestOf w) → Right S (Refused (f (lowestOf w)))) → (C → Right S v) → Right S (faultOr w f v)
 row-right S {w = w} f v c small iff hit miss = go (ℕ-discrete w 0)
   where
-    go : Dec (w ≡ 0) → Right S (row w f v)
+    go : Dec (w ≡ 0) → Right S (faultOr w f v)
     go (yes e) = rw (row-misses w f v e) (miss (iff .0 e))
-    go (no n) = rw (row-fits w f v n) (hit (least-of c small n))
+    go (no n) = rw (row-fits w f v n) (hit (collects-lowest-of c small n))
 
 -- a row fits where there is an offender, and names the least
 row-names : {K : ℕ → Type 0} {w r : ℕ} (f : ℕ → Fault) (v : Outcome) → Collects K w → ((q : ℕ) → K q → q < ATOMS) → Least K r
-    → row w f v ≡ Refused (f r)
+    → faultOr w f v ≡ Refused (f r)
 row-names {w = w} {r = r} f v c small l =
     let some : ¬ (w ≡ 0) = λ e. collects-none c .0 e r (l .here) in
-    row-fits w f v some ∙ ap (λ (q : ℕ). Refused (f q)) (least-same (least-of c small some) l)
+    row-fits w f v some ∙ ap (λ (q : ℕ). Refused (f q)) (least-same (collects-lowest-of c small some) l)
 
 -- ---- the rows in turn
 

@@ -12,17 +12,17 @@ use Rattle.dependency_graph.specs.Offenders.{GivenInHead, RuleInNoUnit, 
 use Rattle.dependency_graph.specs.Offenders.{givenInHead, ruleInNoUnit, headedRuleInSeveral, cycle, nonmonotonicUnseen, monotonicUnseen}
 
 -- one row: the fault at the lowest offender, and the rows below where there is none
-unfoldable pub row : ℕ → (ℕ → Fault) → Outcome → Outcome
-row offenders fault below = elim (eqb offenders 0) [ true ↦ below | false ↦ Refused (fault (lowestOf offenders)) ]
+unfoldable pub faultOr : ℕ → (ℕ → Fault) → Outcome → Outcome
+faultOr offenders fault below = elim (eqb offenders 0) [ true ↦ below | false ↦ Refused (fault (lowestOf offenders)) ]
 
 -- row 16, "tried first in the graph place", and rows 10 to 14
 unfoldable pub verdict : Units → Outcome
 verdict S =
-    row (givenInHead S) Fault.GivenInHead
-    (row (ruleInNoUnit S) Fault.RuleInNoUnit
-    (row (headedRuleInSeveral S) Fault.HeadedRuleInSeveral
-    (row (cycle S) Fault.Cycle
-    (row (nonmonotonicUnseen S) Fault.NonmonotonicUnseen (row (monotonicUnseen S) Fault.MonotonicUnseen Accepted)))))
+    faultOr (givenInHead S) Fault.GivenInHead
+    (faultOr (ruleInNoUnit S) Fault.RuleInNoUnit
+    (faultOr (headedRuleInSeveral S) Fault.HeadedRuleInSeveral
+    (faultOr (cycle S) Fault.Cycle
+    (faultOr (nonmonotonicUnseen S) Fault.NonmonotonicUnseen (faultOr (monotonicUnseen S) Fault.MonotonicUnseen Accepted)))))
 
 -- what a verdict says: the rows above it do not fit, and its spot is the lowest offender of its row
 pub data Right (S : Units) : Outcome → Type 0 where

@@ -3,7 +3,6 @@ use crate::reach::fill_reach;
 use crate::rule_heads::rule_heads;
 use plan::MAX_UNITS;
 use plan::Plan;
-ghost use mathlib.Core.Path.{_≡_};
 ghost use Prim.Native.Nat.{_≤_, _<_};
 ghost use lib.ListN.{length, getD};
 ghost use Rattle.atoms.specs.Word.{ATOMS, _∪_};
@@ -31,16 +30,16 @@ fn fill_own(plan: Plan, table: &mut [u64])
     }
 }
 
-// Fills the table with the union of the words whose numbers are in each unit's `which`.
-fn fill_unions(words: &[u64], which: &[u64], unit_count: usize, table: &mut [u64])
+// Fills the table with the given atoms and the union of the words whose numbers are in each unit's `which`.
+fn fill_unions(given: u64, words: &[u64], which: &[u64], unit_count: usize, table: &mut [u64])
     requires { ⌜ («unit_count» ≤ ATOMS) × («unit_count» ≤ length (now words)) × («unit_count» ≤ length (now which))
         × («unit_count» ≤ length (now table)) ⌝ }
-    ensures { λ _. ⌜ Filled «unit_count» (λ u. unionIn «unit_count» (getD (now (which .entry)) u 0) (λ v. getD (now (words .entry)) v 0))
+    ensures { λ _. ⌜ Filled «unit_count» (λ u. given ∪ unionIn «unit_count» (getD (now (which .entry)) u 0) (λ v. getD (now (words .entry)) v 0))
         (now (table .entry)) (now (table .exit)) ⌝ }
 {
     let mut u = 0;
     while u < unit_count {
-        table[u] = atoms::union_of(words, unit_count, which[u]);
+        table[u] = atoms::union(given, atoms::union_of(words, unit_count, which[u]));
         u += 1;
     }
 }
@@ -58,18 +57,6 @@ fn add_words(words: &[u64], unit_count: usize, table: &mut [u64])
     }
 }
 
-// Adds the given atoms to each unit's word of the table.
-fn add_given(given: u64, unit_count: usize, table: &mut [u64])
-    requires { ⌜ «unit_count» ≤ length (now table) ⌝ }
-    ensures { λ _. ⌜ Filled «unit_count» (λ u. given ∪ getD (now (table .entry)) u 0) (now (table .entry)) (now (table .exit)) ⌝ }
-{
-    let mut u = 0;
-    while u < unit_count {
-        table[u] = atoms::union(given, table[u]);
-        u += 1;
-    }
-}
-
 // Fills the table with H(u) for each unit u.
 fn fill_heads(plan: Plan, table: &mut [u64])
     requires { ⌜ Fitting plan × (plan .«unit_count» ≤ length (now table)) ⌝ }
@@ -80,9 +67,8 @@ fn fill_heads(plan: Plan, table: &mut [u64])
     let mut reached = [0u64; MAX_UNITS];
     fill_own(plan, &mut own);
     fill_reach(plan, &mut reached);
-    fill_unions(&own, &reached, unit_count, table);
+    fill_unions(plan.given, &own, &reached, unit_count, table);
     add_words(&own, unit_count, table);
-    add_given(plan.given, unit_count, table);
 }
 
 // H(u) and Hp(u) of each unit u of the plan.
@@ -93,8 +79,13 @@ pub fn head_atoms(plan: Plan) -> HeadAtoms
     let mut heads = [0u64; MAX_UNITS];
     let mut inputs = [0u64; MAX_UNITS];
     fill_heads(plan, &mut heads);
-    fill_unions(&heads, &plan.predecessors, plan.unit_count, &mut inputs);
-    add_given(plan.given, plan.unit_count, &mut inputs);
+    fill_unions(
+        plan.given,
+        &heads,
+        &plan.predecessors,
+        plan.unit_count,
+        &mut inputs,
+    );
     HeadAtoms {
         heads: heads,
         inputs: inputs,

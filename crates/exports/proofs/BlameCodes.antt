@@ -4,13 +4,12 @@ use mathlib.Core.List.{List, [], _∷_}
 use Prim.Native.Nat.{ℕ, _+_, _*_}
 use Rattle.plan.specs.Faults.{CODE_STEP, refusalCode}
 use Rattle.plan.specs.declared.fault.Fault.{Fault}
-use Rattle.reading.specs.Layout.{IsByte, All, Contents, recordOf}
+use Rattle.reading.specs.Layout.{IsByte, All}
 use Rattle.reading.specs.Refusals.{Stopped}
 use Rattle.reading.specs.declared.reader.Reading.{Reading}
 use Rattle.reading.proofs.Judged.{reading-judged}
-use Rattle.unit_lists.specs.Demand1.{Lays}
-use Rattle.unit_lists.proofs.Demand1.{lays-read, lays-accepted}
-use Rattle.blaming.specs.Blamed.{Says, Blamed, code}
+use Rattle.demands.proofs.Demand1.{lays-read, lays-accepted}
+use Rattle.blaming.specs.Blamed.{LeastOrBlamed, Blamed, code}
 use Rattle.blaming.specs.declared.Blame.{Blame}
 use Rattle.blaming.specs.declared.Blame.the-variants.{Position, Held, Refused}
 use Rattle.exports.specs.Handed.{copied}
@@ -43,6 +42,6 @@ module _ (bytes : List ℕ) {found found′ : List ℕ} {r : ℕ} {said : Blame}
   pub blame-handed : BlameHanded bytes found found′ r
   blame-handed = record {
     tells = subst (λ (y : Blame). TellsBlame y found found′ r) (b .is) t;
-    says = λ c l. (said, subst (λ (y : Reading). Says (y .plan) said) (lays-read l) (b .says (lays-accepted l)), t);
+    says = λ c l. (said, subst (λ (y : Reading). LeastOrBlamed (y .plan) said) (lays-read l) (b .says (lays-accepted l)), t);
     refused = refused;
   }

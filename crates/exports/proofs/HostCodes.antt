@@ -1,5 +1,5 @@
 -- What the codes tell a host, from what the functions below promise.
-use mathlib.Core.Path.{_≡_, refl, ap, sym, _∙_, subst}
+use mathlib.Core.Path.{_≡_, refl, ap, _∙_, subst}
 use mathlib.Core.Logic.{_↔_}
 use mathlib.Core.Bool.{Bool, true, false}
 use mathlib.Core.List.{List}
@@ -8,7 +8,6 @@ use native.Mathlib.Omega.{arith}
 use Rattle.atoms.specs.Bounded.{Decides}
 use Rattle.plan.specs.Faults.{CODE_STEP}
 use Rattle.plan.specs.declared.fault.Outcome.the-variants.{Accepted}
-use Rattle.plan.specs.declared.record.Plan.{Plan}
 use Rattle.reading.specs.Reading.{reading}
 use Rattle.reading.specs.Layout.{IsByte, All, Contents, recordOf}
 use Rattle.reading.specs.Refusals.{Stopped}
@@ -18,10 +17,10 @@ use Rattle.reading.proofs.Judged.{reading-judged}
 use Rattle.judge.specs.Settled.{Settles, settled}
 use Rattle.judge.specs.Answers.{yesNo, judged, code}
 use Rattle.judge.proofs.Settled.{decides-settled, judged-accepted, judged-refused}
-use Rattle.unit_lists.specs.Demand1.{Lays, FirstFault}
-use Rattle.unit_lists.specs.Promised.{Promised}
-use Rattle.unit_lists.specs.declared.listing.Listing.{Listing}
-use Rattle.unit_lists.proofs.Demand1.{lays-read, lays-accepted}
+use Rattle.demands.specs.Demand1.{Lays, FirstFault}
+use Rattle.demands.specs.Promised.{Promised}
+use Rattle.demands.specs.declared.listing.Listing.{Listing}
+use Rattle.demands.proofs.Demand1.{lays-read, lays-accepted}
 use Rattle.exports.specs.Handed.{outcomeCode, JudgeHanded}
 use Rattle.exports.proofs.Spots.{stopped-at-most, fault-at-most, code-exact}
 

@@ -5,8 +5,8 @@ pub mod Spots
 -- What the codes tell a host, from what the functions below promise
 pub mod HostCodes
 -- Two words handed back as far as there is room
-pub mod CommonWords
--- Readings for hosts: what is asked by a number, the two words of what was found, and that no answer is taken for a refusal
+pub mod PairedWords
+-- Readings for hosts: what is asked by a number, and that no answer is taken for a refusal
 pub mod ReadingCodes
 -- What code and word tell a host that goes from one position to the next, from what `next_position` promises
 pub mod NextCodes

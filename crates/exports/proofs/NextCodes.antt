@@ -7,12 +7,11 @@ use lib.ListN.{length, set}
 use lib.Seq.{take-nil}
 use Rattle.plan.specs.Faults.{CODE_STEP, refusalCode}
 use Rattle.plan.specs.declared.fault.Fault.{Fault}
-use Rattle.reading.specs.Layout.{IsByte, All, Contents, recordOf}
+use Rattle.reading.specs.Layout.{IsByte, All}
 use Rattle.reading.specs.Refusals.{Stopped}
 use Rattle.reading.specs.declared.reader.Reading.{Reading}
 use Rattle.reading.proofs.Judged.{reading-judged}
-use Rattle.unit_lists.specs.Demand1.{Lays}
-use Rattle.unit_lists.proofs.Demand1.{lays-read, lays-accepted}
+use Rattle.demands.proofs.Demand1.{lays-read, lays-accepted}
 use Rattle.finding.specs.declared.least.From.{From}
 use Rattle.stepping.specs.Followed.{Follows, Followed, code}
 use Rattle.stepping.specs.declared.Next.{Next}

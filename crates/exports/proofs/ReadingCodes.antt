@@ -1,20 +1,19 @@
 -- Readings for hosts: what is asked by a number, the two words of what was found, and that no answer is taken for a refusal.
 use mathlib.Core.Path.{_≡_, refl, sym, ap, _∙_, subst}
-use mathlib.Core.List.{List, [], _∷_}
+use mathlib.Core.List.{List}
 use mathlib.Core.Logic.{_⊎_, inl, inr}
 use Prim.Native.Nat.{ℕ, _+_, _*_, _≤_, _<_, min}
 use native.Mathlib.Omega.{arith}
-use lib.ListN.{length, set}
-use lib.Seq.{take-nil}
+use lib.ListN.{length}
 use borrow.Author.Tests.{eq-eqb, ne-eqb}
 use Rattle.plan.specs.Faults.{CODE_STEP, WIDEST_SPOT}
 use Rattle.packed_decimal.specs.Reading.{MODULUS, NOT_MEASURED}
 use Rattle.packed_decimal.specs.Refusals.{refusalNumber, refusalSpot}
 use Rattle.packed_decimal.specs.Answers.{numberOf, readingOf, addedOf}
 use Rattle.packed_decimal.specs.Largest.{READING_BYTES, readings, largestIn}
-use Rattle.packed_decimal.specs.Promised.{SaysNumber, Numbered, Repacked, Summed, Held, Sought}
-use Rattle.packed_decimal.specs.declared.reading.Reading.{Reading}
-use Rattle.packed_decimal.specs.declared.reading.Reading.the-variants.{Measured, NotMeasured}
+use Rattle.packed_decimal.specs.Promised.{SaysNumber, Numbered, Repacked, Summed, HeldAgainst, Sought}
+use Rattle.packed_decimal.specs.declared.meter.Reading.{Reading}
+use Rattle.packed_decimal.specs.declared.meter.Reading.the-variants.{Measured, NotMeasured}
 use Rattle.packed_decimal.specs.declared.refusal.Refusal.{Refusal}
 use Rattle.packed_decimal.specs.declared.refusal.Refusal.the-variants.{BadReading, LargeNumber}
 use Rattle.packed_decimal.specs.declared.convert.Number.{Number}
@@ -27,14 +26,13 @@ use Rattle.packed_decimal.specs.declared.sum.Added.the-variants.{Is as SumIs}
 use Rattle.packed_decimal.specs.declared.limit.Compared.{Compared}
 use Rattle.packed_decimal.specs.declared.limit.Order.{Order}
 use Rattle.packed_decimal.specs.declared.limit.Order.the-variants.{Below, Equal, Above, NotMeasured as NoOrder}
-use Rattle.packed_decimal.specs.declared.largest.Found.{Found}
-use Rattle.packed_decimal.specs.declared.largest.Found.the-variants.{At, NoneMeasured}
+use Rattle.packed_decimal.specs.declared.largest.LargestFound.{LargestFound}
+use Rattle.packed_decimal.specs.declared.largest.LargestFound.the-variants.{At, NoneMeasured}
 use Rattle.packed_decimal.specs.declared.largest.Largest.{Largest}
 use Rattle.packed_decimal.specs.declared.largest.Largest.the-variants.{Refused}
 use Rattle.packed_decimal.proofs.Conversion.{said-is, word-fits}
 use Rattle.packed_decimal.proofs.Sums.{added-fits}
 use Rattle.packed_decimal.proofs.LargestMeaning.{refused-within}
-use Rattle.exports.specs.Handed.{copied}
 use Rattle.exports.specs.Readings.{asked, refusedCode, saidCode, numberCode, readingCode, sumCode, addedCode, orderCode, comparedCode}
 use Rattle.exports.specs.Readings.{foundCode, largestCode, largestWords}
 use Rattle.exports.specs.Readings.{NumberHanded, ReadingHanded, SumHanded, CompareHanded, LargestHanded}
@@ -48,32 +46,6 @@ asked-unmeasured number e = rw (eq-eqb number NOT_MEASURED e, asked) refl
 pub asked-measured : (number : ℕ) → ¬ (number ≡ NOT_MEASURED) → asked number ≡ Measured number
 unfolding asked
 asked-measured number n = rw (ne-eqb number NOT_MEASURED n, asked) refl
-
--- ---- two words, as far as there is room
-
-module _ (a b : ℕ) where
-  pub no-room : (found : List ℕ) → length found ≡ 0 → found ≡ copied (a ∷ b ∷ []) found
-  unfolding copied
-  no-room [] e = refl
-  no-room (x ∷ found) e = absurd (omega arith)
-
-  pub room-for-one : (found : List ℕ) → ¬ (length found ≡ 0) → length (set found 0 a) ≡ 1 → set found 0 a ≡ copied (a ∷ b ∷ []) found
-  unfolding copied
-  room-for-one [] n e = absurd (n refl)
-  room-for-one (x ∷ []) n e = refl
-  room-for-one (x ∷ y ∷ found) n e = absurd (omega arith)
-
-  pub two-fit : (found : List ℕ) → ¬ (length found ≡ 0) → ¬ (length (set found 0 a) ≡ 1) → 1 < length (set found 0 a)
-  two-fit [] n m = absurd (n refl)
-  two-fit (x ∷ []) n m = absurd (m refl)
-  two-fit (x ∷ y ∷ found) n m = omega arith
-
-  pub room-for-two : (found : List ℕ) → ¬ (length found ≡ 0) → ¬ (length (set found 0 a) ≡ 1)
-      → set (set found 0 a) 1 b ≡ copied (a ∷ b ∷ []) found
-  unfolding copied
-  room-for-two [] n m = absurd (n refl)
-  room-for-two (x ∷ []) n m = absurd (m refl)
-  room-for-two (x ∷ y ∷ found) n m = rw (take-nil {A = ℕ} (length found)) refl
 
 -- ---- from what the functions promise to what their codes tell
 
@@ -104,7 +76,7 @@ sum-handed p e = record {
   measured = λ x y s t. let m = p .measured x y s t in (m .0, e ∙ ap addedCode (m .1), m .2);
 }
 
-pub compare-handed : {reading limit r : ℕ} {answer : Compared} → Held reading limit answer → r ≡ comparedCode answer → CompareHanded reading limit r
+pub compare-handed : {reading limit r : ℕ} {answer : Compared} → HeldAgainst reading limit answer → r ≡ comparedCode answer → CompareHanded reading limit r
 compare-handed p e = record {
   code-is = e ∙ ap comparedCode (p .is);
   refuses = record { first = λ h. e ∙ ap comparedCode (p .refuses .first h); second = λ g h. e ∙ ap comparedCode (p .refuses .second g h) };
@@ -158,7 +130,7 @@ module _ (r : Refusal) where
   order-no-refusal Above = omega (arith, refused-above r)
   order-no-refusal NoOrder = omega (arith, refused-above r)
 
-  pub found-no-refusal : (what : Found) → foundCode what < refusedCode r
+  pub found-no-refusal : (what : LargestFound) → foundCode what < refusedCode r
   found-no-refusal (At word place) = omega (arith, refused-above r)
   found-no-refusal NoneMeasured = omega (arith, refused-above r)
 

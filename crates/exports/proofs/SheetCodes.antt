@@ -14,8 +14,8 @@ use Rattle.reading.specs.declared.reader.Reading.{Reading}
 use Rattle.reading.proofs.Judged.{reading-judged}
 use Rattle.judge.specs.Sheets.{sheetCode, Laid, AllSettle, FirstNot, Right, all-settled, first-not, SheetJudged}
 use Rattle.judge.specs.declared.sheet.SheetAnswer.{SheetAnswer}
-use Rattle.unit_lists.specs.Demand1.{Lays}
-use Rattle.unit_lists.proofs.Demand1.{lays-read, lays-accepted}
+use Rattle.demands.specs.Demand1.{Lays}
+use Rattle.demands.proofs.Demand1.{lays-read, lays-accepted}
 use Rattle.exports.specs.Sheets.{SheetJudgeHanded}
 use Rattle.exports.proofs.Spots.{stopped-at-most, code-exact}
 

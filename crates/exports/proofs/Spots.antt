@@ -1,11 +1,10 @@
 -- The spot of every refusal fits into its code: a short table's length, a place in the bytes that decide, a rule or a unit.
-use mathlib.Core.Path.{_≡_, refl, ap, ap₂, sym, _∙_}
-use mathlib.Core.List.{List, [], _∷_}
-use Prim.Native.Nat.{ℕ, _+_, _*_, _≤_, _<_, min}
+use mathlib.Core.Path.{_≡_, ap, ap₂, _∙_}
+use mathlib.Core.List.{List}
+use Prim.Native.Nat.{ℕ, _+_, _*_, _≤_, min}
 use native.Mathlib.Omega.{arith}
-use lib.ListN.{length}
-use Rattle.plan.specs.Limits.{MAX_RULES, MAX_UNITS, TABLE_WORDS}
-use Rattle.plan.specs.Faults.{number, spot, RefusedBy, CODE_STEP, WIDEST_SPOT, refusalCode}
+use Rattle.plan.specs.Limits.{MAX_RULES, MAX_UNITS}
+use Rattle.plan.specs.Faults.{RefusedBy, CODE_STEP, WIDEST_SPOT, refusalCode}
 use Rattle.plan.specs.declared.fault.Outcome.{Outcome}
 use Rattle.plan.proofs.Refusals.{told}
 use Rattle.reading.specs.Layout.{IsByte, All, Contents, recordOf}
@@ -17,9 +16,9 @@ use Rattle.dependency_graph.specs.PlanUnits.{unitsOf}
 use Rattle.dependency_graph.specs.Check.{Right, passes, row-16, row-10, row-11, row-12, row-13, row-14}
 use Rattle.dependency_graph.specs.Order.{InOrder, all-done, next}
 use Rattle.dependency_graph.proofs.Heads.{path-end}
-use Rattle.unit_lists.specs.Demands.{FirstLong, here, later, last}
-use Rattle.unit_lists.specs.Demand1.{Lays, FirstFault, table-place, reading-place, graph-place, unit-work}
-use Rattle.unit_lists.proofs.Answers.{not-accepted}
+use Rattle.demands.specs.Demands.{FirstLong, here, later, last}
+use Rattle.demands.specs.Demand1.{Lays, FirstFault, table-place, reading-place, graph-place, unit-work}
+use Rattle.demands.proofs.Answers.{not-accepted}
 
 pub stopped-at-most : {bytes : List ℕ} {n s : ℕ} → All IsByte bytes → Stopped bytes n s → s ≤ WIDEST_SPOT
 stopped-at-most {bytes} {n} {s} small st =

@@ -5,8 +5,8 @@ use Prim.Native.Nat.{ℕ, _+_, _*_}
 use Rattle.plan.specs.Faults.{CODE_STEP}
 use Rattle.reading.specs.Layout.{Contents, recordOf}
 use Rattle.reading.specs.Refusals.{Stopped}
-use Rattle.unit_lists.specs.Demand1.{Lays}
-use Rattle.blaming.specs.Blamed.{Says, blamed, code}
+use Rattle.demands.specs.Demand1.{Lays}
+use Rattle.blaming.specs.Blamed.{LeastOrBlamed, blamed, code}
 use Rattle.blaming.specs.declared.Blame.{Blame}
 use Rattle.blaming.specs.declared.Blame.the-variants.{Position, Held, Refused}
 use Rattle.exports.specs.Handed.{copied}
@@ -26,5 +26,5 @@ pub record TellsBlame (said : Blame) (found found′ : List ℕ) (r : ℕ) : Typ
 -- reading fault, and nothing written
 pub record BlameHanded (bytes found found′ : List ℕ) (r : ℕ) : Type 0 where
   pub tells : TellsBlame (blamed bytes) found found′ r
-  pub says : (c : Contents) → Lays bytes c → (x : Blame) × Says (recordOf c) x × TellsBlame x found found′ r
+  pub says : (c : Contents) → Lays bytes c → (x : Blame) × LeastOrBlamed (recordOf c) x × TellsBlame x found found′ r
   pub refused : (n s : ℕ) → Stopped bytes n s → (r ≡ CODE_STEP * n + s) × (found′ ≡ found)

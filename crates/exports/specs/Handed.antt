@@ -14,12 +14,12 @@ use Rattle.plan.specs.Faults.{CODE_STEP, refusalCode}
 use Rattle.reading.specs.Layout.{Contents, recordOf}
 use Rattle.reading.specs.Refusals.{Stopped}
 use Rattle.judge.specs.Answers.{judged, code}
-use Rattle.unit_lists.specs.Answer.{answer}
-use Rattle.unit_lists.specs.Demand1.{Lays, FirstFault}
-use Rattle.unit_lists.specs.Promised.{Promised}
-use Rattle.unit_lists.specs.declared.listing.Listing.{Listing}
-use Rattle.sheet.specs.Lent.{answer as written, filled}
-use Rattle.plan_sheet.specs.Sheets.{SHEET_BYTES, Says, writtenBytes, planSheet}
+use Rattle.demands.specs.Answer.{answer}
+use Rattle.demands.specs.Demand1.{Lays, FirstFault}
+use Rattle.demands.specs.Promised.{Promised}
+use Rattle.demands.specs.declared.listing.Listing.{Listing}
+use Rattle.sheet.specs.Lent.{bytesWritten as written, filled}
+use Rattle.plan_sheet.specs.Sheets.{SHEET_BYTES, SheetSays, writtenBytes, planSheet}
 use Rattle.questions.specs.Questions.{outcome, code as countCode, answered}
 use Rattle.questions.specs.Words.{questionsIn, inWords, behind}
 use Rattle.questions.specs.Common.{CommonAtoms}
@@ -61,7 +61,7 @@ pub record SheetHanded (bytes sheet sheet′ : List ℕ) (r : ℕ) : Type 0 wher
   pub length-is : r ≡ writtenBytes (written (planSheet bytes) sheet)
   pub sheet-is : sheet′ ≡ filled (planSheet bytes) sheet
   pub at-most : length (planSheet bytes) ≤ SHEET_BYTES
-  pub says : Says bytes (replicate {A = ℕ} TABLE_WORDS 0) (planSheet bytes)
+  pub says : SheetSays bytes (replicate {A = ℕ} TABLE_WORDS 0) (planSheet bytes)
 
 -- questions: the answer's code, and every lent word; a rest that is no whole question is as it was
 pub record CountHanded (list words words′ : List ℕ) (r : ℕ) : Type 0 where

@@ -13,8 +13,8 @@ use Rattle.packed_decimal.specs.Refusals.{refusalNumber, refusalSpot}
 use Rattle.packed_decimal.specs.Answers.{numberOf, readingOf, addedOf, comparedOf}
 use Rattle.packed_decimal.specs.Largest.{readings, wordAt, BadAt, largestIn, Right}
 use Rattle.packed_decimal.specs.Promised.{SaysNumber, RefusesBad, Adds}
-use Rattle.packed_decimal.specs.declared.reading.Reading.{Reading}
-use Rattle.packed_decimal.specs.declared.reading.Reading.the-variants.{Measured, NotMeasured}
+use Rattle.packed_decimal.specs.declared.meter.Reading.{Reading}
+use Rattle.packed_decimal.specs.declared.meter.Reading.the-variants.{Measured, NotMeasured}
 use Rattle.packed_decimal.specs.declared.refusal.Refusal.{Refusal}
 use Rattle.packed_decimal.specs.declared.refusal.Refusal.the-variants.{BadReading, LargeNumber}
 use Rattle.packed_decimal.specs.declared.convert.Number.{Number}
@@ -28,8 +28,8 @@ use Rattle.packed_decimal.specs.declared.limit.Order.{Order}
 use Rattle.packed_decimal.specs.declared.limit.Order.the-variants.{Below, Equal, Above, NotMeasured as NoOrder}
 use Rattle.packed_decimal.specs.declared.limit.Compared.{Compared}
 use Rattle.packed_decimal.specs.declared.limit.Compared.the-variants.{Is as OrderIs, Refused as CompareRefused}
-use Rattle.packed_decimal.specs.declared.largest.Found.{Found}
-use Rattle.packed_decimal.specs.declared.largest.Found.the-variants.{At, NoneMeasured}
+use Rattle.packed_decimal.specs.declared.largest.LargestFound.{LargestFound}
+use Rattle.packed_decimal.specs.declared.largest.LargestFound.the-variants.{At, NoneMeasured}
 use Rattle.packed_decimal.specs.declared.largest.Largest.{Largest}
 use Rattle.packed_decimal.specs.declared.largest.Largest.the-variants.{Is as FoundIs, Refused as LargestRefused}
 use Rattle.exports.specs.Handed.{copied}
@@ -75,11 +75,11 @@ comparedCode (OrderIs order) = orderCode order
 comparedCode (CompareRefused r) = refusedCode r
 
 -- the largest: "1 with the reading in word 0 and its place in word 1 as far as there is room, 0 if none was measured"
-abbrev pub foundCode : Found → ℕ
+abbrev pub foundCode : LargestFound → ℕ
 foundCode (At word place) = 1
 foundCode NoneMeasured = 0
 
-abbrev pub foundWords : Found → List ℕ → List ℕ
+abbrev pub foundWords : LargestFound → List ℕ → List ℕ
 foundWords (At word place) found = copied (word ∷ place ∷ []) found
 foundWords NoneMeasured found = found
 
@@ -130,4 +130,4 @@ pub record LargestHanded (bytes found found′ : List ℕ) (r : ℕ) : Type 0 wh
   pub found-is : found′ ≡ largestWords (largestIn bytes) found
   pub refused : (i : ℕ) → i < readings bytes → Least (BadAt bytes) i → (r ≡ refusedCode (BadReading i)) × (found′ ≡ found)
   pub sought : ((i : ℕ) → i < readings bytes → ¬ BadAt bytes i)
-      → (what : Found) × Right (wordAt bytes) (readings bytes) what × (r ≡ foundCode what) × (found′ ≡ foundWords what found)
+      → (what : LargestFound) × Right (wordAt bytes) (readings bytes) what × (r ≡ foundCode what) × (found′ ≡ foundWords what found)

@@ -7,7 +7,7 @@ use Rattle.plan.specs.Faults.{CODE_STEP}
 use Rattle.reading.specs.Layout.{Contents, recordOf}
 use Rattle.reading.specs.Refusals.{Stopped}
 use Rattle.judge.specs.Sheets.{sheetJudged, sheetCode, NoSheet, Laid, AllSettle, FirstNot}
-use Rattle.unit_lists.specs.Demand1.{Lays}
+use Rattle.demands.specs.Demand1.{Lays}
 
 -- 256 exactly if all positions are answer sets of the plan's rules with its given atoms as facts; a place exactly if the position there is the
 -- first that is not, and then below 256, since a sheet has at most 256 positions; the number and the spot of a reading fault, and after these 24 at 0.

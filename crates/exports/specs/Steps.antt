@@ -5,7 +5,7 @@ use Prim.Native.Nat.{ℕ, _+_, _*_}
 use Rattle.plan.specs.Faults.{CODE_STEP}
 use Rattle.reading.specs.Layout.{Contents, recordOf}
 use Rattle.reading.specs.Refusals.{Stopped}
-use Rattle.unit_lists.specs.Demand1.{Lays}
+use Rattle.demands.specs.Demand1.{Lays}
 use Rattle.finding.specs.declared.least.From.{From}
 use Rattle.stepping.specs.Followed.{Follows, followed, code}
 use Rattle.stepping.specs.declared.Next.{Next}

@@ -1,10 +1,12 @@
 // The functions that other languages call: a slice passes as a pointer and a length.
 mod blame;
+mod pair;
 mod readings;
 mod rows;
 mod sheets;
 mod steps;
 
+use crate::pair::write_pair;
 use judge::answer_code;
 use plan::COUNTS;
 use plan::Outcome;
@@ -83,16 +85,6 @@ pub extern "C" fn lucarnecress_common(list: &[u64], atoms: &mut [u64]) -> u64
     ensures { λ r. ⌜ CommonHanded (now (list .entry)) (now (atoms .entry)) (now (atoms .exit)) r ⌝ }
 {
     let found = common_atoms(list);
-    let all = found.all;
-    let some = found.some;
-    let room = atoms.len();
-    if room == 0 {
-        return 0;
-    }
-    atoms[0] = all;
-    if room == 1 {
-        return 0;
-    }
-    atoms[1] = some;
+    write_pair(found.all, found.some, atoms);
     0
 }

@@ -1,8 +1,9 @@
 // Readings in packed decimal: a reading passes as 16 bits, its first byte the high one; not measured is 65,535.
+use crate::pair::write_pair;
 use packed_decimal::Added;
 use packed_decimal::Compared;
-use packed_decimal::Found;
 use packed_decimal::Largest;
+use packed_decimal::LargestFound;
 use packed_decimal::NOT_MEASURED;
 use packed_decimal::Number;
 use packed_decimal::Order;
@@ -20,8 +21,6 @@ use packed_decimal::to_reading;
 use plan::CODE_STEP;
 use plan::code_of;
 ghost use mathlib.Core.Path.{_≡_};
-ghost use mathlib.Core.List.{[], _∷_};
-ghost use Rattle.exports.specs.Handed.{copied};
 ghost use Rattle.exports.specs.Readings.{refusedCode, saidCode, asked as askedFor, sumCode, orderCode, foundCode, foundWords};
 ghost use Rattle.exports.specs.Readings.{NumberHanded, ReadingHanded, SumHanded, CompareHanded, LargestHanded};
 
@@ -75,29 +74,15 @@ fn order_code(order: Order) -> u64
 }
 
 // Hands over what was found: 1 with its word and place, as far as there is room; 0 where nothing was.
-fn hand_found(what: Found, found: &mut [u64]) -> u64
+fn hand_found(what: LargestFound, found: &mut [u64]) -> u64
     ensures { λ r. ⌜ r ≡ foundCode what ⌝ }
     ensures { λ _. ⌜ now (found .exit) ≡ foundWords what (now (found .entry)) ⌝ }
 {
-    let Found::At { word, place } = what else {
+    let LargestFound::At { word, place } = what else {
         return 0;
     };
     write_pair(word as u64, place as u64, found);
     1
-}
-
-// Writes two words, as far as there is room.
-fn write_pair(first: u64, second: u64, found: &mut [u64])
-    ensures { λ _. ⌜ now (found .exit) ≡ copied (first ∷ second ∷ []) (now (found .entry)) ⌝ }
-{
-    if found.len() == 0 {
-        return;
-    }
-    found[0] = first;
-    if found.len() == 1 {
-        return;
-    }
-    found[1] = second;
 }
 
 // The whole number that a reading says: 65,535 where nothing was measured, else the code of the refusal.

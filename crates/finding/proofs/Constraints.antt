@@ -1,13 +1,12 @@
 -- Fewer constraints have no fewer answer sets, and so the greedy pass is right.
-use mathlib.Core.Path.{_≡_, refl, sym, ap, _∙_, subst}
-use mathlib.Core.Bool.{true}
+use mathlib.Core.Path.{_≡_, refl, subst}
 use mathlib.Core.Logic.{_⊎_, inl, inr}
 use mathlib.Core.List.{List}
 use Prim.Native.Nat.{ℕ, _^_, _<_}
 use native.Mathlib.Decide.{ℕ-discrete}
 use lib.ListN.{getD}
 use Rattle.atoms.specs.Word.{ATOMS, Has, _⊆_, _∪_, _∖_, atom, Lowest}
-use Rattle.atoms.proofs.Sets.{has-none, has-left, has-right, union-cases, has-without, without-left, without-right, has-atom, atom-only, has-dec}
+use Rattle.atoms.proofs.Sets.{has-none, has-left, has-right, union-cases, has-without, without-left, without-right, has-atom, atom-only}
 use Rattle.atoms.proofs.Sets.{subset-refl, subset-trans}
 use Rattle.atoms.proofs.Tests.{decided-true}
 use Rattle.answer_sets.specs.AnswerSet.{AnswerSet}
@@ -21,7 +20,7 @@ use Rattle.searching.specs.declared.witness.Witness.the-variants.{Member, Nothi
 use Rattle.searching.proofs.Witnesses.{witnessed-iff}
 use Rattle.finding.specs.Whole.{Fitting}
 use Rattle.finding.proofs.Leasts.{met-as, none-as, nobody}
-use Rattle.finding.specs.Few.{Constraints, NoneSettled, OneSettled, Tried, drops, keeps, Going, done, tries, Blamed}
+use Rattle.finding.specs.Few.{Constraints, NoneSettled, OneSettled, Tried, drops, keeps, Going, done, tries, FewBlamed}
 
 module _ {rules : List ℕ} {facts : ℕ} (headed : ℕ) where
   -- said of words of constraints
@@ -46,7 +45,7 @@ module _ {rules : List ℕ} {facts : ℕ} (headed : ℕ) where
 -- ---- the loop
 
 -- what is held, where those of `rest` are still to be tried
-pub record Held (rules : List ℕ) (headed constraints facts held rest : ℕ) : Type 0 where
+pub record HeldSoFar (rules : List ℕ) (headed constraints facts held rest : ℕ) : Type 0 where
   pub going : (r : ℕ) → Going rules headed facts rest held r → Going rules headed facts constraints constraints r
   pub within : held ⊆ constraints
   pub untried : rest ⊆ held
@@ -54,11 +53,11 @@ pub record Held (rules : List ℕ) (headed constraints facts held rest : ℕ) : 
   pub each : (c : ℕ) → Has held c → ¬ Has rest c → OneSettled rules (headed ∪ (held ∖ atom c)) facts
 
 pub held-start : {rules : List ℕ} {headed constraints facts : ℕ} → NoneSettled rules (headed ∪ constraints) facts
-    → Held rules headed constraints facts constraints constraints
+    → HeldSoFar rules headed constraints facts constraints constraints
 held-start n = record { going = λ r g. g; within = subset-refl; untried = subset-refl; none = n; each = λ c h m. absurd (m h) }
 
-pub held-end : {rules : List ℕ} {headed constraints facts held rest : ℕ} → Held rules headed constraints facts held rest → rest ≡ 0
-    → Blamed rules headed constraints facts held
+pub held-end : {rules : List ℕ} {headed constraints facts held rest : ℕ} → HeldSoFar rules headed constraints facts held rest → rest ≡ 0
+    → FewBlamed rules headed constraints facts held
 held-end {rules} {headed} {constraints} {facts} {held} h e = record {
   greedy = h .going held (rw e done);
   within = h .within;
@@ -67,17 +66,17 @@ held-end {rules} {headed} {constraints} {facts} {held} h e = record {
 }
 
 module _ {rules : List ℕ} {headed constraints facts held rest c : ℕ} (cs : Constraints rules constraints)
-    (h : Held rules headed constraints facts held rest) (low : Lowest rest c) where
+    (h : HeldSoFar rules headed constraints facts held rest) (low : Lowest rest c) where
   other : {rest′ : ℕ} → rest′ ≡ rest ∖ atom c → (d : ℕ) → ¬ Has rest′ d → ¬ (c ≡ d) → ¬ Has rest d
   other e d m n k = m (rw e (has-without rest (atom c) k (λ q. n (atom-only c q))))
 
-  pub held-step : {next rest′ : ℕ} → Tried rules headed held facts c next → rest′ ≡ rest ∖ atom c → Held rules headed constraints facts next rest′
+  pub held-step : {next rest′ : ℕ} → Tried rules headed held facts c next → rest′ ≡ rest ∖ atom c → HeldSoFar rules headed constraints facts next rest′
   held-step {next} {rest′} t e = go t
     where
       goes : (r : ℕ) → Going rules headed facts rest′ next r → Going rules headed facts constraints constraints r
       goes r g = h .going r (tries low t (rw e at g))
 
-      go : Tried rules headed held facts c next → Held rules headed constraints facts next rest′
+      go : Tried rules headed held facts c next → HeldSoFar rules headed constraints facts next rest′
       go (drops q n) = record {
         going = goes;
         within = rw q (subset-trans (record { each = λ i k. without-left held (atom c) k }) (h .within));

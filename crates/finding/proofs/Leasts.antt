@@ -1,15 +1,14 @@
 -- The least answer set above a position: which positions are like it above an atom, one atom less or more, and both loops.
-use mathlib.Core.Path.{_≡_, refl, sym, ap, _∙_, subst}
+use mathlib.Core.Path.{_≡_, refl, sym, _∙_, subst}
 use mathlib.Core.Bool.{Bool, true, false}
-use mathlib.Core.Logic.{inl, inr}
 use mathlib.Core.List.{List}
-use Prim.Native.Nat.{ℕ, _+_, _*_, _^_, _≤_, _<_}
+use Prim.Native.Nat.{ℕ, _+_, _^_, _≤_, _<_}
 use native.Mathlib.Omega.{arith}
 use native.Mathlib.Decide.{ℕ-discrete, decLt}
 use lib.ListN.{getD}
 use Rattle.atoms.specs.Word.{ATOMS, Has, apart, high, _∩_, _∪_, _∖_, atom, below, outside}
-use Rattle.atoms.proofs.Sets.{has-dec, has-lt, has-cut, cut-left, cut-right, has-without, without-left, without-right, has-left, has-right, has-atom}
-use Rattle.atoms.proofs.Sets.{has-none, has-below, below-lt, has-outside, outside-lacks, decides-has-atom, lt-of-has}
+use Rattle.atoms.proofs.Sets.{has-dec, has-lt, has-cut, cut-left, cut-right, has-without, without-left, without-right, has-right, has-atom}
+use Rattle.atoms.proofs.Sets.{has-none, has-below, below-lt, has-outside, outside-lacks, decides-has-atom}
 use Rattle.atoms.proofs.HighParts.{high-none, high-all, high-with, high-without, high-bounds, high-same, high-at, high-higher, high-mono}
 use Rattle.atoms.proofs.Tests.{decided-true}
 use Rattle.answer_sets.specs.AnswerSet.{AnswerSet}
@@ -19,7 +18,7 @@ use Rattle.states.specs.declared.state.State.{State}
 use Rattle.answer_sets.proofs.Judged.{decides-answer-set}
 use Rattle.answer_sets.proofs.Lent.{answer-word}
 use Rattle.states.proofs.Narrows.{with-up, with-dropped, without-up, without-dropped}
-use Rattle.searching.specs.Witness.{Witnessed, met, none}
+use Rattle.searching.specs.Witness.{Witnessed, none}
 use Rattle.searching.specs.declared.witness.Witness.{Witness}
 use Rattle.searching.specs.declared.witness.Witness.the-variants.{Member, Nothing}
 use Rattle.searching.proofs.Witnesses.{witnessed-iff, witnessed-met}

@@ -1,22 +1,20 @@
 -- A whole program as one unit: what belongs to it are its answer sets.
-use mathlib.Core.Path.{_≡_, refl, sym, ap, _∙_, subst}
-use mathlib.Core.Bool.{Bool, true}
+use mathlib.Core.Path.{_≡_, refl}
 use mathlib.Core.Logic.{_⊎_, inl, inr}
 use mathlib.Core.List.{List, []}
-use Prim.Native.Nat.{ℕ, zero, suc, _^_, _<_, _≤_}
+use Prim.Native.Nat.{ℕ, zero, suc}
 use native.Mathlib.Omega.{arith}
-use lib.ListN.{length, getD, replicate}
-use Rattle.atoms.specs.Word.{ATOMS, Has, _⊆_, _∩_, _∪_}
+use lib.ListN.{getD, replicate}
+use Rattle.atoms.specs.Word.{Has, _⊆_, _∩_}
 use Rattle.atoms.proofs.Tests.{and-true}
-use Rattle.atoms.proofs.Sets.{ext, has-cut, cut-right, has-none, has-left, has-right, union-cases, decides-subset, subset-trans}
+use Rattle.atoms.proofs.Sets.{ext, has-cut, cut-right, has-none, has-left, has-right, union-cases, decides-subset}
 use Rattle.plan.specs.Limits.{MAX_UNITS}
-use Rattle.answer_sets.specs.Lent.{lent, Lent}
+use Rattle.answer_sets.specs.Lent.{Lent}
 use Rattle.answer_sets.specs.Test.{answerSet}
-use Rattle.states.specs.State.{Completes}
 use Rattle.states.specs.Narrowing.{Narrows, bothOf, Wanted}
 use Rattle.states.specs.declared.state.State.{State}
 use Rattle.learning.specs.Reason.{Remembers}
-use Rattle.propagating.specs.Job.{Belongs, Searchable}
+use Rattle.propagating.specs.Job.{Belongs}
 use Rattle.propagating.specs.Desk.{LaidOut, Prepared}
 use Rattle.propagating.proofs.Desks.{prepared}
 use Rattle.joining.proofs.JoinedLists.{joins-none}

@@ -9,7 +9,7 @@ ghost use Prim.Native.Nat.{_<_};
 ghost use Rattle.atoms.specs.Word.{ATOMS, _∪_};
 ghost use Rattle.answer_sets.specs.AnswerSet.{AnswerSet};
 ghost use Rattle.answer_sets.specs.Lent.{lent, Lent};
-ghost use Rattle.finding.specs.Few.{Constraints, NoneSettled, Tried, Blamed};
+ghost use Rattle.finding.specs.Few.{Constraints, NoneSettled, Tried, FewBlamed};
 ghost use Rattle.searching.specs.Witness.{Witnessed};
 
 // An answer set of the program, or that there is none.
@@ -40,7 +40,7 @@ fn try_without(rules: &[u64], headed: u64, held: u64, facts: u64, c: usize) -> u
 // Going up by rule number, each constraint without which there still is no answer set is dropped: what is held.
 pub fn few_constraints(rules: &[u64], headed: u64, constraints: u64, facts: u64) -> u64
     requires { ⌜ Lent (now rules) (headed ∪ constraints) × Constraints (now rules) constraints × NoneSettled (now rules) (headed ∪ constraints) facts ⌝ }
-    ensures { λ r. ⌜ Blamed (now (rules .entry)) headed constraints facts r ⌝ }
+    ensures { λ r. ⌜ FewBlamed (now (rules .entry)) headed constraints facts r ⌝ }
 {
     let mut held = constraints;
     let mut rest = constraints;

@@ -1,29 +1,35 @@
 -- The lists of direct predecessors: to join all is to join each.
 use mathlib.Core.Path.{_≡_}
-use mathlib.Core.Bool.{true, _&&_}
+use mathlib.Core.Bool.{true, false}
 use mathlib.Core.List.{List}
 use Prim.Native.Nat.{ℕ, _*_, _<_}
 use native.Mathlib.Omega.{arith}
 use lib.ListN.{getD}
-use Rattle.atoms.specs.Word.{Has, _⊆_, _∩_, _∖_, atom}
+use Rattle.atoms.specs.Word.{Has, _⊆_, _∩_}
 use Rattle.atoms.proofs.Sets.{has-lt, subset-le}
-use Rattle.atoms.proofs.Bounded.{all-in-at, all-in-intro, all-in-none, all-in-take}
+use Rattle.atoms.proofs.Bounded.{all-in-at, all-in-intro, all-in-fails, all-in-none}
 use Rattle.plan.specs.Limits.{MAX_UNITS, LIST_WORDS}
 use Rattle.joining.specs.Joins.{isListed, joins, Joinable}
 use Rattle.joining.specs.Filter.{JoinsAll}
 
--- no list, or one and then the others
+-- no list
 pub joins-none : (table counts heads : List ℕ) (M : ℕ) → joins table counts heads 0 M ≡ true
 unfolding joins
 joins-none table counts heads M =
     all-in-none MAX_UNITS (λ v. isListed table (LIST_WORDS * v) (getD counts v 0) (M ∩ getD heads v 0))
 
-pub joins-take : (table counts heads : List ℕ) (w M v : ℕ) → v < MAX_UNITS → Has w v
-    → joins table counts heads w M
-    ≡ (isListed table (LIST_WORDS * v) (getD counts v 0) (M ∩ getD heads v 0) && joins table counts heads (w ∖ atom v) M)
+-- each, or one that has it not
+pub joins-each : (table counts heads : List ℕ) (w M : ℕ)
+    → ((v : ℕ) → Has w v → isListed table (LIST_WORDS * v) (getD counts v 0) (M ∩ getD heads v 0) ≡ true) → joins table counts heads w M ≡ true
 unfolding joins
-joins-take table counts heads w M v l h =
-    all-in-take MAX_UNITS w (λ u. isListed table (LIST_WORDS * u) (getD counts u 0) (M ∩ getD heads u 0)) v l h
+joins-each table counts heads w M f =
+    all-in-intro MAX_UNITS w (λ v. isListed table (LIST_WORDS * v) (getD counts v 0) (M ∩ getD heads v 0)) (λ v l h. f v h)
+
+pub joins-fails : (table counts heads : List ℕ) (w M v : ℕ) → v < MAX_UNITS → Has w v
+    → isListed table (LIST_WORDS * v) (getD counts v 0) (M ∩ getD heads v 0) ≡ false → joins table counts heads w M ≡ false
+unfolding joins
+joins-fails table counts heads w M v l h e =
+    all-in-fails MAX_UNITS w (λ u. isListed table (LIST_WORDS * u) (getD counts u 0) (M ∩ getD heads u 0)) v l h e
 
 -- to join one is to be in its list
 pub joins-one : (table counts heads : List ℕ) (predecessors M v : ℕ) → v < MAX_UNITS → Has predecessors v

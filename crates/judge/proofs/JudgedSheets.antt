@@ -2,11 +2,11 @@
 use mathlib.Core.Path.{_≡_, refl, ap, ap₂, sym, _∙_, subst}
 use mathlib.Core.Bool.{Bool, true, false, not}
 use mathlib.Core.List.{List, [], _∷_, _++_, flatMap}
-use mathlib.Core.Logic.{_⊎_, inl, inr}
+use mathlib.Core.Logic.{inl, inr}
 use Prim.Native.Nat.{ℕ, zero, suc, _+_, _*_, _/_, _%_, _≤_, _<_}
 use native.Mathlib.Omega.{arith}
 use native.Mathlib.Decide.{decLt, ℕ-discrete}
-use lib.Dec.{ltb, eqb}
+use lib.Dec.{eqb}
 use lib.ListN.{length, getD, take, drop, length-drop, take-append-drop}
 use lib.Seq.{drop-append-add}
 use borrow.Author.Tests.{lt-ltb, le-ltb, eqb-true, eqb-false, not-true, not-false}
@@ -22,7 +22,7 @@ use Rattle.plan.specs.declared.record.Plan.{Plan}
 use Rattle.plan.specs.declared.fault.Fault.{Fault}
 use Rattle.plan.specs.declared.fault.Outcome.{Outcome}
 use Rattle.plan.specs.declared.fault.Outcome.the-variants.{Accepted, Refused as RefusedWith}
-use Rattle.reading.specs.Words.{WORD_BYTES, WORD_VALUES, number, wordAt}
+use Rattle.reading.specs.Words.{WORD_BYTES, WORD_VALUES, spelled, wordAt}
 use Rattle.reading.specs.Layout.{All, IsByte, wordBytes}
 use Rattle.reading.specs.Reading.{reading}
 use Rattle.reading.specs.declared.reader.Reading.{Reading}
@@ -32,7 +32,7 @@ use Rattle.reading.proofs.Numbers.{length-bytes, word-behind, word-bytes, word-
 use Rattle.plan_meaning.proofs.RecordMeans.{read-means}
 use Rattle.judge.specs.Settled.{Settles, settled}
 use Rattle.judge.specs.Sheets.{MAX_POSITIONS, badBytes, positionsIn, positionAt, unsettledAt, placesJudged, sheetJudged}
-use Rattle.judge.specs.Sheets.{NoSheet, Laid, AllSettle, FirstNot, Right, all-settled, first-not, SheetJudged}
+use Rattle.judge.specs.Sheets.{NoSheet, Laid, Right, all-settled, first-not, SheetJudged}
 use Rattle.judge.specs.declared.sheet.SheetAnswer.{SheetAnswer}
 use Rattle.judge.specs.declared.sheet.SheetAnswer.the-variants.{AllSettled, NotSettledAt, Refused, BadSheet}
 use Rattle.judge.proofs.Settled.{decides-settled}
@@ -132,7 +132,7 @@ behind-first : (M place : ℕ) (s : List ℕ) → positionAt (wordBytes M ++ s) 
 unfolding wordAt
 behind-first M place s =
     let e : WORD_BYTES * suc place ≡ length (wordBytes M) + WORD_BYTES * place = omega (arith, length-bytes WORD_BYTES M) in
-    ap (λ (t : List ℕ). number (take WORD_BYTES t))
+    ap (λ (t : List ℕ). spelled (take WORD_BYTES t))
     (ap (λ (n : ℕ). drop n (wordBytes M ++ s)) e ∙ drop-append-add (wordBytes M) s (WORD_BYTES * place))
 
 position-laid : (ps : List ℕ) → All (λ M. M < WORD_VALUES) ps → (place : ℕ) → place < length ps

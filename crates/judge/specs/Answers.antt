@@ -8,7 +8,6 @@ use Rattle.atoms.specs.Bounded.{Decides}
 use Rattle.plan.specs.Faults.{refusalCode}
 use Rattle.reading.specs.Reading.{reading}
 use Rattle.plan_meaning.specs.Meaning.{ReadMeans}
-use Rattle.plan.specs.declared.fault.Fault.{Fault}
 use Rattle.plan.specs.declared.fault.Outcome.the-variants.{Accepted, Refused as RefusedWith}
 use Rattle.judge.specs.Settled.{Settles, settled}
 use Rattle.judge.specs.declared.Answer.{Answer}

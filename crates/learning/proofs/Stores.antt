@@ -11,7 +11,7 @@ use Rattle.atoms.specs.Word.{Has}
 use Rattle.states.specs.declared.state.State.{State}
 use Rattle.learning.specs.Nogood.{Avoids}
 use Rattle.states.specs.Narrowing.{Overlaps}
-use Rattle.learning.specs.Store.{RING, PAIRS, MEMORY_WORDS, pairAt, AvoidsAll, Empty, Keeps, SamePairs, Written, Learnt}
+use Rattle.learning.specs.Store.{RING, PAIRS, MEMORY_WORDS, pairAt, AvoidsAll, Empty, Keeps, SamePairs, PairWritten, Learnt}
 use Rattle.learning.proofs.Nogoods.{overlap-avoided}
 
 -- ---- at first
@@ -39,7 +39,7 @@ pair-of : {up dropped : ℕ} (n : State) → up ≡ n .up → dropped ≡ n .dro
 pair-of n e f = rw (e, f)
 
 pub written : (store : List ℕ) (i : ℕ) (n : State) → 2 * i + 1 < length store
-    → Written i n store (set (set store (2 * i) (n .up)) (2 * i + 1) (n .dropped))
+    → PairWritten i n store (set (set store (2 * i) (n .up)) (2 * i + 1) (n .dropped))
 written store i n l = record {
   same-length = length-set first (2 * i + 1) (n .dropped) ∙ length-set store (2 * i) (n .up);
   here = pair-of n up-here (getD-set-same first (2 * i + 1) (n .dropped) 0 long);
@@ -62,7 +62,7 @@ written store i n l = record {
     other k a b = getD-set-other first (2 * i + 1) k (n .dropped) 0 b ∙ getD-set-other store (2 * i) k (n .up) 0 a
 
 -- a pair that is avoided may be written
-pub keeps-written : {i : ℕ} {n : State} {before after : List ℕ} → Written i n before after → Keeps (Avoids n) before after
+pub keeps-written : {i : ℕ} {n : State} {before after : List ℕ} → PairWritten i n before after → Keeps (Avoids n) before after
 keeps-written {i} {n} {before} {after} w = record {
   same-length = w .same-length;
   keeps = λ N q a. record { each = λ j l. go N q a j l (ℕ-discrete j i) };
@@ -115,7 +115,7 @@ empty-same e m = record {
   avoided = λ N. keeps-same {Q = λ n. Unit {0}} m .keeps N tt (e .avoided N);
 }
 
-pub learnt-at : {n : State} {before between after : List ℕ} (i : ℕ) → i < RING → SamePairs before between → Written i n between after
+pub learnt-at : {n : State} {before between after : List ℕ} (i : ℕ) → i < RING → SamePairs before between → PairWritten i n between after
     → Learnt n before after
 learnt-at i l m w = record {
   keeps = keeps-trans (keeps-same m) (keeps-written w);

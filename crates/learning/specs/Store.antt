@@ -57,7 +57,7 @@ pub record SamePairs (before after : List ℕ) : Type 0 where
   pub same : (i : ℕ) → i < PAIRS → pairAt after i ≡ pairAt before i
 
 -- pair i is n, and the others are as before
-pub record Written (i : ℕ) (n : State) (before after : List ℕ) : Type 0 where
+pub record PairWritten (i : ℕ) (n : State) (before after : List ℕ) : Type 0 where
   pub same-length : length after ≡ length before
   pub here : pairAt after i ≡ n
   pub others : (j : ℕ) → ¬ (j ≡ i) → pairAt after j ≡ pairAt before j

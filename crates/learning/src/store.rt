@@ -5,7 +5,7 @@ ghost use mathlib.Core.Path.{_≡_};
 ghost use Prim.Native.Nat.{_*_, _≤_, _<_};
 ghost use lib.ListN.{length};
 ghost use Rattle.learning.specs.Nogood.{Avoids};
-ghost use Rattle.learning.specs.Store.{RING, PAIRS, MEMORY_WORDS, pairAt, Empty, Keeps, SamePairs, Written, Learnt};
+ghost use Rattle.learning.specs.Store.{RING, PAIRS, MEMORY_WORDS, pairAt, Empty, Keeps, SamePairs, PairWritten, Learnt};
 
 // Pairs that propagate, and behind them pairs kept beside the trail.
 pub const RING: usize = 128;
@@ -78,7 +78,7 @@ pub fn read_pair(memory: &[u64], i: usize) -> State
 // Writes the pair into place i.
 fn write_pair(memory: &mut [u64], i: usize, n: State)
     requires { ⌜ (MEMORY_WORDS ≤ length (now memory)) × (i < PAIRS) ⌝ }
-    ensures { λ _. ⌜ Written i n (now (memory .entry)) (now (memory .exit)) ⌝ }
+    ensures { λ _. ⌜ PairWritten i n (now (memory .entry)) (now (memory .exit)) ⌝ }
 {
     memory[2 * i] = n.up;
     memory[2 * i + 1] = n.dropped;

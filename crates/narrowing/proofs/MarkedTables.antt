@@ -1,13 +1,12 @@
 -- A table in which a word was noted for some atoms: what each turn of the loop adds.
-use mathlib.Core.Path.{_≡_, refl, sym, subst, _∙_}
+use mathlib.Core.Path.{_≡_, refl, subst, _∙_}
 use mathlib.Core.Logic.{_⊎_, inl, inr}
 use mathlib.Core.List.{List}
-use Prim.Native.Nat.{ℕ, _+_, _≤_, _<_}
-use native.Mathlib.Omega.{arith}
+use Prim.Native.Nat.{ℕ, _+_, _<_}
 use native.Mathlib.Decide.{ℕ-discrete}
 use lib.ListN.{length, getD, set, length-set}
 use lib.Seq.{getD-set-same, getD-set-other}
-use Rattle.atoms.specs.Word.{Has, _⊆_, _∪_, _∖_, atom, Lowest}
+use Rattle.atoms.specs.Word.{Has, _⊆_, _∪_, _∖_, atom}
 use Rattle.atoms.proofs.Sets.{subset-refl, subset-trans, has-left, has-right, union-cases}
 use Rattle.atoms.proofs.TakenNumbers.{none-done, all-done, done-cases}
 use Rattle.narrowing.specs.Marks.{Marked}

@@ -14,7 +14,7 @@ use Rattle.states.proofs.Narrows.{narrows-for}
 use Rattle.answer_sets.proofs.Support.{satisfied}
 use Rattle.narrowing.specs.Inputs.{AnswersInputs}
 use Rattle.narrowing.specs.Backers.{Backers}
-use Rattle.narrowing.specs.Support.{Held}
+use Rattle.narrowing.specs.Support.{SupportedIfUp}
 use Rattle.narrowing.proofs.SupportSteps.{answers-held}
 
 module _ (rules : List ℕ) (which inputs : ℕ) {s t : State} where
@@ -25,7 +25,7 @@ module _ (rules : List ℕ) (which inputs : ℕ) {s t : State} where
 
   -- and its atoms that are no inputs are held by their backers
   pub support-narrows : (backers : List ℕ) (a : ℕ) → which < 2 ^ ATOMS → Backers rules which backers → ¬ Has inputs a
-      → Narrows (Held rules (getD backers a 0) a) s t → Narrows (AnswersInputs rules which inputs) s t
+      → Narrows (SupportedIfUp rules (getD backers a 0) a) s t → Narrows (AnswersInputs rules which inputs) s t
   support-narrows backers a fits b own n = narrows-for (answers-held rules which inputs backers fits b a own) n
 
 pub rule-narrows : (rules : List ℕ) {which r : ℕ} {s t : State} → Has which r → Narrows (Satisfies (lent rules) r) s t

@@ -6,7 +6,7 @@ use mathlib.Core.List.{List}
 use Prim.Native.Nat.{ℕ}
 use native.Mathlib.Omega.{arith}
 use borrow.Author.Tests.{not-true, not-false}
-use Rattle.atoms.specs.Word.{Has, _⊆_, subset, Apart, apart, _∩_, _∖_}
+use Rattle.atoms.specs.Word.{Has, _⊆_, subset, Apart, apart, _∩_}
 use Rattle.atoms.proofs.Sets.{has-without, without-left, without-right, decides-subset, decides-apart}
 use Rattle.answer_sets.specs.Lent.{lent}
 use Rattle.states.specs.State.{Completes, halfDecided}

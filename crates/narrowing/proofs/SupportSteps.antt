@@ -4,10 +4,9 @@ use mathlib.Core.Bool.{Bool, true, false, true≢false}
 use mathlib.Core.Logic.{_⊎_, inl, inr}
 use mathlib.Core.List.{List}
 use Prim.Native.Nat.{ℕ, _^_, _<_}
-use native.Mathlib.Decide.{ℕ-discrete}
 use lib.ListN.{getD}
 use Rattle.atoms.specs.Word.{ATOMS, Has, _∩_, _∪_, _∖_, apart, atom, Lowest}
-use Rattle.atoms.proofs.Sets.{decides-apart, subset-refl, subset-trans, cut-right, has-none, has-atom, atom-only, has-without, without-left, without-right}
+use Rattle.atoms.proofs.Sets.{decides-apart, subset-refl, cut-right, has-none, has-atom, atom-only, without-left, without-right}
 use Rattle.atoms.proofs.Sets.{union-cases}
 use Rattle.atoms.proofs.TakenNumbers.{taken-cases}
 use Rattle.atoms.proofs.Counts.{taken-within}
@@ -23,7 +22,7 @@ use Rattle.answer_sets.proofs.Bodies.{negative-down}
 use Rattle.states.proofs.Narrows.{narrows-trans, narrows-when, up-narrows, down-narrows}
 use Rattle.narrowing.specs.Inputs.{AnswersInputs}
 use Rattle.narrowing.specs.Backers.{Backs, Backers}
-use Rattle.narrowing.specs.Support.{Supports, Excluded, Supporters, Held}
+use Rattle.narrowing.specs.Support.{Supports, Excluded, Supporters, SupportedIfUp}
 use Rattle.narrowing.proofs.Supports.{supporter}
 
 -- ---- one rule
@@ -74,7 +73,7 @@ module _ {rules : List ℕ} {backing a : ℕ} {s : State} where
 module _ (rules : List ℕ) (backing a : ℕ) (s : State) {left : ℕ} (w : Supporters rules backing a s left) where
   -- none is left
   pub none-left : (x d : ℕ) → left ≡ 0 → x ≡ atom a → d ≡ s .dropped ∪ x
-      → Narrows (Held rules backing a) s (record { up = s .up; dropped = d })
+      → Narrows (SupportedIfUp rules backing a) s (record { up = s .up; dropped = d })
   none-left x d z e f =
       rw (f, e)
       (down-narrows s (atom a)
@@ -86,14 +85,14 @@ module _ (rules : List ℕ) (backing a : ℕ) (s : State) {left : ℕ} (w : Supp
 
   -- one is left of an atom that is up
   pub one-left : (r rest others : ℕ) {t : State} → Has (s .up) a → rest ≡ left ∖ atom r → Supporters rules rest a s others → others ≡ 0
-      → Narrows (λ M. Supports (lent rules) r M a) s t → Narrows (Held rules backing a) s t
+      → Narrows (λ M. Supports (lent rules) r M a) s t → Narrows (SupportedIfUp rules backing a) s t
   one-left r rest others u e v z n = narrows-when by-r n
     where
       same : (q M : ℕ) → Has left q → Completes s M → Supports (lent rules) q M a → Has rest q ⊎ (r ≡ q) → Supports (lent rules) r M a
       same q M h c p (inl k) = absurd (has-none (subst (λ (x : ℕ). Has x q) z (v .every q M k c p)))
       same q M h c p (inr k) = subst (λ (i : ℕ). Supports (lent rules) i M a) (sym k) p
 
-      by-r : (M : ℕ) → Held rules backing a M → Completes s M → Supports (lent rules) r M a
+      by-r : (M : ℕ) → SupportedIfUp rules backing a M → Completes s M → Supports (lent rules) r M a
       by-r M k c =
           let p = k .held (c .has-up .each a u) in
           let h = w .every (p .0) M (p .1) c (p .2) in
@@ -118,7 +117,7 @@ supports-narrows rules r a s =
 -- ---- an answer set's atom that is no input is held by its backers
 
 pub answers-held : (rules : List ℕ) (which inputs : ℕ) (backers : List ℕ) → which < 2 ^ ATOMS → Backers rules which backers → (a : ℕ)
-    → ¬ Has inputs a → (M : ℕ) → AnswersInputs rules which inputs M → Held rules (getD backers a 0) a M
+    → ¬ Has inputs a → (M : ℕ) → AnswersInputs rules which inputs M → SupportedIfUp rules (getD backers a 0) a M
 answers-held rules which inputs backers fits b a own M p = record { held = λ m. go m (by m) }
   where
     by : Has M a → (r : ℕ) × Has which r × Supports (lent rules) r M a

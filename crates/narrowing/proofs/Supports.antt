@@ -2,18 +2,16 @@
 use mathlib.Core.Path.{_≡_, sym, subst}
 use mathlib.Core.Bool.{Bool, true, false, not, _&&_}
 use mathlib.Core.Logic.{_⊎_, inl, inr}
-use mathlib.Core.List.{List}
 use Prim.Native.Nat.{ℕ, _^_, _<_}
 use native.Mathlib.Decide.{ℕ-discrete}
 use Rattle.atoms.specs.Word.{ATOMS, Has, has, _⊂_, _∖_, atom}
 use Rattle.atoms.specs.Bounded.{someBelow}
 use Rattle.atoms.proofs.Tests.{test-cases, and-true, not-is-true, not-both, decided, decided-true, decided-false}
-use Rattle.atoms.proofs.Sets.{decides-has, decides-apart, has-lt, has-without, without-left, without-right, has-atom, atom-only}
+use Rattle.atoms.proofs.Sets.{decides-has, has-lt, has-without, without-left, without-right, has-atom, atom-only}
 use Rattle.atoms.proofs.Bounded.{some-at, some-intro}
 use Rattle.plan.specs.Limits.{MAX_RULES}
 use Rattle.answer_sets.specs.Program.{Program, Body, Satisfies}
 use Rattle.answer_sets.specs.AnswerSet.{Kept, AnswerSet}
-use Rattle.answer_sets.specs.Lent.{lent, negative}
 use Rattle.answer_sets.specs.Test.{kept, satisfies}
 use Rattle.answer_sets.proofs.Judged.{decides-body, decides-satisfies, kept-has, kept-at, kept-fits}
 use Rattle.narrowing.specs.Support.{Supports}

@@ -6,8 +6,8 @@ use Rattle.answer_sets.specs.Lent.{lent}
 use Rattle.answer_sets.specs.Known.{BodySays}
 use Rattle.states.specs.declared.state.State.{State}
 use Rattle.answer_sets.specs.declared.truth.Truth.the-variants.{Holds, Fails}
-use Rattle.answer_sets.specs.declared.reduct.Found.{Found}
-use Rattle.answer_sets.specs.declared.reduct.Found.the-variants.{Rule, Nothing}
+use Rattle.answer_sets.specs.declared.reduct.FoundRule.{FoundRule}
+use Rattle.answer_sets.specs.declared.reduct.FoundRule.the-variants.{Rule, Nothing}
 use Rattle.narrowing.specs.declared.choice.Standing.{Standing}
 use Rattle.narrowing.specs.declared.choice.Standing.the-variants.{Spent, Stopped, Live}
 use Rattle.narrowing.specs.declared.choice.Choice.{Choice}
@@ -28,7 +28,7 @@ Chosen rules which s free (Atom i) = Has free i × (i < ATOMS) × NoStop rules w
 Chosen rules which s free (Stop r) = Has which r × AtStop rules r s
 
 -- Inner: a rule of the word that is at a stop, or that none is
-abbrev pub Met : List ℕ → ℕ → State → Found → Type 0
+abbrev pub Met : List ℕ → ℕ → State → FoundRule → Type 0
 Met rules which s (Rule r) = Has which r × AtStop rules r s
 Met rules which s Nothing = NoStop rules which s
 

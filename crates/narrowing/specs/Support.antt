@@ -26,5 +26,5 @@ pub record Supporters (rules : List ℕ) (backing a : ℕ) (s : State) (w : ℕ)
   pub every : (r M : ℕ) → Has backing r → Completes s M → Supports (lent rules) r M a → Has w r
 
 -- where atom a is up, a rule of the word supports it
-pub record Held (rules : List ℕ) (backing a M : ℕ) : Type 0 where
+pub record SupportedIfUp (rules : List ℕ) (backing a M : ℕ) : Type 0 where
   pub held : Has M a → (r : ℕ) × Has backing r × Supports (lent rules) r M a

@@ -2,7 +2,7 @@
 // leaves little to search. Where a rule is at a stop there is none.
 use answer_sets::Truth;
 use answer_sets::known::body_known;
-use answer_sets::reduct::Found;
+use answer_sets::reduct::FoundRule;
 use answer_sets::rule::head;
 use answer_sets::rule::rule_atoms;
 use atoms::tally::count_atoms;
@@ -130,7 +130,7 @@ fn count_rules(
     near: u64,
     first: &mut [u64],
     others: &mut [u64],
-) -> Found
+) -> FoundRule
     requires { ⌜ Lent (now rules) which ⌝ }
     ensures met { λ r. ⌜ Met (now (rules .entry)) which s r ⌝ }
     ensures first { λ _. ⌜ length (now (first .exit)) ≡ length (now (first .entry)) ⌝ }
@@ -141,12 +141,12 @@ fn count_rules(
         let rule = atoms::lowest(rest);
         let standing = standing_of(rules, rule, s);
         if is_stop(standing) {
-            return Found::Rule(rule);
+            return FoundRule::Rule(rule);
         }
         count_rule(rules, rule, standing, free, near, first, others);
         rest = atoms::drop(rest, rule);
     }
-    Found::Nothing
+    FoundRule::Nothing
 }
 
 // What comes next: a rule of the word that is at a stop, if there is one; else the lowest of those free atoms that stand in most live rules, those
@@ -159,7 +159,7 @@ pub fn choose(rules: &[u64], which: u64, s: State, free: u64, near: u64) -> Choi
     let mut others = [0u64; PLACES];
     let found = count_rules(rules, which, s, free, near, &mut first, &mut others);
     match found {
-        Found::Rule(rule) => Choice::Stop(rule),
-        Found::Nothing => Choice::Atom(atoms::lowest(most(&others, most(&first, free)))),
+        FoundRule::Rule(rule) => Choice::Stop(rule),
+        FoundRule::Nothing => Choice::Atom(atoms::lowest(most(&others, most(&first, free)))),
     }
 }

@@ -9,7 +9,7 @@ ghost use Prim.Native.Nat.{_<_};
 ghost use Rattle.atoms.specs.Word.{ATOMS};
 ghost use Rattle.answer_sets.specs.Lent.{lent, IsLent, Lent};
 ghost use Rattle.states.specs.Narrowing.{Narrows};
-ghost use Rattle.narrowing.specs.Support.{Supports, Excluded, Supporters, Held};
+ghost use Rattle.narrowing.specs.Support.{Supports, Excluded, Supporters, SupportedIfUp};
 
 // Whether the rule may support the atom at a completion, for all that is known.
 fn may_support(rules: &[u64], rule: usize, atom: usize, s: State) -> bool
@@ -61,7 +61,7 @@ fn held_by(rules: &[u64], rule: usize, atom: usize, s: State) -> State
 // rule does.
 pub fn support_step(rules: &[u64], backing: u64, atom: usize, s: State) -> State
     requires { ⌜ Lent (now rules) backing × (atom < ATOMS) ⌝ }
-    ensures { λ t. ⌜ Narrows (Held (now (rules .entry)) backing atom) s t ⌝ }
+    ensures { λ t. ⌜ Narrows (SupportedIfUp (now (rules .entry)) backing atom) s t ⌝ }
 {
     let left = supporters(rules, backing, atom, s);
     if left == 0 {

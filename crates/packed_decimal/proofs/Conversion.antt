@@ -13,8 +13,8 @@ use Rattle.packed_decimal.specs.Digits.{digits, Below}
 use Rattle.packed_decimal.specs.Reading.{TEN, DIGITS, DIGIT_VALUES, MODULUS, NOT_MEASURED, unpacked, packed, Decimal, isReading, says}
 use Rattle.packed_decimal.specs.Refusals.{badOf}
 use Rattle.packed_decimal.specs.Answers.{numberOf, readingOf}
-use Rattle.packed_decimal.specs.declared.reading.Reading.{Reading}
-use Rattle.packed_decimal.specs.declared.reading.Reading.the-variants.{Measured, NotMeasured}
+use Rattle.packed_decimal.specs.declared.meter.Reading.{Reading}
+use Rattle.packed_decimal.specs.declared.meter.Reading.the-variants.{Measured, NotMeasured}
 use Rattle.packed_decimal.specs.declared.refusal.Refusal.the-variants.{BadReading, LargeNumber}
 use Rattle.packed_decimal.specs.declared.convert.Number.the-variants.{Says, Refused as NumberRefused}
 use Rattle.packed_decimal.specs.declared.convert.Packed.the-variants.{Word, Refused as PackedRefused}

@@ -7,7 +7,7 @@ use native.Mathlib.Omega.{arith}
 use native.Mathlib.Nat.{pow-suc, pow-zero, pow-le-pow-right, mul-add, mul-comm, mul-assoc, mul-le-mul-left, mul-le-mul-right, mod-lt}
 use native.Mathlib.Numerals.{add-one}
 use borrow.Author.Tests.{lt-ltb, le-ltb}
-use Rattle.packed_decimal.specs.Digits.{digits, number}
+use Rattle.packed_decimal.specs.Digits.{digits, valueOf}
 use Rattle.packed_decimal.specs.Reading.{TEN, DIGIT_VALUES, decimal}
 use Rattle.packed_decimal.proofs.Positional.{number-digits-suc}
 
@@ -48,7 +48,7 @@ pub record Respelling (n from to x i rest place result : ℕ) : Type 0 where
   pub within : i ≤ n
   pub place-fits : place ≤ DIGIT_VALUES ^ i
   pub result-fits : result < DIGIT_VALUES ^ i
-  pub total : number to (digits from n x) ≡ result + place * number to (digits from (n - i) rest)
+  pub total : valueOf to (digits from n x) ≡ result + place * valueOf to (digits from (n - i) rest)
 
 pub respelling-start : (n from to x : ℕ) → Respelling n from to x 0 x 1 0
 respelling-start n from to x = record {
@@ -94,12 +94,12 @@ module _ {n from to x i rest place result : ℕ} (r : Respelling n from to x i r
     result-fits = rw add-one sum-below;
     total =
         r .total
-        ∙ rw (one-fewer n i l, number-digits-suc from to (n - (i + 1)) rest) (step (number to (digits from (n - (i + 1)) (rest / from))));
+        ∙ rw (one-fewer n i l, number-digits-suc from to (n - (i + 1)) rest) (step (valueOf to (digits from (n - (i + 1)) (rest / from))));
   }
 
 pub respelling-all : {n from to x i rest place result : ℕ} → Respelling n from to x i rest place result → n ≤ i
-    → result ≡ number to (digits from n x)
-unfolding number digits
+    → result ≡ valueOf to (digits from n x)
+unfolding valueOf digits
 respelling-all {n} {from} {to} {x} {i} {rest} {place} {result} r l =
     let none : n - i ≡ 0 = omega (arith, r .within) in
     sym (r .total ∙ rw none (omega arith))

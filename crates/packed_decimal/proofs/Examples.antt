@@ -1,22 +1,21 @@
 -- Readings at the edges, computed from the definitions: which byte and which digit is the high one, the carry, the exception, the spots, and
 -- the lowest place.
 use mathlib.Core.Path.{_≡_, refl}
-use mathlib.Core.List.{List, [], _∷_}
-use Prim.Native.Nat.{ℕ}
+use mathlib.Core.List.{[], _∷_}
 use Rattle.atoms.specs.Collected.{lowest}
-use Rattle.packed_decimal.specs.Digits.{digits, number}
+use Rattle.packed_decimal.specs.Digits.{digits, valueOf}
 use Rattle.packed_decimal.specs.Reading.{decimal, isReading, says}
 use Rattle.packed_decimal.specs.Refusals.{unlessBad}
 use Rattle.packed_decimal.specs.Answers.{numberOf, readingOf, addedOf, comparedOf}
 use Rattle.packed_decimal.specs.Largest.{badAt, largestOf, largestIn}
-use Rattle.packed_decimal.specs.declared.reading.Reading.the-variants.{Measured, NotMeasured}
+use Rattle.packed_decimal.specs.declared.meter.Reading.the-variants.{Measured, NotMeasured}
 use Rattle.packed_decimal.specs.declared.refusal.Refusal.the-variants.{BadReading, LargeNumber}
 use Rattle.packed_decimal.specs.declared.convert.Number.the-variants.{Says, Refused as NumberRefused}
 use Rattle.packed_decimal.specs.declared.convert.Packed.the-variants.{Word, Refused as PackedRefused}
 use Rattle.packed_decimal.specs.declared.sum.Added.the-variants.{Is as SumIs, Refused as SumRefused}
 use Rattle.packed_decimal.specs.declared.limit.Order.the-variants.{Below, Equal, Above, NotMeasured as NoOrder}
 use Rattle.packed_decimal.specs.declared.limit.Compared.the-variants.{Is as OrderIs, Refused as CompareRefused}
-use Rattle.packed_decimal.specs.declared.largest.Found.the-variants.{At, NoneMeasured}
+use Rattle.packed_decimal.specs.declared.largest.LargestFound.the-variants.{At, NoneMeasured}
 use Rattle.packed_decimal.specs.declared.largest.Largest.the-variants.{Is as FoundIs, Refused as LargestRefused}
 
 -- a number and back, "not measured stays so"
@@ -27,7 +26,7 @@ pub conversions : (numberOf 0x1234 ≡ Says (Measured 1234))
     × (readingOf (Measured 9876) ≡ Word 0x9876)
     × (readingOf NotMeasured ≡ Word 0xFFFF)
     × (readingOf (Measured 10000) ≡ PackedRefused LargeNumber)
-unfolding numberOf readingOf unlessBad lowest isReading decimal says digits number
+unfolding numberOf readingOf unlessBad lowest isReading decimal says digits valueOf
 conversions = (refl, refl, refl, refl, refl, refl, refl)
 
 -- "modulo 10,000 .., with a carry of 1 past 9999"
@@ -36,7 +35,7 @@ pub sums : (addedOf 0x4999 0x5000 ≡ SumIs (record { reading = 0x9999; carry = 
     × (addedOf 0x9999 0x9999 ≡ SumIs (record { reading = 0x9998; carry = 1 }))
     × (addedOf 0xFFFF 0x0001 ≡ SumIs (record { reading = 0xFFFF; carry = 0 }))
     × (addedOf 0xFFFF 0x00A0 ≡ SumRefused (BadReading 1))
-unfolding addedOf unlessBad lowest isReading decimal says digits number
+unfolding addedOf unlessBad lowest isReading decimal says digits valueOf
 sums = (refl, refl, refl, refl, refl)
 
 -- "(below, equal, above)"
@@ -45,7 +44,7 @@ pub comparisons : (comparedOf 0x0099 0x0100 ≡ OrderIs Below)
     × (comparedOf 0x1000 0x0999 ≡ OrderIs Above)
     × (comparedOf 0x0001 0xFFFF ≡ OrderIs NoOrder)
     × (comparedOf 0xA000 0xA000 ≡ CompareRefused (BadReading 0))
-unfolding comparedOf unlessBad lowest isReading decimal says digits number
+unfolding comparedOf unlessBad lowest isReading decimal says digits valueOf
 comparisons = (refl, refl, refl, refl, refl)
 
 -- "the largest measured reading with its lowest place"
@@ -54,5 +53,5 @@ pub runs : (largestIn (0xFF ∷ 0xFF ∷ 0x01 ∷ 0x20 ∷ 0x12 ∷ 0x00 ∷ 0x1
     × (largestIn [] ≡ FoundIs NoneMeasured)
     × (largestIn (0x12 ∷ 0x00 ∷ 0x12 ∷ []) ≡ LargestRefused (BadReading 1))
     × (largestIn (0x12 ∷ 0x00 ∷ 0x0A ∷ 0x00 ∷ 0x12 ∷ []) ≡ LargestRefused (BadReading 1))
-unfolding largestIn unlessBad lowest badAt largestOf isReading decimal says digits number
+unfolding largestIn unlessBad lowest badAt largestOf isReading decimal says digits valueOf
 runs = (refl, refl, refl, refl, refl)

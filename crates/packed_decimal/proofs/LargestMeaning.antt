@@ -15,12 +15,12 @@ use Rattle.packed_decimal.specs.Reading.{DIGITS, NOT_MEASURED, unpacked,
 use Rattle.packed_decimal.specs.Largest.{READING_BYTES, readings, wordAt, BadAt, badAt, larger, largestOf, largestIn}
 use Rattle.packed_decimal.specs.Largest.{IsLargest, Right, Right.largest, Right.none-measured}
 use Rattle.packed_decimal.specs.Refusals.{refusalSpot}
-use Rattle.packed_decimal.specs.declared.reading.Reading.the-variants.{Measured}
+use Rattle.packed_decimal.specs.declared.meter.Reading.the-variants.{Measured}
 use Rattle.packed_decimal.specs.declared.refusal.Refusal.{Refusal}
 use Rattle.packed_decimal.specs.declared.refusal.Refusal.the-variants.{BadReading}
 use Rattle.packed_decimal.specs.declared.largest.Largest.the-variants.{Is, Refused}
-use Rattle.packed_decimal.specs.declared.largest.Found.{Found}
-use Rattle.packed_decimal.specs.declared.largest.Found.the-variants.{At}
+use Rattle.packed_decimal.specs.declared.largest.LargestFound.{LargestFound}
+use Rattle.packed_decimal.specs.declared.largest.LargestFound.the-variants.{At}
 use Rattle.packed_decimal.proofs.FirstBad.{unless-refused, unless-answered}
 use Rattle.packed_decimal.proofs.Readings.{decides-reading, unmeasured-says, measured-says}
 
@@ -46,7 +46,7 @@ module _ (words : ℕ → ℕ) (n : ℕ) where
     none-before = r .none-before;
   }
 
-  unmeasured-more : {found : Found} → words n ≡ NOT_MEASURED → Right words n found → Right words (suc n) found
+  unmeasured-more : {found : LargestFound} → words n ≡ NOT_MEASURED → Right words n found → Right words (suc n) found
   unmeasured-more e (largest r) = largest (stays-largest r (λ m. absurd (m e)))
   unmeasured-more e (none-measured f) = none-measured (one-more n f e)
 
@@ -76,7 +76,7 @@ module _ (words : ℕ → ℕ) (n : ℕ) where
     either-more true e r = largest (larger-more r (ltb-true _ _ e))
     either-more false e r = largest (stays-largest r (λ m. ltb-false _ _ e))
 
-    measured-more : {found : Found} → Right words n found → Right words (suc n) (larger found (Measured (unpacked DIGITS (words n))) (words n) n)
+    measured-more : {found : LargestFound} → Right words n found → Right words (suc n) (larger found (Measured (unpacked DIGITS (words n))) (words n) n)
     measured-more (largest {word = best} r) = either-more (ltb (unpacked DIGITS best) (unpacked DIGITS (words n))) refl r
     measured-more (none-measured f) = largest (first-more f)
 
@@ -101,7 +101,7 @@ module _ {words : ℕ → ℕ} {n : ℕ} where
       let second′ : unpacked DIGITS w ≤ unpacked DIGITS v = rw (b .here) at second in
       omega arith
 
-  right-same : {f g : Found} → Right words n f → Right words n g → f ≡ g
+  right-same : {f g : LargestFound} → Right words n f → Right words n g → f ≡ g
   right-same (largest {word = v} {place = p} a) (largest {word = w} {place = q} b) =
       let e : p ≡ q = omega (arith, not-before a b, not-before b a) in
       ap₂ At (sym (a .here) ∙ ap words e ∙ b .here) e
@@ -109,7 +109,7 @@ module _ {words : ℕ → ℕ} {n : ℕ} where
   right-same (none-measured f) (largest {place = q} b) = absurd (b .measured (sym (b .here) ∙ f q (b .within)))
   right-same (none-measured f) (none-measured g) = refl
 
-pub largest-only : {words : ℕ → ℕ} {n : ℕ} {found : Found} → Right words n found → found ≡ largestOf words n
+pub largest-only : {words : ℕ → ℕ} {n : ℕ} {found : LargestFound} → Right words n found → found ≡ largestOf words n
 largest-only {words} {n} r = right-same r (largest-right words n)
 
 -- ---- bad readings of a run

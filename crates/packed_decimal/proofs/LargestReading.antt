@@ -13,10 +13,10 @@ use borrow.Author.Tests.{lt-ltb, le-ltb, lt-leb, le-leb}
 use Rattle.packed_decimal.specs.Reading.{DIGITS, DIGIT_VALUES, NOT_MEASURED, unpacked, isReading, says}
 use Rattle.packed_decimal.specs.Largest.{READING_BYTES, readings, wordAt, badAt, larger, largestOf, largestIn}
 use Rattle.packed_decimal.specs.MeasuredWord.{MeasuredWord, MeasuredFound}
-use Rattle.packed_decimal.specs.declared.reading.Reading.the-variants.{Measured}
+use Rattle.packed_decimal.specs.declared.meter.Reading.the-variants.{Measured}
 use Rattle.packed_decimal.specs.declared.refusal.Refusal.the-variants.{BadReading}
-use Rattle.packed_decimal.specs.declared.largest.Found.{Found}
-use Rattle.packed_decimal.specs.declared.largest.Found.the-variants.{At, NoneMeasured}
+use Rattle.packed_decimal.specs.declared.largest.LargestFound.{LargestFound}
+use Rattle.packed_decimal.specs.declared.largest.LargestFound.the-variants.{At, NoneMeasured}
 use Rattle.packed_decimal.specs.declared.largest.Largest.the-variants.{Is, Refused}
 use Rattle.packed_decimal.proofs.Readings.{unmeasured-says, measured-says, measured-word}
 use Rattle.packed_decimal.proofs.FirstBad.{unless-first, unless-none}
@@ -28,7 +28,7 @@ larger-by : (best at x word place : ℕ) {b : Bool} → ltb (unpacked DIGITS bes
     → larger (At best at) (Measured x) word place ≡ cond b (At word place) (At best at)
 larger-by best at x word place e = ap (λ (t : Bool). cond t (At word place) (At best at)) e
 
-pub larger-unmeasured : (found : Found) (word place : ℕ) → word ≡ NOT_MEASURED → larger found (says word) word place ≡ found
+pub larger-unmeasured : (found : LargestFound) (word place : ℕ) → word ≡ NOT_MEASURED → larger found (says word) word place ≡ found
 larger-unmeasured found word place e = rw (unmeasured-says word e) refl
 
 pub larger-first : (word place : ℕ) → ¬ (word ≡ NOT_MEASURED) → larger NoneMeasured (says word) word place ≡ At word place
@@ -44,7 +44,7 @@ module _ (best at word place : ℕ) (mb : MeasuredWord best) (mw : MeasuredWord 
       rw (measured-says word n) (larger-by best at (unpacked DIGITS word) word place (le-ltb _ _ (words-le mw mb l)))
 
 -- what is found stays measured
-pub larger-measured : (found : Found) (word place : ℕ) → MeasuredFound found → word < DIGIT_VALUES ^ DIGITS → isReading word ≡ true
+pub larger-measured : (found : LargestFound) (word place : ℕ) → MeasuredFound found → word < DIGIT_VALUES ^ DIGITS → isReading word ≡ true
     → MeasuredFound (larger found (says word) word place)
 larger-measured found word place m l r = go (ℕ-discrete word NOT_MEASURED)
   where
@@ -52,7 +52,7 @@ larger-measured found word place m l r = go (ℕ-discrete word NOT_MEASURED)
     either best at true mb mw = mw
     either best at false mb mw = mb
 
-    measured : (f : Found) → MeasuredFound f → MeasuredWord word → (x : ℕ) → MeasuredFound (larger f (Measured x) word place)
+    measured : (f : LargestFound) → MeasuredFound f → MeasuredWord word → (x : ℕ) → MeasuredFound (larger f (Measured x) word place)
     measured NoneMeasured m mw x = mw
     measured (At best at) m mw x = either best at (ltb (unpacked DIGITS best) x) m mw
 
@@ -75,7 +75,7 @@ unfolding badAt
 lone-bad bytes i l = rw (le-leb (length bytes) (READING_BYTES * i + 1) l) refl
 
 -- the first i readings are whole and good, and this was found among them
-pub record Seeking (bytes : List ℕ) (i : ℕ) (found : Found) : Type 0 where
+pub record Seeking (bytes : List ℕ) (i : ℕ) (found : LargestFound) : Type 0 where
   pub within : i ≤ length bytes / READING_BYTES
   pub good : (j : ℕ) → j < i → badAt bytes j ≡ false
   pub found-is : found ≡ largestOf (wordAt bytes) i
@@ -85,13 +85,13 @@ pub seeking-start : (bytes : List ℕ) → Seeking bytes 0 NoneMeasured
 unfolding largestOf
 seeking-start bytes = record { within = omega arith; good = λ j l. absurd (omega arith); found-is = refl; measured = tt }
 
-module _ {bytes : List ℕ} {i word : ℕ} {found : Found} (s : Seeking bytes i found) (e : word ≡ wordAt bytes i) where
+module _ {bytes : List ℕ} {i word : ℕ} {found : LargestFound} (s : Seeking bytes i found) (e : word ≡ wordAt bytes i) where
   pub seeking-bad : i < length bytes / READING_BYTES → isReading word ≡ false → largestIn bytes ≡ Refused (BadReading i)
   unfolding largestIn
   seeking-bad l r =
       unless-first (readings bytes) (badAt bytes) Refused _ i (omega arith) (whole-bad bytes i (ap isReading (sym e) ∙ r)) (s .good)
 
-  pub seeking-more : {next : Found} → i < length bytes / READING_BYTES → word < DIGIT_VALUES ^ DIGITS → isReading word ≡ true
+  pub seeking-more : {next : LargestFound} → i < length bytes / READING_BYTES → word < DIGIT_VALUES ^ DIGITS → isReading word ≡ true
       → next ≡ larger found (says word) word i → Seeking bytes (i + 1) next
   unfolding largestOf
   seeking-more l fits r n = record {
@@ -99,20 +99,20 @@ module _ {bytes : List ℕ} {i word : ℕ} {found : Found} (s : Seeking bytes i 
     good = below-more (λ (j : ℕ). badAt bytes j ≡ false) i (s .good) (whole-good bytes i (omega arith) (ap isReading (sym e) ∙ r));
     found-is =
         n
-        ∙ ap₂ (λ (f : Found) (w : ℕ). larger f (says w) w i) (s .found-is) e
+        ∙ ap₂ (λ (f : LargestFound) (w : ℕ). larger f (says w) w i) (s .found-is) e
         ∙ ap (largestOf (wordAt bytes)) (sym (add-one i));
     measured = rw n (larger-measured found word i (s .measured) fits r);
   }
 
 -- a lone last byte
-pub seeking-lone : {bytes : List ℕ} {i : ℕ} {found : Found} → Seeking bytes i found → length bytes / READING_BYTES ≤ i
+pub seeking-lone : {bytes : List ℕ} {i : ℕ} {found : LargestFound} → Seeking bytes i found → length bytes / READING_BYTES ≤ i
     → READING_BYTES * (length bytes / READING_BYTES) < length bytes → largestIn bytes ≡ Refused (BadReading (length bytes / READING_BYTES))
 unfolding largestIn
 seeking-lone {bytes} {i} {found} s l odd =
     let last : ℕ = length bytes / READING_BYTES in
     unless-first (readings bytes) (badAt bytes) Refused _ last (omega arith) (lone-bad bytes last (omega arith)) (λ j k. s .good j (omega arith))
 
-pub seeking-all : {bytes : List ℕ} {i : ℕ} {found : Found} → Seeking bytes i found → length bytes / READING_BYTES ≤ i
+pub seeking-all : {bytes : List ℕ} {i : ℕ} {found : LargestFound} → Seeking bytes i found → length bytes / READING_BYTES ≤ i
     → length bytes ≤ READING_BYTES * (length bytes / READING_BYTES) → largestIn bytes ≡ Is found
 unfolding largestIn
 seeking-all {bytes} {i} {found} s l even =

@@ -9,8 +9,8 @@ use Rattle.packed_decimal.specs.Reading.{DIGITS, NOT_MEASURED, unpacked,
 use Rattle.packed_decimal.specs.Refusals.{badOf, firstBad}
 use Rattle.packed_decimal.specs.Answers.{orderBy, orderOf, comparedOf}
 use Rattle.packed_decimal.specs.MeasuredWord.{MeasuredWord}
-use Rattle.packed_decimal.specs.declared.reading.Reading.{Reading}
-use Rattle.packed_decimal.specs.declared.reading.Reading.the-variants.{Measured, NotMeasured}
+use Rattle.packed_decimal.specs.declared.meter.Reading.{Reading}
+use Rattle.packed_decimal.specs.declared.meter.Reading.the-variants.{Measured, NotMeasured}
 use Rattle.packed_decimal.specs.declared.refusal.Refusal.the-variants.{BadReading}
 use Rattle.packed_decimal.specs.declared.limit.Compared.the-variants.{Is, Refused}
 use Rattle.packed_decimal.specs.declared.limit.Order.the-variants.{Below, Equal, Above, NotMeasured as NoOrder}

@@ -11,18 +11,18 @@ use native.Mathlib.Decide.{decLt}
 use native.Mathlib.Numerals.{add-one}
 use lib.Arith.{digits-lt, digits-div, digits-mod}
 use lib.ListN.{length, length-append}
-use Rattle.packed_decimal.specs.Digits.{digits, number, Below}
+use Rattle.packed_decimal.specs.Digits.{digits, valueOf, Below}
 
 -- ---- a digit more at the low end
 
-number-snoc : (base : ℕ) (ds : List ℕ) (d : ℕ) → number base (ds ++ (d ∷ [])) ≡ number base ds * base + d
-unfolding number
+number-snoc : (base : ℕ) (ds : List ℕ) (d : ℕ) → valueOf base (ds ++ (d ∷ [])) ≡ valueOf base ds * base + d
+unfolding valueOf
 number-snoc base [] d = rw (pow-zero base) (omega arith)
 number-snoc base (e ∷ ds) d =
     let longer : length (ds ++ (d ∷ [])) ≡ suc (length ds) = length-append ds (d ∷ []) ∙ add-one (length ds) in
     rw (longer, pow-suc, ← mul-assoc, add-mul, number-snoc base ds d) (omega arith)
 
-pub number-digits-suc : (from to n x : ℕ) → number to (digits from (suc n) x) ≡ number to (digits from n (x / from)) * to + x % from
+pub number-digits-suc : (from to n x : ℕ) → valueOf to (digits from (suc n) x) ≡ valueOf to (digits from n (x / from)) * to + x % from
 unfolding digits
 number-digits-suc from to n x = number-snoc to (digits from n (x / from)) (x % from)
 
@@ -58,8 +58,8 @@ quotient-lt : (base n x : ℕ) → 0 < base → x < base ^ suc n → x / base < 
 quotient-lt base n x pos h = div-lt-iff-lt-mul pos .1 (rw pow-suc at h)
 
 -- the digits of a number make the number
-pub number-digits : (base n x : ℕ) → 0 < base → x < base ^ n → number base (digits base n x) ≡ x
-unfolding number digits
+pub number-digits : (base n x : ℕ) → 0 < base → x < base ^ n → valueOf base (digits base n x) ≡ x
+unfolding valueOf digits
 number-digits base zero x pos h = omega (arith, pow-zero base)
 number-digits base (suc n) x pos h =
     number-digits-suc base base n x
@@ -67,23 +67,23 @@ number-digits base (suc n) x pos h =
     ∙ div-add-mod' x base
 
 -- digits that are read in another base are the digits there
-pub digits-kept : (from to n x : ℕ) → Below to (digits from n x) → digits to n (number to (digits from n x)) ≡ digits from n x
+pub digits-kept : (from to n x : ℕ) → Below to (digits from n x) → digits to n (valueOf to (digits from n x)) ≡ digits from n x
 unfolding digits
 digits-kept from to zero x h = refl
 digits-kept from to (suc n) x h =
-    let rest : ℕ = number to (digits from n (x / from)) in
+    let rest : ℕ = valueOf to (digits from n (x / from)) in
     let last : x % from < to = below-last from n x h in
     rw (number-digits-suc from to n x, digits-div rest last, digits-mod rest last)
     (ap (λ (ds : List ℕ). ds ++ (x % from ∷ [])) (digits-kept from to n (x / from) (below-rest from n x h)))
 
 -- what is read in another base and back is the number again
 pub read-back : (from to n x : ℕ) → 0 < from → x < from ^ n → Below to (digits from n x)
-    → number from (digits to n (number to (digits from n x))) ≡ x
-read-back from to n x pos h b = ap (number from) (digits-kept from to n x b) ∙ number-digits from n x pos h
+    → valueOf from (digits to n (valueOf to (digits from n x))) ≡ x
+read-back from to n x pos h b = ap (valueOf from) (digits-kept from to n x b) ∙ number-digits from n x pos h
 
 -- digits below the base make a number below its power
-pub number-lt : (from to n x : ℕ) → Below to (digits from n x) → number to (digits from n x) < to ^ n
-unfolding number digits
+pub number-lt : (from to n x : ℕ) → Below to (digits from n x) → valueOf to (digits from n x) < to ^ n
+unfolding valueOf digits
 number-lt from to zero x b = omega (arith, pow-zero to)
 number-lt from to (suc n) x b =
     rw (number-digits-suc from to n x, pow-suc) (digits-lt (number-lt from to n (x / from) (below-rest from n x b)) (below-last from n x b))
@@ -105,12 +105,12 @@ last-decides from to x y qx qy pos last higher same l = go (decLt (x / from) (y 
 
 -- digits that are read in another base keep the order of the numbers
 pub number-order : (from to n x y : ℕ) → 0 < from → x < from ^ n → y < from ^ n → Below to (digits from n x) → Below to (digits from n y)
-    → x < y → number to (digits from n x) < number to (digits from n y)
+    → x < y → valueOf to (digits from n x) < valueOf to (digits from n y)
 number-order from to zero x y pos hx hy bx by l = absurd (omega (arith, pow-zero from))
 number-order from to (suc n) x y pos hx hy bx by l =
     rw (number-digits-suc from to n x, number-digits-suc from to n y)
-    (last-decides from to x y (number to (digits from n (x / from))) (number to (digits from n (y / from))) pos (below-last from n x bx)
+    (last-decides from to x y (valueOf to (digits from n (x / from))) (valueOf to (digits from n (y / from))) pos (below-last from n x bx)
     (number-order from to n (x / from) (y / from) pos (quotient-lt from n x pos hx) (quotient-lt from n y pos hy)
     (below-rest from n x bx) (below-rest from n y by))
-    (ap (λ (q : ℕ). number to (digits from n q)))
+    (ap (λ (q : ℕ). valueOf to (digits from n q)))
     l)

@@ -11,9 +11,9 @@ use Rattle.packed_decimal.specs.Reading.{DIGITS, MODULUS, NOT_MEASURED, 
 use Rattle.packed_decimal.specs.Refusals.{firstBad}
 use Rattle.packed_decimal.specs.Answers.{numberOf, readingOf, sumOf, addedOf, orderOf, comparedOf}
 use Rattle.packed_decimal.specs.Largest.{readings, wordAt, badAt, largestOf, largestIn}
-use Rattle.packed_decimal.specs.Promised.{SaysNumber, Numbered, Repacked, Adds, Summed, Held, Sought}
-use Rattle.packed_decimal.specs.declared.reading.Reading.{Reading}
-use Rattle.packed_decimal.specs.declared.reading.Reading.the-variants.{Measured}
+use Rattle.packed_decimal.specs.Promised.{SaysNumber, Numbered, Repacked, Adds, Summed, HeldAgainst, Sought}
+use Rattle.packed_decimal.specs.declared.meter.Reading.{Reading}
+use Rattle.packed_decimal.specs.declared.meter.Reading.the-variants.{Measured}
 use Rattle.packed_decimal.specs.declared.convert.Number.{Number}
 use Rattle.packed_decimal.specs.declared.convert.Number.the-variants.{Says}
 use Rattle.packed_decimal.specs.declared.convert.Packed.{Packed}
@@ -110,7 +110,7 @@ module _ (word limit : ℕ) {r : Compared} (e : r ≡ comparedOf word limit) whe
   numbers : {x y : ℕ} → SaysNumber word x → SaysNumber limit y → r ≡ OrderIs (orderOf (Measured x) (Measured y))
   numbers s t = compared (said-good s) (said-good t) ∙ ap OrderIs (ap₂ orderOf (said s) (said t))
 
-  pub held : Held word limit r
+  pub held : HeldAgainst word limit r
   held = record {
     is = e;
     refuses = record {

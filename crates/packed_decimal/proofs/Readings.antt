@@ -8,7 +8,7 @@ use Rattle.atoms.specs.Bounded.{Decides}
 use Rattle.atoms.proofs.Tests.{decides, decided-true, decides-iff, decides-and, decides-or, decides-equal}
 use Rattle.packed_decimal.specs.Reading.{TEN, DIGITS, DIGIT_VALUES, NOT_MEASURED, unpacked, Decimal, decimal, IsReading, isReading, says}
 use Rattle.packed_decimal.specs.MeasuredWord.{MeasuredWord}
-use Rattle.packed_decimal.specs.declared.reading.Reading.the-variants.{Measured, NotMeasured}
+use Rattle.packed_decimal.specs.declared.meter.Reading.the-variants.{Measured, NotMeasured}
 use Rattle.packed_decimal.proofs.Positional.{below-none, below-suc, below-last, below-rest}
 
 -- ---- the computing twins

@@ -8,8 +8,8 @@ use native.Mathlib.Decide.{decLt, ℕ-discrete}
 use Rattle.packed_decimal.specs.Reading.{DIGITS, DIGIT_VALUES, MODULUS, NOT_MEASURED, unpacked, packed, Decimal, isReading, says}
 use Rattle.packed_decimal.specs.Refusals.{badOf, firstBad}
 use Rattle.packed_decimal.specs.Answers.{sumOf, addedOf}
-use Rattle.packed_decimal.specs.declared.reading.Reading.{Reading}
-use Rattle.packed_decimal.specs.declared.reading.Reading.the-variants.{Measured, NotMeasured}
+use Rattle.packed_decimal.specs.declared.meter.Reading.{Reading}
+use Rattle.packed_decimal.specs.declared.meter.Reading.the-variants.{Measured, NotMeasured}
 use Rattle.packed_decimal.specs.declared.refusal.Refusal.the-variants.{BadReading}
 use Rattle.packed_decimal.specs.declared.sum.Sum.{Sum}
 use Rattle.packed_decimal.specs.declared.sum.Added.the-variants.{Is, Refused}

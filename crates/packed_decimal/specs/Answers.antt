@@ -5,8 +5,8 @@ use Prim.Native.Nat.{ℕ, _+_, _/_, _%_}
 use lib.Dec.{ltb}
 use Rattle.packed_decimal.specs.Reading.{DIGITS, MODULUS, NOT_MEASURED, packed, says}
 use Rattle.packed_decimal.specs.Refusals.{unlessBadOf}
-use Rattle.packed_decimal.specs.declared.reading.Reading.{Reading}
-use Rattle.packed_decimal.specs.declared.reading.Reading.the-variants.{Measured, NotMeasured}
+use Rattle.packed_decimal.specs.declared.meter.Reading.{Reading}
+use Rattle.packed_decimal.specs.declared.meter.Reading.the-variants.{Measured, NotMeasured}
 use Rattle.packed_decimal.specs.declared.refusal.Refusal.the-variants.{LargeNumber}
 use Rattle.packed_decimal.specs.declared.convert.Number.{Number}
 use Rattle.packed_decimal.specs.declared.convert.Number.the-variants.{Says, Refused as NumberRefused}

@@ -9,9 +9,9 @@ digits base zero x = []
 digits base (suc n) x = digits base n (x / base) ++ (x % base ∷ [])
 
 -- the number that digits stand for in a base: each counts for the base to the power of how many digits follow it
-unfoldable pub number : ℕ → List ℕ → ℕ
-number base [] = 0
-number base (d ∷ ds) = d * base ^ length ds + number base ds
+unfoldable pub valueOf : ℕ → List ℕ → ℕ
+valueOf base [] = 0
+valueOf base (d ∷ ds) = d * base ^ length ds + valueOf base ds
 
 -- every digit is below b
 pub record Below (b : ℕ) (ds : List ℕ) : Type 0 where

@@ -9,10 +9,10 @@ use lib.Dec.{ltb, leb}
 use lib.ListN.{length, getD}
 use Rattle.packed_decimal.specs.Reading.{DIGITS, NOT_MEASURED, unpacked, IsReading, isReading, says}
 use Rattle.packed_decimal.specs.Refusals.{unlessBad}
-use Rattle.packed_decimal.specs.declared.reading.Reading.{Reading}
-use Rattle.packed_decimal.specs.declared.reading.Reading.the-variants.{Measured, NotMeasured}
-use Rattle.packed_decimal.specs.declared.largest.Found.{Found}
-use Rattle.packed_decimal.specs.declared.largest.Found.the-variants.{At, NoneMeasured}
+use Rattle.packed_decimal.specs.declared.meter.Reading.{Reading}
+use Rattle.packed_decimal.specs.declared.meter.Reading.the-variants.{Measured, NotMeasured}
+use Rattle.packed_decimal.specs.declared.largest.LargestFound.{LargestFound}
+use Rattle.packed_decimal.specs.declared.largest.LargestFound.the-variants.{At, NoneMeasured}
 use Rattle.packed_decimal.specs.declared.largest.Largest.{Largest}
 use Rattle.packed_decimal.specs.declared.largest.Largest.the-variants.{Is, Refused}
 
@@ -41,13 +41,13 @@ unfoldable pub badAt : List ℕ → ℕ → Bool
 badAt bytes i = leb (length bytes) (READING_BYTES * i + 1) || not (isReading (wordAt bytes i))
 
 -- with one reading more: it is found if it is measured and larger than what was found before it
-abbrev pub larger : Found → Reading → ℕ → ℕ → Found
+abbrev pub larger : LargestFound → Reading → ℕ → ℕ → LargestFound
 larger found NotMeasured word place = found
 larger NoneMeasured (Measured x) word place = At word place
 larger (At best at) (Measured x) word place = cond (ltb (unpacked DIGITS best) x) (At word place) (At best at)
 
 -- the largest of the first n of some words
-unfoldable pub largestOf : (ℕ → ℕ) → ℕ → Found
+unfoldable pub largestOf : (ℕ → ℕ) → ℕ → LargestFound
 largestOf words zero = NoneMeasured
 largestOf words (suc n) = larger (largestOf words n) (says (words n)) (words n) n
 
@@ -64,6 +64,6 @@ pub record IsLargest (words : ℕ → ℕ) (n word place : ℕ) : Type 0 where
   pub none-before : (i : ℕ) → i < place → ¬ (words i ≡ NOT_MEASURED) → unpacked DIGITS (words i) < unpacked DIGITS word
 
 -- what was found is the largest; or "that none was measured", and so it is
-pub data Right (words : ℕ → ℕ) (n : ℕ) : Found → Type 0 where
+pub data Right (words : ℕ → ℕ) (n : ℕ) : LargestFound → Type 0 where
   largest : {word place : ℕ} → IsLargest words n word place → Right words n (At word place)
   none-measured : ((i : ℕ) → i < n → words i ≡ NOT_MEASURED) → Right words n NoneMeasured

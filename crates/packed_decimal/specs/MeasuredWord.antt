@@ -1,8 +1,8 @@
 -- Inner: what the functions ask that compare words in place of numbers.
 use Prim.Native.Nat.{ℕ, _^_, _<_}
 use Rattle.packed_decimal.specs.Reading.{DIGITS, DIGIT_VALUES, Decimal}
-use Rattle.packed_decimal.specs.declared.largest.Found.{Found}
-use Rattle.packed_decimal.specs.declared.largest.Found.the-variants.{At, NoneMeasured}
+use Rattle.packed_decimal.specs.declared.largest.LargestFound.{LargestFound}
+use Rattle.packed_decimal.specs.declared.largest.LargestFound.the-variants.{At, NoneMeasured}
 
 -- the word of a measured reading
 pub record MeasuredWord (word : ℕ) : Type 0 where
@@ -10,6 +10,6 @@ pub record MeasuredWord (word : ℕ) : Type 0 where
   pub rule : Decimal DIGITS word
 
 -- what was found, if anything, is measured
-abbrev pub MeasuredFound : Found → Type 0
+abbrev pub MeasuredFound : LargestFound → Type 0
 MeasuredFound NoneMeasured = Unit {0}
 MeasuredFound (At word place) = MeasuredWord word

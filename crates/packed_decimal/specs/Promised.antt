@@ -7,8 +7,8 @@ use Rattle.atoms.specs.Collected.{Least}
 use Rattle.packed_decimal.specs.Reading.{DIGITS, DIGIT_VALUES, MODULUS, NOT_MEASURED, unpacked, Decimal, IsReading}
 use Rattle.packed_decimal.specs.Answers.{numberOf, readingOf, addedOf, comparedOf}
 use Rattle.packed_decimal.specs.Largest.{readings, wordAt, BadAt, largestIn, Right}
-use Rattle.packed_decimal.specs.declared.reading.Reading.{Reading}
-use Rattle.packed_decimal.specs.declared.reading.Reading.the-variants.{Measured, NotMeasured}
+use Rattle.packed_decimal.specs.declared.meter.Reading.{Reading}
+use Rattle.packed_decimal.specs.declared.meter.Reading.the-variants.{Measured, NotMeasured}
 use Rattle.packed_decimal.specs.declared.refusal.Refusal.{Refusal}
 use Rattle.packed_decimal.specs.declared.refusal.Refusal.the-variants.{BadReading, LargeNumber}
 use Rattle.packed_decimal.specs.declared.convert.Number.{Number}
@@ -21,7 +21,7 @@ use Rattle.packed_decimal.specs.declared.sum.Added.the-variants.{Is as S
 use Rattle.packed_decimal.specs.declared.limit.Order.the-variants.{Below, Equal, Above, NotMeasured as NoOrder}
 use Rattle.packed_decimal.specs.declared.limit.Compared.{Compared}
 use Rattle.packed_decimal.specs.declared.limit.Compared.the-variants.{Is as OrderIs, Refused as CompareRefused}
-use Rattle.packed_decimal.specs.declared.largest.Found.{Found}
+use Rattle.packed_decimal.specs.declared.largest.LargestFound.{LargestFound}
 use Rattle.packed_decimal.specs.declared.largest.Largest.{Largest}
 use Rattle.packed_decimal.specs.declared.largest.Largest.the-variants.{Is as FoundIs, Refused as LargestRefused}
 
@@ -65,7 +65,7 @@ pub record Summed (a b : ℕ) (r : Added) : Type 0 where
   pub measured : (x y : ℕ) → SaysNumber a x → SaysNumber b y → (s : Sum) × (r ≡ SumIs s) × Adds x y s
 
 -- "compare one with a limit that is itself a reading (below, equal, above)"; "With a reading not measured, .. a comparison is not measured"
-pub record Held (word limit : ℕ) (r : Compared) : Type 0 where
+pub record HeldAgainst (word limit : ℕ) (r : Compared) : Type 0 where
   pub is : r ≡ comparedOf word limit
   pub refuses : RefusesBad word limit CompareRefused r
   pub unmeasured : IsReading word → IsReading limit → (word ≡ NOT_MEASURED) ⊎ (limit ≡ NOT_MEASURED) → r ≡ OrderIs NoOrder
@@ -78,4 +78,4 @@ pub record Sought (bytes : List ℕ) (r : Largest) : Type 0 where
   pub is : r ≡ largestIn bytes
   pub refused : (i : ℕ) → i < readings bytes → Least (BadAt bytes) i → r ≡ LargestRefused (BadReading i)
   pub found : ((i : ℕ) → i < readings bytes → ¬ BadAt bytes i)
-      → (what : Found) × (r ≡ FoundIs what) × Right (wordAt bytes) (readings bytes) what
+      → (what : LargestFound) × (r ≡ FoundIs what) × Right (wordAt bytes) (readings bytes) what

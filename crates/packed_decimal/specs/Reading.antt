@@ -5,9 +5,9 @@ use mathlib.Core.Bool.{Bool, true, false, _&&_, _||_}
 use mathlib.Core.Logic.{_⊎_}
 use Prim.Native.Nat.{ℕ, zero, suc, _/_, _%_, _^_}
 use lib.Dec.{ltb, eqb}
-use Rattle.packed_decimal.specs.Digits.{digits, number, Below}
-use Rattle.packed_decimal.specs.declared.reading.Reading.{Reading}
-use Rattle.packed_decimal.specs.declared.reading.Reading.the-variants.{Measured, NotMeasured}
+use Rattle.packed_decimal.specs.Digits.{digits, valueOf, Below}
+use Rattle.packed_decimal.specs.declared.meter.Reading.{Reading}
+use Rattle.packed_decimal.specs.declared.meter.Reading.the-variants.{Measured, NotMeasured}
 
 -- "four decimal digits"
 abbrev pub DIGITS : ℕ
@@ -31,11 +31,11 @@ NOT_MEASURED = 0xFFFF
 
 -- the whole number that n packed digits say
 abbrev pub unpacked : ℕ → ℕ → ℕ
-unpacked n word = number TEN (digits DIGIT_VALUES n word)
+unpacked n word = valueOf TEN (digits DIGIT_VALUES n word)
 
 -- the n packed digits of a whole number
 abbrev pub packed : ℕ → ℕ → ℕ
-packed n x = number DIGIT_VALUES (digits TEN n x)
+packed n x = valueOf DIGIT_VALUES (digits TEN n x)
 
 -- none of the n packed digits is "a digit above 9"
 abbrev pub Decimal : ℕ → ℕ → Type 0

@@ -1,10 +1,10 @@
 // One reading to a whole number, and back.
 use crate::digits::MODULUS;
 use crate::digits::pack;
-use crate::reading::NOT_MEASURED;
-use crate::reading::Reading;
-use crate::reading::is_reading;
-use crate::reading::says;
+use crate::meter::NOT_MEASURED;
+use crate::meter::Reading;
+use crate::meter::is_reading;
+use crate::meter::says;
 use crate::refusal::Refusal;
 ghost use Rattle.packed_decimal.specs.Promised.{Numbered, Repacked};
 

@@ -1,7 +1,7 @@
 // Packed decimal digits and whole numbers: the same digits, in two bases.
 ghost use mathlib.Core.Path.{_≡_};
 ghost use Prim.Native.Nat.{_≤_, _<_};
-ghost use Rattle.packed_decimal.specs.Digits.{digits, number};
+ghost use Rattle.packed_decimal.specs.Digits.{digits, valueOf};
 ghost use Rattle.packed_decimal.specs.Reading.{DIGITS as Reading·DIGITS, DIGIT_VALUES as Reading·DIGIT_VALUES, unpacked, packed, decimal};
 
 const DIGITS: usize = 4;
@@ -47,7 +47,7 @@ pub fn pack(x: u64) -> u16
 // The number that has the last digits of x in base `from` as its digits in base `to`.
 fn respell(x: u64, from: u64, to: u64) -> u64
     requires { ⌜ (0 < from) × (from ≤ Reading·DIGIT_VALUES) × (to ≤ Reading·DIGIT_VALUES) ⌝ }
-    ensures { λ r. ⌜ r ≡ number to (digits from Reading·DIGITS x) ⌝ }
+    ensures { λ r. ⌜ r ≡ valueOf to (digits from Reading·DIGITS x) ⌝ }
 {
     let mut rest = x;
     let mut place = 1;

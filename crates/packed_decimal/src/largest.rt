@@ -1,6 +1,6 @@
 // The largest measured reading of a run of bytes.
-use crate::reading::NOT_MEASURED;
-use crate::reading::is_reading;
+use crate::meter::NOT_MEASURED;
+use crate::meter::is_reading;
 use crate::refusal::Refusal;
 ghost use mathlib.Core.Path.{_≡_};
 ghost use Prim.Native.Nat.{_+_, _*_, _<_};
@@ -12,14 +12,14 @@ ghost use Rattle.packed_decimal.specs.Largest.{larger as largerOf, READI
 ghost use Rattle.packed_decimal.specs.Promised.{Sought};
 
 // What a run of readings has: the word of its largest measured one with its lowest place, counted in readings from 0; or none measured.
-pub enum Found {
+pub enum LargestFound {
     At { word: u16, place: usize },
     NoneMeasured,
 }
 
 // What a run of bytes has, or its refusal.
 pub enum Largest {
-    Is(Found),
+    Is(LargestFound),
     Refused(Refusal),
 }
 
@@ -32,7 +32,7 @@ pub fn find_largest(bytes: &[u8]) -> Largest
     ensures { λ r. ⌜ Sought (now (bytes .entry)) r ⌝ }
 {
     let whole = bytes.len() / READING_BYTES;
-    let mut found = Found::NoneMeasured;
+    let mut found = LargestFound::NoneMeasured;
     let mut place = 0;
     while place < whole {
         let word = word_at(bytes, place);
@@ -49,24 +49,24 @@ pub fn find_largest(bytes: &[u8]) -> Largest
 }
 
 // What was found with one reading more.
-fn larger(found: Found, word: u16, place: usize) -> Found
+fn larger(found: LargestFound, word: u16, place: usize) -> LargestFound
     requires { ⌜ (MeasuredFound found) × (isReading word ≡ true) ⌝ }
     ensures { λ r. ⌜ r ≡ largerOf found (says word) word place ⌝ }
 {
     if word == NOT_MEASURED {
         return found;
     }
-    let Found::At {
+    let LargestFound::At {
         word: best,
         place: at,
     } = found
     else {
-        return Found::At { word, place };
+        return LargestFound::At { word, place };
     };
     if best < word {
-        return Found::At { word, place };
+        return LargestFound::At { word, place };
     }
-    Found::At {
+    LargestFound::At {
         word: best,
         place: at,
     }

@@ -1,13 +1,13 @@
 // A reading against a limit that is itself a reading.
+use crate::meter::NOT_MEASURED;
 use crate::pair::PAIR;
 use crate::pair::first_bad;
-use crate::reading::NOT_MEASURED;
 use crate::refusal::Refusal;
 ghost use mathlib.Core.Path.{_≡_};
 ghost use mathlib.Core.Bool.{true};
 ghost use Rattle.packed_decimal.specs.Reading.{isReading, says};
 ghost use Rattle.packed_decimal.specs.Answers.{orderOf};
-ghost use Rattle.packed_decimal.specs.Promised.{Held};
+ghost use Rattle.packed_decimal.specs.Promised.{HeldAgainst};
 
 // How a reading stands to its limit.
 pub enum Order {
@@ -25,7 +25,7 @@ pub enum Compared {
 
 // Holds a reading against a limit.
 pub fn compare(word: u16, limit: u16) -> Compared
-    ensures { λ r. ⌜ Held word limit r ⌝ }
+    ensures { λ r. ⌜ HeldAgainst word limit r ⌝ }
 {
     let bad = first_bad(word, limit);
     if bad < PAIR {

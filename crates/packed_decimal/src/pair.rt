@@ -1,5 +1,5 @@
 // Two readings given together.
-use crate::reading::is_reading;
+use crate::meter::is_reading;
 ghost use mathlib.Core.Path.{_≡_};
 ghost use mathlib.Core.List.{[], _∷_};
 ghost use Rattle.packed_decimal.specs.Refusals.{firstBad as firstBadOf};

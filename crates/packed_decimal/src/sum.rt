@@ -2,16 +2,16 @@
 use crate::digits::MODULUS;
 use crate::digits::pack;
 use crate::digits::unpack;
+use crate::meter::NOT_MEASURED;
 use crate::pair::PAIR;
 use crate::pair::first_bad;
-use crate::reading::NOT_MEASURED;
 use crate::refusal::Refusal;
 ghost use mathlib.Core.Path.{_≡_};
 ghost use mathlib.Core.Bool.{true};
 ghost use Rattle.packed_decimal.specs.Reading.{isReading, says};
 ghost use Rattle.packed_decimal.specs.Answers.{sumOf};
 ghost use Rattle.packed_decimal.specs.Promised.{Summed};
-ghost use Rattle.packed_decimal.specs.declared.reading.Reading.{Reading};
+ghost use Rattle.packed_decimal.specs.declared.meter.Reading.{Reading};
 
 // A sum: its word, and 1 where it went past 9999.
 pub struct Sum {

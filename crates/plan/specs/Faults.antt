@@ -65,13 +65,13 @@ pub record RefusedBy (outcome : Outcome) (n s : ℕ) : Type 0 where
   pub spot-is : spot fault ≡ s
 
 -- a row of the fault table: its number, when it fits, and its spot
-pub record TableRow : Type 1 where
+pub record FaultRow : Type 1 where
   pub no : ℕ
   pub Fits : Type 0
   pub at : ℕ
 
 -- "inside a place the first row that fits counts": n and s are the number and the spot of that row
-abbrev pub FirstFit : List TableRow → ℕ → ℕ → Type 0
+abbrev pub FirstFit : List FaultRow → ℕ → ℕ → Type 0
 FirstFit [] n s = ⊥
 FirstFit (r ∷ rows) n s = (r .Fits × ((n ≡ r .no) × (s ≡ r .at))) ⊎ (¬ r .Fits × FirstFit rows n s)
 

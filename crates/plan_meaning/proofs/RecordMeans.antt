@@ -1,35 +1,33 @@
 -- The record of a plan's lists means what the lists say.
-use mathlib.Core.Path.{_≡_, refl, sym, ap, ap₂, _∙_, subst}
+use mathlib.Core.Path.{_≡_, refl, sym, ap, _∙_, subst}
 use mathlib.Core.Bool.{Bool, true, false, not}
 use mathlib.Core.Logic.{_↔_, _⊎_, inl, inr}
-use mathlib.Core.List.{List, [], _∷_, _++_, flatMap, List·Memᴰ, List·Memᴰ·head, List·Memᴰ·not-nil, List·Memᴰ·eq-of-singleton}
-use Prim.Native.Nat.{ℕ, zero, suc, _+_, _*_, _-_, _^_, _≤_, _<_}
+use mathlib.Core.List.{List, [], _∷_, flatMap, List·Memᴰ, List·Memᴰ·head, List·Memᴰ·not-nil, List·Memᴰ·eq-of-singleton}
+use Prim.Native.Nat.{ℕ, zero, suc, _+_, _*_, _-_, _≤_, _<_}
 use native.Mathlib.Omega.{arith}
 use lib.Dec.{ltb}
 use lib.ListN.{length, getD}
 use lib.Seq.{getD-append-add}
 use lib.ListN.{List·getD-append}
 use borrow.Author.Tests.{lt-ltb, le-ltb}
-use Rattle.atoms.specs.Word.{ATOMS, EVERY_ATOM, Has, Apart, apart, _∪_, atom, below}
-use Rattle.atoms.specs.Bounded.{allIn, unionIn}
+use Rattle.atoms.specs.Word.{ATOMS, EVERY_ATOM, Has, Apart, apart, below}
 use Rattle.atoms.specs.Lists.{padded}
 use Rattle.atoms.proofs.Tests.{and-true, not-is-true, not-both, decided-true, false-of-not-true}
 use Rattle.atoms.proofs.Sets.{has-none, has-left, has-right, union-cases, has-below, decides-apart}
 use Rattle.atoms.proofs.Bounded.{all-in-at, all-in-intro, union-has, union-at}
 use Rattle.atoms.proofs.Lists.{padded-at}
 use Rattle.plan.specs.Limits.{MAX_TABLES, MAX_RULES, MAX_UNITS, CONTACT_WORDS, FIRST_RULE, RULE_WORDS}
-use Rattle.plan.specs.declared.record.Plan.{Plan}
-use Rattle.contact_tables.specs.Table.{answer}
-use Rattle.answer_sets.specs.Lent.{lent, ruleAt, negative, inputs, truth, uses, looks, USE_BITS, tableOf, asks, useHolds, usesHold, usedInputs}
-use Rattle.reading.specs.Layout.{TableWords, RuleWords, TableUse, UnitPair, Contents, twoWords, wordOf, usesOf, ruleWords, predecessorsOf, recordOf}
-use Rattle.reading.specs.Layout.{GoodTable, GoodUse, All, Within}
+use Rattle.contact_tables.specs.Table.{tableAnswer}
+use Rattle.answer_sets.specs.Lent.{lent, ruleAt, negative, inputs, truth, uses, looks, USE_BITS, usedTable, asks, useHolds, usesHold, usedInputs}
+use Rattle.reading.specs.Layout.{TableWords, RuleWords, TableUse, UnitPair, Contents, twoWords, usesOf, ruleWords, predecessorsOf, recordOf}
+use Rattle.reading.specs.Layout.{GoodTable, GoodUse, All, WithinLimits}
 use Rattle.reading.specs.Reading.{reading}
 use Rattle.reading.specs.declared.reader.Reading.{Reading}
 use Rattle.reading.proofs.RoundTrip.{layout-is-read}
 use Rattle.reading.proofs.Lists.{all-member}
 use Rattle.reading.proofs.KeyedWords.{has-entry, entry-has}
 use Rattle.reading.proofs.Program.{bitOf, tableWords, table-words-long, use-has}
-use Rattle.reading.proofs.Elements.{Few, few-within, row-is, uses-are}
+use Rattle.reading.proofs.Elements.{few-within, row-is, uses-are}
 use Rattle.plan_meaning.specs.Tables.{TrueAt}
 use Rattle.plan_meaning.specs.Meaning.{Number, first, later, UseHolds, RestHolds, LooksAt, negative as looks-negative, input, RuleMeans, Means, ReadMeans}
 use Rattle.plan_meaning.proofs.TruthTables.{answer-true}
@@ -55,7 +53,7 @@ number-getD (later n) = number-getD n
 
 -- ---- the words of a table, and of a rule
 
-module _ (c : Contents) (within : Within c) where
+module _ (c : Contents) (within : WithinLimits c) where
   abbrev words : List ℕ
   words = recordOf c .rules
 
@@ -134,10 +132,10 @@ module _ (c : Contents) (within : Within c) where
   bit-false : (x : TableUse) → x .sign ≡ 1 → ltb (bitOf x) MAX_TABLES ≡ false
   bit-false x s = le-ltb (bitOf x) MAX_TABLES (omega arith)
 
-  bit-table : (x : TableUse) → x .table < MAX_TABLES → (x .sign ≡ 0) ⊎ (x .sign ≡ 1) → tableOf (bitOf x) ≡ x .table
-  unfolding tableOf
-  bit-table x l (inl s) = let e : bitOf x ≡ x .table = omega arith in rw (bit-true x l s, tableOf) e
-  bit-table x l (inr s) = let e : bitOf x - MAX_TABLES ≡ x .table = omega arith in rw (bit-false x s, tableOf) e
+  bit-table : (x : TableUse) → x .table < MAX_TABLES → (x .sign ≡ 0) ⊎ (x .sign ≡ 1) → usedTable (bitOf x) ≡ x .table
+  unfolding usedTable
+  bit-table x l (inl s) = let e : bitOf x ≡ x .table = omega arith in rw (bit-true x l s, usedTable) e
+  bit-table x l (inr s) = let e : bitOf x - MAX_TABLES ≡ x .table = omega arith in rw (bit-false x s, usedTable) e
 
   asks-true : (x : TableUse) (said : Bool) → x .table < MAX_TABLES → x .sign ≡ 0 → asks (bitOf x) said ≡ said
   unfolding asks
@@ -162,7 +160,7 @@ module _ (c : Contents) (within : Within c) where
     small = omega (arith, good .table-there, within .most-tables)
 
     said : Bool
-    said = answer (inputs words (x .table)) (truth words (x .table)) M
+    said = tableAnswer (inputs words (x .table)) (truth words (x .table)) M
 
     said-true : (t : TableWords) → Number (c .tables) (x .table) t → (said ≡ true) ↔ TrueAt t M
     unfolding said
@@ -173,7 +171,7 @@ module _ (c : Contents) (within : Within c) where
 
     use-said : (x .sign ≡ 0) ⊎ (x .sign ≡ 1) → useHolds words (bitOf x) M ≡ asks (bitOf x) said
     unfolding useHolds said
-    use-said s = ap (λ (t : ℕ). asks (bitOf x) (answer (inputs words t) (truth words t) M)) (bit-table x small s)
+    use-said s = ap (λ (t : ℕ). asks (bitOf x) (tableAnswer (inputs words t) (truth words t) M)) (bit-table x small s)
 
     use-told : useHolds words (bitOf x) M ≡ true → UseHolds c x M
     use-told e = record {
@@ -237,12 +235,12 @@ module _ (c : Contents) (within : Within c) where
         go : Has (negative words r) a ⊎ Has (usedInputs words r) a → LooksAt c r w a
         go (inl k) = looks-negative (rw (rule-words n .2) at k)
         go (inr k) =
-            let u = union-at USE_BITS (uses words r) (λ i. inputs words (tableOf i)) a k in
+            let u = union-at USE_BITS (uses words r) (λ i. inputs words (usedTable i)) a k in
             let x = used (u .0) (u .2) in
             let g = good-use (x .0) (x .1) in
             let t = number-there (c .tables) (x .0 .table) (g .table-there) in
-            let of : tableOf (u .0) ≡ x .0 .table =
-            ap tableOf (sym (x .3)) ∙ bit-table (x .0) (small (x .0) g 0) (sign-cases (x .0) (g .zero-or-one)) in
+            let of : usedTable (u .0) ≡ x .0 .table =
+            ap usedTable (sym (x .3)) ∙ bit-table (x .0) (small (x .0) g 0) (sign-cases (x .0) (g .zero-or-one)) in
             input (x .0) (t .0) (x .1) (x .2) (t .1)
             (subst (λ (v : ℕ). Has v a) (ap (inputs words) of ∙ table-words (t .1) .0) (u .3))
 
@@ -251,9 +249,9 @@ module _ (c : Contents) (within : Within c) where
     looks-back a (looks-negative h) = has-left (negative words r) (usedInputs words r) (rw (rule-words n .2) h)
     looks-back a (input x t m e number h) =
         let g = good-use x m in
-        let of : tableOf (bitOf x) ≡ x .table = bit-table x (small x g 0) (sign-cases x (g .zero-or-one)) in
+        let of : usedTable (bitOf x) ≡ x .table = bit-table x (small x g 0) (sign-cases x (g .zero-or-one)) in
         has-right (negative words r) (usedInputs words r)
-        (union-has USE_BITS (uses words r) (λ i. inputs words (tableOf i)) (bitOf x) a (bit-lt x (small x g 0) (g .zero-or-one)) (uses-it x m e)
+        (union-has USE_BITS (uses words r) (λ i. inputs words (usedTable i)) (bitOf x) a (bit-lt x (small x g 0) (g .zero-or-one)) (uses-it x m e)
         (subst (λ (v : ℕ). Has v a) (sym (ap (inputs words) of ∙ table-words number .0)) h))
 
   -- ---- the other lists

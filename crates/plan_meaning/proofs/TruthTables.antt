@@ -13,10 +13,9 @@ use Rattle.atoms.proofs.Tests.{decided-true, decided-false}
 use Rattle.atoms.proofs.Sets.{has-dec, decides-has, has-cut, cut-left, cut-right, has-below, below-lt, has-lt, ext}
 use Rattle.atoms.proofs.Counts.{count-le, count-lt}
 use Rattle.plan.specs.Limits.{MAX_INPUTS}
-use Rattle.contact_tables.specs.Table.{place, row, answer}
+use Rattle.contact_tables.specs.Table.{place, row, tableAnswer}
 use Rattle.contact_tables.proofs.Places.{place-input, place-other, place-one}
-use Rattle.contact_tables.proofs.RowBits.{UpAt, row-bit}
-use Rattle.reading.specs.Layout.{TableWords, GoodTable}
+use Rattle.contact_tables.proofs.RowBits.{row-bit}
 use Rattle.plan_meaning.specs.Tables.{KthInput, RowAt, TrueAt}
 
 -- ---- places
@@ -106,8 +105,8 @@ module _ (w : ℕ) (fits : w < 2 ^ ATOMS) (few : ones w ≤ MAX_INPUTS) where
       (λ k h. let i = s .no-others k h in r .tells k (i .0) (i .1) .1 (s .tells k (i .0) (i .1) .0 h))
 
   -- the computed answer
-  pub answer-true : (truth M : ℕ) → (answer w truth M ≡ true) ↔ TrueAt (record { inputs = w; truth = truth }) M
-  unfolding answer
+  pub answer-true : (truth M : ℕ) → (tableAnswer w truth M ≡ true) ↔ TrueAt (record { inputs = w; truth = truth }) M
+  unfolding tableAnswer
   answer-true truth M = (
     λ e. record { row = row w M; at = row-is-row M; bit = decides-has truth (row w M) .yes e },
     λ t. decided-true (decides-has truth (row w M)) (subst (Has truth) (row-only M (t .row) (t .at)) (t .bit)),

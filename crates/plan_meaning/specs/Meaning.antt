@@ -1,13 +1,13 @@
 -- What the lists of a plan mean, by the sentences of documents 01 and 02 and apart from the record: its rules, facts, units, edges and what shows.
 use mathlib.Core.Path.{_≡_}
 use mathlib.Core.Bool.{true}
-use mathlib.Core.Logic.{_↔_, _⊎_}
+use mathlib.Core.Logic.{_↔_}
 use mathlib.Core.List.{List, _∷_, List·Memᴰ}
 use Prim.Native.Nat.{ℕ, zero, suc, _<_}
 use lib.ListN.{length, getD}
 use Rattle.atoms.specs.Word.{ATOMS, Has, Apart}
 use Rattle.plan.specs.declared.record.Plan.{Plan}
-use Rattle.reading.specs.Layout.{TableWords, RuleWords, TableUse, UnitPair, Contents, layout, Within, Counted}
+use Rattle.reading.specs.Layout.{TableWords, RuleWords, TableUse, UnitPair, Contents, layout, WithinLimits, Counted}
 use Rattle.reading.specs.Reading.{reading}
 use Rattle.answer_sets.specs.Program.{Program}
 use Rattle.answer_sets.specs.Lent.{lent, looks}
@@ -58,4 +58,4 @@ pub record Means (c : Contents) (p : Plan) : Type 0 where
 
 -- what was read of a plan's bytes means what its lists say
 pub record ReadMeans (bytes : List ℕ) : Type 0 where
-  pub means : (c : Contents) → Within c → Counted c → bytes ≡ layout c → Means c (reading bytes .plan)
+  pub means : (c : Contents) → WithinLimits c → Counted c → bytes ≡ layout c → Means c (reading bytes .plan)

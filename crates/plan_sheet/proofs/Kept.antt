@@ -1,5 +1,5 @@
 -- The sheet of a kept part: the buffer has room for every sheet, and what follows the part changes nothing.
-use mathlib.Core.Path.{_≡_, refl, sym, ap, _∙_, subst}
+use mathlib.Core.Path.{_≡_, sym, ap, _∙_, subst}
 use mathlib.Core.List.{List, _++_}
 use Prim.Native.Nat.{ℕ, zero, suc, _-_, _≤_, min}
 use native.Mathlib.Decide.{decLe}
@@ -8,10 +8,9 @@ use borrow.Author.Tests.{le-leb}
 use lib.ListN.{length, take, drop, replicate, length-replicate, length-append}
 use lib.Seq.{take-at, drop-at, take-all}
 use Rattle.plan.specs.Limits.{TABLE_WORDS}
-use Rattle.sheet.specs.Lent.{answer as written, filled}
+use Rattle.sheet.specs.Lent.{bytesWritten as written, filled}
 use Rattle.sheet.specs.declared.Written.{Written}
-use Rattle.unit_lists.specs.Answer.{answer}
-use Rattle.plan_sheet.specs.Sheets.{sheetOf, SHEET_BYTES, KEPT_BYTES, Says, Printed, writtenBytes, planSheet, SheetKept}
+use Rattle.plan_sheet.specs.Sheets.{SHEET_BYTES, KEPT_BYTES, SheetSays, Printed, writtenBytes, planSheet, SheetKept}
 use Rattle.plan_sheet.specs.declared.Sheet.{Sheet}
 use Rattle.plan_sheet.proofs.Prefix.{first-4096-decide}
 use Rattle.plan_sheet.proofs.Said.{sheet-says}
@@ -55,7 +54,7 @@ sheet-kept area read count table′ sheet′ w r l e p b n = record {
   is = front ∙ ap planSheet part;
   of-all = λ bytes k. front ∙ ap planSheet (part ∙ sym k) ∙ first-4096-decide bytes (replicate {A = ℕ} TABLE_WORDS 0);
   says = λ bytes small k.
-      subst (Says bytes (replicate {A = ℕ} TABLE_WORDS 0))
+      subst (SheetSays bytes (replicate {A = ℕ} TABLE_WORDS 0))
       (sym (front ∙ ap planSheet (part ∙ sym k) ∙ first-4096-decide bytes (replicate {A = ℕ} TABLE_WORDS 0)))
       (sheet-says bytes (replicate {A = ℕ} TABLE_WORDS 0) small);
   behind = ap (drop (r .length)) bytes-are ∙ drop-at sheet _ (r .length) (sym size) ∙ ap (λ (m : ℕ). replicate {A = ℕ} (SHEET_BYTES - m) 0) (sym size);

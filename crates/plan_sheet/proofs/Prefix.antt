@@ -6,7 +6,7 @@ use native.Mathlib.Omega.{arith}
 use lib.ListN.{take}
 use Rattle.reading.specs.Reading.{DECIDING_BYTES}
 use Rattle.reading.proofs.Prefix.{reading-prefix}
-use Rattle.unit_lists.specs.Answer.{answer}
+use Rattle.demands.specs.Answer.{answer}
 use Rattle.plan_sheet.specs.Sheets.{sheetOf}
 
 -- the whole answer, table and all

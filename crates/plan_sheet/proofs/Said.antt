@@ -6,14 +6,14 @@ use lib.ListN.{length}
 use Rattle.plan.specs.Limits.{TABLE_WORDS}
 use Rattle.reading.specs.Layout.{IsByte, All, Contents, recordOf}
 use Rattle.sheet.specs.Sheet.{positionsSheet, refusalSheet}
-use Rattle.unit_lists.specs.Answer.{answer}
-use Rattle.unit_lists.specs.Demand1.{Listable, FirstFault}
-use Rattle.unit_lists.specs.Demands.{lastIn}
-use Rattle.unit_lists.specs.Promised.{Promised}
-use Rattle.unit_lists.specs.declared.listing.Listing.{Listing}
-use Rattle.unit_lists.proofs.Demand1.{listable-lists}
-use Rattle.unit_lists.proofs.Promised.{promised}
-use Rattle.plan_sheet.specs.Sheets.{sheetOf, Positions, Says}
+use Rattle.demands.specs.Answer.{answer}
+use Rattle.demands.specs.Demand1.{Listable, FirstFault}
+use Rattle.demands.specs.Demands.{lastIn}
+use Rattle.demands.specs.Promised.{Promised}
+use Rattle.demands.specs.declared.listing.Listing.{Listing}
+use Rattle.demands.proofs.Demand1.{listable-lists}
+use Rattle.demands.proofs.Promised.{promised}
+use Rattle.plan_sheet.specs.Sheets.{sheetOf, Positions, SheetSays}
 use Rattle.plan_sheet.proofs.Sheets.{sheet-refused, sheet-listed}
 
 module _ (bytes table : List ℕ) (all : All IsByte bytes) where
@@ -42,5 +42,5 @@ module _ (bytes table : List ℕ) (all : All IsByte bytes) where
       let x = kept .demand-1 .refuses n s .1 f in
       sym (sheet-refused (answer bytes table) (x .fault) (x .is)) ∙ ap₂ refusalSheet (x .number-is) (x .spot-is)
 
-  pub sheet-says : Says bytes table (sheetOf (answer bytes table))
+  pub sheet-says : SheetSays bytes table (sheetOf (answer bytes table))
   sheet-says = record { positions = positions-said; refusal = refusal-said }

@@ -14,9 +14,9 @@ use Rattle.plan.specs.declared.fault.Outcome.{Outcome}
 use Rattle.plan.specs.declared.fault.Outcome.the-variants.{Accepted, Refused}
 use Rattle.sheet.specs.Sheet.{positionsSheet, refusalSheet}
 use Rattle.sheet.proofs.Sheets.{positions-at-most, refusal-at-most}
-use Rattle.unit_lists.specs.Answer.{Answer, answer}
-use Rattle.unit_lists.proofs.Answers.{short-answer}
-use Rattle.unit_lists.proofs.LastCount.{last-count-at-most}
+use Rattle.demands.specs.Answer.{Answer, answer}
+use Rattle.demands.proofs.Answers.{short-answer}
+use Rattle.demands.proofs.LastCount.{last-count-at-most}
 use Rattle.plan_sheet.specs.Sheets.{sheetFor, sheetOf, SHEET_BYTES}
 
 pub sheet-refused : (a : Answer) (f : Fault) → a .outcome ≡ Refused f → refusalSheet (number f) (spot f) ≡ sheetOf a

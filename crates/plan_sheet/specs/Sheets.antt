@@ -16,12 +16,12 @@ use Rattle.answer_sets.specs.AnswerSet.{AnswerSet}
 use Rattle.answer_sets.specs.Lent.{lent}
 use Rattle.reading.specs.Layout.{Contents, recordOf, IsByte, All}
 use Rattle.sheet.specs.Sheet.{lineLength, positionsSheet, refusalSheet}
-use Rattle.sheet.specs.Lent.{answer as written, filled}
+use Rattle.sheet.specs.Lent.{bytesWritten as written, filled}
 use Rattle.sheet.specs.declared.Written.{Written}
 use Rattle.sheet.specs.declared.Written.the-variants.{Bytes, TooShort}
 use Rattle.plan_sheet.specs.declared.Sheet.{Sheet}
-use Rattle.unit_lists.specs.Answer.{Answer, answer}
-use Rattle.unit_lists.specs.Demand1.{Listable, FirstFault}
+use Rattle.demands.specs.Answer.{Answer, answer}
+use Rattle.demands.specs.Demand1.{Listable, FirstFault}
 
 -- by outcome: the last list's positions, or the refusal
 unfoldable pub sheetFor : Outcome → List ℕ → List ℕ → List ℕ
@@ -41,7 +41,7 @@ pub record Positions (p : Plan) (ws : List ℕ) : Type 0 where
   pub members : (X : ℕ) → List·Memᴰ X ws ↔ CutOf (p .shown) (AnswerSet (lent (p .rules)) (below (p .«rule_count»)) (p .given)) X
 
 -- what a sheet says: of a plan that is listed its positions, one line each, and of any other its first fault
-pub record Says (bytes table sheet : List ℕ) : Type 0 where
+pub record SheetSays (bytes table sheet : List ℕ) : Type 0 where
   pub positions : (c : Contents) → Listable bytes c → TABLE_WORDS ≤ length table
       → (ws : List ℕ) × (sheet ≡ positionsSheet ws) × Positions (recordOf c) ws
   pub refusal : (n s : ℕ) → FirstFault bytes table n s → sheet ≡ refusalSheet n s
@@ -52,7 +52,7 @@ pub record Printed (bytes table table′ sheet sheet′ : List ℕ) (r : Written
   pub written-is : r ≡ written (sheetOf (answer bytes table)) sheet
   pub sheet-is : sheet′ ≡ filled (sheetOf (answer bytes table)) sheet
   pub at-most : length (sheetOf (answer bytes table)) ≤ SHEET_BYTES
-  pub says : Says bytes table (sheetOf (answer bytes table))
+  pub says : SheetSays bytes table (sheetOf (answer bytes table))
 
 -- how many bytes were written, none where the buffer is too short
 abbrev pub writtenBytes : Written → ℕ
@@ -74,5 +74,5 @@ pub record SheetKept (area : List ℕ) (read : ℕ) (r : Sheet) : Type 0 where
   pub is : take (r .length) (r .bytes) ≡ planSheet (take read area)
   pub of-all : (bytes : List ℕ) → take KEPT_BYTES bytes ≡ take read area → take (r .length) (r .bytes) ≡ planSheet bytes
   pub says : (bytes : List ℕ) → All IsByte bytes → take KEPT_BYTES bytes ≡ take read area
-      → Says bytes (replicate {A = ℕ} TABLE_WORDS 0) (take (r .length) (r .bytes))
+      → SheetSays bytes (replicate {A = ℕ} TABLE_WORDS 0) (take (r .length) (r .bytes))
   pub behind : drop (r .length) (r .bytes) ≡ replicate {A = ℕ} (SHEET_BYTES - r .length) 0

@@ -13,7 +13,7 @@ use Rattle.plan.specs.Record.{emptyPlan}
 use Rattle.reading.specs.Words.{WORD_BYTES, WORD_VALUES}
 use Rattle.reading.specs.Commands.{Kind, sizes, given, table, rule, usage, unit, edge, show, end, byteOf, operandBytes, miscounted}
 use Rattle.reading.specs.Reading.{reading, commandBytes}
-use Rattle.reading.specs.Layout.{Contents, Element, endBytes, commands, predecessorsOf, recordOf, IsByte, All, GoodTable, GoodRule, Within, IsPlan}
+use Rattle.reading.specs.Layout.{Contents, Element, endBytes, commands, predecessorsOf, recordOf, IsByte, All, GoodTable, GoodRule, WithinLimits, IsPlan}
 use Rattle.reading.proofs.Numbers.{all-drop, word-fits}
 use Rattle.reading.proofs.Commands.{Leads}
 use Rattle.reading.proofs.Walk.{walk-keeps}
@@ -168,7 +168,7 @@ module _ (whole : List ℕ) where
         small = small;
       }
 
-  pub read-within : (p : Plan) (at : ℕ) (s : List ℕ) (r : Read whole p at s) → Within (r .contents)
+  pub read-within : (p : Plan) (at : ℕ) (s : List ℕ) (r : Read whole p at s) → WithinLimits (r .contents)
   read-within p at s r =
       let h = r .held in
       record {

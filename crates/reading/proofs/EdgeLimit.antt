@@ -12,7 +12,7 @@ use Rattle.plan.specs.Limits.{MAX_EDGES}
 use Rattle.plan.specs.Faults.{RefusedBy}
 use Rattle.reading.specs.Commands.{edge, byteOf, kinds, operandBytes, orderOf, countBehind, late, badEdge, ofKind, commandAt}
 use Rattle.reading.specs.Reading.{stepOf, reading, refused}
-use Rattle.reading.specs.Layout.{UnitPair, Contents, commands, recordOf, GoodEdge, Within}
+use Rattle.reading.specs.Layout.{UnitPair, Contents, commands, recordOf, GoodEdge, WithinLimits}
 use Rattle.reading.specs.Refusals.{NoNewEdge, no-such-u, no-such-v, to-itself, repeated}
 use Rattle.reading.proofs.CommandKinds.{kind-of-byte}
 use Rattle.reading.proofs.Commands.{known-command}
@@ -27,7 +27,7 @@ use Rattle.reading.specs.declared.reader.Reading.{Reading}
 use Rattle.reading.specs.declared.command.Command.{Command}
 use Rattle.reading.specs.declared.command.Command.the-variants.{Fault as Faulty}
 
-module _ (c : Contents) (w : Within c) (all : length (c .edges) ≡ MAX_EDGES) (unshown : c .shown ≡ []) where
+module _ (c : Contents) (w : WithinLimits c) (all : length (c .edges) ≡ MAX_EDGES) (unshown : c .shown ≡ []) where
   few : Few c
   few = few-within w
 

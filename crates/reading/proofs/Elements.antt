@@ -26,7 +26,7 @@ use Rattle.reading.specs.Commands.{emptyRule, contradictory, badUse, abs
 use Rattle.reading.specs.Layout.{TableWords, RuleWords, TableUse, UnitPair, Contents, Element, listOf}
 use Rattle.reading.specs.Layout.{wordBytes, countBytes, givenBytes, tableBytes, ruleBytes, useBytes}
 use Rattle.reading.specs.Layout.{unitBytes, edgeBytes, showBytes, commands, wordOf, usesOf, ruleWords, predecessorsOf, recordOf, IsByte, All, Distinct}
-use Rattle.reading.specs.Layout.{GoodUse, GoodEdge, Within}
+use Rattle.reading.specs.Layout.{GoodUse, GoodEdge, WithinLimits}
 use Rattle.reading.specs.Reading.{commandBytes}
 use Rattle.reading.specs.Refusals.{countOf}
 use Rattle.reading.proofs.CommandKinds.{each-kind, none-behind}
@@ -189,7 +189,7 @@ few-so c d g t r x u s good =
       good-uses = good;
     }
 
-pub few-within : {c : Contents} → Within c → Few c
+pub few-within : {c : Contents} → WithinLimits c → Few c
 few-within {c} w = few-so c (w .one-count) (w .one-given) (w .most-tables) (w .most-rules) (w .most-uses) (w .most-units) (w .one-shown) (w .good-uses)
 
 pub record Held (c : Contents) : Type 0 where

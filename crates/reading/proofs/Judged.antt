@@ -10,7 +10,7 @@ use Rattle.plan.specs.Faults.{number, spot, RefusedBy, FirstFit}
 use Rattle.plan.specs.Record.{emptyPlan}
 use Rattle.reading.specs.Commands.{commandAt}
 use Rattle.reading.specs.Reading.{stepOf, reading, refused}
-use Rattle.reading.specs.Layout.{Contents, commands, layout, recordOf, IsByte, All, Within, Counted}
+use Rattle.reading.specs.Layout.{Contents, commands, layout, recordOf, IsByte, All, WithinLimits, Counted}
 use Rattle.reading.specs.Refusals.{readingPlace, Stopped, ReadingJudged}
 use Rattle.reading.proofs.Numbers.{all-drop}
 use Rattle.reading.proofs.Walk.{walk-ended, walk-keeps}
@@ -76,10 +76,10 @@ pub reading-judged : (bytes : List ℕ) → All IsByte bytes → ReadingJudged b
 unfolding StopsBy
 reading-judged bytes small = record { accepted = (laid, read-so); refused = λ n s. (stops n s, stopped-refused bytes small n s) }
   where
-    laid : reading bytes .outcome ≡ Accepted → (c : Contents) × Within c × Counted c × (bytes ≡ layout c)
+    laid : reading bytes .outcome ≡ Accepted → (c : Contents) × WithinLimits c × Counted c × (bytes ≡ layout c)
     laid o = let p = accepted-is-plan bytes small o in (p .contents, p .within, p .counted, p .bytes-are)
 
-    read-so : (c : Contents) × Within c × Counted c × (bytes ≡ layout c) → reading bytes .outcome ≡ Accepted
+    read-so : (c : Contents) × WithinLimits c × Counted c × (bytes ≡ layout c) → reading bytes .outcome ≡ Accepted
     read-so (c, w, n, e) = ap (λ (r : Reading). r .outcome) (ap reading e ∙ layout-is-read c w n)
 
     stops : (n s : ℕ) → RefusedBy (reading bytes .outcome) n s → Stopped bytes n s

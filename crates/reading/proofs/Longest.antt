@@ -13,7 +13,7 @@ use Rattle.reading.specs.Commands.{sizes, given, table, rule, usage, uni
 use Rattle.reading.specs.Reading.{commandBytes, LONGEST_PLAN}
 use Rattle.reading.specs.Layout.{countBytes, givenBytes, tableBytes, ruleBytes, useBytes, unitBytes, edgeBytes, showBytes}
 use Rattle.reading.specs.Layout.{TableUse, Contents, commands, layout, All}
-use Rattle.reading.specs.Layout.{GoodTable, GoodRule, GoodUse, Within, Counted}
+use Rattle.reading.specs.Layout.{GoodTable, GoodRule, GoodUse, WithinLimits, Counted}
 use Rattle.reading.proofs.Elements.{operands-long}
 use Rattle.reading.proofs.Lists.{listBelow, below-long, below-all, below-distinct}
 use Rattle.reading.proofs.Pigeonhole.{edgesBelow, edges-long, edges-good, edges-distinct}
@@ -49,7 +49,7 @@ commands-long c =
       elements-long showBytes (commandBytes show) (λ w. ap suc (operands-long show w)) (c .shown),
     ))
 
-pub layout-at-most : (c : Contents) → Within c → length (layout c) ≤ LONGEST_PLAN
+pub layout-at-most : (c : Contents) → WithinLimits c → length (layout c) ≤ LONGEST_PLAN
 layout-at-most c w =
     simp length-append
     (omega (arith, commands-long c, w .one-count, w .one-given, w .most-tables, w .most-rules, w .most-uses, w .most-units, w .most-edges, w .one-shown))
@@ -89,7 +89,7 @@ longest =
       shown = 0 ∷ [];
     }
 
-longest-within : Within longest
+longest-within : WithinLimits longest
 unfolding longest
 longest-within =
     record {
@@ -129,7 +129,7 @@ longest-counted : Counted longest
 unfolding longest
 longest-counted = (record { rules-are = omega arith; units-are = omega arith; edges-are = omega (arith, edges-long MAX_EDGES) }, tt)
 
-pub longest-there : (c : Contents) × Within c × Counted c × (length (layout c) ≡ LONGEST_PLAN)
+pub longest-there : (c : Contents) × WithinLimits c × Counted c × (length (layout c) ≡ LONGEST_PLAN)
 unfolding longest
 longest-there =
     (longest, longest-within, longest-counted, simp length-append (omega (arith, commands-long longest, below-long useAt MAX_USES, edges-long MAX_EDGES)))

@@ -6,13 +6,13 @@ use native.Mathlib.Omega.{arith}
 use native.Mathlib.Nat.{pow-le-pow-right, pow-succ', pow-zero}
 use lib.ListN.{length, take, drop, getD, length-drop}
 use lib.Seq.{drop-cons, take-at, drop-at, length-take-le}
-use Rattle.reading.specs.Words.{WORD_BYTES, BYTE_VALUES, WORD_VALUES, number, wordAt}
+use Rattle.reading.specs.Words.{WORD_BYTES, BYTE_VALUES, WORD_VALUES, spelled, wordAt}
 use Rattle.reading.specs.Layout.{bytesOf, wordBytes, IsByte, All}
 
 -- one byte more in front
 pub number-step : (s : List ℕ) (at k : ℕ) → at < length s
-    → number (take (suc k) (drop at s)) ≡ getD s at 0 + BYTE_VALUES * number (take k (drop (suc at) s))
-unfolding number
+    → spelled (take (suc k) (drop at s)) ≡ getD s at 0 + BYTE_VALUES * spelled (take k (drop (suc at) s))
+unfolding spelled
 number-step s at k h = rw (drop-cons s at 0 h)
 
 -- ---- a word built from its highest byte down
@@ -21,7 +21,7 @@ number-step s at k h = rw (drop-cons s at 0 h)
 pub record Built (s : List ℕ) (at i w : ℕ) : Type 0 where
   pub within : i ≤ WORD_BYTES
   pub below : w < BYTE_VALUES ^ (WORD_BYTES - i)
-  pub is : w ≡ number (take (WORD_BYTES - i) (drop (at + i) s))
+  pub is : w ≡ spelled (take (WORD_BYTES - i) (drop (at + i) s))
 
 -- with one byte more below it, it still fits a word
 pub built-fits : {s : List ℕ} {at i w : ℕ} (b : ℕ) → Built s at i w → 0 < i → b < BYTE_VALUES → w * BYTE_VALUES + b < WORD_VALUES
@@ -40,7 +40,7 @@ built-more {s} {at} {w} (suc i) b h pos fits b< eb =
     let p : at + (suc i - 1) ≡ at + i = omega arith in
     let q : at + suc i ≡ suc (at + i) = omega arith in
     let more = pow-succ' BYTE_VALUES (WORD_BYTES - suc i) in
-    let w' : w ≡ number (take (WORD_BYTES - suc i) (drop (suc (at + i)) s)) = rw q at (h .is) in
+    let w' : w ≡ spelled (take (WORD_BYTES - suc i) (drop (suc (at + i)) s)) = rw q at (h .is) in
     let b' : b ≡ getD s (at + i) 0 = rw p at eb in
     record {
       within = omega (arith, h .within);
@@ -49,7 +49,7 @@ built-more {s} {at} {w} (suc i) b h pos fits b< eb =
     }
 
 pub built-none : (s : List ℕ) (at : ℕ) → Built s at WORD_BYTES 0
-unfolding number
+unfolding spelled
 built-none s at = record { within = omega arith; below = omega arith; is = refl }
 
 pub built-whole : {s : List ℕ} {at w : ℕ} (i : ℕ) → Built s at i w → i ≤ 0 → w ≡ wordAt at s
@@ -65,26 +65,26 @@ length-bytes zero w = refl
 length-bytes (suc k) w = ap suc (length-bytes k (w / BYTE_VALUES))
 
 -- bytes and back
-pub number-bytes : (k w : ℕ) → w < BYTE_VALUES ^ k → number (bytesOf k w) ≡ w
-unfolding number bytesOf
+pub number-bytes : (k w : ℕ) → w < BYTE_VALUES ^ k → spelled (bytesOf k w) ≡ w
+unfolding spelled bytesOf
 number-bytes zero w h = omega (arith, pow-zero BYTE_VALUES)
 number-bytes (suc k) w h =
     let e : BYTE_VALUES ^ suc k ≡ BYTE_VALUES * BYTE_VALUES ^ k = pow-succ' BYTE_VALUES k in
-    let rec : number (bytesOf k (w / BYTE_VALUES)) ≡ w / BYTE_VALUES = number-bytes k (w / BYTE_VALUES) (omega arith) in
+    let rec : spelled (bytesOf k (w / BYTE_VALUES)) ≡ w / BYTE_VALUES = number-bytes k (w / BYTE_VALUES) (omega arith) in
     omega arith
 
 -- a number and back
-pub bytes-number : (s : List ℕ) → All IsByte s → bytesOf (length s) (number s) ≡ s
-unfolding number bytesOf
+pub bytes-number : (s : List ℕ) → All IsByte s → bytesOf (length s) (spelled s) ≡ s
+unfolding spelled bytesOf
 bytes-number [] h = refl
 bytes-number (b ∷ s) h =
     let l : b < BYTE_VALUES = h .0 in
-    let low : (b + BYTE_VALUES * number s) % BYTE_VALUES ≡ b = omega arith in
-    let high : (b + BYTE_VALUES * number s) / BYTE_VALUES ≡ number s = omega arith in
+    let low : (b + BYTE_VALUES * spelled s) % BYTE_VALUES ≡ b = omega arith in
+    let high : (b + BYTE_VALUES * spelled s) / BYTE_VALUES ≡ spelled s = omega arith in
     rw (low, high) (ap (λ (t : List ℕ). b ∷ t) (bytes-number s (h .1)))
 
-pub number-fits : (s : List ℕ) → All IsByte s → number s < BYTE_VALUES ^ length s
-unfolding number
+pub number-fits : (s : List ℕ) → All IsByte s → spelled s < BYTE_VALUES ^ length s
+unfolding spelled
 number-fits [] h = omega (arith, pow-zero BYTE_VALUES)
 number-fits (b ∷ s) h =
     let l : b < BYTE_VALUES = h .0 in
@@ -121,8 +121,8 @@ module _ (s : List ℕ) (n : ℕ) (long : n + WORD_BYTES ≤ length s) (bytes : 
 
   pub word-bytes : wordBytes (wordAt n s) ≡ part
   unfolding wordAt
-  word-bytes = ap (λ (k : ℕ). bytesOf k (number part)) (sym part-long) ∙ bytes-number part small
+  word-bytes = ap (λ (k : ℕ). bytesOf k (spelled part)) (sym part-long) ∙ bytes-number part small
 
   pub word-fits : wordAt n s < WORD_VALUES
   unfolding wordAt
-  word-fits = subst (λ (k : ℕ). number part < BYTE_VALUES ^ k) part-long (number-fits part small)
+  word-fits = subst (λ (k : ℕ). spelled part < BYTE_VALUES ^ k) part-long (number-fits part small)

@@ -13,7 +13,7 @@ use lib.ListN.{length, take, drop, length-take}
 use lib.Seq.{take-nil, take-take, getD-take}
 use borrow.Author.Tests.{lt-ltb, le-ltb}
 use Rattle.plan.specs.Record.{emptyPlan}
-use Rattle.reading.specs.Words.{WORD_BYTES, number, wordAt}
+use Rattle.reading.specs.Words.{WORD_BYTES, spelled, wordAt}
 use Rattle.reading.specs.Commands.{Kind, sizes, given, table, rule, usage, unit, edge, show, end, kindOf, operandBytes, carrying, Row, kindRows}
 use Rattle.reading.specs.Commands.{operandRows, firstFit, ofKind, commandAt}
 use Rattle.reading.specs.Reading.{ended, stepOf, walk, reading, accepted, refused, commandBytes, DECIDING_BYTES}
@@ -55,7 +55,7 @@ part-kept k (suc at) (suc m) (b ∷ s) h = part-kept k at m s (omega arith)
 
 word-kept : (at m : ℕ) (s : List ℕ) → at + WORD_BYTES ≤ m → wordAt at (take m s) ≡ wordAt at s
 unfolding wordAt
-word-kept at m s h = ap number (part-kept WORD_BYTES at m s h)
+word-kept at m s h = ap spelled (part-kept WORD_BYTES at m s h)
 
 drop-taken : (k m : ℕ) (s : List ℕ) → drop k (take m s) ≡ take (m - k) (drop k s)
 drop-taken zero m s = let e : m - 0 ≡ m = omega arith in rw e

@@ -19,7 +19,8 @@ use Rattle.reading.specs.Commands.{carrying, late, miscounted, rows, ofK
 use Rattle.reading.specs.Reading.{onward, ended, stepOf, walk, reading, accepted, commandBytes}
 use Rattle.reading.specs.Layout.{Sizes, TableWords, RuleWords, TableUse, UnitPair, Contents, Element}
 use Rattle.reading.specs.Layout.{countBytes, givenBytes, tableBytes, ruleBytes, useBytes, unitBytes, edgeBytes}
-use Rattle.reading.specs.Layout.{showBytes, endBytes, commands, layout, recordOf, All, Distinct, GoodTable, GoodRule, GoodUse, GoodEdge, Within, Counted}
+use Rattle.reading.specs.Layout.{showBytes, endBytes, commands, layout, recordOf, All, Distinct}
+use Rattle.reading.specs.Layout.{GoodTable, GoodRule, GoodUse, GoodEdge, WithinLimits, Counted}
 use Rattle.reading.proofs.Commands.{Passed, none-fits, known-command, in-place-passed, adds, step-when}
 use Rattle.reading.proofs.CommandKinds.{kind-of-byte}
 use Rattle.reading.proofs.Walk.{walk-on, walk-ended}
@@ -144,7 +145,7 @@ end-step p at right = ap (stepOf p) (read-as p at end [] (refl, (refl, (refl, (r
 
 -- ---- all groups
 
-module _ (c : Contents) (w : Within c) where
+module _ (c : Contents) (w : WithinLimits c) where
   counts-only : List Sizes → Contents
   counts-only d = record { declared = d; given = []; tables = []; rules = []; uses = []; units = []; edges = []; shown = [] }
 
@@ -297,7 +298,7 @@ module _ (c : Contents) (w : Within c) where
       ∙ ap (λ (n : ℕ). walk (recordOf c) n 0 rest) at
 
 -- "reading their layout accepts and gives the record of these lists"
-pub layout-is-read : (c : Contents) → Within c → Counted c → reading (layout c) ≡ accepted (recordOf c)
+pub layout-is-read : (c : Contents) → WithinLimits c → Counted c → reading (layout c) ≡ accepted (recordOf c)
 layout-is-read c w right =
     let at : ℕ = length (commands c) in
     let counted : miscounted (recordOf c) ≡ false = decided-false (decides-miscounted c (few-within w)) (λ n. n right) in

@@ -20,10 +20,10 @@ use Rattle.atoms.proofs.Sets.{decides-has, has-lt, has-cut, cut-left, cut-right
 use Rattle.atoms.proofs.Sets.{some-atom}
 use Rattle.plan.specs.Limits.{MAX_UNITS}
 use Rattle.plan.specs.Record.{usesAt}
-use Rattle.plan.specs.Faults.{number, spot, TableRow, FirstFit}
+use Rattle.plan.specs.Faults.{number, spot, FaultRow, FirstFit}
 use Rattle.reading.specs.Words.{WORD_BYTES, wordAt}
 use Rattle.reading.specs.Commands.{Kind, sizes, given, table, rule, usage, unit, edge, show, end, byteOf, kindOf, operandBytes, orderOf, earliestBehind}
-use Rattle.reading.specs.Commands.{Most, once, upTo, runsOutAt, mostOf, carrying, kinds, count, countBehind, late, noRoom, full}
+use Rattle.reading.specs.Commands.{Most, once, upTo, runsOutAt, mostOf, carrying, kinds, countBehind, late, noRoom, full}
 use Rattle.reading.specs.Commands.{emptyRule, contradictory, badTable, badUse, absentRule, badEdge, miscounted}
 use Rattle.reading.specs.Commands.{Row, operandRows, rows, firstFit, ofKind, commandAt}
 use Rattle.reading.specs.Layout.{RuleWords, TableUse, UnitPair, Contents, Element, predecessorsOf, recordOf, IsByte, All, Counted}
@@ -31,7 +31,7 @@ use Rattle.reading.specs.Refusals.{Begins, countOf, NoRoom, Full, Unknow
 use Rattle.reading.specs.Refusals.{NoTable, WrongTable, NoNewUse, no-such-rule, no-such-table, another-sign, again, WrongUse}
 use Rattle.reading.specs.Refusals.{ZeroRule, ContradictoryRule, NamesAbsentRule, NoNewEdge, no-such-u, no-such-v, to-itself, repeated}
 use Rattle.reading.specs.Refusals.{WrongEdge, Miscounted, BytesAfterEnd}
-use Rattle.reading.specs.Refusals.{row, readingPlace}
+use Rattle.reading.specs.Refusals.{faultRow, readingPlace}
 use Rattle.reading.proofs.Numbers.{word-fits}
 use Rattle.reading.proofs.HighBits.{atom-from}
 use Rattle.reading.proofs.CommandKinds.{kind-of-byte, kind-byte, byte-own, each-kind, Later, later-there, none-behind}
@@ -50,22 +50,22 @@ use Rattle.reading.specs.declared.command.Command.the-variants.{Fault as
 -- ---- tests against rows
 
 -- the test r decides the row t
-record Meets (r : Row) (t : TableRow) : Type 0 where
+record Meets (r : Row) (t : FaultRow) : Type 0 where
   numbered : number (r .fault) ≡ t .no
   placed : spot (r .fault) ≡ t .at
   decides : Decides (t .Fits) (r .fits)
 
-meet : {r : Row} {t : TableRow} → number (r .fault) ≡ t .no → spot (r .fault) ≡ t .at → Decides (t .Fits) (r .fits) → Meets r t
+meet : {r : Row} {t : FaultRow} → number (r .fault) ≡ t .no → spot (r .fault) ≡ t .at → Decides (t .Fits) (r .fits) → Meets r t
 meet n s d = record { numbered = n; placed = s; decides = d }
 
 -- row by row: a row that no test stands for does not fit, and each test decides its row where those above it do not fit
-data Agree : List Row → List TableRow → Type 1 where
+data Agree : List Row → List FaultRow → Type 1 where
   done : Agree [] []
-  skips : {rs : List Row} {t : TableRow} {ts : List TableRow} → ¬ t .Fits → Agree rs ts → Agree rs (t ∷ ts)
-  meets : {r : Row} {rs : List Row} {t : TableRow} {ts : List TableRow} → Meets r t → (r .fits ≡ false → Agree rs ts) → Agree (r ∷ rs) (t ∷ ts)
+  skips : {rs : List Row} {t : FaultRow} {ts : List FaultRow} → ¬ t .Fits → Agree rs ts → Agree rs (t ∷ ts)
+  meets : {r : Row} {rs : List Row} {t : FaultRow} {ts : List FaultRow} → Meets r t → (r .fits ≡ false → Agree rs ts) → Agree (r ∷ rs) (t ∷ ts)
 
 -- where no test fits, no row does
-none-first : {rs : List Row} {ts : List TableRow} → Agree rs ts → Passed rs → (n s : ℕ) → ¬ FirstFit ts n s
+none-first : {rs : List Row} {ts : List FaultRow} → Agree rs ts → Passed rs → (n s : ℕ) → ¬ FirstFit ts n s
 none-first done h n s f = f
 none-first (skips no-fit a) h n s (inl here) = no-fit (here .0)
 none-first (skips no-fit a) h n s (inr later) = none-first a h n s (later .1)
@@ -73,12 +73,12 @@ none-first (meets m a) h n s (inl here) = m .decides .no (h .0) (here .0)
 none-first (meets m a) h n s (inr later) = none-first (a (h .0)) (h .1) n s (later .1)
 
 -- the fault of the first test that fits is that of the first row
-record FirstIs (rs : List Row) (ts : List TableRow) (x : Command) : Type 0 where
+record FirstIs (rs : List Row) (ts : List FaultRow) (x : Command) : Type 0 where
   fault : Fault
   is : firstFit rs x ≡ Faulty fault
   first : FirstFit ts (number fault) (spot fault)
 
-same-first : {rs : List Row} {ts : List TableRow} (x : Command) → Agree rs ts → Passed rs ⊎ FirstIs rs ts x
+same-first : {rs : List Row} {ts : List FaultRow} (x : Command) → Agree rs ts → Passed rs ⊎ FirstIs rs ts x
 same-first x done = inl tt
 same-first x (skips {rs} {t} {ts} no-fit a) = go (same-first x a)
   where
@@ -96,7 +96,7 @@ same-first x (meets {r} {rs} {t} {ts} m a) = go (r .fits) refl (λ e. same-first
         below (inr f) = inr (record { fault = f .fault; is = rw e (f .is); first = inr (m .decides .no e, f .first) })
 
 -- only one row is the first that fits
-first-one : (ts : List TableRow) (n m s r : ℕ) → FirstFit ts n s → FirstFit ts m r → (n ≡ m) × (s ≡ r)
+first-one : (ts : List FaultRow) (n m s r : ℕ) → FirstFit ts n s → FirstFit ts m r → (n ≡ m) × (s ≡ r)
 first-one [] n m s r f g = absurd f
 first-one (t ∷ ts) n m s r (inl (a, (p, q))) (inl (b, (v, w))) = (p ∙ sym v, q ∙ sym w)
 first-one (t ∷ ts) n m s r (inl (a, e)) (inr (b, g)) = absurd (b a)
@@ -382,12 +382,12 @@ module _ (c : Contents) (few : Few c) (operands : List ℕ) where
     -- ---- all rows
 
     -- rows 3, 4, 5 and 2, and behind them the rows that go by operands
-    kind-rows : (at : ℕ) (k : Kind) {ts : List TableRow} → (operandBytes k ≤ length operands → Agree (operandRows (recordOf c) at k operands) ts)
+    kind-rows : (at : ℕ) (k : Kind) {ts : List FaultRow} → (operandBytes k ≤ length operands → Agree (operandRows (recordOf c) at k operands) ts)
         → Agree (rows (recordOf c) at k operands)
-        (row 3 (UnknownByte (byteOf k ∷ operands)) at
-        ∷ row 4 (OutOfGroupOrder c (byteOf k ∷ operands)) at
-        ∷ row 5 (OneTooMany c (byteOf k ∷ operands)) at
-        ∷ row 2 (CutShort (byteOf k ∷ operands)) at
+        (faultRow 3 (UnknownByte (byteOf k ∷ operands)) at
+        ∷ faultRow 4 (OutOfGroupOrder c (byteOf k ∷ operands)) at
+        ∷ faultRow 5 (OneTooMany c (byteOf k ∷ operands)) at
+        ∷ faultRow 2 (CutShort (byteOf k ∷ operands)) at
         ∷ ts)
     kind-rows at k below =
         skips (known k)
@@ -395,19 +395,19 @@ module _ (c : Contents) (few : Few c) (operands : List ℕ) where
         (λ e. meets (meet refl refl (many-decided k)) (λ f. meets (meet refl refl (short-decided k)) (λ g. below (ltb-false _ _ g)))))
 
     -- the rows that go by the operands of a command of kind j, at a command of kind k
-    abbrev ownRows : ℕ → Kind → Kind → List TableRow
+    abbrev ownRows : ℕ → Kind → Kind → List FaultRow
     ownRows at k sizes = []
     ownRows at k given = []
-    ownRows at k table = row 18 (WrongTable (byteOf k ∷ operands)) at ∷ []
-    ownRows at k rule = row 6 (ZeroRule (byteOf k ∷ operands)) at ∷ row 21 (ContradictoryRule (byteOf k ∷ operands)) at ∷ []
-    ownRows at k usage = row 19 (WrongUse c (byteOf k ∷ operands)) at ∷ []
-    ownRows at k unit = row 7 (NamesAbsentRule c (byteOf k ∷ operands)) at ∷ []
-    ownRows at k edge = row 8 (WrongEdge c (byteOf k ∷ operands)) at ∷ []
+    ownRows at k table = faultRow 18 (WrongTable (byteOf k ∷ operands)) at ∷ []
+    ownRows at k rule = faultRow 6 (ZeroRule (byteOf k ∷ operands)) at ∷ faultRow 21 (ContradictoryRule (byteOf k ∷ operands)) at ∷ []
+    ownRows at k usage = faultRow 19 (WrongUse c (byteOf k ∷ operands)) at ∷ []
+    ownRows at k unit = faultRow 7 (NamesAbsentRule c (byteOf k ∷ operands)) at ∷ []
+    ownRows at k edge = faultRow 8 (WrongEdge c (byteOf k ∷ operands)) at ∷ []
     ownRows at k show = []
-    ownRows at k end = row 23 (Miscounted c (byteOf k ∷ operands)) 0 ∷ row 9 (BytesAfterEnd (byteOf k ∷ operands)) (suc at) ∷ []
+    ownRows at k end = faultRow 23 (Miscounted c (byteOf k ∷ operands)) 0 ∷ faultRow 9 (BytesAfterEnd (byteOf k ∷ operands)) (suc at) ∷ []
 
     -- those of another kind do not fit
-    other-skipped : (at : ℕ) (k j : Kind) → eqb (byteOf j) (byteOf k) ≡ false → {rs : List Row} {ts : List TableRow}
+    other-skipped : (at : ℕ) (k j : Kind) → eqb (byteOf j) (byteOf k) ≡ false → {rs : List Row} {ts : List FaultRow}
         → Agree rs ts → Agree rs (ownRows at k j ++ ts)
     other-skipped at k sizes e a = a
     other-skipped at k given e a = a
@@ -424,7 +424,7 @@ module _ (c : Contents) (few : Few c) (operands : List ℕ) where
         (skips (λ (b : BytesAfterEnd (byteOf k ∷ operands)). other end k e (b .is)) a)
 
     -- those of its own kind are decided
-    own-decided : (at : ℕ) (k : Kind) → operandBytes k ≤ length operands → {ts : List TableRow}
+    own-decided : (at : ℕ) (k : Kind) → operandBytes k ≤ length operands → {ts : List FaultRow}
         → Agree [] ts → Agree (operandRows (recordOf c) at k operands) (ownRows at k k ++ ts)
     own-decided at sizes long a = a
     own-decided at given long a = a
@@ -438,7 +438,7 @@ module _ (c : Contents) (few : Few c) (operands : List ℕ) where
     own-decided at end long a = meets (meet refl refl sizes-decided) (λ e. meets (meet refl (add-one at) end-decided) (λ f. a))
 
     -- the rows of a list of kinds, in which k stands once
-    abbrev rowsOf : ℕ → Kind → List Kind → List TableRow
+    abbrev rowsOf : ℕ → Kind → List Kind → List FaultRow
     rowsOf at k [] = []
     rowsOf at k (j ∷ js) = ownRows at k j ++ rowsOf at k js
 

@@ -222,7 +222,7 @@ pub record GoodEdge (n : ℕ) (e : UnitPair) : Type 0 where
   pub apart : ¬ (e .u ≡ e .v)
 
 -- what the commands before END may hold: column "most", COUNT, GIVEN and SHOW once, and rows 6, 21, 18, 19, 7 and 8 of the fault table
-pub record Within (c : Contents) : Type 0 where
+pub record WithinLimits (c : Contents) : Type 0 where
   pub one-count : length (c .declared) ≤ 1
   pub one-given : length (c .given) ≤ 1
   pub most-tables : length (c .tables) ≤ MAX_TABLES
@@ -254,7 +254,7 @@ Counted c = All (Agrees c) (c .declared)
 -- the bytes are the layout of lists within the limits, rightly counted, and the record is theirs
 pub record IsPlan (bytes : List ℕ) (plan : Plan) : Type 0 where
   pub contents : Contents
-  pub within : Within contents
+  pub within : WithinLimits contents
   pub counted : Counted contents
   pub bytes-are : bytes ≡ layout contents
   pub record-is : plan ≡ recordOf contents

@@ -2,7 +2,7 @@
 use mathlib.Core.List.{List, [], _∷_}
 use Prim.Native.Nat.{ℕ, zero, suc, _+_, _*_}
 use Rattle.plan.specs.Record.{emptyPlan, withCount, withGiven, withTable, withRule, withUse, withUnit, withEdge, withShow}
-use Rattle.reading.specs.Commands.{Kind, sizes, given, table, rule, usage, unit, edge, show, end, kinds, operandBytes, commandAt}
+use Rattle.reading.specs.Commands.{Kind, sizes, given, table, rule, usage, unit, edge, show, kinds, operandBytes, commandAt}
 use Rattle.reading.specs.Commands.{Most, once, upTo, runsOutAt, mostOf}
 use Rattle.plan.specs.declared.record.Plan.{Plan}
 use Rattle.reading.specs.declared.command.Command.{Command}

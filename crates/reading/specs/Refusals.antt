@@ -8,12 +8,12 @@ use lib.Count.{ones}
 use lib.ListN.{length}
 use Rattle.atoms.specs.Word.{Has}
 use Rattle.plan.specs.Limits.{MAX_INPUTS}
-use Rattle.plan.specs.Faults.{RefusedBy, TableRow, FirstFit}
+use Rattle.plan.specs.Faults.{RefusedBy, FaultRow, FirstFit}
 use Rattle.reading.specs.Words.{WORD_VALUES}
 use Rattle.reading.specs.Commands.{Kind, byteOf, operandBytes, orderOf}
 use Rattle.reading.specs.Commands.{Most, once, upTo, runsOutAt, mostOf, earliestBehind}
 use Rattle.reading.specs.Layout.{Sizes, TableWords, RuleWords, TableUse, UnitPair, Contents, tableBytes, ruleBytes, useBytes, unitBytes, edgeBytes}
-use Rattle.reading.specs.Layout.{listOf, endBytes, commands, layout, Within, Counted}
+use Rattle.reading.specs.Layout.{listOf, endBytes, commands, layout, WithinLimits, Counted}
 use Rattle.plan.specs.declared.fault.Outcome.{Outcome}
 use Rattle.plan.specs.declared.fault.Outcome.the-variants.{Accepted}
 
@@ -151,30 +151,30 @@ pub record BytesAfterEnd (rest : List ℕ) : Type 0 where
 
 -- ---- the place
 
-abbrev pub row : ℕ → Type 0 → ℕ → TableRow
-row n fits s = record { no = n; Fits = fits; at = s }
+abbrev pub faultRow : ℕ → Type 0 → ℕ → FaultRow
+faultRow n fits s = record { no = n; Fits = fits; at = s }
 
 -- the reading place's rows from top to bottom, for the command at `offset`
-abbrev pub readingPlace : Contents → ℕ → List ℕ → List TableRow
+abbrev pub readingPlace : Contents → ℕ → List ℕ → List FaultRow
 readingPlace c offset rest =
-    row 3 (UnknownByte rest) offset
-    ∷ row 4 (OutOfGroupOrder c rest) offset
-    ∷ row 5 (OneTooMany c rest) offset
-    ∷ row 2 (CutShort rest) offset
-    ∷ row 6 (ZeroRule rest) offset
-    ∷ row 21 (ContradictoryRule rest) offset
-    ∷ row 18 (WrongTable rest) offset
-    ∷ row 19 (WrongUse c rest) offset
-    ∷ row 7 (NamesAbsentRule c rest) offset
-    ∷ row 8 (WrongEdge c rest) offset
-    ∷ row 23 (Miscounted c rest) 0
-    ∷ row 9 (BytesAfterEnd rest) (suc offset)
+    faultRow 3 (UnknownByte rest) offset
+    ∷ faultRow 4 (OutOfGroupOrder c rest) offset
+    ∷ faultRow 5 (OneTooMany c rest) offset
+    ∷ faultRow 2 (CutShort rest) offset
+    ∷ faultRow 6 (ZeroRule rest) offset
+    ∷ faultRow 21 (ContradictoryRule rest) offset
+    ∷ faultRow 18 (WrongTable rest) offset
+    ∷ faultRow 19 (WrongUse c rest) offset
+    ∷ faultRow 7 (NamesAbsentRule c rest) offset
+    ∷ faultRow 8 (WrongEdge c rest) offset
+    ∷ faultRow 23 (Miscounted c rest) 0
+    ∷ faultRow 9 (BytesAfterEnd rest) (suc offset)
     ∷ []
 
 -- "tried per command in reading", "from the left": behind commands that no row stops, n and s are the first row that fits the next one
 pub record Stopped (bytes : List ℕ) (n s : ℕ) : Type 0 where
   pub contents : Contents
-  pub within : Within contents
+  pub within : WithinLimits contents
   pub rest : List ℕ
   pub split : bytes ≡ commands contents ++ rest
   pub first : FirstFit (readingPlace contents (length (commands contents)) rest) n s
@@ -182,5 +182,5 @@ pub record Stopped (bytes : List ℕ) (n s : ℕ) : Type 0 where
 -- what reading answers: accepted exactly if the bytes are the layout of lists within the limits, rightly counted; refused exactly by the row that stops
 -- them
 pub record ReadingJudged (bytes : List ℕ) (outcome : Outcome) : Type 0 where
-  pub accepted : (outcome ≡ Accepted) ↔ ((c : Contents) × Within c × Counted c × (bytes ≡ layout c))
+  pub accepted : (outcome ≡ Accepted) ↔ ((c : Contents) × WithinLimits c × Counted c × (bytes ≡ layout c))
   pub refused : (n s : ℕ) → RefusedBy outcome n s ↔ Stopped bytes n s

@@ -15,10 +15,10 @@ abbrev pub WORD_VALUES : ℕ
 WORD_VALUES = BYTE_VALUES ^ WORD_BYTES
 
 -- "lowest byte first": the number that the bytes spell
-unfoldable pub number : List ℕ → ℕ
-number [] = 0
-number (b ∷ bytes) = b + BYTE_VALUES * number bytes
+unfoldable pub spelled : List ℕ → ℕ
+spelled [] = 0
+spelled (b ∷ bytes) = b + BYTE_VALUES * spelled bytes
 
 -- the word that starts at byte `at`
 unfoldable pub wordAt : ℕ → List ℕ → ℕ
-wordAt at bytes = number (take WORD_BYTES (drop at bytes))
+wordAt at bytes = spelled (take WORD_BYTES (drop at bytes))

@@ -1,7 +1,6 @@
 // Blocks of 64 words that stand `stride` apart in an area.
 use atoms::ATOMS;
 use atoms::cut;
-ghost use mathlib.Core.Path.{_≡_};
 ghost use Rattle.atoms.specs.Word.{ATOMS as Word·ATOMS};
 ghost use lib.ListN.{getD};
 ghost use Rattle.relay_rows.specs.Columns.{Readable, BlockRead, Writable, Scattered};

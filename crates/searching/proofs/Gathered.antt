@@ -1,16 +1,14 @@
 -- What an insertion adds to a rising list, and how the answers of two searches go together.
 use mathlib.Core.Path.{_≡_, refl, sym, ap, _∙_, subst}
 use mathlib.Core.List.{List, [], _∷_, _++_}
-use mathlib.Core.List.{List·Memᴰ, List·Memᴰ·head, List·Memᴰ·tail, List·Memᴰ·not-nil, List·Memᴰ·cases-cons, List·Memᴰ·eq-of-singleton}
+use mathlib.Core.List.{List·Memᴰ, List·Memᴰ·head, List·Memᴰ·tail, List·Memᴰ·not-nil, List·Memᴰ·cases-cons}
 use mathlib.Core.Logic.{_⊎_, inl, inr}
 use Prim.Native.Nat.{ℕ, zero, suc, min, _+_, _-_, _≤_, _<_}
 use native.Mathlib.Omega.{arith}
-use native.Mathlib.Decide.{ℕ-discrete, decLt}
 use lib.ListN.{length, take, drop, replicate, length-append, length-take, length-drop, length-replicate}
 use lib.Seq.{drop-drop, take-at, drop-at, length-take-le}
-use Rattle.atoms.specs.Rising.{above-nil, Rising, rising-nil, rising-cons, insertInto}
+use Rattle.atoms.specs.Rising.{Rising, rising-nil, insertInto}
 use Rattle.atoms.proofs.Insertion.{insert-at, insert-has, insert-rising, insert-longer}
-use Rattle.atoms.proofs.Rising.{above-at, above-intro}
 use Rattle.plan.specs.Limits.{LIST_WORDS}
 use Rattle.searching.specs.Listing.{Inserted, room, no-room, Ordered, Overfull, LeftOver, Gathered, fits, over, Grown}
 

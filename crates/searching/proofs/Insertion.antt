@@ -1,15 +1,12 @@
 -- Insertion: the code's loop follows `insertInto`, which keeps a rising list rising and adds one member.
 use mathlib.Core.Path.{_≡_, refl, sym, ap, ap₂, _∙_}
-use mathlib.Core.Bool.{Bool, true, false}
 use mathlib.Core.List.{List, [], _∷_, _++_, append-assoc}
 use Prim.Native.Nat.{ℕ, suc, _+_, _-_, _≤_, _<_}
 use native.Mathlib.Omega.{arith}
 use native.Mathlib.Numerals.{add-one}
-use lib.Dec.{eqb}
 use native.Mathlib.Nat.{add-zero}
 use lib.ListN.{length, take, drop, getD, set, take-append-drop, drop-of-length-le, length-append, length-take, length-drop, length-set}
 use lib.Seq.{take-all, take-at, take-suc, drop-cons, drop-drop, drop-set-lt, drop-append-le, take-suc-set, set-split, getD-take, getD-drop, length-take-le}
-use borrow.Author.Tests.{lt-ltb, le-ltb, eq-eqb, ne-eqb}
 use Rattle.plan.specs.Limits.{LIST_WORDS, OVERFULL}
 use Rattle.atoms.specs.Rising.{insertInto}
 use Rattle.atoms.proofs.Insertion.{insert-below, insert-same, insert-above}

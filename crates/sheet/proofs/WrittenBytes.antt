@@ -8,7 +8,7 @@ use native.Mathlib.Omega.{arith}
 use borrow.Author.Tests.{le-leb, lt-leb}
 use lib.ListN.{length, take, getD, set, length-append}
 use lib.Seq.{sets, sets-eq, take-suc}
-use Rattle.sheet.specs.Lent.{Put, answer, filled}
+use Rattle.sheet.specs.Lent.{Put, bytesWritten, filled}
 use Rattle.sheet.specs.declared.Written.the-variants.{Bytes, TooShort}
 
 sets-append : (a b s : List ℕ) (at : ℕ) → sets s at (a ++ b) ≡ sets (sets s at a) (at + length a) b
@@ -34,13 +34,13 @@ put-next bytes i {at} {t = t} h p = rw (← add-assoc, add-one i, take-suc bytes
 
 -- all the bytes are written, from 0 on
 pub put-fills : {bytes s t : List ℕ} {next : ℕ} → length bytes ≤ length s → Put bytes 0 s t next
-    → (Bytes next ≡ answer bytes s) × (t ≡ filled bytes s)
-unfolding answer filled
+    → (Bytes next ≡ bytesWritten bytes s) × (t ≡ filled bytes s)
+unfolding bytesWritten filled
 put-fills {bytes} {s} h p =
-    rw (p .behind, p .holds, zero-add, answer, filled, le-leb (length bytes) (length s) h)
+    rw (p .behind, p .holds, zero-add, bytesWritten, filled, le-leb (length bytes) (length s) h)
     (refl, sets-eq bytes s 0 (rw zero-add h) ∙ rw zero-add)
 
 -- the sheet has no room for the bytes
-pub too-short-keeps : (bytes s : List ℕ) → length s < length bytes → (TooShort ≡ answer bytes s) × (s ≡ filled bytes s)
-unfolding answer filled
-too-short-keeps bytes s h = rw (answer, filled, lt-leb (length bytes) (length s) h) (refl, refl)
+pub too-short-keeps : (bytes s : List ℕ) → length s < length bytes → (TooShort ≡ bytesWritten bytes s) × (s ≡ filled bytes s)
+unfolding bytesWritten filled
+too-short-keeps bytes s h = rw (bytesWritten, filled, lt-leb (length bytes) (length s) h) (refl, refl)

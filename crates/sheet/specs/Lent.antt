@@ -10,8 +10,8 @@ use Rattle.sheet.specs.declared.Written.{Written}
 use Rattle.sheet.specs.declared.Written.the-variants.{Bytes, TooShort}
 
 -- the answer: how many bytes were written, if the lent sheet has room for all
-unfoldable pub answer : List ℕ → List ℕ → Written
-answer bytes sheet = elim (leb (length bytes) (length sheet)) [ true ↦ Bytes (length bytes) | false ↦ TooShort ]
+unfoldable pub bytesWritten : List ℕ → List ℕ → Written
+bytesWritten bytes sheet = elim (leb (length bytes) (length sheet)) [ true ↦ Bytes (length bytes) | false ↦ TooShort ]
 
 -- the lent sheet afterwards: the bytes and then its old ones from there on, if it has room for all, and otherwise as it was
 unfoldable pub filled : List ℕ → List ℕ → List ℕ

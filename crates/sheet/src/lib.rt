@@ -3,7 +3,7 @@ ghost use Prim.Native.Nat.{_+_, _*_, _≤_};
 ghost use mathlib.Core.Path.{_≡_};
 ghost use lib.ListN.{length, take};
 ghost use Rattle.sheet.specs.Sheet.{decimal, hexadecimal, lineLength, positionLine, positionLines, positionsSheet, refusalSheet};
-ghost use Rattle.sheet.specs.Lent.{Put, answer, filled};
+ghost use Rattle.sheet.specs.Lent.{Put, bytesWritten, filled};
 
 // How many bytes were written; or that the buffer is too short for the sheet, which leaves it as it was.
 pub enum Written {
@@ -28,7 +28,7 @@ const REFUSAL_FRAME: usize = 13;
 
 // Writes the sheet of the first `count` of the words, or of all where there are fewer.
 pub fn write_positions(words: &[u64], count: usize, sheet: &mut [u8]) -> Written
-    ensures { λ r. ⌜ r ≡ answer (positionsSheet (take count (now (words .entry)))) (now (sheet .entry)) ⌝ }
+    ensures { λ r. ⌜ r ≡ bytesWritten (positionsSheet (take count (now (words .entry)))) (now (sheet .entry)) ⌝ }
     ensures { λ _. ⌜ now (sheet .exit) ≡ filled (positionsSheet (take count (now (words .entry)))) (now (sheet .entry)) ⌝ }
 {
     if words.len() < count {
@@ -39,7 +39,7 @@ pub fn write_positions(words: &[u64], count: usize, sheet: &mut [u8]) -> Written
 
 // Writes the sheet of a refusal.
 pub fn write_refusal(number: u64, spot: u64, sheet: &mut [u8]) -> Written
-    ensures { λ r. ⌜ r ≡ answer (refusalSheet number spot) (now (sheet .entry)) ⌝ }
+    ensures { λ r. ⌜ r ≡ bytesWritten (refusalSheet number spot) (now (sheet .entry)) ⌝ }
     ensures { λ _. ⌜ now (sheet .exit) ≡ filled (refusalSheet number spot) (now (sheet .entry)) ⌝ }
 {
     if sheet.len() < decimal_length(number) + decimal_length(spot) + REFUSAL_FRAME {
@@ -54,7 +54,7 @@ pub fn write_refusal(number: u64, spot: u64, sheet: &mut [u8]) -> Written
 
 // Writes the sheet of all the words.
 fn write_words(words: &[u64], sheet: &mut [u8]) -> Written
-    ensures { λ r. ⌜ r ≡ answer (positionsSheet (now (words .entry))) (now (sheet .entry)) ⌝ }
+    ensures { λ r. ⌜ r ≡ bytesWritten (positionsSheet (now (words .entry))) (now (sheet .entry)) ⌝ }
     ensures { λ _. ⌜ now (sheet .exit) ≡ filled (positionsSheet (now (words .entry))) (now (sheet .entry)) ⌝ }
 {
     let count = words.len();

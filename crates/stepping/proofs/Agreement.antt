@@ -19,17 +19,17 @@ use Rattle.reading.specs.declared.reader.Reading.{Reading}
 use Rattle.reading.proofs.Limits.{record-fits}
 use Rattle.judge.specs.Settled.{Settles, settled}
 use Rattle.judge.proofs.Settled.{decides-settled}
-use Rattle.unit_lists.specs.Demands.{lastIn, ListsAll}
-use Rattle.unit_lists.specs.Promised.{Promised}
-use Rattle.unit_lists.specs.declared.listing.Listing.{Listing}
-use Rattle.unit_lists.proofs.Demand1.{lays-read, lays-accepted, listable-lists}
+use Rattle.demands.specs.Demands.{lastIn, ListsAll}
+use Rattle.demands.specs.Promised.{Promised}
+use Rattle.demands.specs.declared.listing.Listing.{Listing}
+use Rattle.demands.proofs.Demand1.{lays-read, lays-accepted, listable-lists}
 use Rattle.searching.specs.declared.witness.Witness.the-variants.{Member, Nothing}
 use Rattle.finding.specs.Least.{Behind, from-start, LeastOf, least, none}
 use Rattle.finding.specs.Walk.{Walk, ends as walk-ends, goes as walk-goes}
 use Rattle.finding.specs.declared.least.From.{From}
 use Rattle.finding.specs.declared.least.From.the-variants.{Start}
 use Rattle.finding.proofs.Walks.{walk-of, walk-at, walk-has}
-use Rattle.stepping.specs.Followed.{Follows, position, none-left, headed, followed}
+use Rattle.stepping.specs.Followed.{Follows, position, none-left, mayBeUp}
 use Rattle.stepping.specs.Walk.{Walked, ends, goes}
 use Rattle.stepping.specs.declared.Next.the-variants.{Position, NoneLeft}
 use Rattle.stepping.proofs.Nexts.{follows-only, found-follows, none-follows, settled-within, followed-follows}
@@ -54,15 +54,15 @@ module _ (bytes : List ℕ) (accepted : reading bytes .outcome ≡ Accepted) whe
 
 -- ---- there is a walk, whatever the units and however many answer sets
 
-all-walked : (p : Plan) → Fitting p → Walk (Settles p) Start (members (settled p) (suc (headed p)))
+all-walked : (p : Plan) → Fitting p → Walk (Settles p) Start (members (settled p) (suc (mayBeUp p)))
 all-walked p f =
-    walk-of Start (members (settled p) (suc (headed p))) (members-rising (settled p) (suc (headed p)))
-    (λ M m. (decides-settled p M f .yes (members-at (settled p) (suc (headed p)) M m .1), from-start))
-    (λ M q b. members-has (settled p) (suc (headed p)) M (omega (arith, subset-le (settled-within p M q))) (decided-true (decides-settled p M f) q))
+    walk-of Start (members (settled p) (suc (mayBeUp p))) (members-rising (settled p) (suc (mayBeUp p)))
+    (λ M m. (decides-settled p M f .yes (members-at (settled p) (suc (mayBeUp p)) M m .1), from-start))
+    (λ M q b. members-has (settled p) (suc (mayBeUp p)) M (omega (arith, subset-le (settled-within p M q))) (decided-true (decides-settled p M f) q))
 
 pub walk-there : (bytes : List ℕ) → reading bytes .outcome ≡ Accepted → (xs : List ℕ) × Walked bytes Start xs
 walk-there bytes e =
-    (members (settled (reading bytes .plan)) (suc (headed (reading bytes .plan))), walk-walked bytes e (all-walked (reading bytes .plan) (record-fits bytes)))
+    (members (settled (reading bytes .plan)) (suc (mayBeUp (reading bytes .plan))), walk-walked bytes e (all-walked (reading bytes .plan) (record-fits bytes)))
 
 -- ---- every walk, cut, is the last list
 

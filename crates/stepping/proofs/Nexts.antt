@@ -1,17 +1,17 @@
 -- The next answer set: there is just one result that follows, the definition computes it, and so does what was found.
 use mathlib.Core.Path.{_≡_, refl, sym, ap, _∙_, subst}
 use mathlib.Core.Bool.{Bool, true, false}
-use mathlib.Core.Logic.{_⊎_, inl, inr}
+use mathlib.Core.Logic.{inl, inr}
 use mathlib.Core.List.{List}
 use Prim.Native.Nat.{ℕ, suc, _≤_, _<_}
 use native.Mathlib.Omega.{arith}
 use native.Mathlib.Decide.{decLt}
 use lib.Dec.{ltb}
 use borrow.Author.Tests.{ltb-true, ltb-false, lt-ltb}
-use Rattle.atoms.specs.Word.{Has, _⊆_, _∪_, below}
+use Rattle.atoms.specs.Word.{Has, _⊆_, below}
 use Rattle.atoms.specs.Bounded.{Decides, unionIn}
 use Rattle.atoms.specs.Collected.{lowest}
-use Rattle.atoms.proofs.Tests.{test-cases, decides, decided-true, decided-false, not-both}
+use Rattle.atoms.proofs.Tests.{decides, decided-true, not-both}
 use Rattle.atoms.proofs.Sets.{has-left, has-right, has-below, subset-le}
 use Rattle.atoms.proofs.Bounded.{union-has}
 use Rattle.atoms.proofs.Collected.{lowest-here, lowest-least}
@@ -27,13 +27,13 @@ use Rattle.reading.proofs.Limits.{record-fits}
 use Rattle.plan_meaning.proofs.RecordMeans.{read-means}
 use Rattle.judge.specs.Settled.{Settles, settled}
 use Rattle.judge.proofs.Settled.{Headed, settled-headed, decides-settled}
-use Rattle.unit_lists.proofs.Answers.{not-accepted}
+use Rattle.demands.proofs.Answers.{not-accepted}
 use Rattle.searching.specs.declared.witness.Witness.{Witness}
 use Rattle.searching.specs.declared.witness.Witness.the-variants.{Member, Nothing}
 use Rattle.finding.specs.Least.{LeastOf, least, none, Behind, from-start, above}
 use Rattle.finding.specs.declared.least.From.{From}
 use Rattle.finding.specs.declared.least.From.the-variants.{Start, Above}
-use Rattle.stepping.specs.Followed.{Follows, position, none-left, headed, behind, settledBehind, nextIn, followed, Followed}
+use Rattle.stepping.specs.Followed.{Follows, position, none-left, mayBeUp, behind, settledBehind, nextIn, followed, Followed}
 use Rattle.stepping.specs.declared.Next.{Next}
 use Rattle.stepping.specs.declared.Next.the-variants.{Position, NoneLeft, Refused}
 
@@ -58,13 +58,13 @@ none-follows (none n) = none-left (λ N s b. n N (s, b))
 -- ---- the definition computes it
 
 -- an answer set has only atoms that are given or in heads
-pub settled-within : (p : Plan) (M : ℕ) → Settles p M → M ⊆ headed p
+pub settled-within : (p : Plan) (M : ℕ) → Settles p M → M ⊆ mayBeUp p
 settled-within p M s = record { each = λ i h. go i (settled-headed p M i s h) }
   where
     heads : ℕ → ℕ
     heads r = lent (p .rules) .head r
 
-    go : (i : ℕ) → Headed p i → Has (headed p) i
+    go : (i : ℕ) → Headed p i → Has (mayBeUp p) i
     go i (inl h) = has-left (p .given) (unionIn (p .«rule_count») (below (p .«rule_count»)) heads) h
     go i (inr t) =
         has-right (p .given) (unionIn (p .«rule_count») (below (p .«rule_count»)) heads)
@@ -90,7 +90,7 @@ module _ (p : Plan) (fits : Fitting p) (from : From) where
   next-in-follows = go (ltb M top) refl
     where
       top : ℕ
-      top = suc (headed p)
+      top = suc (mayBeUp p)
 
       M : ℕ
       M = lowest top (settledBehind p from)

@@ -28,8 +28,8 @@ pub data Follows (p : Plan) (from : From) : Next → Type 0 where
   none-left : ((N : ℕ) → Settles p N → ¬ Behind from N) → Follows p from NoneLeft
 
 -- the atoms that may be up: those that are given, and those in heads
-abbrev pub headed : Plan → ℕ
-headed p = p .given ∪ unionIn (p .«rule_count») (below (p .«rule_count»)) (λ r. lent (p .rules) .head r)
+abbrev pub mayBeUp : Plan → ℕ
+mayBeUp p = p .given ∪ unionIn (p .«rule_count») (below (p .«rule_count»)) (λ r. lent (p .rules) .head r)
 
 -- `Behind`, computed
 abbrev pub behind : From → ℕ → Bool
@@ -43,8 +43,8 @@ settledBehind p from M = elim (behind from M) [ true ↦ settled p M | false ↦
 -- the lowest such number; none is above the word of the atoms that may be up
 unfoldable pub nextIn : Plan → From → Next
 nextIn p from =
-    let M = lowest (suc (headed p)) (settledBehind p from) in
-    elim (ltb M (suc (headed p))) [ true ↦ Position M | false ↦ NoneLeft ]
+    let M = lowest (suc (mayBeUp p)) (settledBehind p from) in
+    elim (ltb M (suc (mayBeUp p))) [ true ↦ Position M | false ↦ NoneLeft ]
 
 -- the same for the bytes of a plan
 unfoldable pub followed : List ℕ → From → Next

@@ -2,35 +2,35 @@
 use mathlib.Core.Path.{_≡_, sym, _∙_, subst}
 use mathlib.Core.Bool.{Bool, true}
 use mathlib.Core.List.{List, List·Memᴰ}
-use Prim.Native.Nat.{ℕ, suc, _+_, _*_, _^_, _≤_, _<_}
+use Prim.Native.Nat.{ℕ, _+_, _*_, _^_, _≤_, _<_}
 use native.Mathlib.Omega.{arith}
 use lib.Dec.{eqb}
 use lib.ListN.{length, getD}
 use borrow.Author.Tests.{eqb-true, eq-eqb}
 use Rattle.atoms.specs.Word.{ATOMS, EVERY_ATOM, Has, _⊆_, _∩_, below}
-use Rattle.atoms.specs.Rising.{Rising}
 use Rattle.atoms.specs.Cuts.{CutOf, cutList}
 use Rattle.atoms.proofs.Tests.{decided-true}
 use Rattle.atoms.proofs.Sets.{has-dec, has-lt, lt-of-has, has-outside, outside-lacks, subset-le, cut-right, below-lt}
 use Rattle.atoms.proofs.Bounded.{some-at, some-intro, all-in-at, all-in-intro}
-use Rattle.atoms.proofs.Rising.{members-rising}
 use Rattle.atoms.proofs.Cuts.{cut-rising, cut-at, cut-has, cut-whole}
 use Rattle.answer_sets.specs.Lent.{lent, ruleAt}
 use Rattle.states.specs.State.{Completes}
+use Rattle.states.specs.declared.state.State.{State}
 use Rattle.answer_sets.proofs.Judged.{decides-answer-set}
 use Rattle.plan.specs.Limits.{MAX_RULES, MAX_UNITS, LIST_WORDS}
 use Rattle.dependency_graph.specs.Units.{Units, Edge}
 use Rattle.dependency_graph.specs.Graph.{Passes}
-use Rattle.dependency_graph.specs.Heads.{reach, heads, inputHeads}
+use Rattle.dependency_graph.specs.Heads.{heads, inputHeads}
 use Rattle.splitting.specs.UnitList.{Listed}
 use Rattle.splitting.proofs.Form.{listed-member}
 use Rattle.propagating.specs.Job.{Belongs, Searchable}
 use Rattle.joining.specs.Joins.{isListed, joins}
 use Rattle.states.specs.Narrowing.{Wanted}
 use Rattle.propagating.specs.declared.unit.Unit.{Unit}
-use Rattle.unit_lists.specs.Lists.{inList, unitList}
-use Rattle.unit_lists.specs.Work.{Told, startWithin, ListStored, MembersStored, Stored, ListsThere}
-use Rattle.unit_lists.proofs.Decided.{numbers-fit, unit-list-at, unit-list-has}
+use Rattle.demands.specs.Lists.{unitList}
+use Rattle.demands.proofs.Decided.{numbers-fit, unit-list-at, unit-list-has}
+use Rattle.demands.proofs.Enumerations.{unit-list-rising}
+use Rattle.unit_lists.specs.Work.{UnitTold, startWithin, ListStored, MembersStored, Stored, ListsThere}
 use Rattle.unit_lists.proofs.RisingLists.{member-getD, index-of, members-stored}
 
 -- ---- a stored list is searched word by word
@@ -52,14 +52,10 @@ stored-has {T} {table} {counts} {v} x s m =
     some-intro (getD counts v 0) (λ i. eqb (getD table (LIST_WORDS * v + i) 0) x) (f .0) (omega (arith, f .1, s .counted))
     (eq-eqb (getD table (LIST_WORDS * v + f .0) 0) x (s .words (f .0) (f .1) ∙ f .2))
 
-pub unit-list-rising : (T : Units) (u : ℕ) → Rising (unitList T u)
-unfolding unitList
-unit-list-rising T u = members-rising (inList T (suc (reach T u)) u) (suc (heads T u))
-
 -- ---- the search of one unit
 
 -- unit u can be listed: its rules and the head atoms of its predecessors are lent, and their lists are in the table
-pub record Listable (T : Units) (u : ℕ) (rules heads′ table counts : List ℕ) : Type 0 where
+pub record ReadyToList (T : Units) (u : ℕ) (rules heads′ table counts : List ℕ) : Type 0 where
   pub is-unit : u < T .units
   pub passes : Passes T
   pub program-is : T .program ≡ lent rules
@@ -70,7 +66,7 @@ pub record Listable (T : Units) (u : ℕ) (rules heads′ table counts : List �
   pub heads-are : (v : ℕ) → Edge T u v → getD heads′ v 0 ≡ heads T v
   pub lists : ListsThere T (Edge T u) table counts
 
-module _ {T : Units} {u : ℕ} {rules heads′ table counts : List ℕ} {unit : Unit} (a : Listable T u rules heads′ table counts) (t : Told T u unit) where
+module _ {T : Units} {u : ℕ} {rules heads′ table counts : List ℕ} {unit : Unit} (a : ReadyToList T u rules heads′ table counts) (t : UnitTold T u unit) where
   pub searchable : Searchable rules table counts heads′ unit
   searchable = record {
     rules-lent = rw (t .rules-are) (record {
@@ -145,17 +141,18 @@ module _ {T : Units} {u : ℕ} {rules heads′ table counts : List ℕ} {unit : 
       go i h (no n) = absurd (c .no-dropped .none i (has-outside (heads T u) (has-lt M ATOMS w h) n) h)
 
   -- what the search stores are the cuts of the unit's list
-  pub cuts-stored : (within shown place : ℕ) {table′ counts′ : List ℕ} {fits : Bool} → within ≡ heads T u
-      → ListStored (λ s. CutOf shown (Wanted (Belongs rules table counts heads′ unit) s)) (T .given) within place table counts table′ counts′ fits
+  pub cuts-stored : {start : State} (shown place : ℕ) {table′ counts′ : List ℕ} {fits : Bool}
+      → heads T u < 2 ^ ATOMS → start ≡ startWithin (T .given) (heads T u)
+      → ListStored (CutOf shown (Wanted (Belongs rules table counts heads′ unit) start)) place table counts table′ counts′ fits
       → MembersStored (cutList shown (unitList T u)) place table counts table′ counts′ fits
-  cuts-stored within shown place e s =
-      members-stored (λ t. CutOf shown (Wanted (Belongs rules table counts heads′ unit) t)) (T .given) within (cutList shown (unitList T u))
+  cuts-stored {start} shown place fit e s =
+      members-stored (CutOf shown (Wanted (Belongs rules table counts heads′ unit) start)) (cutList shown (unitList T u))
       (cut-rising shown (unitList T u))
       (λ x c.
       let w = c .wanted in
       cut-has shown (unitList T u) (c .whole) x
       (unit-list-has T (a .passes) (a .passes .given-free) (a .rules-most) u (c .whole) (a .is-unit)
-      (belongs-listed (c .whole) (w .belongs) (w .completes .has-up) (to-heads (c .whole) (w .belongs .word) (rw e at (w .completes)))))
+      (belongs-listed (c .whole) (w .belongs) ((rw e at (w .completes)) .has-up) (to-heads (c .whole) (w .belongs .word) (rw e at (w .completes)))))
       (c .is))
       (λ x m.
       let c = cut-at shown (unitList T u) x m in
@@ -163,20 +160,21 @@ module _ {T : Units} {u : ℕ} {rules heads′ table counts : List ℕ} {unit : 
       let k = listed-member T (a .passes) (a .passes .given-free) u (a .is-unit) (c .0) .0 l in
       record {
         whole = c .0;
-        wanted = record { belongs = listed-belongs (c .0) (rw e at (s .word)) l; completes = rw e (from-start (c .0) (k .given-up) (k .within)) };
+        wanted = record { belongs = listed-belongs (c .0) fit l; completes = rw e (from-start (c .0) (k .given-up) (k .within)) };
         is = c .2;
       })
       s
 
   -- where every atom shows they are the list itself
-  pub unit-stored : (within place : ℕ) {table′ counts′ : List ℕ} {fits : Bool} → within ≡ heads T u
-      → ListStored (λ s. CutOf EVERY_ATOM (Wanted (Belongs rules table counts heads′ unit) s)) (T .given) within place table counts table′ counts′ fits
+  pub unit-stored : {start : State} (place : ℕ) {table′ counts′ : List ℕ} {fits : Bool}
+      → heads T u < 2 ^ ATOMS → start ≡ startWithin (T .given) (heads T u)
+      → ListStored (CutOf EVERY_ATOM (Wanted (Belongs rules table counts heads′ unit) start)) place table counts table′ counts′ fits
       → MembersStored (unitList T u) place table counts table′ counts′ fits
-  unit-stored within place {table′} {counts′} {fits} e s =
+  unit-stored place {table′} {counts′} {fits} fit e s =
       subst (λ (xs : List ℕ). MembersStored xs place table counts table′ counts′ fits) (cut-whole (unitList T u) (unit-list-rising T u) words)
-      (cuts-stored within EVERY_ATOM place e s)
+      (cuts-stored EVERY_ATOM place fit e s)
     where
       words : (x : ℕ) → List·Memᴰ x (unitList T u) → x < 2 ^ ATOMS
       words x m =
-          listed-belongs x (rw e at (s .word))
+          listed-belongs x fit
           (unit-list-at T (a .passes) (a .passes .given-free) (a .rules-most) u x (a .is-unit) m) .word

@@ -2,7 +2,7 @@
 use mathlib.Core.Path.{_≡_, refl, sym, ap, _∙_, subst}
 use mathlib.Core.Logic.{_⊎_, inl, inr}
 use mathlib.Core.List.{List}
-use Prim.Native.Nat.{ℕ, suc, _*_, _≤_, _<_}
+use Prim.Native.Nat.{ℕ, suc, _≤_, _<_}
 use native.Mathlib.Omega.{arith}
 use lib.ListN.{length, getD}
 use Rattle.atoms.specs.Word.{Has, _⊆_, _∩_, _∪_, below}
@@ -23,10 +23,10 @@ use Rattle.dependency_graph.specs.declared.head_atoms.HeadAtoms.{HeadAtoms}
 use Rattle.dependency_graph.proofs.Heads.{own-at, heads-cases, heads-input, input-given, input-cases, input-edge}
 use Rattle.splitting.specs.UnitList.{Clean, withLast}
 use Rattle.splitting.proofs.Last.{last-unit, last-predecessors, holds-old, edge-from-last, old-heads, old-list, last-passes, last-free}
-use Rattle.unit_lists.specs.Lists.{inList, unitList}
-use Rattle.unit_lists.specs.Work.{Told, ListsThere, Setting}
-use Rattle.unit_lists.proofs.Decided.{decides-listed}
-use Rattle.unit_lists.proofs.Joined.{Listable}
+use Rattle.demands.specs.Lists.{inList, unitList}
+use Rattle.unit_lists.specs.Work.{UnitTold, ListsThere, Setting}
+use Rattle.demands.proofs.Decided.{decides-listed}
+use Rattle.unit_lists.proofs.Joined.{ReadyToList}
 
 -- a unit's list is the same where the one more unit is added
 lists-same : (S : Units) → Passes S → GivenFree S → Clean S → S .rules ≤ MAX_RULES → (u : ℕ) → u < S .units
@@ -94,7 +94,7 @@ module _ {p : Plan} {h : HeadAtoms} (s : Setting p h) where
           (rw (heads-at (f .0) l) (f .2)))
 
   pub last-told : (input near : ℕ) → input ≡ p .given ∪ all-heads → near ⊆ below (p .«unit_count»)
-      → Told (withLast (unitsOf p)) (p .«unit_count») (record { rules = 0; inputs = input; predecessors = below (p .«unit_count»); nearest = near })
+      → UnitTold (withLast (unitsOf p)) (p .«unit_count») (record { rules = 0; inputs = input; predecessors = below (p .«unit_count»); nearest = near })
   unfolding unitsOf withLast
   last-told input near e n = record {
     rules-are = no-rules (unitsOf p) (below (p .«rule_count»));
@@ -105,7 +105,7 @@ module _ {p : Plan} {h : HeadAtoms} (s : Setting p h) where
 
   pub last-listable : {table counts : List ℕ} → ruleAt (p .«rule_count») ≤ length (p .rules) → MAX_UNITS ≤ length (h .heads)
       → ListsThere (unitsOf p) (λ v. v < p .«unit_count») table counts
-      → Listable (withLast (unitsOf p)) (p .«unit_count») (p .rules) (h .heads) table counts
+      → ReadyToList (withLast (unitsOf p)) (p .«unit_count») (p .rules) (h .heads) table counts
   unfolding unitsOf withLast
   last-listable lent long t = record {
     is-unit = omega arith;
@@ -134,7 +134,7 @@ module _ {p : Plan} {h : HeadAtoms} (s : Setting p h) where
 
   -- a unit of the plan, where its predecessors are listed
   pub unit-listable : {table counts : List ℕ} (u : ℕ) → ruleAt (p .«rule_count») ≤ length (p .rules) → MAX_UNITS ≤ length (h .heads)
-      → u < p .«unit_count» → ListsThere (unitsOf p) (Edge (unitsOf p) u) table counts → Listable (unitsOf p) u (p .rules) (h .heads) table counts
+      → u < p .«unit_count» → ListsThere (unitsOf p) (Edge (unitsOf p) u) table counts → ReadyToList (unitsOf p) u (p .rules) (h .heads) table counts
   unfolding unitsOf
   unit-listable u lent long l t = record {
     is-unit = l;

@@ -11,10 +11,9 @@ use lib.Seq.{paste}
 use Rattle.atoms.specs.Lists.{padded}
 use Rattle.atoms.specs.Rising.{Rising, rising-nil, rising-cons}
 use Rattle.atoms.proofs.Rising.{above-at, rising-ext}
-use Rattle.states.specs.declared.state.State.{State}
 use Rattle.plan.specs.Limits.{LIST_WORDS}
 use Rattle.searching.specs.Listing.{Ordered, Gathered, fits, over}
-use Rattle.unit_lists.specs.Work.{startWithin, Found, ListStored, MembersStored}
+use Rattle.unit_lists.specs.Work.{FoundFromNone, ListStored, MembersStored}
 
 -- ---- members by index
 
@@ -62,15 +61,15 @@ ordered-padded : (list : List ℕ) (k : ℕ) → Ordered list k → list ≡ pad
 unfolding padded
 ordered-padded list k o = sym (take-append-drop k list) ∙ ap (λ (ys : List ℕ). take k list ++ ys) (o .zeros ∙ rw (ordered-count o))
 
-module _ (Wanted : State → ℕ → Type 0) (given within : ℕ) (members : List ℕ) (rising : Rising members)
-    (only : (x : ℕ) → Wanted (startWithin given within) x → List·Memᴰ x members)
-    (each : (x : ℕ) → List·Memᴰ x members → Wanted (startWithin given within) x) where
-  grown-member : (x : ℕ) → Found Wanted given within x → List·Memᴰ x members
+module _ (Member : ℕ → Type 0) (members : List ℕ) (rising : Rising members)
+    (only : (x : ℕ) → Member x → List·Memᴰ x members)
+    (each : (x : ℕ) → List·Memᴰ x members → Member x) where
+  grown-member : (x : ℕ) → FoundFromNone Member x → List·Memᴰ x members
   grown-member x (inl m) = absurd (List·Memᴰ·not-nil m)
   grown-member x (inr w) = only x w
 
   -- a count within 256 is the number of members, and the list has just them
-  gathered-fits : (list : List ℕ) (k : ℕ) → Gathered (Found Wanted given within) list k → k ≤ LIST_WORDS
+  gathered-fits : (list : List ℕ) (k : ℕ) → Gathered (FoundFromNone Member) list k → k ≤ LIST_WORDS
       → (list ≡ padded LIST_WORDS members) × (k ≡ length members)
   gathered-fits list k (fits o s c) l =
       let whole : take k list ≡ members =
@@ -78,14 +77,14 @@ module _ (Wanted : State → ℕ → Type 0) (given within : ℕ) (members : Lis
       (ordered-padded list k o ∙ ap (padded LIST_WORDS) whole, sym (ordered-count o) ∙ ap length whole)
   gathered-fits list k (over o left) l = absurd (omega arith)
 
-  gathered-long : (list : List ℕ) (k : ℕ) → Gathered (Found Wanted given within) list k → LIST_WORDS < k
+  gathered-long : (list : List ℕ) (k : ℕ) → Gathered (FoundFromNone Member) list k → LIST_WORDS < k
       → LIST_WORDS < length members
   gathered-long list k (fits o s c) l = absurd (omega (arith, o .small))
   gathered-long list k (over o left) l =
       omega (arith, rising-longer (o .many) members (o .rising) rising (λ x m. grown-member x (o .sound x m)), o .long)
 
   pub members-stored : {place : ℕ} {table counts table′ counts′ : List ℕ} {b : Bool}
-      → ListStored Wanted given within place table counts table′ counts′ b
+      → ListStored Member place table counts table′ counts′ b
       → MembersStored members place table counts table′ counts′ b
   members-stored {place} {table} {counts} s = record {
     when-fits = λ e.

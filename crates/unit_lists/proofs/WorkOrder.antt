@@ -10,12 +10,12 @@ use Rattle.dependency_graph.specs.Units.{Units, Edge}
 use Rattle.dependency_graph.specs.Graph.{Acyclic}
 use Rattle.dependency_graph.specs.Order.{nextUnit, orderFrom, workingOrder, Ready, InOrder, all-done, next}
 use Rattle.dependency_graph.proofs.Order.{next-ready, order-right}
-use Rattle.unit_lists.specs.Lists.{unitList}
-use Rattle.unit_lists.specs.Answer.{workFrom, unitWork}
+use Rattle.demands.specs.Lists.{unitList}
+use Rattle.demands.specs.Answer.{workFrom, unitWork}
 use Rattle.unit_lists.specs.Work.{MembersStored, ListsThere, Working, UnitsWorked}
 use Rattle.unit_lists.specs.declared.work.Work.the-variants.{Fits, Long}
 use Rattle.unit_lists.proofs.WorkedUnits.{working-there, working-next}
-use Rattle.unit_lists.proofs.Answers.{work-fits, work-long}
+use Rattle.demands.proofs.Answers.{work-fits, work-long}
 
 -- ---- the order from what is done
 

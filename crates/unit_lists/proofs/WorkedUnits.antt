@@ -1,5 +1,5 @@
 -- The table and the counts while units are worked: what one unit more changes, and what stands there in the end.
-use mathlib.Core.Path.{_≡_, refl, sym, ap, _∙_, subst}
+use mathlib.Core.Path.{_≡_, sym, ap, _∙_, subst}
 use mathlib.Core.Bool.{Bool, true}
 use mathlib.Core.Logic.{_⊎_, inl, inr}
 use mathlib.Core.List.{List, []}
@@ -7,30 +7,16 @@ use Prim.Native.Nat.{ℕ, _≤_, _<_}
 use native.Mathlib.Omega.{arith}
 use native.Mathlib.Decide.{decLt}
 use lib.ListN.{length}
-use borrow.Author.Tests.{lt-ltb, le-ltb, ne-eqb}
 use Rattle.atoms.specs.Word.{Has, _∪_, atom}
 use Rattle.atoms.proofs.Tests.{decided-true, decided-false}
 use Rattle.atoms.proofs.Sets.{decides-has, has-dec, has-none, has-left, has-right, union-cases, has-atom, atom-only}
 use Rattle.plan.specs.Limits.{MAX_UNITS, TABLE_WORDS, LAST_COUNT}
 use Rattle.dependency_graph.specs.Units.{Units}
-use Rattle.unit_lists.specs.Lists.{unitList, lastList}
-use Rattle.unit_lists.specs.Table.{listAt, cleared, noCounts}
-use Rattle.unit_lists.specs.Work.{MembersStored, ListsThere, Holding, listSoFar, Working}
-use Rattle.unit_lists.proofs.HeldLists.{holding-none, held-count, held-word, held-counts-long, held-long, holding-next}
-
--- ---- the lists by place
-
-pub list-there : (S : Units) (i : ℕ) → S .units ≤ MAX_UNITS → i < S .units → listAt S i ≡ unitList S i
-unfolding listAt
-list-there S i few l = rw (ne-eqb i LAST_COUNT (λ e. omega arith), listAt) (rw (lt-ltb i (S .units) l))
-
-pub list-absent : (S : Units) (i : ℕ) → ¬ (i ≡ LAST_COUNT) → S .units ≤ i → listAt S i ≡ []
-unfolding listAt
-list-absent S i n l = rw (ne-eqb i LAST_COUNT n, listAt) (rw (le-ltb i (S .units) l))
-
-pub list-last : (S : Units) → listAt S LAST_COUNT ≡ lastList S
-unfolding listAt
-list-last S = refl
+use Rattle.demands.specs.Lists.{unitList, lastList}
+use Rattle.demands.specs.Table.{listAt, cleared, noCounts}
+use Rattle.demands.specs.Held.{Holding}
+use Rattle.demands.proofs.HeldLists.{list-there, list-absent, list-last, holding-none, held-count, held-word, held-counts-long, held-long, holding-next}
+use Rattle.unit_lists.specs.Work.{MembersStored, ListsThere, listSoFar, Working}
 
 -- ---- the lists so far
 

@@ -1,8 +1,1 @@
-pub mod Lists
-pub mod Table
-pub mod Answer
 pub mod Work
-pub mod Handed
-pub mod Demands
-pub mod Demand1
-pub mod Promised

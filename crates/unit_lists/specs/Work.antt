@@ -2,10 +2,10 @@
 use mathlib.Core.Path.{_≡_}
 use mathlib.Core.Bool.{Bool, true, false}
 use mathlib.Core.List.{List, []}
-use Prim.Native.Nat.{ℕ, _+_, _*_, _^_, _≤_, _<_}
+use Prim.Native.Nat.{ℕ, _+_, _*_, _≤_, _<_}
 use lib.ListN.{length, getD, set, replicate}
 use lib.Seq.{paste}
-use Rattle.atoms.specs.Word.{ATOMS, Has, has, _⊆_, _∩_, below, outside}
+use Rattle.atoms.specs.Word.{Has, has, _⊆_, _∩_, below, outside}
 use Rattle.atoms.specs.Lists.{padded}
 use Rattle.states.specs.declared.state.State.{State}
 use Rattle.plan.specs.Limits.{MAX_UNITS, LIST_WORDS, TABLE_WORDS, COUNTS}
@@ -20,16 +20,17 @@ use Rattle.dependency_graph.specs.declared.head_atoms.HeadAtoms.{HeadAtoms}
 use Rattle.splitting.specs.UnitList.{Clean}
 use Rattle.searching.specs.Listing.{Gathered, Grown}
 use Rattle.propagating.specs.declared.unit.Unit.{Unit}
-use Rattle.unit_lists.specs.Lists.{unitList}
-use Rattle.unit_lists.specs.Table.{tableWith, countsWith, cleared}
-use Rattle.unit_lists.specs.Answer.{Answer, refuse, workFrom, unitWork}
+use Rattle.demands.specs.Lists.{unitList}
+use Rattle.demands.specs.Table.{cleared}
+use Rattle.demands.specs.Held.{Holding}
+use Rattle.demands.specs.Answer.{Answer, refuse, workFrom, unitWork}
 use Rattle.unit_lists.specs.declared.work.Work.{Work}
 use Rattle.unit_lists.specs.declared.work.Work.the-variants.{Fits, Long}
 
 -- ---- one list
 
 -- what the search is told of unit u
-pub record Told (T : Units) (u : ℕ) (unit : Unit) : Type 0 where
+pub record UnitTold (T : Units) (u : ℕ) (unit : Unit) : Type 0 where
   pub rules-are : unit .rules ≡ T .unit u ∩ below (T .rules)
   pub inputs-are : unit .inputs ≡ inputHeads T u
   pub predecessors-are : unit .predecessors ≡ T .predecessors u
@@ -40,15 +41,14 @@ abbrev pub startWithin : ℕ → ℕ → State
 startWithin given within = record { up = given; dropped = outside within }
 
 -- what it finds, where the list is empty before
-abbrev pub Found : (State → ℕ → Type 0) → ℕ → ℕ → ℕ → Type 0
-Found Wanted given within = Grown (replicate {A = ℕ} LIST_WORDS 0) 0 (Wanted (startWithin given within))
+abbrev pub FoundFromNone : (ℕ → Type 0) → ℕ → Type 0
+FoundFromNone Member = Grown (replicate {A = ℕ} LIST_WORDS 0) 0 Member
 
--- what is wanted within these atoms is gathered: stored with its count where it fits, and nothing is written where it does not
-pub record ListStored (Wanted : State → ℕ → Type 0) (given within place : ℕ) (table counts table′ counts′ : List ℕ) (fits : Bool) : Type 0 where
+-- the members are gathered: stored with their count where they fit, and nothing is written where they do not
+pub record ListStored (Member : ℕ → Type 0) (place : ℕ) (table counts table′ counts′ : List ℕ) (fits : Bool) : Type 0 where
   pub list : List ℕ
   pub count : ℕ
-  pub gathered : Gathered (Found Wanted given within) list count
-  pub word : within < 2 ^ ATOMS
+  pub gathered : Gathered (FoundFromNone Member) list count
   pub when-fits : fits ≡ true
       → (count ≤ LIST_WORDS) × (table′ ≡ paste table (LIST_WORDS * place) list LIST_WORDS) × (counts′ ≡ set counts place count)
   pub when-long : fits ≡ false → (LIST_WORDS < count) × (table′ ≡ table) × (counts′ ≡ counts)
@@ -73,13 +73,6 @@ pub record ListsThere (S : Units) (Named : ℕ → Type 0) (table counts : List 
   pub counts-long : length counts ≡ COUNTS
   pub small : (v : ℕ) → v < MAX_UNITS → getD counts v 0 ≤ LIST_WORDS
   pub stored : (v : ℕ) → Named v → Stored S table counts v
-
--- the table and the counts hold these lists, each of at most 256 members
-pub record Holding (lists : ℕ → List ℕ) (table₀ table counts : List ℕ) : Type 0 where
-  pub table-is : table ≡ tableWith lists table₀
-  pub counts-are : counts ≡ countsWith lists
-  pub small : (i : ℕ) → length (lists i) ≤ LIST_WORDS
-  pub long : TABLE_WORDS ≤ length table₀
 
 -- ---- the units in working order
 

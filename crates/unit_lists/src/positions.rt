@@ -1,7 +1,7 @@
 // The public listing function: the table, reading, the graph and unit work, and the first fault counts.
-use crate::listing::Listing;
-use crate::listing::refuse;
 use crate::work::unit_work;
+use demands::listing::Listing;
+use demands::listing::refuse;
 use dependency_graph::check::check_graph;
 use plan::Fault;
 use plan::Outcome;
@@ -14,9 +14,9 @@ ghost use Rattle.plan.specs.Limits.{TABLE_WORDS};
 ghost use Rattle.plan.specs.Record.{Fitting};
 ghost use Rattle.dependency_graph.specs.PlanUnits.{unitsOf};
 ghost use Rattle.splitting.specs.UnitList.{Clean};
-ghost use Rattle.unit_lists.specs.Answer.{afterGraph, answer};
-ghost use Rattle.unit_lists.specs.Handed.{Handed};
-ghost use Rattle.unit_lists.specs.Promised.{Promised};
+ghost use Rattle.demands.specs.Answer.{afterGraph, answer};
+ghost use Rattle.demands.specs.Handed.{Handed};
+ghost use Rattle.demands.specs.Promised.{Promised};
 
 // The graph place and, where it passes, unit work on a read plan.
 fn list_read_plan(plan: Plan, table: &mut [u64]) -> Listing

@@ -1,8 +1,8 @@
 // Unit work: the list of each unit in working order, and the last list.
-use crate::listing::Listing;
-use crate::listing::refuse;
 use crate::table::clear;
 use atoms::words::store;
+use demands::listing::Listing;
+use demands::listing::refuse;
 use dependency_graph::head_atoms::HeadAtoms;
 use dependency_graph::head_atoms::head_atoms;
 use dependency_graph::working_order::next_unit;
@@ -17,8 +17,9 @@ use propagating::Unit;
 use searching::search::search;
 use states::State;
 ghost use mathlib.Core.Path.{_≡_};
-ghost use Prim.Native.Nat.{_+_, _*_, _≤_, _<_};
+ghost use Prim.Native.Nat.{_+_, _*_, _^_, _≤_, _<_};
 ghost use lib.ListN.{length};
+ghost use Rattle.atoms.specs.Word.{ATOMS};
 ghost use Rattle.atoms.specs.Cuts.{CutOf};
 ghost use Rattle.plan.specs.Limits.{LIST_WORDS, TABLE_WORDS, LAST_COUNT};
 ghost use Rattle.plan.specs.declared.fault.Fault.the-variants.{LongList};
@@ -27,11 +28,11 @@ ghost use Rattle.dependency_graph.specs.PlanUnits.{unitsOf};
 ghost use Rattle.splitting.specs.UnitList.{withLast};
 ghost use Rattle.propagating.specs.Job.{Belongs, Searchable};
 ghost use Rattle.states.specs.Narrowing.{Wanted};
-ghost use Rattle.unit_lists.specs.Lists.{unitList, lastList};
-ghost use Rattle.unit_lists.specs.Table.{cleared};
-ghost use Rattle.unit_lists.specs.Answer.{unitWork};
-ghost use Rattle.unit_lists.specs.Handed.{refusal, Handed};
-ghost use Rattle.unit_lists.specs.Work.{Told, ListStored, MembersStored, ListsThere, Workable, Setting, Working, UnitsWorked};
+ghost use Rattle.demands.specs.Lists.{unitList, lastList};
+ghost use Rattle.demands.specs.Table.{cleared};
+ghost use Rattle.demands.specs.Answer.{unitWork};
+ghost use Rattle.demands.specs.Handed.{refusal, Handed};
+ghost use Rattle.unit_lists.specs.Work.{UnitTold, startWithin, ListStored, MembersStored, ListsThere, Workable, Setting, Working, UnitsWorked};
 
 // Whether all lists fit, or the first unit whose list does not.
 pub enum Work {
@@ -39,14 +40,22 @@ pub enum Work {
     Long(usize),
 }
 
-// Searches one list, whose members have the given atoms: its words and its count go to their place. Whether the list fits; if not, nothing is
-// written.
+// Where a search starts: the given atoms are up, and all atoms but these are dropped.
+fn start_within(given: u64, within: u64) -> State
+    ensures { λ r. ⌜ (r ≡ startWithin given within) × (within < 2 ^ ATOMS) ⌝ }
+{
+    State {
+        up: given,
+        dropped: atoms::outside(within),
+    }
+}
+
+// Searches one list from the start: its words and its count go to their place. Whether the list fits; if not, nothing is written.
 fn list_one(
     rules: &[u64],
     heads: &[u64],
     unit: Unit,
-    given: u64,
-    within: u64,
+    start: State,
     shown: u64,
     place: usize,
     table: &mut [u64],
@@ -54,25 +63,12 @@ fn list_one(
 ) -> bool
     requires { ⌜ Searchable (now rules) (now table) (now counts) (now heads) unit
         × (LIST_WORDS * place + LIST_WORDS ≤ length (now table)) × (place < length (now counts)) ⌝ }
-    ensures { λ r. ⌜ ListStored (λ s. CutOf shown
-        (Wanted (Belongs (now (rules .entry)) (now (table .entry)) (now (counts .entry)) (now (heads .entry)) unit) s))
-        given within place (now (table .entry)) (now (counts .entry)) (now (table .exit)) (now (counts .exit)) r ⌝ }
+    ensures { λ r. ⌜ ListStored (CutOf shown
+        (Wanted (Belongs (now (rules .entry)) (now (table .entry)) (now (counts .entry)) (now (heads .entry)) unit) start))
+        place (now (table .entry)) (now (counts .entry)) (now (table .exit)) (now (counts .exit)) r ⌝ }
 {
     let mut list = [0u64; LIST_WORDS];
-    let outside = atoms::outside(within);
-    let count = search(
-        rules,
-        table,
-        counts,
-        heads,
-        unit,
-        shown,
-        &mut list,
-        State {
-            up: given,
-            dropped: outside,
-        },
-    );
+    let count = search(rules, table, counts, heads, unit, shown, &mut list, start);
     if LIST_WORDS < count {
         return false;
     }
@@ -84,7 +80,7 @@ fn list_one(
 // What the search is told of unit u.
 fn unit_at(plan: Plan, head_atoms: HeadAtoms, u: usize) -> Unit
     requires { ⌜ Setting plan «head_atoms» × (u < plan .«unit_count») ⌝ }
-    ensures { λ r. ⌜ Told (unitsOf plan) u r ⌝ }
+    ensures { λ r. ⌜ UnitTold (unitsOf plan) u r ⌝ }
 {
     Unit {
         rules: atoms::cut(plan.units[u], atoms::first(plan.rule_count)),
@@ -107,14 +103,13 @@ fn list_unit(
         (now (table .entry)) (now (counts .entry)) (now (table .exit)) (now (counts .exit)) r ⌝ }
 {
     let heads = head_atoms.heads;
-    let within = heads[u];
     let unit = unit_at(plan, head_atoms, u);
+    let start = start_within(plan.given, heads[u]);
     list_one(
         &plan.rules,
         &heads,
         unit,
-        plan.given,
-        within,
+        start,
         atoms::EVERY_ATOM,
         u,
         table,
@@ -146,7 +141,7 @@ fn list_units(plan: Plan, head_atoms: HeadAtoms, table: &mut [u64], counts: &mut
 // What the search is told of the one more unit, with no rules and an edge to every unit.
 fn last_unit(plan: Plan, head_atoms: HeadAtoms) -> Unit
     requires { ⌜ Setting plan «head_atoms» ⌝ }
-    ensures { λ r. ⌜ Told (withLast (unitsOf plan)) (plan .«unit_count») r ⌝ }
+    ensures { λ r. ⌜ UnitTold (withLast (unitsOf plan)) (plan .«unit_count») r ⌝ }
 {
     let heads = head_atoms.heads;
     let every = atoms::first(plan.unit_count);
@@ -166,12 +161,12 @@ fn list_last(plan: Plan, head_atoms: HeadAtoms, table: &mut [u64], counts: &mut 
 {
     let heads = head_atoms.heads;
     let unit = last_unit(plan, head_atoms);
+    let start = start_within(plan.given, unit.inputs);
     list_one(
         &plan.rules,
         &heads,
         unit,
-        plan.given,
-        unit.inputs,
+        start,
         plan.shown,
         LAST_COUNT,
         table,

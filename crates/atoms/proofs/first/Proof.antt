@@ -1,5 +1,5 @@
 use native.Mathlib.Omega.{arith}
-use mathlib.Core.Path.{_≡_, ap, sym}
+use mathlib.Core.Path.{ap, sym}
 use Prim.Native.Nat.{ℕ, _-_, _^_, _<_}
 use lib.Pow.{pow-pos}
 use Rattle.atoms.specs.Word.{below}

@@ -1,6 +1,5 @@
 -- The test of the head picks the case of the definition.
-use mathlib.Core.Path.{sym, _∙_, ap}
-use Rattle.blaming.specs.Sifted.{unlessHeaded}
+use mathlib.Core.Path.{sym, _∙_}
 use Rattle.blaming.proofs.Sifting.{headless-stays, headed-goes}
 use borrow.Author.Needs.{needs}
 use Rattle.blaming.proofs.unless_headed.Statement.{statement}

@@ -11,7 +11,8 @@ use Rattle.judge.proofs.is_settled.Tie as tie
 is-answer-set-requires : tie.Need-is-answer-set-requires
 is-answer-set-requires c κs =
     let read = c .before .before .before in
-    whole-lent (read .before .args .t1) _ (read .before .pre) (search needs) (read .first .ensures)
+    let start = read .before in
+    whole-lent (start .args .t1) _ (start .pre) (search needs) (read .first .ensures)
 
 returns : tie.Need-returns
 returns c =

@@ -11,9 +11,10 @@ use Rattle.plan_sheet.proofs.kept_sheet.Lts as lts
 
 returns : tie.Need-returns
 returns c =
-    let start = c .before .before .before .before .before .before .before .before .before in
+    let at-kept-count = c .before .before .before .before .before .before .before .before in
+    let start = at-kept-count .before in
     let long : length (start .args .t1) ≡ 4096 = search needs in
-    sheet-kept _ _ _ _ _ _ _ long (c .before .before .before .before .before .before .before .before .kept-count .ensures)
+    sheet-kept _ _ _ _ _ _ _ long (at-kept-count .kept-count .ensures)
     (c .before .before .before .write-plan-sheet .ensures) refl (c .written-bytes .ensures)
 
 part-end : tie.Need-part-write-plan-sheet-end

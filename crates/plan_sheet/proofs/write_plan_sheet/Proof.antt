@@ -7,9 +7,9 @@ use lib.ListN.{length}
 use Rattle.sheet.specs.Sheet.{refusalSheet}
 use Rattle.plan.specs.Limits.{TABLE_WORDS}
 use Rattle.plan.specs.declared.fault.Outcome.the-variants.{Accepted}
-use Rattle.unit_lists.specs.Answer.{Answer, answer}
+use Rattle.demands.specs.Answer.{Answer, answer}
 use Rattle.reading.proofs.Limits.{all-bytes}
-use Rattle.plan_sheet.specs.Sheets.{sheetOf, Says}
+use Rattle.plan_sheet.specs.Sheets.{sheetOf, SheetSays}
 use Rattle.plan_sheet.proofs.Said.{sheet-says}
 use Rattle.plan_sheet.proofs.Sheets.{sheet-refused, sheet-of-part, accepted-long, refused-at-most, listed-at-most}
 use borrow.Author.Needs.{needs}
@@ -27,7 +27,7 @@ abbrev answered : tie.After-list-positions → Answer
 answered c = answer (now (start c .args .plan)) (now (start c .args .table))
 
 -- the plan's bytes are bytes
-said : (c : tie.After-list-positions) → Says (now (start c .args .plan)) (now (start c .args .table)) (sheetOf (answered c))
+said : (c : tie.After-list-positions) → SheetSays (now (start c .args .plan)) (now (start c .args .table)) (sheetOf (answered c))
 said c =
     sheet-says (now (start c .args .plan)) (now (start c .args .table))
     (all-bytes (now (start c .args .plan)) (λ i. c .before .before .before .before .shared-slice-known .given i .fits))
@@ -42,10 +42,12 @@ long c = omega (arith, accepted-long _ (now (start (listed c) .args .table)) (ac
 returns : tie.Need-returns
 returns c =
     let done = c .before .before in
-    let spot = done .before .before .fault-spot in
-    let number = done .before .before .before .fault-number in
-    let refused = done .before .before .before .before .before in
+    let at-fault-spot = done .before .before in
+    let at-fault-number = at-fault-spot .before in
+    let refused = at-fault-number .before .before in
     let listing = refused .before .before .before .before in
+    let spot = at-fault-spot .fault-spot in
+    let number = at-fault-number .fault-number in
     let handed = listing .list-positions .ensures .0 in
     let e : refusalSheet (number .result) (spot .result) ≡ sheetOf (answered listing) =
     ap₂ refusalSheet (number .ensures) (spot .ensures) ∙ sheet-refused _ _ (sym (handed .outcome-is) ∙ refused .outcome .given .1) in

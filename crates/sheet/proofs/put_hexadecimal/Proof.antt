@@ -15,8 +15,9 @@ put-requires c κs =
 
 returns : tie.Need-returns
 returns c =
-    let start = c .before .before .before .before .before .before .before .before in
-    let made = c .before .before .before .before .before .hex .ensures in
+    let at-hex = c .before .before .before .before .before in
+    let start = at-hex .before .before .before in
+    let made = at-hex .hex .ensures in
     rw (hexadecimal-made _ _ _ (start .fits .word .fits) (made .1 .0) (made .1 .1)) at (c .before .before .put .ensures)
 
 pub put-hexadecimal-spec : {M : Type 1} → statement M

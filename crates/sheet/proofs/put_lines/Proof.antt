@@ -29,14 +29,16 @@ loop-holds c = record { within = search needs; behind = omega arith; same = refl
 
 loop-again : tie.Need-loop-again Inv-loop μ-loop
 loop-again c =
+    let test = c .before .before .before .before .before in
+    let head = test .before in
+    let start = head .before .before .before in
     let line = c .before .before .put-line in
-    let head = c .before .before .before .before .before .before in
-    let word = getD (head .before .before .before .args .words .now) (head .loop .i) 0 in
+    let word = getD (start .args .words .now) (head .loop .i) 0 in
     record {
       within = omega arith;
       behind = omega (arith, line .ensures .behind, length-positionLine word);
       same = omega arith;
-      first = put-next-line _ _ (c .before .before .before .before .before .loop-test .taken) (head .loop .inv .first) (line .ensures);
+      first = put-next-line _ _ (test .loop-test .taken) (head .loop .inv .first) (line .ensures);
     }
 
 returns : tie.Need-returns Inv-loop μ-loop

@@ -24,16 +24,20 @@ returns-2 : tie.Need-returns-2
 returns-2 c =
     let said = c .before .before .before in
     let read = said .before .before in
-    let args = read .before .before .before .before .args in
-    position-followed (now (args .plan)) (args .from) (read .before .before .read-plan .ensures .0) (read .enum-told .given .1)
+    let at-read-plan = read .before .before in
+    let start = at-read-plan .before .before in
+    let args = start .args in
+    position-followed (now (args .plan)) (args .from) (at-read-plan .read-plan .ensures .0) (read .enum-told .given .1)
     (c .before .found .given .1) (said .next-of .ensures)
 
 returns-3 : tie.Need-returns-3
 returns-3 c =
     let said = c .before .before in
     let read = said .before .before in
-    let args = read .before .before .before .before .args in
-    none-followed (now (args .plan)) (args .from) (read .before .before .read-plan .ensures .0) (read .enum-told .given .1)
+    let at-read-plan = read .before .before in
+    let start = at-read-plan .before .before in
+    let args = start .args in
+    none-followed (now (args .plan)) (args .from) (at-read-plan .read-plan .ensures .0) (read .enum-told .given .1)
     (c .enum-told2 .given .1) (said .next-of .ensures)
 
 pub next-position-spec : {M : Type 1} → statement M

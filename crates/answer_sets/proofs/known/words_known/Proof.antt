@@ -8,7 +8,9 @@ returns : tie.Need-returns
 returns c =
     let negative = c .before in
     let positive = negative .before .before in
-    words-say (positive .before .before .before .pre .1) (positive .before .positive-body .ensures) (negative .before .negative-body .ensures)
+    let at-positive-body = positive .before in
+    let start = at-positive-body .before .before in
+    words-say (start .pre .1) (at-positive-body .positive-body .ensures) (negative .before .negative-body .ensures)
     (positive .word-known .ensures) (negative .word-known2 .ensures) (c .both .ensures)
 
 pub words-known-spec : {M : Type 1} → statement M

@@ -26,7 +26,9 @@ returns-3 : tie.Need-returns-3
 returns-3 c =
     let smaller = c .before in
     let k = smaller .before .before .before in
-    model-judged _ _ _ _ (k .before .before .is-subset .ensures) (k .before .if1 .left) (k .kept-rules .ensures)
+    let at-if1 = k .before in
+    let at-is-subset = at-if1 .before in
+    model-judged _ _ _ _ (at-is-subset .is-subset .ensures) (at-if1 .if1 .left) (k .kept-rules .ensures)
     (smaller .before .before .all-satisfied .ensures) (smaller .before .if2 .left) (smaller .some-smaller .ensures .computed)
 
 pub judge-set-spec : {M : Type 1} → statement M

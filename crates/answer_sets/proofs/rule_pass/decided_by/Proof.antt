@@ -12,10 +12,10 @@ returns c =
 
 returns-2 : tie.Need-returns-2
 returns-2 c =
-    let first = c .before .before .before in
-    let raised = first .before .before in
+    let at-union2 = c .before .before .before .before in
+    let raised = at-union2 .before in
     let start = raised .before .before in
-    last-up _ _ (start .pre .2) (start .pre .1) (first .before .union2 .ensures) (c .before .is-held2 .ensures) (c .if2 .taken) (raised .union .ensures)
+    last-up _ _ (start .pre .2) (start .pre .1) (at-union2 .union2 .ensures) (c .before .is-held2 .ensures) (c .if2 .taken) (raised .union .ensures)
 
 pub decided-by-spec : {M : Type 1} → statement M
 decided-by-spec =

@@ -9,10 +9,12 @@ returns c = candidates-head _ _ _ (c .before .before .head .ensures) (c .before 
 
 returns-2 : tie.Need-returns-2
 returns-2 c =
-    let positive = c .before .before .before in
     let looked = c .before .before in
-    let head = positive .before .before .before in
-    candidates-body _ _ _ (head .head .ensures) (positive .before .before .cut .ensures) (positive .before .if1 .left)
+    let positive = looked .before in
+    let at-if1 = positive .before in
+    let at-cut = at-if1 .before in
+    let head = at-cut .before in
+    candidates-body _ _ _ (head .head .ensures) (at-cut .cut .ensures) (at-if1 .if1 .left)
     (positive .positive-body .ensures) (looked .looks .ensures) (head .head .ok) (positive .positive-body .ok)
     (looked .looks .ok) (c .before .union .ensures) (c .cut2 .ensures)
 

@@ -1,7 +1,6 @@
 -- The first half of the uses wants tables true, the second half false.
 use native.Mathlib.Omega.{arith}
 use Rattle.answer_sets.proofs.Bodies.{table-first, table-second}
-use borrow.Author.Needs.{needs}
 use Rattle.answer_sets.proofs.uses.table_of.Statement.{statement}
 use Rattle.answer_sets.proofs.uses.table_of.Tie as tie
 

@@ -1,9 +1,7 @@
 -- The rows that completions have, held against the truth word, by the sign.
-use mathlib.Core.Path.{_≡_, sym, _∙_}
-use mathlib.Core.Bool.{Bool, true, not}
-use Prim.Native.Nat.{ℕ}
+use mathlib.Core.Path.{_≡_}
+use mathlib.Core.Bool.{true}
 use denote.Ref.{now}
-use Rattle.answer_sets.specs.Lent.{useHolds}
 use Rattle.answer_sets.specs.Known.{Says}
 use Rattle.states.specs.State.{halfDecided}
 use Rattle.answer_sets.proofs.Truths.{says-opposite, says-same}

@@ -2,18 +2,18 @@
 use lib.Count.{ones}
 use native.Mathlib.Omega.{arith}
 use Rattle.atoms.proofs.Counts.{taken-less}
-use mathlib.Core.Path.{_≡_, _∙_, ap}
+use mathlib.Core.Path.{_∙_, ap}
 use Prim.Native.Nat.{ℕ}
 use denote.Ref.{now}
 use Rattle.atoms.specs.Word.{_∩_}
 use Rattle.atoms.proofs.GatheredWords.{Gathers, gathers-start, gathers-lt, gathers-next, gathers-end}
-use Rattle.answer_sets.specs.Lent.{uses, USE_BITS, tableOf, inputs, usedInputs}
+use Rattle.answer_sets.specs.Lent.{uses, USE_BITS, usedTable, inputs, usedInputs}
 use borrow.Author.Needs.{needs}
 use Rattle.answer_sets.proofs.uses.used_inputs.Statement.{statement}
 use Rattle.answer_sets.proofs.uses.used_inputs.Tie as tie
 
 abbrev Inv-loop : tie.InvT-loop
-Inv-loop rules rule all₀ rest₀ all rest = Gathers USE_BITS (λ i. inputs rules (tableOf i)) (uses rules rule) all rest
+Inv-loop rules rule all₀ rest₀ all rest = Gathers USE_BITS (λ i. inputs rules (usedTable i)) (uses rules rule) all rest
 
 abbrev μ-loop : tie.MeasureT-loop
 μ-loop rules rule all₀ rest₀ all rest = ones rest
@@ -31,9 +31,11 @@ table-inputs-requires c κs =
 loop-again : tie.Need-loop-again Inv-loop μ-loop
 loop-again c =
     let low = c .before .before .before .before in
-    gathers-next (low .before .before .loop .inv) (low .lowest .ensures .0) (c .drop .ensures)
+    let head = low .before .before in
+    let start = head .before .before .before .before .before in
+    gathers-next (head .loop .inv) (low .lowest .ensures .0) (c .drop .ensures)
     (c .before .before .table-inputs .ensures
-    ∙ ap (inputs (now (low .before .before .before .before .before .before .before .args .rules))) (c .before .before .before .table-of .ensures .0))
+    ∙ ap (inputs (now (start .args .rules))) (c .before .before .before .table-of .ensures .0))
     (c .before .union .ensures)
 
 returns : tie.Need-returns Inv-loop μ-loop

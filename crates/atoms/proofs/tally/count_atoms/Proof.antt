@@ -16,7 +16,9 @@ abbrev μ-loop : tie.MeasureT-loop
 
 -- the second half of the loop's test
 in-range : (c : tie.Then1 Inv-loop μ-loop) → c .before .before .loop .i < length (c .before .before .loop .places)
-in-range c = ltb-true (c .before .before .loop .i) (length (c .before .before .loop .places)) (c .if1 .taken)
+in-range c =
+    let head = c .before .before in
+    ltb-true (head .loop .i) (length (head .loop .places)) (c .if1 .taken)
 
 loop-holds : tie.Need-loop-holds Inv-loop μ-loop
 loop-holds c = refl
@@ -41,8 +43,9 @@ loop-less c = omega (arith, in-range (c .before .before), c .before .before .bef
 
 loop-again : tie.Need-loop-again Inv-loop μ-loop
 loop-again c =
-    length-set (c .before .before .before .before .loop .places) (c .before .before .before .before .loop .i) _
-    ∙ c .before .before .before .before .loop .inv
+    let head = c .before .before .before .before in
+    length-set (head .loop .places) (head .loop .i) _
+    ∙ head .loop .inv
 
 same-length : tie.Need-same-length Inv-loop μ-loop
 same-length c = c .before .before .loop .inv

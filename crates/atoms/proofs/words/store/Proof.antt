@@ -21,11 +21,12 @@ loop-holds c = (omega arith, refl, paste-zero (now (c .args .area)) (c .args .ba
 
 loop-again : tie.Need-loop-again Inv-loop μ-loop
 loop-again c =
-    let at = c .before .before .before .args in
+    let start = c .before .before .before in
+    let at = start .args in
     let loop = c .before .before .loop in (
       omega arith,
       length-set (loop .area) (at .base + loop .i) (getD (now (at .words)) (loop .i) 0) ∙ loop .inv .1,
-      stored-next (now (at .area)) (at .base) (now (at .words)) (loop .area) (loop .i) (c .before .before .before .pre)
+      stored-next (now (at .area)) (at .base) (now (at .words)) (loop .area) (loop .i) (start .pre)
           (c .before .loop-test .taken) (loop .inv .2),
     )
 

@@ -1,7 +1,7 @@
 -- The loop takes the inputs from the lowest on. The measure is how many are left.
 use mathlib.Core.Path.{_∙_, ap}
-use mathlib.Core.Logic.{_⊎_, inl, inr}
-use Prim.Native.Nat.{ℕ, _≤_, _^_}
+use mathlib.Core.Logic.{inl, inr}
+use Prim.Native.Nat.{ℕ, _≤_}
 use native.Mathlib.Omega.{arith}
 use lib.Count.{ones}
 use lib.Pow.{pow-mono}
@@ -41,9 +41,11 @@ unfolding atom
 returns c =
     let one = c .before .before in
     let exit = one .before in
-    sifting-end (exit .before .before .before .fits .inputs .fits) (exit .before .loop .inv)
+    let head = exit .before in
+    let start = head .before .before in
+    sifting-end (start .fits .inputs .fits) (head .loop .inv)
     (elim (exit .loop-test .came) [ inl q ↦ inr (ltb-false _ _ (q .1 .left)) | inr q ↦ inl (q .left) ])
-    (c .cut .ensures ∙ ap (λ (w : ℕ). exit .before .loop .rows ∩ w) (c .before .first2 .ensures ∙ ap below (one .single .ensures)))
+    (c .cut .ensures ∙ ap (λ (w : ℕ). head .loop .rows ∩ w) (c .before .first2 .ensures ∙ ap below (one .single .ensures)))
 
 pub agreeing-rows-spec : {M : Type 1} → statement M
 agreeing-rows-spec =

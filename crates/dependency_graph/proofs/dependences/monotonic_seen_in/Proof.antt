@@ -44,9 +44,10 @@ loop-again : tie.Need-loop-again Inv-loop μ-loop
 unfolding unitsOf
 loop-again c =
     let needed = c .before .before .before .before in
-    let positive = needed .before .before .before .before .before in
+    let at-head = needed .before in
+    let positive = at-head .before .before .before .before in
     picks-next (taken c .before .before .loop .inv) (taken c .lowest .ensures .0) (c .drop .ensures)
-    (rw (needed .union .ensures, positive .positive-body .ensures, needed .before .head .ensures) at (c .before .before .before .are-apart .ensures))
+    (rw (needed .union .ensures, positive .positive-body .ensures, at-head .head .ensures) at (c .before .before .before .are-apart .ensures))
     (c .before .before .single-if .ensures) (c .before .union2 .ensures)
 
 returns : tie.Need-returns Inv-loop μ-loop

@@ -6,11 +6,10 @@ use Rattle.dependency_graph.proofs.head_atoms.fill_heads.Tie as tie
 
 returns : tie.Need-returns
 returns c =
-    let added = c .before .before .before .before .before .before in
-    let joined = added .before .before .before .before .before in
+    let joined = c .before .before .before .before .before .before .before in
     let reached = joined .before .before .before .before .before in
     heads-filled _ (reached .before .before .before .fill-own .ensures) (reached .fill-reach .ensures) (joined .fill-unions .ensures)
-    (added .add-words .ensures) (c .before .before .add-given .ensures)
+    (c .before .before .add-words .ensures)
 
 pub fill-heads-spec : {M : Type 1} → statement M
 fill-heads-spec =
@@ -24,7 +23,6 @@ fill-heads-spec =
     (λ c. search needs)
     (λ c κs. search needs)
     (λ c. search needs)
-    (λ c κs. search needs)
     (λ c κs. search needs)
     (λ c. search needs)
     returns)

@@ -1,25 +1,31 @@
 -- The table is filled from the front (Filled).
-use Prim.Native.Nat.{_-_}
+use mathlib.Core.Path.{ap, _∙_}
+use Prim.Native.Nat.{ℕ, _-_}
 use native.Mathlib.Omega.{arith}
 use lib.ListN.{getD}
 use borrow.Author.Needs.{needs}
+use Rattle.atoms.specs.Word.{_∪_}
 use Rattle.atoms.specs.Bounded.{unionIn}
 use Rattle.dependency_graph.proofs.Filled.{Filling, filling-start, filling-more, filling-end}
 use Rattle.dependency_graph.proofs.head_atoms.fill_unions.Statement.{statement}
 use Rattle.dependency_graph.proofs.head_atoms.fill_unions.Tie as tie
 
 abbrev Inv-loop : tie.InvT-loop
-Inv-loop words which unit-count table₀ u₀ table u =
-    Filling unit-count u (λ i. unionIn unit-count (getD which i 0) (λ v. getD words v 0)) table₀ table
+Inv-loop given words which unit-count table₀ u₀ table u =
+    Filling unit-count u (λ i. given ∪ unionIn unit-count (getD which i 0) (λ v. getD words v 0)) table₀ table
 
 abbrev μ-loop : tie.MeasureT-loop
-μ-loop words which unit-count table₀ u₀ table u = unit-count - u
+μ-loop given words which unit-count table₀ u₀ table u = unit-count - u
 
 loop-holds : tie.Need-loop-holds Inv-loop μ-loop
 loop-holds c = filling-start (omega arith)
 
 loop-again : tie.Need-loop-again Inv-loop μ-loop
-loop-again c = filling-more (c .before .before .before .loop .inv) (c .before .before .loop-test .taken) (c .union-of .ensures)
+loop-again c =
+    let head = c .before .before .before .before in
+    let start = head .before .before .before .before in
+    filling-more (head .loop .inv) (c .before .before .before .loop-test .taken)
+    (c .union .ensures ∙ ap (λ (w : ℕ). start .args .given ∪ w) (c .before .union-of .ensures))
 
 same-length : tie.Need-same-length Inv-loop μ-loop
 same-length c = c .before .loop .inv .so-far .same-length
@@ -36,6 +42,7 @@ fill-unions-spec =
     loop-holds
     (λ c. search needs)
     (λ c. search needs)
+    (λ c κs. search needs)
     (λ c κs. search needs)
     (λ c. search needs)
     (λ c. search needs)

@@ -6,9 +6,9 @@ use Rattle.dependency_graph.proofs.head_atoms.head_atoms.Tie as tie
 
 returns : tie.Need-returns
 returns c =
-    let joined = c .before .before .before .before in
+    let joined = c .before in
     let h = joined .before .before .before .before .before .before .before .fill-heads .ensures in
-    record { heads-are = h .filled; inputs-are = inputs-filled _ h (joined .fill-unions .ensures) (c .before .add-given .ensures) .filled }
+    record { heads-are = h .filled; inputs-are = inputs-filled _ h (joined .fill-unions .ensures) .filled }
 
 pub head-atoms-spec : {M : Type 1} → statement M
 head-atoms-spec =
@@ -17,8 +17,6 @@ head-atoms-spec =
     (λ c. search needs)
     (λ c κs. search needs)
     (λ c. search needs)
-    (λ c. search needs)
-    (λ c κs. search needs)
     (λ c. search needs)
     (λ c κs. search needs)
     returns)

@@ -22,9 +22,11 @@ loop-holds c = (filled-itself (c .before .before .fill-direct .ensures), omega a
 
 loop-again : tie.Need-loop-again Inv-loop μ-loop
 loop-again c =
-    let old = c .before .before .before .before .before .before .loop in (
+    let at-if1 = c .before .before .before .before in
+    let head = at-if1 .before .before in
+    let old = head .loop in (
       filled-same (filled-again (old .inv .0) (c .before .before .open-middle .ensures)) _
-          (via-next _ _ _ (old .table) (c .before .before .before .before .if1 .taken) (old .inv .0 .filled)),
+          (via-next _ _ _ (old .table) (at-if1 .if1 .taken) (old .inv .0 .filled)),
       omega arith,
     )
 
@@ -34,9 +36,11 @@ same-length c = c .before .before .loop .inv .0 .same-length ∙ c .before .befo
 returns : tie.Need-returns Inv-loop μ-loop
 unfolding reach unitsOf
 returns c =
+    let at-fill-direct = c .before .before .before .before .before in
+    let start = at-fill-direct .before .before .before in
     let all : c .before .before .loop .k ≡ c .before .before .before .before .before .before .before .before .args .plan .«unit_count» = omega arith in
-    filled-same (filled-again (c .before .before .before .before .before .fill-direct .ensures) (c .before .before .loop .inv .0)) _
-    (λ u l. ap (λ (k : ℕ). reachVia (unitsOf (c .before .before .before .before .before .before .before .before .args .plan)) k u) all)
+    filled-same (filled-again (at-fill-direct .fill-direct .ensures) (c .before .before .loop .inv .0)) _
+    (λ u l. ap (λ (k : ℕ). reachVia (unitsOf (start .args .plan)) k u) all)
 
 pub fill-reach-spec : {M : Type 1} → statement M
 fill-reach-spec =

@@ -15,9 +15,11 @@ returns-2 : tie.Need-returns-2
 unfolding unitsOf
 returns-2 c =
     let waits = c .before .before .before .before in
+    let at-are-apart = waits .before in
+    let at-single = at-are-apart .before in
     (rw (c .before .cut .ensures, c .before .before .first .ensures) at (c .is-subset .ensures))
     ∙ ready-of-waiting _ _ _
-    (lacks-of-test _ _ (waits .before .before .single .ensures) (waits .before .are-apart .ensures) (not-false _ (waits .if1 .left)))
+    (lacks-of-test _ _ (at-single .single .ensures) (at-are-apart .are-apart .ensures) (not-false _ (waits .if1 .left)))
 
 pub is-ready-spec : {M : Type 1} → statement M
 is-ready-spec =

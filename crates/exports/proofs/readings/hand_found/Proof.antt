@@ -1,16 +1,18 @@
 -- By the two cases of what was found.
 use mathlib.Core.Path.{sym, ap, _∙_}
 use borrow.Author.Needs.{needs}
-use Rattle.packed_decimal.specs.declared.largest.Found.{Found}
+use Rattle.packed_decimal.specs.declared.largest.LargestFound.{LargestFound}
 use Rattle.exports.specs.Readings.{foundCode, foundWords}
 use Rattle.exports.proofs.readings.hand_found.Statement.{statement}
 use Rattle.exports.proofs.readings.hand_found.Tie as tie
 
 returns-2 : tie.Need-returns-2
 returns-2 c =
-    let is-at = c .before .before .before .before .before .what .given .1 in
-    let found = c .before .before .before .before .before .before .before .before .args .found .now in
-    (ap foundCode (sym is-at), c .before .before .write-pair .ensures ∙ ap (λ (what : Found). foundWords what found) (sym is-at))
+    let at-what = c .before .before .before .before .before in
+    let start = at-what .before .before .before in
+    let is-at = at-what .what .given .1 in
+    let found = start .args .found .now in
+    (ap foundCode (sym is-at), c .before .before .write-pair .ensures ∙ ap (λ (what : LargestFound). foundWords what found) (sym is-at))
 
 pub hand-found-spec : {M : Type 1} → statement M
 hand-found-spec =

@@ -13,7 +13,9 @@ returns c =
 
 returns-2 : tie.Need-returns-2
 returns-2 c =
-    reading-handed (c .before .before .before .before .to-reading .ensures) (c .before .before .before .before .before .asked .ensures)
+    let at-to-reading = c .before .before .before .before in
+    let at-asked = at-to-reading .before in
+    reading-handed (at-to-reading .to-reading .ensures) (at-asked .asked .ensures)
     (c .refused-code .ensures ∙ ap readingCode (sym (c .before .before .refusal .given .1)))
 
 pub lucarnecress-reading-of-spec : {M : Type 1} → statement M

@@ -16,9 +16,10 @@ returns-2 : tie.Need-returns-2
 returns-2 c =
     let said = c .before .before in
     let made = said .before in
-    let test = made .before .before .before in (
+    let at-if1 = made .before .before in
+    let test = at-if1 .before in (
       exceed-asked (atom-lacks (test .before .single .ensures) (test .are-apart .ensures)
-          (not-false (test .are-apart .result) (made .before .before .if1 .left)))
+          (not-false (test .are-apart .result) (at-if1 .if1 .left)))
           (made .with-atom .ensures) (said .ask .ensures .0),
       said .ask .ensures .1,
     )

@@ -28,18 +28,20 @@ exceed-requires c κs = (c .before .before .loop .inv .0, c .before .loop-test .
 returns : tie.Need-returns Inv-loop μ-loop
 returns c =
     let said = c .before .before .before .before .before in
-    let at = said .before .before .before in (
-      first-at (said .before .before .loop-test .taken) (met-as (c .before .found .given .1) (said .exceed .ensures .0)) (at .loop .inv .1),
+    let test = said .before .before in
+    let at = test .before in (
+      first-at (test .loop-test .taken) (met-as (c .before .found .given .1) (said .exceed .ensures .0)) (at .loop .inv .1),
       said .exceed .ensures .1,
     )
 
 loop-again : tie.Need-loop-again Inv-loop μ-loop
 loop-again c =
     let said = c .before .before .before .before in
-    let at = said .before .before .before in (
+    let test = said .before .before in
+    let at = test .before in (
       said .exceed .ensures .1,
       above-more (at .loop .inv .1) (none-as (c .enum-told .given .1) (said .exceed .ensures .0)),
-      omega (arith, said .before .before .loop-test .taken),
+      omega (arith, test .loop-test .taken),
       said .exceed .kept .1 .1 .0 ∙ at .loop .inv .3,
     )
 

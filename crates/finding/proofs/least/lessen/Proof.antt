@@ -30,9 +30,10 @@ sink-requires c κs =
 loop-again : tie.Need-loop-again Inv-loop μ-loop
 loop-again c =
     let sunk = c .before .before in
-    let at = sunk .before .before .before in (
+    let test = sunk .before .before in
+    let at = test .before in (
       sunk .sink .ensures .1,
-      lessening-step (at .loop .inv .1) (omega (arith, sunk .before .before .loop-test .taken)) (sunk .sink .ensures .0),
+      lessening-step (at .loop .inv .1) (omega (arith, test .loop-test .taken)) (sunk .sink .ensures .0),
       at .loop .inv .2,
       sunk .sink .kept .1 .1 .0 ∙ at .loop .inv .3,
     )

@@ -7,7 +7,7 @@ use Rattle.finding.proofs.least.sink.Tie as tie
 returns : tie.Need-returns
 returns c =
     let test = c .before in
-    let start = c .before .before .before .before .before .before in
+    let start = test .before .before .before .before .before in
     (sunk-lacks (start .pre .1) (atom-lacks (test .before .single .ensures) (test .are-apart .ensures) (c .if1 .taken)), start .pre .0)
 
 returns-2 : tie.Need-returns-2
@@ -19,11 +19,12 @@ returns-3 : tie.Need-returns-3
 returns-3 c =
     let said = c .before .before .before .before in
     let made = said .before in
-    let test = made .before .before .before in
-    let start = test .before .before .before .before .before in (
-      sunk-none (start .pre .1) (atom-there (test .before .single .ensures) (test .are-apart .ensures) (made .before .before .if1 .left))
-          (made .without-atom .ensures)
-          (nobody (none-as (c .enum-told .given .1) (said .ask .ensures .0))),
+    let at-if1 = made .before .before in
+    let test = at-if1 .before in
+    let at-single = test .before in
+    let start = at-single .before .before .before .before in (
+      sunk-none (start .pre .1) (atom-there (at-single .single .ensures) (test .are-apart .ensures) (at-if1 .if1 .left))
+          (made .without-atom .ensures) (nobody (none-as (c .enum-told .given .1) (said .ask .ensures .0))),
       said .ask .ensures .1,
     )
 

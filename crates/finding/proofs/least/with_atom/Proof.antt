@@ -6,9 +6,10 @@ use Rattle.finding.proofs.least.with_atom.Tie as tie
 
 returns : tie.Need-returns
 returns c =
-    let start = c .before .before .before .before .before .before in
-    like-with (start .args .p) (start .args .i) (start .fits .p .fits) (c .before .before .before .before .before .first .ensures)
-    (c .before .before .before .before .outside .ensures)
+    let at-outside = c .before .before .before .before in
+    let at-first = at-outside .before in
+    let start = at-first .before in
+    like-with (start .args .p) (start .args .i) (start .fits .p .fits) (at-first .first .ensures) (at-outside .outside .ensures)
     (c .before .before .before .cut .ensures) (c .without .ensures) (c .before .before .single .ensures) (c .before .union .ensures)
 
 pub with-atom-spec : {M : Type 1} → statement M

@@ -6,9 +6,10 @@ use Rattle.finding.proofs.least.without_atom.Tie as tie
 
 returns : tie.Need-returns
 returns c =
-    let start = c .before .before .before .before .before .before in
-    like-without (start .args .p) (start .args .i) (start .fits .p .fits) (c .before .before .before .before .before .first .ensures)
-    (c .before .before .before .before .outside .ensures)
+    let at-outside = c .before .before .before .before in
+    let at-first = at-outside .before in
+    let start = at-first .before in
+    like-without (start .args .p) (start .args .i) (start .fits .p .fits) (at-first .first .ensures) (at-outside .outside .ensures)
     (c .before .before .before .cut .ensures) (c .before .before .without .ensures) (c .before .single .ensures) (c .union .ensures)
 
 pub without-atom-spec : {M : Type 1} → statement M

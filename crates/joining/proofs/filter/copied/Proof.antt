@@ -1,11 +1,10 @@
 -- The loop carries the words that are copied. The measure is how many are left.
 use mathlib.Core.Path.{_≡_, sym, _∙_}
-use Prim.Native.Nat.{ℕ, _-_, _≤_}
+use Prim.Native.Nat.{ℕ, _-_}
 use native.Mathlib.Omega.{arith}
 use lib.ListN.{length, length-replicate}
 use Rattle.joining.specs.Filter.{FILTER_WORDS}
 use Rattle.atoms.proofs.StoredWords.{Copying, copying-next, copying-end}
-use borrow.Author.Needs.{needs}
 use Rattle.joining.proofs.filter.copied.Statement.{statement}
 use Rattle.joining.proofs.filter.copied.Tie as tie
 

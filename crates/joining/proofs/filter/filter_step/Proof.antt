@@ -9,17 +9,21 @@ use Rattle.joining.proofs.filter.filter_step.Tie as tie
 join-step-requires : tie.Need-join-step-requires
 join-step-requires c κs =
     let test = c .before .before .before in
-    let start = test .before .before .before .before .before .before in (
-      start .pre .0 .table-long (start .args .v) (numbered-by _ _ (test .before .single .ensures) (test .are-apart .ensures) (c .before .before .if1 .left)),
+    let at-single = test .before in
+    let start = at-single .before .before .before .before .before in (
+      start .pre .0 .table-long (start .args .v) (numbered-by _ _ (at-single .single .ensures) (test .are-apart .ensures) (c .before .before .if1 .left)),
       omega (arith, start .pre .1, start .pre .2 .long),
     )
 
 returns-2 : tie.Need-returns-2
 returns-2 c =
     let step = c .before .before in
-    let test = step .before .before .before .before in
-    let pre = test .before .before .before .before .before .before .pre in
-    let here = numbered-by _ _ (test .before .single .ensures) (test .are-apart .ensures) (step .before .before .before .if1 .left) in (
+    let at-if1 = step .before .before .before in
+    let test = at-if1 .before in
+    let at-single = test .before in
+    let start = at-single .before .before .before .before .before in
+    let pre = start .pre in
+    let here = numbered-by _ _ (at-single .single .ensures) (test .are-apart .ensures) (at-if1 .if1 .left) in (
       step-narrows here (pre .2) (step .join-step .ensures .0) (step .join-step .ensures .1),
       step-filtered here (pre .2) (step .join-step .ensures .0) (step .join-step .ensures .1),
     )

@@ -4,14 +4,15 @@ use Prim.Native.Nat.{ℕ, _<_}
 use lib.Count.{ones}
 use Rattle.atoms.specs.Word.{Has, _⊆_, _∩_, below}
 use Rattle.atoms.proofs.Sets.{subset-refl, subset-trans, cut-left, cut-right, below-lt, lt-of-has}
-use Rattle.atoms.proofs.Counts.{taken-less, taken-within}
+use Rattle.atoms.proofs.Counts.{taken-less}
+use Rattle.atoms.proofs.TakenNumbers.{Carrying, carrying-start, carrying-next, taken-lent}
 use borrow.Author.Needs.{needs}
 use Rattle.plan.specs.Limits.{MAX_UNITS}
 use Rattle.joining.proofs.nearest.nearest.Statement.{statement}
 use Rattle.joining.proofs.nearest.nearest.Tie as tie
 
 abbrev Inv-loop : tie.InvT-loop
-Inv-loop heads predecessors near₀ rest₀ near rest = (rest ⊆ near₀) × (near ⊆ near₀)
+Inv-loop heads predecessors near₀ rest₀ near rest = Carrying near₀ rest (near ⊆ near₀)
 
 abbrev μ-loop : tie.MeasureT-loop
 μ-loop heads predecessors near₀ rest₀ near rest = ones rest
@@ -26,39 +27,25 @@ started c {i} h =
 inside : (c : tie.After-cut Inv-loop μ-loop) → {i : ℕ} → Has (c .cut .result) i → i < MAX_UNITS
 inside c h = below-lt MAX_UNITS (cut-right (c .before .before .before .args .predecessors) (below MAX_UNITS) (started c h))
 
-loop-holds : tie.Need-loop-holds Inv-loop μ-loop
-loop-holds c = (subset-refl, subset-refl)
-
-lowest-requires : tie.Need-lowest-requires Inv-loop μ-loop
-lowest-requires c κs = c .loop-test .taken
-
 without-covered-requires : tie.Need-without-covered-requires Inv-loop μ-loop
 without-covered-requires c κs =
     let old = c .before .before .loop in
     let start = c .before .before .before in (
       start .before .before .before .pre,
-      lt-of-has (old .near) MAX_UNITS (λ i h. inside start (old .inv .1 .each i h)),
-      inside start (old .inv .0 .each (c .lowest .result) (c .lowest .ensures .0 .here)),
+      lt-of-has (old .near) MAX_UNITS (λ i h. inside start (old .inv .fact .each i h)),
+      inside start (taken-lent (old .inv .within) (c .lowest .ensures .0)),
     )
-
-drop-requires : tie.Need-drop-requires Inv-loop μ-loop
-drop-requires c κs = c .before .lowest .ensures .1
-
-loop-less : tie.Need-loop-less Inv-loop μ-loop
-loop-less c = taken-less (c .before .before .lowest .ensures .0) (c .drop .ensures)
 
 loop-again : tie.Need-loop-again Inv-loop μ-loop
 loop-again c =
-    let inv = c .before .before .before .before .loop .inv in (
-      taken-within (inv .0) (c .before .before .lowest .ensures .0) (c .drop .ensures),
-      subset-trans (c .before .without-covered .ensures) (inv .1),
-    )
+    carrying-next (c .before .before .before .before .loop .inv) (c .before .before .lowest .ensures .0) (c .drop .ensures)
+    (λ h f. subset-trans (c .before .without-covered .ensures) f)
 
 returns : tie.Need-returns Inv-loop μ-loop
 returns c =
     let start = c .before .before in
     record {
-      each = λ i h. cut-left (start .before .before .before .args .predecessors) (below MAX_UNITS) (started start (c .before .loop .inv .1 .each i h));
+      each = λ i h. cut-left (start .before .before .before .args .predecessors) (below MAX_UNITS) (started start (c .before .loop .inv .fact .each i h));
     }
 
 pub nearest-spec : {M : Type 1} → statement M
@@ -69,10 +56,10 @@ nearest-spec =
     μ-loop
     (λ c κs. search needs)
     (λ c κs. search needs)
-    loop-holds
-    lowest-requires
+    (λ c. carrying-start subset-refl)
+    (λ c κs. c .loop-test .taken)
     without-covered-requires
-    drop-requires
-    loop-less
+    (λ c κs. c .before .lowest .ensures .1)
+    (λ c. taken-less (c .before .before .lowest .ensures .0) (c .drop .ensures))
     loop-again
     returns)

@@ -10,8 +10,9 @@ use Rattle.joining.proofs.nearest.without_covered.Tie as tie
 
 is-covered-requires : tie.Need-is-covered-requires
 is-covered-requires c κs =
-    let pre = c .before .before .before .pre in
-    let at = c .before .before .before .args in
+    let start = c .before .before .before in
+    let pre = start .pre in
+    let at = start .args in
     (pre .0, subst (λ (w : ℕ). w < 2 ^ MAX_UNITS) (sym (c .before .drop .ensures)) (without-fits (at .units) (atom (at .v)) MAX_UNITS (pre .1)))
 
 returns : tie.Need-returns

@@ -14,11 +14,13 @@ returns c =
     let test = c .before .before in
     let found = test .before .before .before in
     let union = found .before .before in
-    let at = union .before .before .before .before .args in (
+    let at-cut = union .before in
+    let start = at-cut .before .before .before in
+    let at = start .args in (
       subst (Narrows (Picked (now (at .words)) (at .base) (at .heads) (now (at .filter)) (at .at)) (at .s)) (sym (c .clash .ensures))
-          (list-clash _ _ _ _ _ _ _ _ _ _ (union .before .cut .ensures) (union .union .ensures) (found .sift-list .ensures)
+          (list-clash _ _ _ _ _ _ _ _ _ _ (at-cut .cut .ensures) (union .union .ensures) (found .sift-list .ensures)
           (sym (test .is-subset .ensures) ∙ not-true (test .is-subset .result) (c .before .if1 .taken))),
-      list-refined _ _ _ _ _ _ _ _ _ _ (union .before .cut .ensures) (union .union .ensures) (found .sift-list .ensures),
+      list-refined _ _ _ _ _ _ _ _ _ _ (at-cut .cut .ensures) (union .union .ensures) (found .sift-list .ensures),
     )
 
 returns-2 : tie.Need-returns-2

@@ -24,9 +24,9 @@ inside c = omega (arith, c .loop-test .taken, c .before .loop .inv .same-length,
 loop-again : tie.Need-loop-again Inv-loop μ-loop
 loop-again c =
     let in-loop = c .before .before in
-    listing-next _ _ _ _ _ _ _ _ _ _ (in-loop .loop-test .taken)
-    (omega (arith, inside in-loop, in-loop .before .loop .inv .same-length))
-    (in-loop .before .loop .inv) (c .sift-block .ensures)
+    let head = in-loop .before in
+    listing-next _ _ _ _ _ _ _ _ _ _ (in-loop .loop-test .taken) (omega (arith, inside in-loop, head .loop .inv .same-length))
+    (head .loop .inv) (c .sift-block .ensures)
 
 pub sift-list-spec : {M : Type 1} → statement M
 sift-list-spec =

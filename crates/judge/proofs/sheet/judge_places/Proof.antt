@@ -25,18 +25,23 @@ returns : tie.Need-returns Inv-loop μ-loop
 returns c =
     let test = c .before in
     let word = test .before .before .before .before in
-    let turn = word .before .before in
-    let plan = turn .before .before .before .args .t1 in
-    let b = tested-at plan _ (turn .loop .place) (test .is-answer-set .ensures) (turn .before .first .ensures) (word .read-word .ensures) in
-    sym (places-first plan _ _ (word .before .loop-test .taken) (turn .loop .inv) (sym b ∙ not-true _ (c .if1 .taken)))
+    let test-2 = word .before in
+    let turn = test-2 .before in
+    let at-first = turn .before in
+    let start = at-first .before .before in
+    let plan = start .args .t1 in
+    let b = tested-at plan _ (turn .loop .place) (test .is-answer-set .ensures) (at-first .first .ensures) (word .read-word .ensures) in
+    sym (places-first plan _ _ (test-2 .loop-test .taken) (turn .loop .inv) (sym b ∙ not-true _ (c .if1 .taken)))
 
 loop-again : tie.Need-loop-again Inv-loop μ-loop
 loop-again c =
     let test = c .before in
     let word = test .before .before .before .before in
     let turn = word .before .before in
-    let plan = turn .before .before .before .args .t1 in
-    let b = tested-at plan _ (turn .loop .place) (test .is-answer-set .ensures) (turn .before .first .ensures) (word .read-word .ensures) in
+    let at-first = turn .before in
+    let start = at-first .before .before in
+    let plan = start .args .t1 in
+    let b = tested-at plan _ (turn .loop .place) (test .is-answer-set .ensures) (at-first .first .ensures) (word .read-word .ensures) in
     passed-more plan _ _ (turn .loop .inv) (sym b ∙ not-false _ (c .if1 .left))
 
 returns-2 : tie.Need-returns-2 Inv-loop μ-loop

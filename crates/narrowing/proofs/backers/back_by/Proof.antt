@@ -10,11 +10,15 @@ returns : tie.Need-returns
 returns c =
     let m = c .before .before in
     let w = m .before .before .before in
+    let at-head = w .before in
+    let at-union = at-head .before in
+    let at-negative-body = at-union .before in
+    let at-positive-body = at-negative-body .before in
     rule-backs _ _ _ _ _ _
     (w .without .ensures
-    ∙ ap₂ _∖_ (w .before .head .ensures)
-    (w .before .before .union .ensures
-    ∙ ap₂ _∪_ (w .before .before .before .before .positive-body .ensures) (w .before .before .before .negative-body .ensures)))
+    ∙ ap₂ _∖_ (at-head .head .ensures)
+    (at-union .union .ensures
+    ∙ ap₂ _∪_ (at-positive-body .positive-body .ensures) (at-negative-body .negative-body .ensures)))
     (m .before .single .ensures) (m .mark .ensures)
 
 pub back-by-spec : {M : Type 1} → statement M

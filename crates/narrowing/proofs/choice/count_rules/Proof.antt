@@ -52,14 +52,16 @@ stopped c =
 
 loop-again : tie.Need-loop-again Inv-loop μ-loop
 loop-again c =
+    let at-count-rule = c .before .before .before .before .before in
+    let at-if1 = at-count-rule .before .before .before in
     let test = tested c in
     let at = test .before in
     let low = taken at in
     let inv = low .before .before .loop .inv in
-    let counted = c .before .before .before .before .before .count-rule .ensures in (
+    let counted = at-count-rule .count-rule .ensures in (
       taking-next (inv .0) (low .lowest .ensures .0) (c .drop .ensures) (λ j d. d)
           (stands-no-stop (now (start low .args .rules)) (low .lowest .result) (start low .args .s) (at .standing-of .result) (at .standing-of .ensures)
-          (λ e. true≢false (sym (test .is-stop .ensures .1 e) ∙ c .before .before .before .before .before .before .before .before .if1 .left))),
+          (λ e. true≢false (sym (test .is-stop .ensures .1 e) ∙ at-if1 .if1 .left))),
       counted .0 ∙ inv .1,
       counted .1 ∙ inv .2,
     )

@@ -10,19 +10,27 @@ returns c = met-spent _ _ _ (c .before .before .head .ensures) (c .before .are-a
 stopped : tie.Need-returns-2
 stopped c =
     let known = c .before .before .before .before in
-    held-stopped _ _ _ (known .before .before .before .head .ensures) (known .before .before .are-apart .ensures) (known .before .if1 .left)
+    let at-if1 = known .before in
+    let at-are-apart = at-if1 .before in
+    let at-head = at-are-apart .before in
+    held-stopped _ _ _ (at-head .head .ensures) (at-are-apart .are-apart .ensures) (at-if1 .if1 .left)
     (known .body-known .ensures) (c .before .before .enum-told3 .given .1) (c .before .is-subset .ensures) (c .if2 .taken)
 
 still-open : tie.Need-returns-4
 still-open c =
     let known = c .before .before in
-    open-live _ _ _ (known .before .before .before .head .ensures) (known .before .before .are-apart .ensures) (known .before .if1 .left)
+    let at-are-apart = known .before .before in
+    let at-head = at-are-apart .before in
+    open-live _ _ _ (at-head .head .ensures) (at-are-apart .are-apart .ensures) (known .before .if1 .left)
     (known .body-known .ensures) (c .enum-told2 .given .1)
 
 live : tie.Need-returns-5
 live c =
     let known = c .before .before .before .before in
-    held-live _ _ _ (known .before .before .before .head .ensures) (known .before .before .are-apart .ensures) (known .before .if1 .left)
+    let at-if1 = known .before in
+    let at-are-apart = at-if1 .before in
+    let at-head = at-are-apart .before in
+    held-live _ _ _ (at-head .head .ensures) (at-are-apart .are-apart .ensures) (at-if1 .if1 .left)
     (known .body-known .ensures) (c .before .before .enum-told3 .given .1) (c .before .is-subset .ensures) (c .if2 .left)
 
 pub standing-of-spec : {M : Type 1} → statement M

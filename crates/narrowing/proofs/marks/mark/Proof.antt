@@ -1,12 +1,12 @@
 -- The loop carries that the word was noted for the atoms that are done. The measure is how many are left.
-use mathlib.Core.Path.{_≡_, sym, subst, _∙_}
+use mathlib.Core.Path.{sym, subst}
 use Prim.Native.Nat.{ℕ, _+_, _<_}
 use native.Mathlib.Omega.{arith}
 use lib.Count.{ones}
 use lib.ListN.{length, set}
 use denote.Ref.{now}
 use borrow.Author.Needs.{needs}
-use Rattle.atoms.specs.Word.{_⊆_, _∖_}
+use Rattle.atoms.specs.Word.{_∖_}
 use Rattle.atoms.proofs.Counts.{taken-less}
 use Rattle.narrowing.specs.Marks.{Marked}
 use Rattle.narrowing.proofs.MarkedTables.{marked-start, marked-next, marked-end}
@@ -57,13 +57,14 @@ loop-less c = taken-less (c .before .before .before .lowest .ensures .0) (c .dro
 loop-again : tie.Need-loop-again Inv-loop μ-loop
 loop-again c =
     let low = c .before .before .before in
-    let old = low .before .before .loop in
-    let at = low .before .before .before .before .args in
+    let head = low .before .before in
+    let start = head .before .before in
+    let old = head .loop in
+    let at = start .args in
     subst
     (λ (rest : ℕ).
     Marked (at .base) (at .which ∖ rest) (at .word) (now (at .table)) (set (old .table) (at .base + low .lowest .result) (c .before .union .result)))
-    (sym (c .drop .ensures))
-    (marked-next _ _ _ _ (low .lowest .result) _ _ _ (inside low) (c .before .union .ensures) (old .inv))
+    (sym (c .drop .ensures)) (marked-next _ _ _ _ (low .lowest .result) _ _ _ (inside low) (c .before .union .ensures) (old .inv))
 
 same-length : tie.Need-same-length Inv-loop μ-loop
 same-length c = c .before .loop .inv .same-length

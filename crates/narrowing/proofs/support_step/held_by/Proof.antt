@@ -14,7 +14,10 @@ use Rattle.narrowing.proofs.support_step.held_by.Tie as tie
 returns : tie.Need-returns
 returns c =
     let c4 = c .before .before .before .before in
-    let at = c4 .before .before .before .before .args in
+    let at-drop = c4 .before in
+    let at-head = at-drop .before in
+    let start = at-head .before .before in
+    let at = start .args in
     subst₂ (λ (u d : ℕ). Narrows (λ M. Supports (lent (now (at .rules))) (at .rule) M (at .atom)) (at .s) (record { up = u; dropped = d }))
     (sym (c .before .union2 .ensures ∙ ap (λ (w : ℕ). at .s .up ∪ w) (c .before .before .positive-body .ensures)))
     (sym
@@ -22,7 +25,7 @@ returns c =
     ∙ ap (λ (w : ℕ). at .s .dropped ∪ w)
     (c .before .before .before .union .ensures
     ∙ ap₂ _∪_ (c4 .negative-body .ensures)
-    (c4 .before .drop .ensures ∙ ap (λ (w : ℕ). w ∖ atom (at .atom)) (c4 .before .before .head .ensures)))))
+    (at-drop .drop .ensures ∙ ap (λ (w : ℕ). w ∖ atom (at .atom)) (at-head .head .ensures)))))
     (supports-narrows (now (at .rules)) (at .rule) (at .atom) (at .s))
 
 pub held-by-spec : {M : Type 1} → statement M

@@ -1,8 +1,4 @@
 -- No rule is left, or one alone of an atom that is up.
-use mathlib.Core.Path.{sym, subst, _∙_}
-use Prim.Native.Nat.{ℕ}
-use denote.Ref.{now}
-use Rattle.atoms.specs.Word.{Has}
 use Rattle.atoms.proofs.Sets.{without-left, decides-has}
 use Rattle.atoms.proofs.Singles.{has-of-test}
 use Rattle.narrowing.proofs.SupportSteps.{none-left, one-left, supporters-lent}
@@ -31,9 +27,11 @@ held-by-requires c κs =
 returns-4 : tie.Need-returns-4
 returns-4 c =
     let low = c .before .before .before .before in
-    let n = low .before .before .before .before .before in
-    let apart = low .before .before in
-    let up = has-of-test _ _ (apart .before .single2 .ensures) (apart .are-apart .ensures) (low .before .if2 .left) in
+    let at-if2 = low .before in
+    let apart = at-if2 .before in
+    let at-single2 = apart .before in
+    let n = at-single2 .before .before in
+    let up = has-of-test _ _ (at-single2 .single2 .ensures) (apart .are-apart .ensures) (at-if2 .if2 .left) in
     one-left _ _ _ _ (n .supporters .ensures) (low .lowest .result) _ _ (decides-has _ _ .yes up) (c .before .before .before .drop .ensures)
     (c .before .before .supporters2 .ensures) (c .before .if3 .left) (c .held-by .ensures)
 

@@ -3,7 +3,6 @@ use lib.Count.{ones}
 use Rattle.atoms.proofs.Counts.{taken-less}
 use Rattle.narrowing.specs.Support.{Supporters}
 use Rattle.narrowing.proofs.SupportSteps.{supporters-all, supporters-next}
-use borrow.Author.Needs.{needs}
 use mathlib.Core.Path.{subst}
 use Rattle.narrowing.proofs.support_step.supporters.Statement.{statement}
 use Rattle.narrowing.proofs.support_step.supporters.Tie as tie
@@ -20,7 +19,8 @@ loop-holds c = supporters-all
 may-support-requires : tie.Need-may-support-requires Inv-loop μ-loop
 may-support-requires c κs =
     let at = c .before .before in
-    (at .before .before .pre .0 .each _ (at .loop .inv .within .each _ (c .lowest .ensures .0 .here)), at .before .before .pre .1)
+    let start = at .before .before in
+    (start .pre .0 .each _ (at .loop .inv .within .each _ (c .lowest .ensures .0 .here)), start .pre .1)
 
 returns : tie.Need-returns Inv-loop μ-loop
 returns c = c .before .before .before .before .loop .inv

@@ -20,8 +20,10 @@ spares-requires c κs =
 
 loop-again : tie.Need-loop-again Inv-loop μ-loop
 loop-again c =
-    taking-next (c .before .before .before .before .before .loop .inv) (c .before .before .before .lowest .ensures .0) (c .drop .ensures)
-    (λ j d. d) (c .before .before .spares .ensures (not-false (c .before .before .spares .result) (c .before .if1 .left)))
+    let at-spares = c .before .before in
+    let head = at-spares .before .before .before in
+    taking-next (head .loop .inv) (at-spares .before .lowest .ensures .0) (c .drop .ensures)
+    (λ j d. d) (at-spares .spares .ensures (not-false (at-spares .spares .result) (c .before .if1 .left)))
 
 pub is-unfounded-spec : {M : Type 1} → statement M
 is-unfounded-spec =

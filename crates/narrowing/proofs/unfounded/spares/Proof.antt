@@ -13,11 +13,13 @@ use Rattle.narrowing.proofs.unfounded.spares.Tie as tie
 returns : tie.Need-returns
 returns c =
     let own = c .before .before in
-    let at = own .before .before .before .before .args in
+    let at-head = own .before .before in
+    let start = at-head .before .before in
+    let at = start .args in
     λ _.
     spares-head (now (at .rules)) (at .rule) (at .x) (at .s) _
-    (own .without .ensures ∙ ap (λ (w : ℕ). own .before .before .head .result ∖ w) (own .before .negative-body .ensures)
-    ∙ ap (λ (w : ℕ). w ∖ negative (now (at .rules)) (at .rule)) (own .before .before .head .ensures))
+    (own .without .ensures ∙ ap (λ (w : ℕ). at-head .head .result ∖ w) (own .before .negative-body .ensures)
+    ∙ ap (λ (w : ℕ). w ∖ negative (now (at .rules)) (at .rule)) (at-head .head .ensures))
     (sym (c .before .are-apart .ensures) ∙ c .if1 .taken)
 
 returns-2 : tie.Need-returns-2

@@ -30,8 +30,9 @@ larger-requires c κs = (
 
 loop-again : tie.Need-loop-again Inv-loop μ-loop
 loop-again c =
-    seeking-more (c .before .before .before .before .before .loop .inv) (c .before .before .before .word-at .ensures)
-    (c .before .before .before .before .loop-test .taken) (omega arith)
+    let test = c .before .before .before .before in
+    let head = test .before in
+    seeking-more (head .loop .inv) (c .before .before .before .word-at .ensures) (test .loop-test .taken) (omega arith)
     (sym (c .before .before .is-reading .ensures) ∙ not-false _ (c .before .if1 .left)) (c .larger .ensures)
 
 returns-2 : tie.Need-returns-2 Inv-loop μ-loop

@@ -11,12 +11,13 @@ use Rattle.packed_decimal.proofs.limit.compare.Tie as tie
 
 returns : tie.Need-returns
 returns c =
-    held _ _
-    (sym (compared-refused (c .before .before .args .word) (c .before .before .args .limit) (c .before .first-bad .ensures) (c .if1 .taken)))
+    let start = c .before .before in
+    held _ _ (sym (compared-refused (start .args .word) (start .args .limit) (c .before .first-bad .ensures) (c .if1 .taken)))
 
 order-of-requires : tie.Need-order-of-requires
 order-of-requires c κs =
-    pair-good (c .before .before .args .word) (c .before .before .args .limit) (omega (arith, c .before .first-bad .ensures, c .if1 .left))
+    let start = c .before .before in
+    pair-good (start .args .word) (start .args .limit) (omega (arith, c .before .first-bad .ensures, c .if1 .left))
 
 returns-2 : tie.Need-returns-2
 returns-2 c =

@@ -8,7 +8,8 @@ use Rattle.packed_decimal.proofs.pair.first_bad.Tie as tie
 
 returns : tie.Need-returns
 returns c =
-    sym (pair-first (c .before .before .args .a) (c .before .before .args .b) (sym (c .before .is-reading .ensures) ∙ not-true _ (c .if1 .taken)))
+    let start = c .before .before in
+    sym (pair-first (start .args .a) (start .args .b) (sym (c .before .is-reading .ensures) ∙ not-true _ (c .if1 .taken)))
 
 returns-2 : tie.Need-returns-2
 returns-2 c =

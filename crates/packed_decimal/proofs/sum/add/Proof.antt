@@ -11,12 +11,13 @@ use Rattle.packed_decimal.proofs.sum.add.Tie as tie
 
 returns : tie.Need-returns
 returns c =
-    summed _ _
-    (sym (added-refused (c .before .before .args .a) (c .before .before .args .b) (c .before .first-bad .ensures) (c .if1 .taken)))
+    let start = c .before .before in
+    summed _ _ (sym (added-refused (start .args .a) (start .args .b) (c .before .first-bad .ensures) (c .if1 .taken)))
 
 sum-of-requires : tie.Need-sum-of-requires
 sum-of-requires c κs =
-    pair-good (c .before .before .args .a) (c .before .before .args .b) (omega (arith, c .before .first-bad .ensures, c .if1 .left))
+    let start = c .before .before in
+    pair-good (start .args .a) (start .args .b) (omega (arith, c .before .first-bad .ensures, c .if1 .left))
 
 returns-2 : tie.Need-returns-2
 returns-2 c =

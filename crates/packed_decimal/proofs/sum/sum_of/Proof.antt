@@ -29,18 +29,22 @@ add-total c =
 
 returns-3 : tie.Need-returns-3
 returns-3 c =
-    let start = c .before .before .before .before .before .before in
-    let na = c .before .before .before .before .before .if1 .left in
-    let nb = c .before .before .before .before .if2 .left in
+    let at-if2 = c .before .before .before .before in
+    let at-if1 = at-if2 .before in
+    let start = at-if1 .before in
+    let na = at-if1 .if1 .left in
+    let nb = at-if2 .if2 .left in
     sym
     (words-carry (start .args .a) (start .args .b) (start .pre .0) (start .pre .1) na nb _ _ _ (c .before .before .before .unpack .ensures)
     (c .before .before .unpack2 .ensures) (c .before .if3 .taken) (c .pack .ensures))
 
 returns-4 : tie.Need-returns-4
 returns-4 c =
-    let start = c .before .before .before .before .before .before in
-    let na = c .before .before .before .before .before .if1 .left in
-    let nb = c .before .before .before .before .if2 .left in
+    let at-if2 = c .before .before .before .before in
+    let at-if1 = at-if2 .before in
+    let start = at-if1 .before in
+    let na = at-if1 .if1 .left in
+    let nb = at-if2 .if2 .left in
     sym
     (words-plain (start .args .a) (start .args .b) (start .pre .0) (start .pre .1) na nb _ _ _ (c .before .before .before .unpack .ensures)
     (c .before .before .unpack2 .ensures) (c .before .if3 .left) (c .pack2 .ensures))

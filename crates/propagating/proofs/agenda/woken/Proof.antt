@@ -9,9 +9,12 @@ returns c = woken-none _ _ _
 
 returns-3 : tie.Need-returns-3
 returns-3 c =
-    let new = c .before .before .before .before .before .before in
-    woken-new _ _ _ _ _ _ _ (new .before .before .undecided .ensures) (new .before .undecided2 .ensures) (new .without .ensures)
-    (c .before .before .before .before .before .if2 .left)
+    let at-if2 = c .before .before .before .before .before in
+    let new = at-if2 .before in
+    let at-undecided2 = new .before in
+    let at-undecided = at-undecided2 .before in
+    woken-new _ _ _ _ _ _ _ (at-undecided .undecided .ensures) (at-undecided2 .undecided2 .ensures) (new .without .ensures)
+    (at-if2 .if2 .left)
 
 pub woken-spec : {M : Type 1} → statement M
 woken-spec =

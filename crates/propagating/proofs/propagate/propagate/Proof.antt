@@ -33,9 +33,10 @@ run-agenda-requires c κs =
 next-pair-requires : tie.Need-next-pair-requires Inv-loop μ-loop
 next-pair-requires c κs =
     let run = c .before .before .before .before .before in
-    let loop = run .before .before .before .before in (
+    let test = run .before .before .before in
+    let loop = test .before in (
       omega (arith, loop .loop .inv .2 .long, run .run-agenda .ensures .1 .1 .same-length),
-      omega (arith, run .before .before .before .loop-test .taken),
+      omega (arith, test .loop-test .taken),
     )
 
 take-pair-requires : tie.Need-take-pair-requires Inv-loop μ-loop

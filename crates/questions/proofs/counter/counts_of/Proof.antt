@@ -20,13 +20,16 @@ slice-aggregate-hold-3 : tie.Need-slice-aggregate-hold-3 Inv-loop μ-loop
 slice-aggregate-hold-3 c = sym (tally-long (c .before .before .before .before .before .loop .inv))
 
 hold-requires : tie.Need-hold-requires Inv-loop μ-loop
-hold-requires c κs = tally-holdable (c .before .before .before .before .before .loop .inv) (c .before .before .before .before .loop-test .taken) (search needs)
+hold-requires c κs =
+    let test = c .before .before .before .before in
+    let head = test .before in
+    tally-holdable (head .loop .inv) (test .loop-test .taken) (search needs)
 
 loop-again : tie.Need-loop-again Inv-loop μ-loop
 loop-again c =
-    tally-more (c .before .before .before .before .before .before .before .loop .inv)
-    (c .before .before .before .before .before .before .loop-test .taken)
-    (c .before .hold .ensures)
+    let test = c .before .before .before .before .before .before in
+    let head = test .before in
+    tally-more (head .loop .inv) (test .loop-test .taken) (c .before .hold .ensures)
 
 returns : tie.Need-returns Inv-loop μ-loop
 returns c = tally-end (c .before .loop .inv) (c .loop-test .left)

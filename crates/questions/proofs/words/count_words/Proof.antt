@@ -18,8 +18,9 @@ returns-2 : tie.Need-returns-2
 returns-2 c =
     let put = c .before .before in
     let counted = put .before .before in
-    filled-words _ _ _ _ _ _ (whole-third _ _ refl (counted .before .before .before .if1 .left)) (counted .before .take-words .ensures)
-    (counted .counts-of .ensures)
+    let at-take-words = counted .before in
+    let at-if1 = at-take-words .before .before in
+    filled-words _ _ _ _ _ _ (whole-third _ _ refl (at-if1 .if1 .left)) (at-take-words .take-words .ensures) (counted .counts-of .ensures)
     (put .put-counts .ensures)
 
 pub count-words-spec : {M : Type 1} → statement M

@@ -19,13 +19,17 @@ shared-slice-read-up : tie.Need-shared-slice-read-up Inv-loop μ-loop
 shared-slice-read-up c = omega (arith, words-within (c .before .before .loop .inv .whole) (c .before .loop-test .taken))
 
 array-write-up : tie.Need-array-write-up Inv-loop μ-loop
-array-write-up c = omega (arith, up-long (c .before .before .loop .inv), c .before .before .loop .inv .whole .at-most)
+array-write-up c =
+    let head = c .before .before in
+    omega (arith, up-long (head .loop .inv), head .loop .inv .whole .at-most)
 
 shared-slice-read-dropped : tie.Need-shared-slice-read-dropped Inv-loop μ-loop
 shared-slice-read-dropped c = omega (arith, words-within (c .before .before .before .loop .inv .whole) (c .before .before .loop-test .taken))
 
 array-write-dropped : tie.Need-array-write-dropped Inv-loop μ-loop
-array-write-dropped c = omega (arith, dropped-long (c .before .before .before .loop .inv), c .before .before .before .loop .inv .whole .at-most)
+array-write-dropped c =
+    let head = c .before .before .before in
+    omega (arith, dropped-long (head .loop .inv), head .loop .inv .whole .at-most)
 
 loop-again : tie.Need-loop-again Inv-loop μ-loop
 loop-again c = taken-more (c .before .before .before .loop .inv) (c .before .before .loop-test .taken)

@@ -18,7 +18,9 @@ returns-3 : tie.Need-returns-3
 unfolding ofKind carrying
 returns-3 c =
     let whole = c .before .before .before in
-    simp (sym (whole .before .before .is-late .ensures) ∙ whole .before .if1 .left, le-ltb _ _ (whole .if2 .left))
+    let at-if1 = whole .before in
+    let at-is-late = at-if1 .before in
+    simp (sym (at-is-late .is-late .ensures) ∙ at-if1 .if1 .left, le-ltb _ _ (whole .if2 .left))
 
 pub read-count-spec : {M : Type 1} → statement M
 read-count-spec =

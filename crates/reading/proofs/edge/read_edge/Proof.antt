@@ -18,8 +18,10 @@ returns-3 : tie.Need-returns-3
 unfolding ofKind
 returns-3 c =
     let whole = c .before .before .before .before in
+    let at-if1 = whole .before in
+    let at-is-late = at-if1 .before in
     simp (
-      sym (whole .before .before .is-late .ensures) ∙ whole .before .if1 .left,
+      sym (at-is-late .is-late .ensures) ∙ at-if1 .if1 .left,
       le-ltb _ _ (whole .if2 .left),
       sym (c .before .is-bad-edge .ensures) ∙ c .if3 .taken,
     )
@@ -28,8 +30,10 @@ returns-4 : tie.Need-returns-4
 unfolding ofKind carrying
 returns-4 c =
     let whole = c .before .before .before .before in
+    let at-if1 = whole .before in
+    let at-is-late = at-if1 .before in
     simp (
-      sym (whole .before .before .is-late .ensures) ∙ whole .before .if1 .left,
+      sym (at-is-late .is-late .ensures) ∙ at-if1 .if1 .left,
       le-ltb _ _ (whole .if2 .left),
       sym (c .before .is-bad-edge .ensures) ∙ c .if3 .left,
     )

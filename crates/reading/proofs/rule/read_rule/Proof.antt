@@ -25,12 +25,16 @@ returns-4 : tie.Need-returns-4
 unfolding ofKind
 returns-4 c =
     let words = c .before .before in
-    let whole = words .before .before .before in
+    let at-read-word = words .before .before in
+    let whole = at-read-word .before in
+    let at-if2 = whole .before in
+    let at-if1 = at-if2 .before in
+    let at-is-late = at-if1 .before in
     simp (
-      sym (whole .before .before .before .is-late .ensures) ∙ whole .before .before .if1 .left,
-      lt-leb _ _ (whole .before .if2 .left),
+      sym (at-is-late .is-late .ensures) ∙ at-if1 .if1 .left,
+      lt-leb _ _ (at-if2 .if2 .left),
       le-ltb _ _ (whole .if3 .left),
-      ← words .before .before .read-word .ensures,
+      ← at-read-word .read-word .ensures,
       ← words .before .read-word2 .ensures,
       ← words .read-word3 .ensures,
       sym (c .before .is-empty-rule .ensures) ∙ c .if4 .taken,
@@ -41,13 +45,18 @@ unfolding ofKind contradictory
 returns-5 c =
     let tested = c .before .before in
     let words = tested .before .before in
-    let whole = words .before .before .before in
+    let at-read-word2 = words .before in
+    let at-read-word = at-read-word2 .before in
+    let whole = at-read-word .before in
+    let at-if2 = whole .before in
+    let at-if1 = at-if2 .before in
+    let at-is-late = at-if1 .before in
     simp (
-      sym (whole .before .before .before .is-late .ensures) ∙ whole .before .before .if1 .left,
-      lt-leb _ _ (whole .before .if2 .left),
+      sym (at-is-late .is-late .ensures) ∙ at-if1 .if1 .left,
+      lt-leb _ _ (at-if2 .if2 .left),
       le-ltb _ _ (whole .if3 .left),
-      ← words .before .before .read-word .ensures,
-      ← words .before .read-word2 .ensures,
+      ← at-read-word .read-word .ensures,
+      ← at-read-word2 .read-word2 .ensures,
       ← words .read-word3 .ensures,
       sym (tested .before .is-empty-rule .ensures) ∙ tested .if4 .left,
       ap not (sym (c .before .are-apart .ensures)) ∙ c .if5 .taken,
@@ -58,13 +67,18 @@ unfolding ofKind contradictory carrying
 returns-6 c =
     let tested = c .before .before in
     let words = tested .before .before in
-    let whole = words .before .before .before in
+    let at-read-word2 = words .before in
+    let at-read-word = at-read-word2 .before in
+    let whole = at-read-word .before in
+    let at-if2 = whole .before in
+    let at-if1 = at-if2 .before in
+    let at-is-late = at-if1 .before in
     simp (
-      sym (whole .before .before .before .is-late .ensures) ∙ whole .before .before .if1 .left,
-      lt-leb _ _ (whole .before .if2 .left),
+      sym (at-is-late .is-late .ensures) ∙ at-if1 .if1 .left,
+      lt-leb _ _ (at-if2 .if2 .left),
       le-ltb _ _ (whole .if3 .left),
-      ← words .before .before .read-word .ensures,
-      ← words .before .read-word2 .ensures,
+      ← at-read-word .read-word .ensures,
+      ← at-read-word2 .read-word2 .ensures,
       ← words .read-word3 .ensures,
       sym (tested .before .is-empty-rule .ensures) ∙ tested .if4 .left,
       ap not (sym (c .before .are-apart .ensures)) ∙ c .if5 .left,

@@ -25,9 +25,12 @@ unfolding ofKind
 returns-4 c =
     let words = c .before .before in
     let whole = words .before .before in
+    let at-if2 = whole .before in
+    let at-if1 = at-if2 .before in
+    let at-is-late = at-if1 .before in
     simp (
-      sym (whole .before .before .before .is-late .ensures) ∙ whole .before .before .if1 .left,
-      lt-leb _ _ (whole .before .if2 .left),
+      sym (at-is-late .is-late .ensures) ∙ at-if1 .if1 .left,
+      lt-leb _ _ (at-if2 .if2 .left),
       le-ltb _ _ (whole .if3 .left),
       ← words .before .read-word .ensures,
       ← words .read-word2 .ensures,
@@ -39,9 +42,12 @@ unfolding ofKind carrying
 returns-5 c =
     let words = c .before .before in
     let whole = words .before .before in
+    let at-if2 = whole .before in
+    let at-if1 = at-if2 .before in
+    let at-is-late = at-if1 .before in
     simp (
-      sym (whole .before .before .before .is-late .ensures) ∙ whole .before .before .if1 .left,
-      lt-leb _ _ (whole .before .if2 .left),
+      sym (at-is-late .is-late .ensures) ∙ at-if1 .if1 .left,
+      lt-leb _ _ (at-if2 .if2 .left),
       le-ltb _ _ (whole .if3 .left),
       ← words .before .read-word .ensures,
       ← words .read-word2 .ensures,

@@ -22,7 +22,9 @@ returns-4 : tie.Need-returns-4
 unfolding badUse
 returns-4 c =
     let new = c .before .before .before in
-    simp (lt-leb _ _ (new .before .before .before .if1 .left), lt-leb _ _ (new .before .if2 .left), le-ltb _ _ (new .if3 .left))
+    let at-if2 = new .before in
+    let at-if1 = at-if2 .before .before in
+    simp (lt-leb _ _ (at-if1 .if1 .left), lt-leb _ _ (at-if2 .if2 .left), le-ltb _ _ (new .if3 .left))
     (has-by-subset _ _ _ _ (c .before .before .single .ensures) (c .is-subset .ensures))
 
 pub is-bad-use-spec : {M : Type 1} → statement M

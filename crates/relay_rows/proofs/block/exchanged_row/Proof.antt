@@ -6,58 +6,74 @@ use Rattle.relay_rows.proofs.block.exchanged_row.Statement.{statement}
 use Rattle.relay_rows.proofs.block.exchanged_row.Tie as tie
 
 mul-low-row-2 : tie.Need-mul-low-row-2
-mul-low-row-2 c = omega (
-  arith,
-  low-across (c .before .before .before .before .before .before .pre)
-      (c .before .before .before .before .single .ensures) (c .before .union .ensures),
-)
+mul-low-row-2 c =
+    let at-single = c .before .before .before .before in
+    let start = at-single .before .before in
+    omega (
+      arith,
+      low-across (start .pre)
+          (at-single .single .ensures) (c .before .union .ensures),
+    )
 
 shared-slice-read-low-row-2 : tie.Need-shared-slice-read-low-row-2
 shared-slice-read-low-row-2 c =
+    let at-single = c .before .before .before .before .before in
+    let start = at-single .before .before in
     omega (
       arith,
-      c .before .before .before .before .before .before .before .pre .whole,
+      start .pre .whole,
       low-across
-          (c .before .before .before .before .before .before .before .pre) (c .before .before .before .before .before .single .ensures)
-          (c .before .before .union .ensures),
+          (start .pre) (at-single .single .ensures) (c .before .before .union .ensures),
     )
 
 low-row-requires : tie.Need-low-row-requires
-low-row-requires c κs = half-lt (c .before .before .before .before .before .before .before .pre .alternates .small)
-    (c .before .before .before .before .before .single .ensures)
+low-row-requires c κs =
+    let at-single = c .before .before .before .before .before in
+    let start = at-single .before .before in
+    half-lt (start .pre .alternates .small) (at-single .single .ensures)
 
 returns : tie.Need-returns
 returns c =
-    low-word (c .before .before .before .before .before .before .before .before .pre)
-    (c .before .before .before .before .before .before .single .ensures) (c .before .before .before .before .before .are-apart .ensures)
-    (c .before .before .before .before .if1 .taken) (c .before .before .before .union .ensures)
-    (c .low-row .ensures)
+    let at-if1 = c .before .before .before .before in
+    let at-are-apart = at-if1 .before in
+    let at-single = at-are-apart .before in
+    let start = at-single .before .before in
+    low-word (start .pre) (at-single .single .ensures) (at-are-apart .are-apart .ensures)
+    (at-if1 .if1 .taken) (c .before .before .before .union .ensures) (c .low-row .ensures)
 
 mul-high-row : tie.Need-mul-high-row
 mul-high-row c = omega (arith, high-across (c .before .before .before .before .before .pre) (c .before .before .before .single .ensures) (c .without .ensures))
 
 shared-slice-read-high-row : tie.Need-shared-slice-read-high-row
 shared-slice-read-high-row c =
+    let at-single = c .before .before .before .before in
+    let start = at-single .before .before in
     omega (
       arith,
-      c .before .before .before .before .before .before .pre .whole,
-      high-across (c .before .before .before .before .before .before .pre)
-          (c .before .before .before .before .single .ensures) (c .before .without .ensures),
+      start .pre .whole,
+      high-across (start .pre)
+          (at-single .single .ensures) (c .before .without .ensures),
     )
 
 high-row-requires : tie.Need-high-row-requires
-high-row-requires c κs = half-lt (c .before .before .before .before .before .before .before .pre .alternates .small)
-    (c .before .before .before .before .before .single .ensures)
+high-row-requires c κs =
+    let at-single = c .before .before .before .before .before in
+    let start = at-single .before .before in
+    half-lt (start .pre .alternates .small) (at-single .single .ensures)
 
 returns-2 : tie.Need-returns-2
 returns-2 c =
-    high-word (c .before .before .before .before .before .before .before .before .pre)
-    (c .before .before .before .before .before .before .single .ensures) (c .before .before .before .before .before .are-apart .ensures)
-    (c .before .before .before .before .if1 .left) (c .before .before .before .without .ensures)
+    let at-if1 = c .before .before .before .before in
+    let at-are-apart = at-if1 .before in
+    let at-single = at-are-apart .before in
+    let at-shared-slice-known = at-single .before in
+    let start = at-shared-slice-known .before in
+    high-word (start .pre) (at-single .single .ensures) (at-are-apart .are-apart .ensures)
+    (at-if1 .if1 .left) (c .before .before .before .without .ensures)
     (omega (
       arith,
-      c .before .before .before .before .before .before .before .shared-slice-known .given
-          (c .before .before .before .before .before .before .before .before .args .k),
+      at-shared-slice-known .shared-slice-known .given
+          (start .args .k),
     )) (c .high-row .ensures)
 
 pub exchanged-row-spec : {M : Type 1} → statement M

@@ -7,10 +7,14 @@ use Rattle.relay_rows.proofs.positions.write_part.Tie as tie
 
 returns : tie.Need-returns
 returns c =
+    let at-turn = c .before .before .before .before in
+    let at-read-block = at-turn .before in
+    let at-first = at-read-block .before in
+    let at-kept = at-first .before in
     scattered-same
-    (position-part _ _ _ (c .before .before .before .before .before .before .before .kept .ensures)
-    (c .before .before .before .before .before .before .first .ensures) (c .before .before .before .before .before .read-block .ensures)
-    (c .before .before .before .before .turn .ensures))
+    (position-part _ _ _ (at-kept .kept .ensures)
+    (at-first .first .ensures) (at-read-block .read-block .ensures)
+    (at-turn .turn .ensures))
     (c .before .before .write-block .ensures)
 
 pub write-part-spec : {M : Type 1} → statement M

@@ -27,8 +27,10 @@ write-part-requires c κs =
     }
 
 loop-again : tie.Need-loop-again Inv-loop μ-loop
-loop-again c = list-parts-more (c .before .before .before .before .before .loop .inv) (c .before .before .before .before .loop-test .taken)
-    (c .before .before .write-part .ensures)
+loop-again c =
+    let test = c .before .before .before .before in
+    let head = test .before in
+    list-parts-more (head .loop .inv) (test .loop-test .taken) (c .before .before .write-part .ensures)
 
 same-length : tie.Need-same-length Inv-loop μ-loop
 same-length c = c .before .loop .inv .parts .long

@@ -27,8 +27,10 @@ write-word-requires c κs =
     }
 
 loop-again : tie.Need-loop-again Inv-loop μ-loop
-loop-again c = row-parts-more (c .before .before .before .before .before .loop .inv) (c .before .before .before .before .loop-test .taken)
-    (c .before .before .write-word .ensures)
+loop-again c =
+    let test = c .before .before .before .before in
+    let head = test .before in
+    row-parts-more (head .loop .inv) (test .loop-test .taken) (c .before .before .write-word .ensures)
 
 same-length : tie.Need-same-length Inv-loop μ-loop
 same-length c = c .before .loop .inv .parts .long

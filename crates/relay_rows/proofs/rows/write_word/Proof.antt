@@ -7,10 +7,14 @@ use Rattle.relay_rows.proofs.rows.write_word.Tie as tie
 
 returns : tie.Need-returns
 returns c =
+    let at-turn = c .before .before .before .before in
+    let at-read-block = at-turn .before in
+    let at-kept = at-read-block .before in
+    let start = at-kept .before .before .before in
     scattered-same
-    (row-part _ _ _ (c .before .before .before .before .before .before .before .before .before .pre .part)
-    (c .before .before .before .before .before .before .kept .ensures) (c .before .before .before .before .before .read-block .ensures)
-    (c .before .before .before .before .turn .ensures))
+    (row-part _ _ _ (start .pre .part)
+    (at-kept .kept .ensures) (at-read-block .read-block .ensures)
+    (at-turn .turn .ensures))
     (c .before .before .write-block .ensures)
 
 pub write-word-spec : {M : Type 1} → statement M

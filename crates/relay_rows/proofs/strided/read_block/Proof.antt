@@ -40,8 +40,8 @@ array-write-block c = omega (arith, start (c .before .before) .pre .few)
 
 loop-again : tie.Need-loop-again Inv-loop μ-loop
 loop-again c =
-    reading-more (c .before .before .before .loop .inv) (c .before .before .loop-test .taken) (start (c .before .before) .pre .few)
-    (c .cut .ensures)
+    let test = c .before .before in
+    reading-more (test .before .loop .inv) (test .loop-test .taken) (start (test) .pre .few) (c .cut .ensures)
 
 returns : tie.Need-returns Inv-loop μ-loop
 returns c = reading-end (c .before .loop .inv) (c .loop-test .left)

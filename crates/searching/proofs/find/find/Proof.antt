@@ -1,5 +1,4 @@
 -- Nothing shows, so the list holds one cut at most, and the witness says whether a member was met.
-use mathlib.Core.Path.{refl}
 use Rattle.joining.proofs.JoinedLists.{joinable-some}
 use Rattle.joining.proofs.Filters.{full-filtered}
 use Rattle.searching.proofs.Witnesses.{hidden-few}
@@ -22,9 +21,12 @@ explore-requires c κs =
 returns : tie.Need-returns
 returns c =
     let found = c .before .before .before in
-    let front = found .before .before .before .before .before in
-    let told = rw (found .before .before .before .before .root .ensures) at (found .explore .ensures) in (
-      rw (front .moved .ensures, front .before .before .union .ensures, front .before .union2 .ensures) at (told .1 .0 (hidden-few (told .0))),
+    let at-root = found .before .before .before .before in
+    let front = at-root .before in
+    let at-union2 = front .before in
+    let at-union = at-union2 .before in
+    let told = rw (at-root .root .ensures) at (found .explore .ensures) in (
+      rw (front .moved .ensures, at-union .union .ensures, at-union2 .union2 .ensures) at (told .1 .0 (hidden-few (told .0))),
       told .1 .1 .0,
     )
 

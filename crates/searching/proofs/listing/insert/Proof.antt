@@ -34,15 +34,17 @@ same-length c = c .before .before .before .loop .inv .same-long
 
 returns : tie.Need-returns Inv-loop μ-loop
 returns c =
-    pass-same (now (c .before .before .before .before .args .list)) (c .before .before .before .before .args .count)
-    (c .before .before .before .before .args .value) (omega arith) (c .before .before .before .loop .list)
-    (c .before .before .before .loop .carried) (c .before .before .before .loop .i) (c .before .before .before .loop .inv)
-    (c .before .before .loop-test .taken) (c .before .before .before .before .pre .0) (c .if1 .taken)
+    let head = c .before .before .before in
+    let start = head .before in
+    pass-same (now (start .args .list)) (start .args .count) (start .args .value) (omega arith) (head .loop .list)
+    (head .loop .carried) (head .loop .i) (head .loop .inv) (c .before .before .loop-test .taken) (start .pre .0) (c .if1 .taken)
 
 loop-again : tie.Need-loop-again Inv-loop μ-loop
 loop-again c =
-    let at = c .before .before .before .before .before .args in
-    let head = c .before .before .before .before .loop in
+    let head-2 = c .before .before .before .before in
+    let start = head-2 .before in
+    let at = start .args in
+    let head = head-2 .loop in
     let test = c .before .before .before .loop-test .taken in
     ⊎-elim
     (λ w.
@@ -61,9 +63,10 @@ same-length-2 c = c .before .before .loop .inv .same-long
 
 returns-2 : tie.Need-returns-2 Inv-loop μ-loop
 returns-2 c =
-    pass-full (now (c .before .before .before .args .list)) (c .before .before .before .args .count) (c .before .before .before .args .value)
-    (c .before .before .before .pre .1) (c .before .before .before .pre .0) (c .before .before .loop .list) (c .before .before .loop .carried)
-    (passed (c .before)) (c .if3 .taken)
+    let head = c .before .before in
+    let start = head .before in
+    pass-full (now (start .args .list)) (start .args .count) (start .args .value)
+    (start .pre .1) (start .pre .0) (head .loop .list) (head .loop .carried) (passed (c .before)) (c .if3 .taken)
 
 same-length-3 : tie.Need-same-length-3 Inv-loop μ-loop
 same-length-3 c =
@@ -72,9 +75,10 @@ same-length-3 c =
 
 returns-3 : tie.Need-returns-3 Inv-loop μ-loop
 returns-3 c =
-    pass-end (now (c .before .before .before .args .list)) (c .before .before .before .args .count) (c .before .before .before .args .value)
-    (c .before .before .before .pre .1) (c .before .before .before .pre .0) (c .before .before .loop .list) (c .before .before .loop .carried)
-    (passed (c .before)) (c .if3 .left)
+    let head = c .before .before in
+    let start = head .before in
+    pass-end (now (start .args .list)) (start .args .count) (start .args .value)
+    (start .pre .1) (start .pre .0) (head .loop .list) (head .loop .carried) (passed (c .before)) (c .if3 .left)
 
 pub insert-spec : {M : Type 1} → statement M
 insert-spec =

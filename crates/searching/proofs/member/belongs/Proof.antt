@@ -18,10 +18,11 @@ returns c =
 
 returns-2 : tie.Need-returns-2
 returns-2 c =
-    let at = c .before .before .before .before .before .before .before .before .args in
+    let at-joins = c .before .before .before in
+    let start = at-joins .before .before .before .before .before in
+    let at = start .args in
     joined-answers (now (at .rules)) (now (at .table)) (now (at .counts)) (now (at .heads)) (at .unit) (at .position) (c .judge-set .result .answers)
-    (c .before .before .before .before .before .before .before .before .fits .position .fits)
-    (sym (c .before .before .before .joins .ensures) ∙ not-false (c .before .before .before .joins .result) (c .before .before .if1 .left))
+    (start .fits .position .fits) (sym (at-joins .joins .ensures) ∙ not-false (at-joins .joins .result) (c .before .before .if1 .left))
     (c .judge-set .ensures ∙ ap (λ (w : ℕ). answerSet (lent (now (at .rules))) (at .unit .rules) w (at .position)) (c .before .cut .ensures))
 
 pub belongs-spec : {M : Type 1} → statement M

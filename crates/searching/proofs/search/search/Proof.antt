@@ -24,19 +24,21 @@ lay-out-requires c κs =
 begin-requires : tie.Need-begin-requires
 begin-requires c κs =
     let full = c .before .before .before .before in
-    let desk = full .before .before in
+    let at-empty-store = full .before in
+    let desk = at-empty-store .before in
     let ready = prepared (desk .lay-out .ensures) (entry desk .pre .0) in (
       ready,
-      remembers-empty (full .before .empty-store .ensures),
+      remembers-empty (at-empty-store .empty-store .ensures),
       full-filtered _ _ _ _ _ _ (joinable-some (ready .searchable .near) (ready .searchable .joinable)) (full .full-filter .ensures),
     )
 
 explore-requires : tie.Need-explore-requires
 explore-requires c κs =
-    let begun = c .before .before .before .before .before .before .before .before in
+    let at-root = c .before .before .before .before in
+    let begun = at-root .before .before .before .before in
     let desk = laid begun in
     let pre = entry desk .pre in
-    rw (c .before .before .before .before .root .ensures) (
+    rw (at-root .root .ensures) (
       prepared (desk .lay-out .ensures) (pre .0),
       pre .1,
       begun .begin .ensures .1 .1,
@@ -46,10 +48,11 @@ explore-requires c κs =
 returns : tie.Need-returns
 returns c =
     let done = c .before .before .before in
-    let begun = done .before .before .before .before .before .before .before .before .before in
+    let at-root = done .before .before .before .before .before in
+    let begun = at-root .before .before .before .before in
     let desk = laid begun in
     let at = entry desk .args in
-    let told = rw (done .before .before .before .before .before .root .ensures) at (done .explore .ensures) in
+    let told = rw (at-root .root .ensures) at (done .explore .ensures) in
     search-alike (desk-belongs (desk .lay-out .ensures) _ _) (belongs-desk (desk .lay-out .ensures) _ _) (now (at .list)) 0
     (search-narrowed (now (at .list)) 0 (begun .begin .ensures .0) (told .0, told .1 .0) .0)
 

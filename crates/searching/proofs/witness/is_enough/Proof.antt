@@ -1,5 +1,4 @@
 -- Where a member was met, the test is whether nothing is left.
-use mathlib.Core.Path.{sym}
 use Rattle.searching.proofs.Witnesses.{enough-is}
 use borrow.Author.Needs.{needs}
 use Rattle.searching.proofs.witness.is_enough.Statement.{statement}

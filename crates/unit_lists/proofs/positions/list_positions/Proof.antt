@@ -10,13 +10,13 @@ use Rattle.reading.specs.Reading.{reading}
 use Rattle.reading.specs.Layout.{IsByte, All}
 use Rattle.reading.specs.declared.reader.Reading.{Reading}
 use Rattle.reading.proofs.Limits.{record-fits, all-bytes}
-use Rattle.unit_lists.specs.Answer.{answer}
-use Rattle.unit_lists.specs.Handed.{Handed}
-use Rattle.unit_lists.specs.Promised.{Promised}
-use Rattle.unit_lists.specs.declared.listing.Listing.{Listing}
-use Rattle.unit_lists.proofs.Answers.{handed-refused, short-answer, refused-answer, read-answer}
-use Rattle.unit_lists.proofs.CleanPlan.{plan-clean}
-use Rattle.unit_lists.proofs.Promised.{promised}
+use Rattle.demands.specs.Answer.{answer}
+use Rattle.demands.specs.Handed.{Handed}
+use Rattle.demands.specs.Promised.{Promised}
+use Rattle.demands.specs.declared.listing.Listing.{Listing}
+use Rattle.demands.proofs.Answers.{handed-refused, short-answer, refused-answer, read-answer}
+use Rattle.demands.proofs.CleanPlan.{plan-clean}
+use Rattle.demands.proofs.Promised.{promised}
 use borrow.Author.Needs.{needs}
 use Rattle.unit_lists.proofs.positions.list_positions.Statement.{statement}
 use Rattle.unit_lists.proofs.positions.list_positions.Tie as tie

@@ -4,8 +4,8 @@ use denote.Ref.{now}
 use borrow.Author.Needs.{needs}
 use Rattle.dependency_graph.specs.PlanUnits.{unitsOf}
 use Rattle.dependency_graph.proofs.Verdicts.{passes-of-verdict}
-use Rattle.unit_lists.specs.Answer.{unitWork}
-use Rattle.unit_lists.proofs.Answers.{handed-refused, unless-refused, unless-accepted}
+use Rattle.demands.specs.Answer.{unitWork}
+use Rattle.demands.proofs.Answers.{handed-refused, unless-refused, unless-accepted}
 use Rattle.unit_lists.proofs.positions.list_read_plan.Statement.{statement}
 use Rattle.unit_lists.proofs.positions.list_read_plan.Tie as tie
 
@@ -14,11 +14,12 @@ start c = c .before .before
 
 returns : tie.Need-returns
 returns c =
-    let checked = c .before .before .before .before in
+    let at-verdict = c .before .before in
+    let checked = at-verdict .before .before in
     let table = now (start checked .args .table) in
-    handed-refused (c .before .before .verdict .given .0 .0)
-    (unless-refused (c .before .before .verdict .given .0 .0) table (unitWork (unitsOf (start checked .args .plan)) table)
-    (sym (checked .check-graph .ensures) ∙ c .before .before .verdict .given .1)) (c .refuse .ensures) refl
+    handed-refused (at-verdict .verdict .given .0 .0)
+    (unless-refused (at-verdict .verdict .given .0 .0) table (unitWork (unitsOf (start checked .args .plan)) table)
+    (sym (checked .check-graph .ensures) ∙ at-verdict .verdict .given .1)) (c .refuse .ensures) refl
 
 unit-work-requires : tie.Need-unit-work-requires
 unit-work-requires c κs =

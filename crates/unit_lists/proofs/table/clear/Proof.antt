@@ -7,7 +7,7 @@ use denote.Ref.{now}
 use lib.ListN.{length, drop, replicate, set, length-set}
 use borrow.Author.Fill.{fill-none, fill-more}
 use Rattle.plan.specs.Limits.{TABLE_WORDS}
-use Rattle.unit_lists.proofs.HeldLists.{cleared-is}
+use Rattle.demands.proofs.HeldLists.{cleared-is}
 use Rattle.unit_lists.proofs.table.clear.Statement.{statement}
 use Rattle.unit_lists.proofs.table.clear.Tie as tie
 

@@ -7,8 +7,8 @@ use lib.ListN.{length}
 use Rattle.plan.specs.Limits.{MAX_UNITS, PROGRAM_WORDS, LAST_COUNT}
 use Rattle.dependency_graph.specs.PlanUnits.{unitsOf}
 use Rattle.splitting.specs.UnitList.{withLast}
-use Rattle.unit_lists.specs.Lists.{lastList}
-use Rattle.unit_lists.proofs.Joined.{Listable, searchable, cuts-stored}
+use Rattle.demands.specs.Lists.{lastList}
+use Rattle.unit_lists.proofs.Joined.{ReadyToList, searchable, cuts-stored}
 use Rattle.unit_lists.proofs.LastUnit.{last-listable, heads-of-last}
 use Rattle.unit_lists.proofs.work.list_last.Statement.{statement}
 use Rattle.unit_lists.proofs.work.list_last.Tie as tie
@@ -24,7 +24,7 @@ heads-long : (s : tie.Start) → length (s .args .head-atoms .heads) ≡ MAX_UNI
 heads-long s = search needs
 
 listable : (c : tie.After-last-unit)
-    → Listable (withLast (unitsOf (start c .args .t1))) (start c .args .t1 .«unit_count») (start c .args .t1 .rules)
+    → ReadyToList (withLast (unitsOf (start c .args .t1))) (start c .args .t1 .«unit_count») (start c .args .t1 .rules)
     (start c .args .head-atoms .heads) (now (start c .args .table)) (now (start c .args .counts))
 listable c =
     let at = start c .args in
@@ -35,7 +35,7 @@ listable c =
 
 list-one-requires : tie.Need-list-one-requires
 list-one-requires c κs =
-    let told = c .before .before .before .before .before .before in
+    let told = c .before .before .before .before .before .before .before in
     let pre = start told .pre in (
       searchable (listable told) (told .last-unit .ensures),
       omega (arith, pre .1 .table-long),
@@ -46,14 +46,17 @@ returns : tie.Need-returns
 unfolding lastList unitsOf withLast
 returns c =
     let done = c .before .before .before .before in
-    let told = done .before .before .before .before .before .before .before in
-    cuts-stored (listable told) (told .last-unit .ensures) (told .last-unit .result .inputs) (start told .args .t1 .shown) LAST_COUNT
-    (told .last-unit .ensures .inputs-are ∙ heads-of-last (unitsOf (start told .args .t1))) (done .list-one .ensures)
+    let begun = done .before .before .before .before .before .before .before in
+    let told = begun .before in
+    let plan = start told .args .t1 in
+    let from = rw (told .last-unit .ensures .inputs-are ∙ heads-of-last (unitsOf plan)) at (begun .start-within .ensures) in
+    cuts-stored (listable told) (told .last-unit .ensures) (plan .shown) LAST_COUNT (from .1) (from .0) (done .list-one .ensures)
 
 pub list-last-spec : {M : Type 1} → statement M
 list-last-spec =
     tie.close
     (tie.spec
+    (λ c κs. search needs)
     (λ c κs. search needs)
     (λ c. search needs)
     list-one-requires

@@ -12,10 +12,10 @@ use Rattle.unit_lists.proofs.work.list_one.Statement.{statement}
 use Rattle.unit_lists.proofs.work.list_one.Tie as tie
 
 abbrev start : tie.After-search → tie.Start
-start c = c .before .before .before .before .before .before .before .before .before
+start c = c .before .before .before .before .before .before .before .before
 
 search-requires : tie.Need-search-requires
-search-requires c κs = (c .before .before .before .before .before .before .before .before .pre .0, zeros-ordered)
+search-requires c κs = (c .before .before .before .before .before .before .before .pre .0, zeros-ordered)
 
 returns : tie.Need-returns
 returns c =
@@ -23,8 +23,7 @@ returns c =
     record {
       list = done .search .last .1 .1 .1 .1 .1 .1 .0;
       count = done .search .result;
-      gathered = rw (done .before .before .before .before .outside .ensures) at (done .search .ensures);
-      word = start done .fits .within .fits;
+      gathered = done .search .ensures;
       when-fits = λ e. absurd (false≢true e);
       when-long = λ e. (c .if1 .taken, refl, refl);
     }
@@ -38,8 +37,7 @@ returns-2 c =
     record {
       list = list;
       count = done .search .result;
-      gathered = rw (done .before .before .before .before .outside .ensures) at (done .search .ensures);
-      word = start done .fits .within .fits;
+      gathered = done .search .ensures;
       when-fits = λ e. (
         few .if1 .left,
         stored .store .ensures ∙ ap (paste (now (start done .args .table)) (LIST_WORDS * start done .args .place) list)
@@ -53,7 +51,6 @@ pub list-one-spec : {M : Type 1} → statement M
 list-one-spec =
     tie.close
     (tie.spec
-    (λ c κs. search needs)
     (λ c. search needs)
     search-requires
     (λ c. search needs)

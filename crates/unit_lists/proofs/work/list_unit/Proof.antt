@@ -6,7 +6,7 @@ use denote.Ref.{now}
 use lib.ListN.{length, getD}
 use Rattle.plan.specs.Limits.{MAX_UNITS, PROGRAM_WORDS}
 use Rattle.dependency_graph.specs.PlanUnits.{unitsOf}
-use Rattle.unit_lists.proofs.Joined.{Listable, searchable, unit-stored}
+use Rattle.unit_lists.proofs.Joined.{ReadyToList, searchable, unit-stored}
 use Rattle.unit_lists.proofs.LastUnit.{unit-listable}
 use Rattle.unit_lists.proofs.work.list_unit.Statement.{statement}
 use Rattle.unit_lists.proofs.work.list_unit.Tie as tie
@@ -22,7 +22,7 @@ heads-long : (s : tie.Start) → length (s .args .head-atoms .heads) ≡ MAX_UNI
 heads-long s = search needs
 
 listable : (c : tie.After-unit-at)
-    → Listable (unitsOf (start c .args .t1)) (start c .args .u) (start c .args .t1 .rules) (start c .args .head-atoms .heads)
+    → ReadyToList (unitsOf (start c .args .t1)) (start c .args .u) (start c .args .t1 .rules) (start c .args .head-atoms .heads)
     (now (start c .args .table)) (now (start c .args .counts))
 listable c =
     let at = start c .args in
@@ -33,7 +33,7 @@ listable c =
 
 list-one-requires : tie.Need-list-one-requires
 list-one-requires c κs =
-    let told = c .before .before .before .before .before .before in
+    let told = c .before .before .before .before .before .before .before in
     let pre = start told .pre in (
       searchable (listable told) (told .unit-at .ensures),
       omega (arith, pre .1, pre .2 .table-long, pre .0 .workable .fits .units-fit),
@@ -44,16 +44,18 @@ returns : tie.Need-returns
 unfolding unitsOf
 returns c =
     let done = c .before .before .before .before in
-    let told = done .before .before .before .before .before .before .before in
+    let begun = done .before .before .before .before .before .before .before in
+    let told = begun .before in
     let at = start told .args in
     let pre = start told .pre in
-    unit-stored (listable told) (told .unit-at .ensures) (getD (at .head-atoms .heads) (at .u) 0) (at .u)
-    (pre .0 .heads-of .heads-are (at .u) (pre .1)) (done .list-one .ensures)
+    let from = rw (pre .0 .heads-of .heads-are (at .u) (pre .1)) at (begun .start-within .ensures) in
+    unit-stored (listable told) (told .unit-at .ensures) (at .u) (from .1) (from .0) (done .list-one .ensures)
 
 pub list-unit-spec : {M : Type 1} → statement M
 list-unit-spec =
     tie.close
     (tie.spec
+    (λ c κs. search needs)
     (λ c. search needs)
     (λ c. search needs)
     (λ c κs. search needs)

@@ -7,7 +7,7 @@ use denote.Ref.{now}
 use lib.ListN.{length}
 use borrow.Author.Tests.{not-true, not-false}
 use Rattle.dependency_graph.specs.PlanUnits.{unitsOf}
-use Rattle.unit_lists.proofs.HeldLists.{held-long, held-counts-long}
+use Rattle.demands.proofs.HeldLists.{held-long, held-counts-long}
 use Rattle.unit_lists.proofs.WorkOrder.{Turn, turn-start, turn-there, turn-next, turn-too-long, turn-stop, turn-end}
 use Rattle.unit_lists.proofs.work.list_units.Statement.{statement}
 use Rattle.unit_lists.proofs.work.list_units.Tie as tie
@@ -39,7 +39,9 @@ counts-kept c = held-counts-long (c .loop .inv .working .holding) ∙ sym (held-
 
 loop-holds : tie.Need-loop-holds Inv-loop μ-loop
 unfolding unitsOf
-loop-holds c = turn-start (c .before .before .pre .0 .workable .passes .acyclic) (c .before .before .pre .1)
+loop-holds c =
+    let start-2 = c .before .before in
+    turn-start (start-2 .pre .0 .workable .passes .acyclic) (start-2 .pre .1)
 
 next-unit-requires : tie.Need-next-unit-requires Inv-loop μ-loop
 next-unit-requires c κs = start (c .before) .pre .0 .workable .fits
@@ -53,10 +55,11 @@ returns c =
 list-unit-requires : tie.Need-list-unit-requires Inv-loop μ-loop
 unfolding unitsOf
 list-unit-requires c κs =
-    let next = found (c .before .before) in (
+    let point = c .before .before in
+    let next = found (point) in (
       start (turn next) .pre .0,
-      there (c .before .before),
-      turn-there (turn next .loop .inv) (next .before .loop-test .taken) (next .next-unit .ensures) (there (c .before .before)),
+      there (point),
+      turn-there (turn next .loop .inv) (next .before .loop-test .taken) (next .next-unit .ensures) (there (point)),
     )
 
 returns-2 : tie.Need-returns-2 Inv-loop μ-loop

@@ -12,9 +12,10 @@ returns : tie.Need-returns
 unfolding unitsOf
 returns c =
     let done = c .before .before .before .before .before .before .before in
-    let start = done .before .before .before in
+    let at-first = done .before in
+    let start = at-first .before .before in
     record {
-      rules-are = done .cut .ensures ∙ ap (λ (w : ℕ). getD (start .args .t1 .units) (start .args .u) 0 ∩ w) (done .before .first .ensures);
+      rules-are = done .cut .ensures ∙ ap (λ (w : ℕ). getD (start .args .t1 .units) (start .args .u) 0 ∩ w) (at-first .first .ensures);
       inputs-are = start .pre .0 .heads-of .inputs-are (start .args .u) (start .pre .1);
       predecessors-are = refl;
       near = c .nearest .ensures;

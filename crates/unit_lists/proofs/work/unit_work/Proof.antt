@@ -7,11 +7,11 @@ use denote.Ref.{now}
 use Rattle.plan.specs.declared.fault.Fault.the-variants.{LongList}
 use Rattle.dependency_graph.specs.Order.{workingOrder}
 use Rattle.dependency_graph.specs.PlanUnits.{unitsOf}
-use Rattle.unit_lists.specs.Table.{cleared, noCounts}
-use Rattle.unit_lists.specs.Answer.{unitWork, workFrom}
+use Rattle.demands.specs.Table.{cleared, noCounts}
+use Rattle.demands.specs.Answer.{unitWork, workFrom}
 use Rattle.unit_lists.specs.Work.{Setting, afterUnits}
-use Rattle.unit_lists.proofs.Answers.{handed-refused, last-fits, last-long, work-cleared}
-use Rattle.unit_lists.proofs.HeldLists.{held-cleared}
+use Rattle.demands.proofs.Answers.{handed-refused, last-fits, last-long, work-cleared}
+use Rattle.demands.proofs.HeldLists.{held-cleared}
 use Rattle.unit_lists.proofs.WorkedUnits.{working-start, working-there, working-last}
 use Rattle.unit_lists.proofs.work.unit_work.Statement.{statement}
 use Rattle.unit_lists.proofs.work.unit_work.Tie as tie
@@ -76,9 +76,10 @@ returns-2 : tie.Need-returns-2
 unfolding unitsOf
 returns-2 c =
     let refused = c .before .before in
-    let last = refused .before .before .before .before .before .before in
+    let at-if1 = refused .before .before in
+    let last = at-if1 .before .before .before .before in
     let w = units last .list-units .ensures in
-    let long = last .list-last .ensures .when-long (not-true (last .list-last .result) (refused .before .before .if1 .taken)) in
+    let long = last .list-last .ensures .when-long (not-true (last .list-last .result) (at-if1 .if1 .taken)) in
     handed-refused (LongList (start (prepared (units last)) .args .plan .«unit_count»))
     (answer-left last ∙ last-long _ _ (long .0)) (refused .refuse-long2 .ensures .0)
     (refused .refuse-long2 .ensures .1 ∙ ap cleared (long .1) ∙ held-cleared (w .working .holding))

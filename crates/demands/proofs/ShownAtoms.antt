@@ -1,0 +1,78 @@
+-- What the atoms that show make of the last list (02, S-11): nothing shows, no answer set is there, or atoms show that no answer set has.
+use mathlib.Core.Path.{_≡_, sym, ap, _∙_, subst}
+use mathlib.Core.Logic.{_↔_}
+use mathlib.Core.List.{List, [], _∷_, List·Memᴰ, List·Memᴰ·head, List·Memᴰ·not-nil, List·Memᴰ·eq-of-singleton}
+use Prim.Native.Nat.{ℕ}
+use Rattle.atoms.specs.Word.{Has, _∩_, below}
+use Rattle.atoms.specs.Rising.{above-nil, rising-nil, rising-cons}
+use Rattle.atoms.proofs.Sets.{ext, empty, has-cut, cut-left, cut-right, has-none}
+use Rattle.atoms.proofs.Rising.{rising-ext}
+use Rattle.answer_sets.specs.AnswerSet.{AnswerSet}
+use Rattle.answer_sets.specs.Lent.{lent}
+use Rattle.answer_sets.proofs.Support.{Supported, supported}
+use Rattle.plan.specs.declared.record.Plan.{Plan}
+use Rattle.demands.specs.Demands.{lastIn, ListsAll}
+use Rattle.demands.specs.declared.listing.Listing.{Listing}
+
+-- an answer set of the whole program
+abbrev Answers : Plan → ℕ → Type 0
+Answers p M = AnswerSet (lent (p .rules)) (below (p .«rule_count»)) (p .given) M
+
+module _ {p : Plan} {r : Listing} {table : List ℕ} (l : ListsAll p r table) where
+  -- where nothing shows and there is an answer set, the list is {0}
+  pub none-shown : p .shown ≡ 0 → (M : ℕ) → Answers p M → lastIn r table ≡ 0 ∷ []
+  none-shown e M a =
+      rising-ext (lastIn r table) (0 ∷ []) (l .rising) (rising-cons above-nil rising-nil)
+      (λ X m. let c = l .members X .0 m in List·Memᴰ·head (c .is ∙ nothing (c .whole)))
+      (λ X m. l .members X .1 (record { whole = M; wanted = a; is = List·Memᴰ·eq-of-singleton m ∙ sym (nothing M) }))
+    where
+      nothing : (N : ℕ) → N ∩ p .shown ≡ 0
+      nothing N = ap (λ (w : ℕ). N ∩ w) e ∙ empty (N ∩ 0) (λ i h. has-none (cut-right N 0 h))
+
+  -- where there is none, it is empty, whatever shows
+  pub none-settled : ((M : ℕ) → ¬ Answers p M) → lastIn r table ≡ []
+  none-settled n =
+      rising-ext (lastIn r table) [] (l .rising) rising-nil (λ X m. let c = l .members X .0 m in absurd (n (c .whole) (c .wanted)))
+      (λ X m. absurd (List·Memᴰ·not-nil m))
+
+-- plans with the same rules and given atoms, whose SHOWs are alike on the atoms that are given or in a head
+pub record ShownAlike (p q : Plan) : Type 0 where
+  pub rules : p .rules ≡ q .rules
+  pub rule-count : p .«rule_count» ≡ q .«rule_count»
+  pub given : p .given ≡ q .given
+  pub shown : (i : ℕ) → Supported (lent (p .rules)) (below (p .«rule_count»)) (p .given) i → Has (p .shown) i ↔ Has (q .shown) i
+
+module _ {p q : Plan} (g : ShownAlike p q) where
+  same-cut : (M : ℕ) → Answers p M → M ∩ p .shown ≡ M ∩ q .shown
+  same-cut M a =
+      ext (M ∩ p .shown) (M ∩ q .shown)
+      (λ i h. has-cut M (q .shown) (cut-left M (p .shown) h) (alike i (cut-left M (p .shown) h) .0 (cut-right M (p .shown) h)))
+      (λ i h. has-cut M (p .shown) (cut-left M (q .shown) h) (alike i (cut-left M (q .shown) h) .1 (cut-right M (q .shown) h)))
+    where
+      alike : (i : ℕ) → Has M i → Has (p .shown) i ↔ Has (q .shown) i
+      alike i h = g .shown i (supported (lent (p .rules)) (below (p .«rule_count»)) (p .given) M i a h)
+
+  carried : (M : ℕ) → Answers p M → Answers q M
+  carried M a =
+      subst (λ (w : ℕ). AnswerSet (lent (q .rules)) (below (q .«rule_count»)) w M) (g .given)
+      (subst (λ (n : ℕ). AnswerSet (lent (q .rules)) (below n) (p .given) M) (g .rule-count)
+      (subst (λ (w : List ℕ). AnswerSet (lent w) (below (p .«rule_count»)) (p .given) M) (g .rules) a))
+
+  brought-back : (M : ℕ) → Answers q M → Answers p M
+  brought-back M a =
+      subst (λ (w : List ℕ). AnswerSet (lent w) (below (p .«rule_count»)) (p .given) M) (sym (g .rules))
+      (subst (λ (n : ℕ). AnswerSet (lent (q .rules)) (below n) (p .given) M) (sym (g .rule-count))
+      (subst (λ (w : ℕ). AnswerSet (lent (q .rules)) (below (q .«rule_count»)) w M) (sym (g .given)) a))
+
+  -- a shown atom that is in no head and not given changes nothing
+  pub shown-alike : {r s : Listing} {table table′ : List ℕ} → ListsAll p r table → ListsAll q s table′ → lastIn r table ≡ lastIn s table′
+  shown-alike {r} {s} {table} {table′} l k =
+      rising-ext (lastIn r table) (lastIn s table′) (l .rising) (k .rising)
+      (λ X m.
+      let c = l .members X .0 m in
+      k .members X .1
+      (record { whole = c .whole; wanted = carried (c .whole) (c .wanted); is = c .is ∙ same-cut (c .whole) (c .wanted) }))
+      (λ X m.
+      let c = k .members X .0 m in
+      let a = brought-back (c .whole) (c .wanted) in
+      l .members X .1 (record { whole = c .whole; wanted = a; is = c .is ∙ sym (same-cut (c .whole) a) }))
