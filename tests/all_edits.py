@@ -1,10 +1,12 @@
 #!/usr/bin/env python3
-"""tests/all_edits.py [-j JOBS] [CRATE..]: tries every must-fail edit, those of the gate and those of tests/must-fail; of these crates, if any are named.
+"""tests/all_edits.py [-j JOBS] [--gate] [CRATE..]: tries every must-fail edit, those of crates/*/must-fail and of tests/must-fail; of these crates, if any.
 
 A function is proved by the contracts of those it calls, not by their code. So edits inside the bodies of different functions of a crate do not touch each
 other's proofs, and are tried together: each must be refused by an error in the proof of its own function, and not by one that only says that another
 name was not admitted. What is left without such an error, and edits of definitions, constants or several functions, are tried one at a time. It works on a
 copy in target/all-edits, where LOG/CRATE/LABEL.log has the errors of each. The last line is 'N passed, M failed'.
+
+With --gate it proves nothing itself and tries the edits of tests/must-fail/gate.txt alone, each as soon as the gate that runs beside it has proved the crate.
 """
 import argparse
 import collections
@@ -14,11 +16,13 @@ import re
 import shutil
 import subprocess
 import sys
+import time
 from pathlib import Path
 
 ROOT = Path(__file__).resolve().parent.parent
 WORK = ROOT / "target/all-edits"
 LOG = WORK / "log"
+GATE = ROOT / "tests/must-fail/gate.txt"
 FUNCTION = re.compile(r'^(?:pub )?(?:extern "C" )?fn (\w+)', re.M)
 Edit = collections.namedtuple("Edit", "crate label pairs")
 
@@ -40,6 +44,21 @@ def edits_of(crate):
     """All edits of a crate, by name."""
     folders = [ROOT / "crates" / crate / "must-fail", ROOT / "tests/must-fail" / crate]
     return [read_edit(crate, file) for folder in folders for file in sorted(folder.glob("*.edit"))]
+
+
+def crates_below():
+    """Each crate of crates.txt with all crates that it stands on; those that stand on fewer others come first."""
+    named = {}
+    for line in (ROOT / "crates.txt").read_text().splitlines():
+        name, colon, lower = line.partition(":")
+        if colon and not line.startswith("#"):
+            named[name] = lower.split()
+
+    def all_below(crate):
+        return {crate for lower in named[crate] if lower in named for crate in {lower} | all_below(lower)}
+
+    below = {crate: all_below(crate) for crate in named}
+    return dict(sorted(below.items(), key=lambda entry: len(entry[1])))
 
 
 def body_at(text, at):
@@ -139,15 +158,29 @@ def rounds_of(edits):
     return [[(edits[k], function) for function, edits in by_function.items() if k < len(edits)] for k in range(most)], alone
 
 
-def try_crate(crate):
-    """Tries the edits of a crate: how many were refused, and those that were not."""
-    edits = edits_of(crate)
+def copy_of(crate, below):
+    """A copy of the sources in which what the crate stands on is proved."""
     copy = WORK / crate
     shutil.copytree(ROOT / "crates", copy / "crates")
     shutil.copy(ROOT / "crates.txt", copy)
-    for part in ("stamp", "rlib", "obj", "bin"):
-        if (ROOT / "target" / part).exists():
-            shutil.copytree(ROOT / "target" / part, copy / "target" / part)
+    (copy / "target/stamp").mkdir(parents=True)
+    for lower in below:
+        shutil.copy(ROOT / "target/stamp" / lower, copy / "target/stamp")
+        shutil.copytree(ROOT / f"target/rlib/{lower}.rlib", copy / f"target/rlib/{lower}.rlib", copy_function=os.link)
+    return copy
+
+
+def wait_for(crate):
+    """Waits until the gate beside this has proved the crate."""
+    stamp = ROOT / "target/stamp" / crate
+    while not (stamp.exists() and stamp.stat().st_size):
+        time.sleep(0.5)
+
+
+def try_crate(crate, edits, below):
+    """Tries these edits of a crate: how many were refused, and those that were not."""
+    wait_for(crate)
+    copy = copy_of(crate, below)
     rounds, alone = rounds_of(edits)
     for tried in rounds:
         alone += try_together(copy, crate, tried)
@@ -159,15 +192,23 @@ def try_crate(crate):
 def main():
     parser = argparse.ArgumentParser()
     parser.add_argument("-j", type=int, default=os.cpu_count())
+    parser.add_argument("--gate", action="store_true")
     parser.add_argument("crates", nargs="*")
     options = parser.parse_args()
-    crates = options.crates or [folder.name for folder in sorted((ROOT / "crates").iterdir()) if edits_of(folder.name)]
-    if subprocess.run(["rt", "check", *crates], cwd=ROOT).returncode:
+    below = crates_below()
+    edits = {crate: edits_of(crate) for crate in options.crates or below}
+    if options.gate:
+        named = GATE.read_text().split()
+        edits = {crate: [edit for edit in tried if f"{crate}/{edit.label}" in named] for crate, tried in edits.items()}
+        if not options.crates and sum(map(len, edits.values())) != len(named):
+            raise ValueError(f"{GATE} names an edit that is not there, or one twice")
+    crates = [crate for crate in edits if edits[crate]]
+    if not options.gate and subprocess.run(["rt", "check", *crates], cwd=ROOT).returncode:
         return 2
     shutil.rmtree(WORK, ignore_errors=True)
     refused = failed = 0
     with concurrent.futures.ThreadPoolExecutor(options.j) as pool:
-        for crate, count, passed in pool.map(try_crate, crates):
+        for crate, count, passed in pool.map(lambda crate: try_crate(crate, edits[crate], below[crate]), crates):
             print(f"{crate}: {count - len(passed)} of {count} refused" + "".join(f"; NOT REFUSED: {label}" for label in passed), flush=True)
             refused += count - len(passed)
             failed += len(passed)

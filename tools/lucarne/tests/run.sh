@@ -18,10 +18,13 @@ done
 . "$here/parts.sh"
 
 LUCARNE_OPT=0 tools/lucarne/build.sh "$work/lucarne" || exit 2
+"$here/can_fail.sh" >"$work/can_fail.log" 2>&1 & # at the same time as the others
+faulty=$!
 build_tests "$work" || exit 2
 try_all "$work" "$update"
-"$here/can_fail.sh"
+wait "$faulty"
 result $? "wrong tools that are not noticed"
+cat "$work/can_fail.log"
 
 echo "$passed passed, $failed failed, $skipped skipped"
 [ "$failed" = 0 ]
