@@ -1,4 +1,5 @@
-// The single-position questions of document 01's small circuits, and some that a wrong program gets wrong, one line each.
+// Questions on single positions and their subsets that no plan asks, or that a wrong program gets wrong, one line each. Those of document 01's circuits are asked
+// of their plans, by check_plans.
 use libc::STDOUT_FILENO;
 use plan::FIRST_RULE;
 use plan::RULE_WORDS;
@@ -7,16 +8,12 @@ use plan::USES;
 // Every rule number; those with no rule behind them are ignored.
 const EVERY: u64 = 0xffff_ffff_ffff_ffff;
 
-// Where the words of the first four rules start: head, positive body, negative body, uses.
+// Where the words of the first rules start: head, positive body, negative body, uses.
 const RULE_0: usize = FIRST_RULE;
 
 const RULE_1: usize = RULE_0 + RULE_WORDS;
 
 const RULE_2: usize = RULE_1 + RULE_WORDS;
-
-const RULE_3: usize = RULE_2 + RULE_WORDS;
-
-const RULE_4: usize = RULE_3 + RULE_WORDS;
 
 // The atoms of the chain and the words of its rules.
 const CHAIN_ATOMS: usize = 60;
@@ -43,87 +40,6 @@ fn ask_smaller(name: &[u8], rules: &[u64], n: usize, kept: u64, facts: u64, posi
     } else {
         io::write_all(STDOUT_FILENO, b": none smaller\n");
     }
-}
-
-// Circuit 2: fact 0 or 1. Atom 2 is in no head.
-fn circuit_2() {
-    let mut rules = [0u64; RULE_1];
-    rules[RULE_0] = 0x3;
-    ask(b"circuit 2", &rules, 1);
-    ask(b"circuit 2", &rules, 2);
-    ask(b"circuit 2", &rules, 3);
-    ask(b"circuit 2", &rules, 0);
-    ask(b"circuit 2", &rules, 5);
-}
-
-// Circuit 3: 0 if 0.
-fn circuit_3() {
-    let mut rules = [0u64; RULE_1];
-    rules[RULE_0] = 0x1;
-    rules[RULE_0 + 1] = 0x1;
-    ask(b"circuit 3", &rules, 0);
-    ask(b"circuit 3", &rules, 1);
-}
-
-// Circuit 4: 0 if not 0.
-fn circuit_4() {
-    let mut rules = [0u64; RULE_1];
-    rules[RULE_0] = 0x1;
-    rules[RULE_0 + 2] = 0x1;
-    ask(b"circuit 4", &rules, 0);
-    ask(b"circuit 4", &rules, 1);
-}
-
-// Circuit 5: 0 if not 1; 1 if not 0.
-fn circuit_5() {
-    let mut rules = [0u64; RULE_2];
-    rules[RULE_0] = 0x1;
-    rules[RULE_0 + 2] = 0x2;
-    rules[RULE_1] = 0x2;
-    rules[RULE_1 + 2] = 0x1;
-    ask(b"circuit 5", &rules, 0);
-    ask(b"circuit 5", &rules, 1);
-    ask(b"circuit 5", &rules, 2);
-    ask(b"circuit 5", &rules, 3);
-}
-
-// Circuit 6: fact 0 or 1; 0 if 1; 1 if 0.
-fn circuit_6() {
-    let mut rules = [0u64; RULE_3];
-    rules[RULE_0] = 0x3;
-    rules[RULE_1] = 0x1;
-    rules[RULE_1 + 1] = 0x2;
-    rules[RULE_2] = 0x2;
-    rules[RULE_2 + 1] = 0x1;
-    ask(b"circuit 6", &rules, 0);
-    ask(b"circuit 6", &rules, 1);
-    ask(b"circuit 6", &rules, 2);
-    ask(b"circuit 6", &rules, 3);
-}
-
-// Circuit 7, its rules as one set: fact 0 or 1; 2 if 0; 3 if 0; 4 if 2 and 3.
-fn circuit_7() {
-    let mut rules = [0u64; RULE_4];
-    rules[RULE_0] = 0x3;
-    rules[RULE_1] = 0x4;
-    rules[RULE_1 + 1] = 0x1;
-    rules[RULE_2] = 0x8;
-    rules[RULE_2 + 1] = 0x1;
-    rules[RULE_3] = 0x10;
-    rules[RULE_3 + 1] = 0xc;
-    ask(b"circuit 7", &rules, 0x02);
-    ask(b"circuit 7", &rules, 0x1d);
-    ask(b"circuit 7", &rules, 0x1f);
-    ask(b"circuit 7", &rules, 0x0d);
-}
-
-// Circuit 9, its rules as one set: fact 0; fact 1; never both.
-fn circuit_9() {
-    let mut rules = [0u64; RULE_3];
-    rules[RULE_0] = 0x1;
-    rules[RULE_1] = 0x2;
-    rules[RULE_2 + 1] = 0x3;
-    ask(b"circuit 9", &rules, 3);
 }
 
 // Two relays that hold each other up: 0 if 1; 1 if 0.
@@ -298,13 +214,6 @@ fn subsets_of_all_atoms() {
 
 // All questions in order.
 fn main() {
-    circuit_2();
-    circuit_3();
-    circuit_4();
-    circuit_5();
-    circuit_6();
-    circuit_7();
-    circuit_9();
     pair();
     top_atom();
     own_table();
