@@ -115,7 +115,7 @@ module _ {bytes : List ℕ} {c : Contents} (l : Lays bytes c) where
   pub lays-accepted : reading bytes .outcome ≡ Accepted
   lays-accepted = ap (λ (r : Reading). r .outcome) lays-read
 
-  lays-units : unitsOf (reading bytes .plan) ≡ unitsIn c
+  pub lays-units : unitsOf (reading bytes .plan) ≡ unitsIn c
   lays-units = ap (λ (r : Reading). unitsOf (r .plan)) lays-read
 
 -- of a plan that is listed demand 3 says that all is listed

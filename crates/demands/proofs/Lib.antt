@@ -22,5 +22,7 @@ pub mod Agreement
 pub mod Demand1
 -- What the atoms that show make of the last list (02, S-11)
 pub mod ShownAtoms
+-- The units of a plan mean what its lists say
+pub mod UnitsMean
 -- What is handed back has demands 1 to 3
 pub mod Promised

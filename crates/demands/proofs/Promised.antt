@@ -2,7 +2,6 @@
 use mathlib.Core.List.{List}
 use Prim.Native.Nat.{ℕ}
 use Rattle.reading.specs.Layout.{IsByte, All}
-use Rattle.plan_meaning.proofs.RecordMeans.{read-means}
 use Rattle.demands.specs.Answer.{answer}
 use Rattle.demands.specs.Handed.{Handed}
 use Rattle.demands.specs.Promised.{Promised}
@@ -10,6 +9,7 @@ use Rattle.demands.specs.declared.listing.Listing.{Listing}
 use Rattle.demands.proofs.Demand1.{demand-1}
 use Rattle.demands.proofs.Demand2.{demand-2}
 use Rattle.demands.proofs.Demand3.{demand-3}
+use Rattle.demands.proofs.UnitsMean.{lists-mean}
 
 pub promised : {bytes table : List ℕ} → All IsByte bytes → {r : Listing} {table′ : List ℕ} → Handed (answer bytes table) r table′
     → Promised bytes table r table′
@@ -17,5 +17,5 @@ promised {bytes} {table} all {r} {table′} h = record {
   demand-1 = demand-1 bytes table all h;
   demand-2 = demand-2 bytes table r table′ h;
   demand-3 = demand-3 bytes table all r table′ h;
-  meaning = read-means bytes;
+  meaning = lists-mean bytes;
 }

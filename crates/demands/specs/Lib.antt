@@ -5,4 +5,5 @@ pub mod Answer
 pub mod Handed
 pub mod Demands
 pub mod Demand1
+pub mod UnitsMean
 pub mod Promised

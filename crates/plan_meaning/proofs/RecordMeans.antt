@@ -34,16 +34,16 @@ use Rattle.plan_meaning.proofs.TruthTables.{answer-true}
 
 -- ---- numbers in a list
 
-number-lt : {A : Type 0} {xs : List A} {i : ℕ} {x : A} → Number xs i x → i < length xs
+pub number-lt : {A : Type 0} {xs : List A} {i : ℕ} {x : A} → Number xs i x → i < length xs
 number-lt first = omega arith
 number-lt (later n) = let l = number-lt n in omega arith
 
-number-there : {A : Type 0} (xs : List A) (i : ℕ) → i < length xs → (x : A) × Number xs i x
+pub number-there : {A : Type 0} (xs : List A) (i : ℕ) → i < length xs → (x : A) × Number xs i x
 number-there [] i l = absurd (omega arith)
 number-there (x ∷ xs) zero l = (x, first)
 number-there (x ∷ xs) (suc i) l = let n = number-there xs i (omega arith) in (n .0, later (n .1))
 
-number-listed : {A : Type 0} (P : A → Type 0) {xs : List A} {i : ℕ} {x : A} → All P xs → Number xs i x → P x
+pub number-listed : {A : Type 0} (P : A → Type 0) {xs : List A} {i : ℕ} {x : A} → All P xs → Number xs i x → P x
 number-listed P a first = a .0
 number-listed P a (later n) = number-listed P (a .1) n
 
