@@ -2,3 +2,4 @@ pub mod Listing
 pub mod Witness
 pub mod Outlook
 pub mod Node
+pub mod Entered

@@ -22,6 +22,7 @@ ghost use Rattle.learning.specs.Reason.{Remembers};
 ghost use Rattle.joining.specs.Filter.{Filtered};
 ghost use Rattle.propagating.specs.Desk.{Prepared};
 ghost use Rattle.propagating.specs.Job.{Belongs};
+ghost use Rattle.searching.specs.Entered.{WentDown};
 
 // With fewer atoms undecided the search is short, and a way down before it is not worth its time.
 const DEEP: usize = 24;
@@ -71,15 +72,16 @@ fn descend(
     ensures filtered { λ r. ⌜ Filtered (now (table .entry)) (now (counts .entry)) (now (desk .entry)) (unit .nearest) (r .state) (now (filter .exit)) ⌝ }
     ensures remembers { λ _. ⌜ Remembers (Belongs (now (rules .entry)) (now (table .entry)) (now (counts .entry)) (now (desk .entry)) unit)
         (now (memory .exit)) ⌝ }
+    ensures onward { λ r. ⌜ WentDown (now (rules .entry)) (unit .rules) (f .state) (r .state) ⌝ }
     ensures falls { λ r. ⌜ ones (undecidedOf (r .state .up) (r .state .dropped)) < ones (undecidedOf (f .state .up) (f .state .dropped)) ⌝ }
 {
     let s = f.state;
-    let next = outlook_of(rules, unit.rules, memory, s, s.up);
+    let next = outlook_of(rules, unit, memory, s, s.up);
     let Outlook::Open(i) = next else {
         return halted(f);
     };
     let phase = phase_of(rules, desk, unit.rules, memory, s, i);
-    let below = branched(rules, unit.rules, desk, f, i, phase);
+    let below = branched(rules, unit, desk, f, i, phase);
     propagate(rules, table, counts, desk, unit, memory, filter, below)
 }
 

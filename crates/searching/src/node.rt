@@ -11,6 +11,7 @@ use propagating::front::Front;
 use propagating::front::branched;
 use states::State;
 ghost use mathlib.Core.Path.{_≡_};
+ghost use mathlib.Core.Bool.{true, false};
 ghost use Prim.Native.Nat.{_<_};
 ghost use lib.ListN.{length};
 ghost use Rattle.atoms.specs.Word.{ATOMS};
@@ -21,14 +22,15 @@ ghost use Rattle.propagating.specs.Desk.{DESK_WORDS};
 ghost use Rattle.searching.specs.Witness.{eitherOf};
 ghost use Rattle.searching.specs.Node.{Finishes};
 
-// A node of the search: its unit, the atoms that show, how many positions are listed so far, where propagation stands, and the state in which
-// the atom was decided.
+// A node of the search: its unit, the atoms that show, how many positions are listed so far, where propagation stands, the state in which
+// the atom was decided, and whether the search begins here, where none was.
 pub struct Node {
     pub unit: Unit,
     pub shown: u64,
     pub count: usize,
     pub front: Front,
     pub base: State,
+    pub begins: bool,
 }
 
 // What was found below a node: how many positions are listed now, a pair that no member completes, and a member there.
@@ -40,7 +42,7 @@ pub struct Found {
 
 // The node at which a search begins: nothing is listed yet.
 pub fn root(unit: Unit, shown: u64, front: Front, base: State) -> Node
-    ensures { λ r. ⌜ r ≡ record { unit = unit; shown = shown; count = 0; front = front; base = base } ⌝ }
+    ensures { λ r. ⌜ r ≡ record { unit = unit; shown = shown; count = 0; front = front; base = base; begins = true } ⌝ }
 {
     Node {
         unit,
@@ -48,6 +50,7 @@ pub fn root(unit: Unit, shown: u64, front: Front, base: State) -> Node
         count: 0,
         front,
         base,
+        begins: true,
     }
 }
 
@@ -62,7 +65,7 @@ pub fn below(
     phase: bool,
 ) -> Node
     requires { ⌜ NoStop (now rules) (node .unit .rules) (f .state) × (length (now desk) ≡ DESK_WORDS) × (i < ATOMS) ⌝ }
-    ensures same { λ r. ⌜ r ≡ record { unit = node .unit; shown = node .shown; count = count; front = r .front; base = f .state } ⌝ }
+    ensures same { λ r. ⌜ r ≡ record { unit = node .unit; shown = node .shown; count = count; front = r .front; base = f .state; begins = false } ⌝ }
     ensures branch { λ r. ⌜ r .front .state ≡ branchOf (f .state) i phase ⌝ }
 {
     let unit = node.unit;
@@ -71,8 +74,9 @@ pub fn below(
         unit,
         shown: node.shown,
         count,
-        front: branched(rules, unit.rules, desk, f, i, phase),
+        front: branched(rules, unit, desk, f, i, phase),
         base,
+        begins: false,
     }
 }
 

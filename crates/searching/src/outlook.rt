@@ -6,6 +6,7 @@ use learning::trail::leaders;
 use narrowing::choice::Choice;
 use narrowing::choice::choose;
 use narrowing::choice::some_wide;
+use propagating::Unit;
 use propagating::desk::backing;
 use states::State;
 use states::undecided;
@@ -60,10 +61,10 @@ pub fn phase_of(rules: &[u64], desk: &[u64], which: u64, memory: &[u64], s: Stat
     some_wide(rules, backing(desk, which, i), s)
 }
 
-// What the state leaves to search; of the atoms those that show come first.
-pub fn outlook_of(rules: &[u64], which: u64, memory: &[u64], s: State, shown: u64) -> Outlook
-    requires { ⌜ Lent (now rules) which × (MEMORY_WORDS ≤ length (now memory)) ⌝ }
-    ensures { λ r. ⌜ Leaves (now (rules .entry)) which s r ⌝ }
+// What the state leaves to search of the unit; of the atoms those that show come first.
+pub fn outlook_of(rules: &[u64], unit: Unit, memory: &[u64], s: State, shown: u64) -> Outlook
+    requires { ⌜ Lent (now rules) (unit .rules) × (MEMORY_WORDS ≤ length (now memory)) ⌝ }
+    ensures { λ r. ⌜ Leaves (now (rules .entry)) (unit .rules) s r ⌝ }
 {
     if !atoms::are_apart(s.up, s.dropped) {
         return Outlook::Stop;
@@ -72,7 +73,7 @@ pub fn outlook_of(rules: &[u64], which: u64, memory: &[u64], s: State, shown: u6
     if free == 0 {
         return Outlook::Leaf;
     }
-    let choice = pick(rules, which, memory, s, free, shown);
+    let choice = pick(rules, unit.rules, memory, s, free, shown);
     match choice {
         Choice::Atom(i) => Outlook::Open(i),
         Choice::Stop(_) => Outlook::Stop,

@@ -31,6 +31,7 @@ ghost use Rattle.learning.specs.Reason.{Remembers};
 ghost use Rattle.searching.specs.Listing.{Ordered, Gathered, Grown};
 ghost use Rattle.atoms.specs.Cuts.{CutOf};
 ghost use Rattle.searching.specs.Witness.{Witnessed};
+ghost use Rattle.searching.specs.Entered.{Entered};
 ghost use Rattle.joining.specs.Filter.{Filtered};
 ghost use Rattle.propagating.specs.Desk.{Prepared};
 ghost use Rattle.propagating.specs.Job.{Belongs, Searchable};
@@ -38,7 +39,7 @@ ghost use Rattle.states.specs.Narrowing.{Wanted};
 
 // Adds to the list the cut of every position that belongs there and completes the node's state, of which the filter says which entries may be joined:
 // the new count, or OVERFULL where that is more than LIST_WORDS. Beside it stands a member that was met, or that there is none. The memory keeps what is
-// learnt on the way. It goes no further where a rule of the unit is at a stop. The pair that is handed back is completed by no member; where it lies
+// learnt on the way. It goes no further where a rule of the unit is at a stop: a node below another one is entered only where none is. The pair that is handed back is completed by no member; where it lies
 // within the state that the first branch began from, the second branch has none.
 pub fn explore(
     rules: &[u64],
@@ -52,7 +53,8 @@ pub fn explore(
 ) -> Found
     requires { ⌜ Prepared (now rules) (now table) (now counts) (now desk) (node .unit) × Ordered (now list) (node .count)
         × Remembers (Belongs (now rules) (now table) (now counts) (now desk) (node .unit)) (now memory)
-        × Filtered (now table) (now counts) (now desk) (node .unit .nearest) (node .front .state) (now filter) ⌝ }
+        × Filtered (now table) (now counts) (now desk) (node .unit .nearest) (node .front .state) (now filter)
+        × Entered (now rules) node ⌝ }
     ensures gathered { λ r. ⌜ Gathered (Grown (now (list .entry)) (node .count) (CutOf (node .shown)
         (Wanted (Belongs (now (rules .entry)) (now (table .entry)) (now (counts .entry)) (now (desk .entry)) (node .unit)) (node .front .state))))
         (now (list .exit)) (r .count) ⌝ }
@@ -68,7 +70,7 @@ pub fn explore(
     let mut mine = copied(filter);
     let f = propagate(rules, table, counts, desk, unit, memory, &mut mine, front);
     let t = f.state;
-    let next = outlook_of(rules, unit.rules, memory, t, node.shown);
+    let next = outlook_of(rules, unit, memory, t, node.shown);
     match next {
         Outlook::Stop => halt(rules, table, counts, desk, memory, node, f),
         Outlook::Leaf => offer(rules, table, counts, desk, list, memory, node, f),

@@ -1,5 +1,11 @@
 -- Where a rule is at a stop nothing is left undecided; else the atom that is decided was, so that fewer are.
+use mathlib.Core.Path.{_≡_}
+use mathlib.Core.Bool.{Bool}
+use denote.Ref.{now}
 use Rattle.atoms.specs.Word.{Has}
+use Rattle.states.specs.Narrowing.{branchOf}
+use Rattle.states.specs.declared.state.State.{State}
+use Rattle.searching.specs.Entered.{GoesOn, further, ended}
 use Rattle.states.specs.State.{undecided}
 use Rattle.joining.proofs.Filters.{filtered-branch, filtered-overlap}
 use Rattle.states.proofs.Branches.{decided-falls, none-falls}
@@ -18,11 +24,17 @@ undecided-atom : (c : tie.After-next)
     → Has (undecided (start c .args .f .state .up) (start c .args .f .state .dropped)) (c .next .given .0 .0)
 undecided-atom c = (rw (c .next .given .1) at (c .before .before .outlook-of .ensures)) .0
 
+goes-on : (c : tie.After-next) (phase : Bool) {next : State} → next ≡ branchOf (start c .args .f .state) (c .next .given .0 .0) phase
+    → GoesOn (now (start c .args .rules)) (start c .args .unit .rules) (start c .args .f .state) next
+goes-on c phase e =
+    let told = rw (c .next .given .1) at (c .before .before .outlook-of .ensures) in
+    record { no-stop = told .2; atom = c .next .given .0 .0; is-atom = told .1; phase = phase; decided = e }
+
 halted : tie.Need-returns
 halted c =
     let first = c .before .before .before .before .before .before .before .before .before .before .before in (
       filtered-overlap (first .args .f .state) (c .halted .ensures .0) (first .pre .2),
-      (first .pre .1, none-falls (first .pre .3) (c .halted .ensures .1)),
+      (first .pre .1, (ended (c .halted .ensures .0), none-falls (first .pre .3) (c .halted .ensures .1))),
     )
 
 phase-of-requires : tie.Need-phase-of-requires
@@ -56,8 +68,11 @@ moved c =
       told .1 .0,
       (
         told .1 .1,
-        decided-falls (start k .args .f .state) (way .before .phase-of .result) (undecided-atom k)
-            (way .branched .ensures) (told .0),
+        (
+          further (goes-on k (way .before .phase-of .result) (way .branched .ensures)) (record { up-within = told .0 .up-grows; dropped-within = told .0 .dropped-grows }),
+          decided-falls (start k .args .f .state) (way .before .phase-of .result) (undecided-atom k)
+              (way .branched .ensures) (told .0),
+        ),
       ),
     )
 

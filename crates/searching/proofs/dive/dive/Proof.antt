@@ -52,7 +52,7 @@ dive-spec =
     (λ c κs. search needs)
     (λ c. search needs)
     descend-requires
-    (λ c. c .before .before .before .descend .ensures .1 .1)
+    (λ c. c .before .before .before .descend .ensures .1 .1 .1)
     loop-again
     learn-stop-requires
     (λ c. search needs)

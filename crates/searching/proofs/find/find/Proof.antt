@@ -1,8 +1,10 @@
 -- Nothing shows, so the list holds one cut at most, and the witness says whether a member was met.
+use mathlib.Core.Path.{refl}
 use Rattle.joining.proofs.JoinedLists.{joinable-some}
 use Rattle.joining.proofs.Filters.{full-filtered}
 use Rattle.searching.proofs.Witnesses.{hidden-few}
 use Rattle.searching.proofs.Gathered.{zeros-ordered}
+use Rattle.searching.specs.Entered.{at-start}
 use borrow.Author.Needs.{needs}
 use Rattle.searching.proofs.find.find.Statement.{statement}
 use Rattle.searching.proofs.find.find.Tie as tie
@@ -16,6 +18,7 @@ explore-requires c κs =
       zeros-ordered,
       pre .1,
       full-filtered _ _ _ _ _ _ (joinable-some (pre .0 .searchable .near) (pre .0 .searchable .joinable)) (made .full-filter .ensures),
+      at-start refl,
     )
 
 returns : tie.Need-returns

@@ -1,7 +1,7 @@
 -- The measure is the count of undecided atoms. Each return says what its step of the search adds to the list, that the memory keeps its promise, and
 -- why no member completes the pair.
-use mathlib.Core.Path.{refl, sym, _∙_}
-use mathlib.Core.Bool.{not}
+use mathlib.Core.Path.{_≡_, refl, sym, _∙_}
+use mathlib.Core.Bool.{Bool, not}
 use Prim.Native.Nat.{ℕ, _<_, _≤_, _^_}
 use native.Mathlib.Omega.{arith}
 use lib.Count.{ones}
@@ -11,8 +11,11 @@ use borrow.Fn.Kinds.{In}
 use borrow.Fn.PlainCycle.{Measures, is, falls, and}
 use Rattle.atoms.specs.Word.{ATOMS, Has}
 use Rattle.states.specs.State.{undecided}
+use Rattle.states.specs.Narrowing.{branchOf}
+use Rattle.states.specs.declared.state.State.{State}
 use Rattle.states.proofs.Branches.{narrowed-le, branch-falls}
 use Rattle.narrowing.specs.Stops.{NoStop}
+use Rattle.searching.specs.Entered.{GoesOn, going-on}
 use Rattle.learning.proofs.Nogoods.{nogood-resolved}
 use Rattle.searching.proofs.Gathered.{gathered-ordered}
 use Rattle.searching.proofs.Nodes.{found-as, found-handed}
@@ -145,6 +148,11 @@ module _ (t : ℕ) where
       → NoStop (now (start (narrowed c) .args .rules)) (start (narrowed c) .args .node .unit .rules) (narrowed c .propagate .result .state)
   no-stop c = (rw (c .next .given .1) at (c .before .before .outlook-of .ensures)) .2
 
+  -- so the search may go on there
+  goes-on : (c : Open) (phase : Bool) {next : State} → next ≡ branchOf (narrowed c .propagate .result .state) (c .next .given .0 .0) phase
+      → GoesOn (now (start (narrowed c) .args .rules)) (start (narrowed c) .args .node .unit .rules) (narrowed c .propagate .result .state) next
+  goes-on c phase e = record { no-stop = no-stop c; atom = c .next .given .0 .0; is-atom = atom-lt c; phase = phase; decided = e }
+
   -- propagation leaves no more undecided
   no-more : (c : Open)
       → ones (undecided (narrowed c .propagate .result .state .up) (narrowed c .propagate .result .state .dropped)) ≤ t
@@ -194,6 +202,7 @@ module _ (t : ℕ) where
           n .propagate .ensures .1 .1,
           filtered-branch (n .propagate .result .state) (k .next .given .0 .0) (phase .phase-of .result) (one .below .ensures .1)
               (n .propagate .ensures .1 .0),
+          going-on refl (goes-on k (phase .phase-of .result) (one .below .ensures .1)),
         ),
       )
 
@@ -222,6 +231,7 @@ module _ (t : ℕ) where
           rw (asked s .below .ensures .0) at (s .explore .ensures .1 .1 .0),
           filtered-branch (n .propagate .result .state) (k .next .given .0 .0) (not (phased s .phase-of .result)) (other .below2 .ensures .1)
               (n .propagate .ensures .1 .0),
+          going-on refl (goes-on k (not (phased s .phase-of .result)) (other .below2 .ensures .1)),
         ),
       )
 

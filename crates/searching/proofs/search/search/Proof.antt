@@ -1,11 +1,12 @@
 -- At first nothing is learnt, every entry may be joined, and every step is on the agenda. What is wanted through the desk is what is wanted.
-use mathlib.Core.Path.{sym}
+use mathlib.Core.Path.{refl, sym}
 use denote.Ref.{now}
 use Rattle.learning.proofs.Reasons.{remembers-empty}
 use Rattle.joining.proofs.JoinedLists.{joinable-some}
 use Rattle.joining.proofs.Filters.{full-filtered}
 use Rattle.propagating.proofs.Desks.{prepared, belongs-desk, desk-belongs}
 use Rattle.searching.proofs.SearchSteps.{search-narrowed, search-alike}
+use Rattle.searching.specs.Entered.{at-start}
 use borrow.Author.Needs.{needs}
 use Rattle.searching.proofs.search.search.Statement.{statement}
 use Rattle.searching.proofs.search.search.Tie as tie
@@ -43,6 +44,7 @@ explore-requires c κs =
       pre .1,
       begun .begin .ensures .1 .1,
       begun .begin .ensures .1 .0,
+      at-start refl,
     )
 
 returns : tie.Need-returns
