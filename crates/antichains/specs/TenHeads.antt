@@ -6,9 +6,9 @@ use lib.ListN.{length, getD}
 use Rattle.plan.specs.Limits.{TABLE_WORDS, COUNTS}
 use Rattle.plan.specs.Faults.{RefusedBy, CODE_STEP}
 use Rattle.plan.specs.declared.fault.Outcome.the-variants.{Accepted}
-use Rattle.reading.specs.Layout.{Contents, recordOf}
+use Rattle.reading.specs.Layout.{Contents, recordOf, Lays}
 use Rattle.dependency_graph.specs.Graph.{Passes}
-use Rattle.demands.specs.Demand1.{unitsIn, Lays, AllListed}
+use Rattle.demands.specs.Demand1.{unitsIn, AllListed}
 use Rattle.demands.specs.Demands.{ListsAll}
 use Rattle.demands.specs.declared.listing.Listing.{Listing}
 use Rattle.sheet.specs.Sheet.{positionsSheet, refusalSheet}

@@ -6,5 +6,7 @@ pub mod Passes
 pub mod Programs
 -- What few_constraints promises is the word of the pass, and it is blamed in document 02's words
 pub mod Blames
+-- What is blamed, of the plan's lists
+pub mod BlameMeaning
 -- The results for the bytes of a plan
 pub mod Results

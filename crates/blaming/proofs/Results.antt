@@ -9,7 +9,6 @@ use Rattle.plan.specs.declared.fault.Outcome.the-variants.{Accepted, Refused as
 use Rattle.plan.specs.declared.record.Plan.{Plan}
 use Rattle.reading.specs.Reading.{reading}
 use Rattle.reading.specs.declared.reader.Reading.{Reading}
-use Rattle.plan_meaning.proofs.RecordMeans.{read-means}
 use Rattle.judge.specs.Settled.{Settles}
 use Rattle.searching.specs.declared.witness.Witness.{Witness}
 use Rattle.searching.specs.declared.witness.Witness.the-variants.{Member, Nothing}
@@ -19,6 +18,7 @@ use Rattle.stepping.specs.Followed.{followed}
 use Rattle.stepping.specs.declared.Next.the-variants.{Position as NextPosition, NoneLeft, Refused as NextRefused}
 use Rattle.stepping.proofs.Nexts.{follows-only, found-follows, none-follows, followed-refused, followed-follows}
 use Rattle.blaming.specs.Blamed.{Blames, Positionless, LeastOrBlamed, with-position, without, heldIn, blamed, Blamed}
+use Rattle.blaming.proofs.BlameMeaning.{blame-means}
 use Rattle.blaming.specs.declared.Blame.{Blame}
 use Rattle.blaming.specs.declared.Blame.the-variants.{Position, Held, Refused}
 
@@ -61,7 +61,7 @@ module _ (bytes : List ℕ) {r : Reading} (read : r ≡ reading bytes) where
     is = sym (is f (outcome-is e));
     refused = λ g o. sym (is f (outcome-is e)) ∙ is g o;
     says = λ a. absurd (not-accepted f (sym a ∙ outcome-is e));
-    meaning = read-means bytes;
+    meaning = blame-means bytes;
   }
     where
       is : (f : Fault) → reading bytes .outcome ≡ RefusedWith f → blamed bytes ≡ Refused f
@@ -72,7 +72,7 @@ module _ (bytes : List ℕ) {r : Reading} (read : r ≡ reading bytes) where
     is = q;
     refused = λ f o. absurd (not-accepted f (sym (outcome-is e) ∙ o));
     says = λ _. subst (λ (y : Reading). LeastOrBlamed (y .plan) x) read s;
-    meaning = read-means bytes;
+    meaning = blame-means bytes;
   }
 
   pub position-blamed : {w : Witness} {M : ℕ} → r .outcome ≡ Accepted → w ≡ Member M → LeastOf (λ N. Settles (r .plan) N × Behind Start N) w

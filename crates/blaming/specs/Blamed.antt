@@ -2,6 +2,7 @@
 -- A plan with a position gets that answer instead, with the least one, uncut. Only the reading refusals apply".
 use mathlib.Core.Path.{_≡_}
 use mathlib.Core.Bool.{Bool, true, false}
+use mathlib.Core.Logic.{_↔_}
 use mathlib.Core.List.{List}
 use Prim.Native.Nat.{ℕ, zero, suc, _≤_, _<_}
 use lib.Dec.{eqb}
@@ -16,8 +17,10 @@ use Rattle.plan.specs.declared.fault.Fault.{Fault}
 use Rattle.plan.specs.declared.fault.Outcome.the-variants.{Accepted, Refused as RefusedWith}
 use Rattle.plan.specs.declared.record.Plan.{Plan}
 use Rattle.reading.specs.Reading.{reading}
-use Rattle.plan_meaning.specs.Meaning.{ReadMeans}
-use Rattle.judge.specs.Settled.{Settles}
+use Rattle.reading.specs.Layout.{RuleWords, Contents, Lays, recordOf}
+use Rattle.plan_meaning.specs.Meaning.{Number}
+use Rattle.plan_meaning.specs.AnswerSets.{AnswerSetOf}
+use Rattle.judge.specs.Settled.{Settles, PositionsMean}
 use Rattle.finding.specs.declared.least.From.the-variants.{Start}
 use Rattle.stepping.specs.Followed.{mayBeUp, followed}
 use Rattle.stepping.specs.declared.Next.the-variants.{Position as NextPosition, NoneLeft, Refused as NextRefused}
@@ -109,6 +112,25 @@ unfoldable pub blamed : List ℕ → Blame
 blamed bytes =
     elim (followed bytes Start) [ NextPosition M ↦ Position M | NoneLeft ↦ Held (heldIn (reading bytes .plan)) | NextRefused f ↦ Refused f ]
 
+-- ---- of the plan's lists
+
+-- "exactly these constraints .. and all headed rules": rule r is among them, where the constraints are those of w
+pub data AmongRules (c : Contents) (w r : ℕ) : Type 0 where
+  headed : {x : RuleWords} {a : ℕ} → Number (c .rules) r x → Has (x .head) a → AmongRules c w r
+  held : {x : RuleWords} → Number (c .rules) r x → x .head ≡ 0 → Has w r → AmongRules c w r
+
+-- the constraints of the record are those of the lists, and what leaves no answer set or one does so with the lists' rules and given facts
+pub record ConstraintsMean (c : Contents) (p : Plan) : Type 0 where
+  pub constraint : (r : ℕ) → Constraint p r ↔ ((x : RuleWords) × Number (c .rules) r x × (x .head ≡ 0))
+  pub empties : (w : ℕ) → Empties p w → (M : ℕ) → ¬ AnswerSetOf c (AmongRules c w) M
+  pub leaves : (w : ℕ) → Leaves p w → (M : ℕ) × AnswerSetOf c (AmongRules c w) M
+
+-- of the record of a plan's lists, and of what was read
+pub record BlameMeans (bytes : List ℕ) : Type 0 where
+  pub positions : PositionsMean bytes
+  pub of-lists : (c : Contents) → Lays bytes c → ConstraintsMean c (recordOf c)
+  pub of-read : (c : Contents) → Lays bytes c → ConstraintsMean c (reading bytes .plan)
+
 -- ---- the contract
 
 -- the result is that; the fault that reading found, and otherwise what is said of the plan, whose rules and facts are those of its lists
@@ -116,7 +138,7 @@ pub record Blamed (bytes : List ℕ) (r : Blame) : Type 0 where
   pub is : r ≡ blamed bytes
   pub refused : (f : Fault) → reading bytes .outcome ≡ RefusedWith f → r ≡ Refused f
   pub says : reading bytes .outcome ≡ Accepted → LeastOrBlamed (reading bytes .plan) r
-  pub meaning : ReadMeans bytes
+  pub meaning : BlameMeans bytes
 
 -- the result as one number, beside the word
 abbrev pub code : Blame → ℕ

@@ -1,7 +1,7 @@
 -- Circuits 2 to 11 of document 01 and plan P, from their bytes: the definitions give the outcomes and the last lists that the
 -- paper has. And plan P with a contact table (02, S-4) in place of the second rule's positive body, plans with a
 -- SHOW (02, S-11), and plans with a COUNT (02, S-10).
-use Prim.Native.Nat.{ℕ}
+use Prim.Native.Nat.{ℕ, zero, suc}
 use mathlib.Core.Path.{_≡_, refl}
 use mathlib.Core.List.{List, [], _∷_, _++_, map}
 use lib.Count.{ones}
@@ -20,7 +20,7 @@ use Rattle.reading.specs.Words.{spelled, wordAt}
 use Rattle.plan.specs.Record.{emptyPlan, withCount, withGiven, withTable, withRule, withUse, withUnit, withEdge, withShow}
 use Rattle.reading.specs.Commands.{kindOf, carrying, late, emptyRule, contradictory, badTable, badUse, absentRule, badEdge, miscounted, ofKind, commandAt}
 use Rattle.reading.specs.Reading.{walk, reading}
-use Rattle.plan.specs.declared.fault.Fault.the-variants.{UnknownCommand, OutOfOrder, Cycle, NonmonotonicUnseen, MonotonicUnseen, WrongCount}
+use Rattle.plan.specs.declared.fault.Fault.the-variants.{UnknownCommand, OutOfOrder, TooMany, Cycle, NonmonotonicUnseen, MonotonicUnseen, WrongCount}
 use Rattle.plan.specs.declared.fault.Outcome.{Outcome}
 use Rattle.plan.specs.declared.fault.Outcome.the-variants.{Accepted, Refused}
 use Rattle.dependency_graph.specs.Heads.{through, reachVia, reach, own, heads, inputHeads}
@@ -81,7 +81,9 @@ circuit-7 = rule 3 0 0 ++ (rule 4 1 0 ++ (rule 8 1 0 ++ (rule 16 12 0 ++ (unit 1
 -- two facts on pairs that show atoms 0 and 1 alone, and no atom; circuit 4 that shows no atom; P that shows atoms 1 and 2; a second SHOW, an EDGE
 -- and an unknown byte behind a SHOW; 0←2 where 2 is given; 2 by a table 1 that is true where 1 is up and 0 is not, beside a table 0 that is never true;
 -- facts 0 and 1 in units that do not see each other, and a table over atom 0 that no rule uses; P that declares its sizes, and that without its EDGE;
--- sizes of 0 declared of a plan without units and one with a unit, with a byte behind END; a second COUNT, and one behind a GIVEN
+-- sizes of 0 declared of a plan without units and one with a unit, with a byte behind END; a second COUNT, and one behind a GIVEN; three rules, two units and
+-- one edge, declared rightly, and with rules and units exchanged; a second GIVEN, and a late one; ←0,not 2 in a unit that sees 0∨1 and 2∨3, and in one that
+-- sees 2∨3 alone: a positive atom of a rule with a negative one makes no nonmonotonic dependence
 abbrev pub plans : List (List ℕ)
 plans =
     circuit-2
@@ -115,6 +117,11 @@ plans =
     ∷ (count 0 0 0 ++ (unit 0 ++ (end ++ end)))
     ∷ (count 0 0 0 ++ (count 0 0 0 ++ end))
     ∷ (given 4 ++ (count 0 0 0 ++ end))
+    ∷ (count 3 2 1 ++ (rule 3 0 0 ++ (rule 4 1 0 ++ (rule 8 0 0 ++ (unit 1 ++ (unit 6 ++ (edge 1 0 ++ end)))))))
+    ∷ (count 2 3 1 ++ (rule 3 0 0 ++ (rule 4 1 0 ++ (rule 8 0 0 ++ (unit 1 ++ (unit 6 ++ (edge 1 0 ++ end)))))))
+    ∷ (given 4 ++ (given 4 ++ end))
+    ∷ (given 4 ++ (rule 1 4 0 ++ (given 4 ++ end)))
+    ∷ (rule 3 0 0 ++ (rule 12 0 0 ++ (rule 0 1 4 ++ (unit 1 ++ (unit 2 ++ (unit 4 ++ (unit 4 ++ (edge 2 0 ++ (edge 2 1 ++ (edge 3 1 ++ end))))))))))
     ∷ []
 
 abbrev pub results : List (Outcome × List ℕ)
@@ -150,6 +157,11 @@ results =
     ∷ (Refused (WrongCount 0), [])
     ∷ (Refused (OutOfOrder 4), [])
     ∷ (Refused (OutOfOrder 9), [])
+    ∷ (Accepted, 10 ∷ 13 ∷ [])
+    ∷ (Refused (WrongCount 0), [])
+    ∷ (Refused (OutOfOrder 9), [])
+    ∷ (Refused (OutOfOrder 34), [])
+    ∷ (Accepted, 5 ∷ 6 ∷ 10 ∷ [])
     ∷ []
 
 -- what `answer` gives for the bytes and a table of zeros: its outcome, and "the words from 4,096 on, as many as the last count says"
@@ -167,3 +179,29 @@ unfolding judged answered answer tableOutcome reading walk commandAt ofKind kind
     headedRuleInSeveral cycle nonmonotonicUnseen monotonicUnseen nonmonotonicUnseenIn monotonicSeenIn seen unseenHeads lowestOf lowest workingOrder
     orderFrom nextUnit ready
 circuits = (refl, refl)
+
+-- ---- one command more than there may be
+
+-- n of them, one behind the other
+abbrev times : ℕ → List ℕ → List ℕ
+times zero bytes = []
+times (suc n) bytes = bytes ++ times n bytes
+
+-- USEs by n rules of all sixteen tables with either sign
+abbrev usedBy : ℕ → ℕ → List ℕ
+usedBy r zero = []
+usedBy r (suc t) = wants r t 0 ++ (wants r t 1 ++ usedBy r t)
+
+abbrev usesOfAll : ℕ → List ℕ
+usesOfAll zero = []
+usesOfAll (suc r) = usedBy r 16 ++ usesOfAll r
+
+-- a 17th TABLE, a 65th RULE, a 17th UNIT, and a 257th USE
+pub one-too-many :
+    (reading (times 17 (table 1 2)) .outcome ≡ Refused (TooMany 272))
+    × (reading (times 65 (rule 1 0 0)) .outcome ≡ Refused (TooMany 1600))
+    × (reading (times 17 (unit 0)) .outcome ≡ Refused (TooMany 144))
+    × (reading (times 16 (table 1 2) ++ (times 9 (rule 1 0 0) ++ usesOfAll 9)) .outcome ≡ Refused (TooMany 1521))
+unfolding reading walk commandAt ofKind kindOf carrying late emptyRule contradictory absentRule badEdge badTable badUse miscounted emptyPlan withTable
+    withRule withUse withUnit spelled wordAt padded tabulate ones apart _∩_ _∪_ atom has
+one-too-many = (refl, refl, refl, refl)

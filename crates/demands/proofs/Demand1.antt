@@ -19,7 +19,7 @@ use Rattle.plan.specs.declared.fault.Outcome.{Outcome}
 use Rattle.plan.specs.declared.fault.Outcome.the-variants.{Accepted, Refused}
 use Rattle.plan.proofs.Refusals.{refused-by, told, refused-for}
 use Rattle.reading.specs.Reading.{reading, accepted}
-use Rattle.reading.specs.Layout.{IsByte, All, Contents, commands, recordOf}
+use Rattle.reading.specs.Layout.{IsByte, All, Contents, commands, recordOf, Lays}
 use Rattle.reading.specs.Refusals.{readingPlace, Stopped}
 use Rattle.reading.specs.declared.reader.Reading.{Reading}
 use Rattle.reading.proofs.RoundTrip.{layout-is-read}
@@ -38,7 +38,7 @@ use Rattle.demands.specs.Table.{listAt, tableOf, countsOf, cleared, noCo
 use Rattle.demands.specs.Answer.{Answer, refuse, unitWork, answer}
 use Rattle.demands.specs.Handed.{Handed}
 use Rattle.demands.specs.Demands.{Shown, ListOf, Long, Fits, FirstLong, here, later, last, ListsAll, Demand3}
-use Rattle.demands.specs.Demand1.{unitsIn, Lays, Listable, AllListed, FirstFault, table-place, reading-place, graph-place, unit-work, LeftBy, Demand1}
+use Rattle.demands.specs.Demand1.{unitsIn, Listable, AllListed, FirstFault, table-place, reading-place, graph-place, unit-work, LeftBy, Demand1}
 use Rattle.demands.specs.declared.listing.Listing.{Listing}
 use Rattle.demands.proofs.HeldLists.{list-there, list-absent, list-last, cleared-behind, held-count, held-padded, held-word, held-long, held-behind}
 use Rattle.demands.proofs.Answers.{Passed, not-accepted, accepted-passed, short-answer, refused-answer, read-answer, unless-refused}

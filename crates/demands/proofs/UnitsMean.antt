@@ -8,13 +8,14 @@ use lib.ListN.{length}
 use Rattle.atoms.specs.Word.{Has}
 use Rattle.atoms.proofs.Sets.{has-lt}
 use Rattle.plan.specs.declared.record.Plan.{Plan}
-use Rattle.reading.specs.Layout.{UnitPair, Contents, GoodEdge, WithinLimits}
+use Rattle.reading.specs.Layout.{UnitPair, Contents, GoodEdge, WithinLimits, Lays}
 use Rattle.reading.proofs.Lists.{all-member}
 use Rattle.plan_meaning.specs.Meaning.{Number, Means}
-use Rattle.plan_meaning.proofs.RecordMeans.{number-lt, number-there, number-listed, record-means, read-means}
+use Rattle.plan_meaning.proofs.RecordMeans.{number-lt, number-there, number-listed, record-means}
+use Rattle.plan_meaning.proofs.AnswerSetsMean.{read-means}
 use Rattle.dependency_graph.specs.Units.{Units, Holds, Edge}
 use Rattle.dependency_graph.specs.PlanUnits.{unitsOf}
-use Rattle.demands.specs.Demand1.{unitsIn, Lays}
+use Rattle.demands.specs.Demand1.{unitsIn}
 use Rattle.demands.specs.UnitsMean.{UnitsMean, ListsMean}
 use Rattle.demands.proofs.Demand1.{lays-units}
 

@@ -9,7 +9,7 @@ use Rattle.plan.specs.Limits.{LIST_WORDS, TABLE_WORDS, COUNTS, LAST_COUNT}
 use Rattle.plan.specs.Faults.{RefusedBy}
 use Rattle.plan.specs.declared.fault.Outcome.{Outcome}
 use Rattle.plan.specs.declared.fault.Outcome.the-variants.{Accepted}
-use Rattle.reading.specs.Layout.{Contents, layout, recordOf, WithinLimits, Counted}
+use Rattle.reading.specs.Layout.{Contents, Lays, recordOf}
 use Rattle.reading.specs.Refusals.{Stopped}
 use Rattle.dependency_graph.specs.Units.{Units}
 use Rattle.dependency_graph.specs.PlanUnits.{unitsOf}
@@ -23,12 +23,6 @@ use Rattle.demands.specs.declared.listing.Listing.{Listing}
 -- the units of a plan's lists
 abbrev pub unitsIn : Contents → Units
 unitsIn c = unitsOf (recordOf c)
-
--- the bytes are the layout of these lists, which keep the limits; S-10: the declared sizes are theirs
-pub record Lays (bytes : List ℕ) (c : Contents) : Type 0 where
-  pub within : WithinLimits c
-  pub counted : Counted c
-  pub bytes-are : bytes ≡ layout c
 
 -- "Every plan that keeps document 01's byte layout, limits and graph conditions, and whose lists fit"
 pub record Listable (bytes : List ℕ) (c : Contents) : Type 0 where

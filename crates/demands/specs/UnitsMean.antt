@@ -5,12 +5,13 @@ use mathlib.Core.List.{List, List·Memᴰ}
 use Prim.Native.Nat.{ℕ, _<_}
 use lib.ListN.{length}
 use Rattle.atoms.specs.Word.{ATOMS, Has}
-use Rattle.reading.specs.Layout.{RuleWords, UnitPair, Contents}
+use Rattle.reading.specs.Layout.{RuleWords, UnitPair, Contents, Lays}
 use Rattle.reading.specs.Reading.{reading}
-use Rattle.plan_meaning.specs.Meaning.{Number, LooksAt, RuleMeans, ReadMeans}
+use Rattle.plan_meaning.specs.Meaning.{Number, LooksAt, RuleMeans}
+use Rattle.plan_meaning.specs.Read.{ReadMeans}
 use Rattle.dependency_graph.specs.Units.{Units, Holds, Edge}
 use Rattle.dependency_graph.specs.PlanUnits.{unitsOf}
-use Rattle.demands.specs.Demand1.{unitsIn, Lays}
+use Rattle.demands.specs.Demand1.{unitsIn}
 
 -- S is the lists' program cut into units
 pub record UnitsMean (c : Contents) (S : Units) : Type 0 where

@@ -44,4 +44,5 @@ module _ (bytes : List ℕ) {found found′ : List ℕ} {r : ℕ} {said : Blame}
     tells = subst (λ (y : Blame). TellsBlame y found found′ r) (b .is) t;
     says = λ c l. (said, subst (λ (y : Reading). LeastOrBlamed (y .plan) said) (lays-read l) (b .says (lays-accepted l)), t);
     refused = refused;
+    meaning = b .meaning;
   }

@@ -1,26 +1,27 @@
 -- What the codes tell a host, from what the functions below promise.
-use mathlib.Core.Path.{_≡_, refl, ap, _∙_, subst}
+use mathlib.Core.Path.{_≡_, refl, ap, _∙_}
 use mathlib.Core.Logic.{_↔_}
 use mathlib.Core.Bool.{Bool, true, false}
 use mathlib.Core.List.{List}
 use Prim.Native.Nat.{ℕ, _+_, _*_}
 use native.Mathlib.Omega.{arith}
 use Rattle.atoms.specs.Bounded.{Decides}
+use Rattle.atoms.proofs.Tests.{decides-iff}
 use Rattle.plan.specs.Faults.{CODE_STEP}
 use Rattle.plan.specs.declared.fault.Outcome.the-variants.{Accepted}
 use Rattle.reading.specs.Reading.{reading}
-use Rattle.reading.specs.Layout.{IsByte, All, Contents, recordOf}
+use Rattle.reading.specs.Layout.{IsByte, All, Contents, Lays}
 use Rattle.reading.specs.Refusals.{Stopped}
-use Rattle.reading.specs.declared.reader.Reading.{Reading}
 use Rattle.reading.proofs.Limits.{record-fits}
 use Rattle.reading.proofs.Judged.{reading-judged}
-use Rattle.judge.specs.Settled.{Settles, settled}
+use Rattle.plan_meaning.specs.AnswerSets.{PlanAnswerSet}
+use Rattle.judge.specs.Settled.{settled}
 use Rattle.judge.specs.Answers.{yesNo, judged, code}
-use Rattle.judge.proofs.Settled.{decides-settled, judged-accepted, judged-refused}
-use Rattle.demands.specs.Demand1.{Lays, FirstFault}
+use Rattle.judge.proofs.Settled.{decides-settled, judged-accepted, judged-refused, positions-mean}
+use Rattle.demands.specs.Demand1.{FirstFault}
 use Rattle.demands.specs.Promised.{Promised}
 use Rattle.demands.specs.declared.listing.Listing.{Listing}
-use Rattle.demands.proofs.Demand1.{lays-read, lays-accepted}
+use Rattle.demands.proofs.Demand1.{lays-accepted}
 use Rattle.exports.specs.Handed.{outcomeCode, JudgeHanded}
 use Rattle.exports.proofs.Spots.{stopped-at-most, fault-at-most, code-exact}
 
@@ -47,10 +48,10 @@ told-no false d e = (λ _. d .no refl, λ _. e)
 
 module _ (bytes : List ℕ) (position : ℕ) {r : ℕ} (small : All IsByte bytes) (e : r ≡ code (judged bytes position)) where
   module _ (c : Contents) (l : Lays bytes c) where
-    decided : Decides (Settles (recordOf c) position) (settled (reading bytes .plan) position)
+    decided : Decides (PlanAnswerSet c position) (settled (reading bytes .plan) position)
     decided =
-        subst (λ (x : Reading). Decides (Settles (x .plan) position) (settled (reading bytes .plan) position)) (lays-read l)
-        (decides-settled (reading bytes .plan) position (record-fits bytes))
+        let same = positions-mean bytes .of-read c l position in
+        decides-iff (same .0) (same .1) (decides-settled (reading bytes .plan) position (record-fits bytes))
 
     coded : r ≡ code (yesNo (settled (reading bytes .plan) position))
     coded = e ∙ ap code (judged-accepted bytes position (lays-accepted l))

@@ -60,4 +60,5 @@ module _ (bytes : List ℕ) (from : From) {found found′ : List ℕ} {r : ℕ} 
     next = λ c l.
         (next, subst (λ (y : Reading). Follows (y .plan) from next) (lays-read l) (f .follows (lays-accepted l)), t);
     refused = refused;
+    meaning = f .meaning;
   }

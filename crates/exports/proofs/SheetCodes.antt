@@ -8,13 +8,12 @@ use native.Mathlib.Decide.{decLt}
 use lib.ListN.{length}
 use Rattle.plan.specs.Faults.{CODE_STEP}
 use Rattle.plan.specs.declared.record.Plan.{Plan}
-use Rattle.reading.specs.Layout.{IsByte, All, Contents, recordOf}
+use Rattle.reading.specs.Layout.{IsByte, All, Contents, recordOf, Lays}
 use Rattle.reading.specs.Refusals.{Stopped}
 use Rattle.reading.specs.declared.reader.Reading.{Reading}
 use Rattle.reading.proofs.Judged.{reading-judged}
 use Rattle.judge.specs.Sheets.{sheetCode, Laid, AllSettle, FirstNot, Right, all-settled, first-not, SheetJudged}
 use Rattle.judge.specs.declared.sheet.SheetAnswer.{SheetAnswer}
-use Rattle.demands.specs.Demand1.{Lays}
 use Rattle.demands.proofs.Demand1.{lays-read, lays-accepted}
 use Rattle.exports.specs.Sheets.{SheetJudgeHanded}
 use Rattle.exports.proofs.Spots.{stopped-at-most, code-exact}
@@ -60,4 +59,5 @@ module _ (bytes sheet : List ℕ) {r : ℕ} {answer : SheetAnswer} (small : All 
       laid = j .laid;
       all-settled = λ c l ps laid. told-all (laid .few) (right c l ps laid) e;
       first-not = λ c l ps laid place. told-first (laid .few) place (right c l ps laid) e;
+      meaning = j .meaning;
     }

@@ -7,7 +7,7 @@ use Rattle.plan.specs.Limits.{MAX_RULES, MAX_UNITS}
 use Rattle.plan.specs.Faults.{RefusedBy, CODE_STEP, WIDEST_SPOT, refusalCode}
 use Rattle.plan.specs.declared.fault.Outcome.{Outcome}
 use Rattle.plan.proofs.Refusals.{told}
-use Rattle.reading.specs.Layout.{IsByte, All, Contents, recordOf}
+use Rattle.reading.specs.Layout.{IsByte, All, Contents, recordOf, Lays}
 use Rattle.reading.specs.Refusals.{Stopped}
 use Rattle.reading.proofs.Judged.{reading-judged}
 use Rattle.judge.proofs.Codes.{spot-at-most}
@@ -17,7 +17,7 @@ use Rattle.dependency_graph.specs.Check.{Right, passes, row-16, row-10, row-11,
 use Rattle.dependency_graph.specs.Order.{InOrder, all-done, next}
 use Rattle.dependency_graph.proofs.Heads.{path-end}
 use Rattle.demands.specs.Demands.{FirstLong, here, later, last}
-use Rattle.demands.specs.Demand1.{Lays, FirstFault, table-place, reading-place, graph-place, unit-work}
+use Rattle.demands.specs.Demand1.{FirstFault, table-place, reading-place, graph-place, unit-work}
 use Rattle.demands.proofs.Answers.{not-accepted}
 
 pub stopped-at-most : {bytes : List ℕ} {n s : ℕ} → All IsByte bytes → Stopped bytes n s → s ≤ WIDEST_SPOT

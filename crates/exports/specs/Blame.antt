@@ -3,10 +3,9 @@ use mathlib.Core.Path.{_≡_}
 use mathlib.Core.List.{List, [], _∷_}
 use Prim.Native.Nat.{ℕ, _+_, _*_}
 use Rattle.plan.specs.Faults.{CODE_STEP}
-use Rattle.reading.specs.Layout.{Contents, recordOf}
+use Rattle.reading.specs.Layout.{Contents, recordOf, Lays}
 use Rattle.reading.specs.Refusals.{Stopped}
-use Rattle.demands.specs.Demand1.{Lays}
-use Rattle.blaming.specs.Blamed.{LeastOrBlamed, blamed, code}
+use Rattle.blaming.specs.Blamed.{LeastOrBlamed, BlameMeans, blamed, code}
 use Rattle.blaming.specs.declared.Blame.{Blame}
 use Rattle.blaming.specs.declared.Blame.the-variants.{Position, Held, Refused}
 use Rattle.exports.specs.Handed.{copied}
@@ -28,3 +27,4 @@ pub record BlameHanded (bytes found found′ : List ℕ) (r : ℕ) : Type 0 wher
   pub tells : TellsBlame (blamed bytes) found found′ r
   pub says : (c : Contents) → Lays bytes c → (x : Blame) × LeastOrBlamed (recordOf c) x × TellsBlame x found found′ r
   pub refused : (n s : ℕ) → Stopped bytes n s → (r ≡ CODE_STEP * n + s) × (found′ ≡ found)
+  pub meaning : BlameMeans bytes

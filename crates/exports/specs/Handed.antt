@@ -4,18 +4,16 @@ use mathlib.Core.Logic.{_↔_}
 use mathlib.Core.List.{List, [], _∷_, _++_}
 use Prim.Native.Nat.{ℕ, _+_, _*_, _≤_}
 use lib.ListN.{length, take, drop, replicate}
-use Rattle.atoms.specs.Word.{below}
-use Rattle.answer_sets.specs.AnswerSet.{AnswerSet}
-use Rattle.answer_sets.specs.Lent.{lent}
 use Rattle.plan.specs.Limits.{TABLE_WORDS}
 use Rattle.plan.specs.declared.fault.Outcome.{Outcome}
 use Rattle.plan.specs.declared.fault.Outcome.the-variants.{Accepted, Refused}
 use Rattle.plan.specs.Faults.{CODE_STEP, refusalCode}
-use Rattle.reading.specs.Layout.{Contents, recordOf}
+use Rattle.reading.specs.Layout.{Contents, Lays}
 use Rattle.reading.specs.Refusals.{Stopped}
+use Rattle.plan_meaning.specs.AnswerSets.{PlanAnswerSet}
 use Rattle.judge.specs.Answers.{judged, code}
 use Rattle.demands.specs.Answer.{answer}
-use Rattle.demands.specs.Demand1.{Lays, FirstFault}
+use Rattle.demands.specs.Demand1.{FirstFault}
 use Rattle.demands.specs.Promised.{Promised}
 use Rattle.demands.specs.declared.listing.Listing.{Listing}
 use Rattle.sheet.specs.Lent.{bytesWritten as written, filled}
@@ -46,14 +44,12 @@ pub record ListHanded (bytes table table′ counts counts′ : List ℕ) (r : �
   pub listed : listing .outcome ≡ Accepted → r ≡ 0
   pub refused : (n s : ℕ) → FirstFault bytes table n s → r ≡ CODE_STEP * n + s
 
--- a judged position: 1 exactly if it is an answer set of the plan's rules with its given atoms as facts, and otherwise 0; the number and the
+-- a judged position: 1 exactly if it is an answer set of the rules of the plan's lists with their given atoms as facts, and otherwise 0; the number and the
 -- spot of a reading fault
 pub record JudgeHanded (bytes : List ℕ) (position r : ℕ) : Type 0 where
   pub code-is : r ≡ code (judged bytes position)
-  pub settled : (c : Contents) → Lays bytes c
-      → (r ≡ 1) ↔ AnswerSet (lent (recordOf c .rules)) (below (recordOf c .«rule_count»)) (recordOf c .given) position
-  pub not-settled : (c : Contents) → Lays bytes c
-      → (r ≡ 0) ↔ (¬ AnswerSet (lent (recordOf c .rules)) (below (recordOf c .«rule_count»)) (recordOf c .given) position)
+  pub settled : (c : Contents) → Lays bytes c → (r ≡ 1) ↔ PlanAnswerSet c position
+  pub not-settled : (c : Contents) → Lays bytes c → (r ≡ 0) ↔ (¬ PlanAnswerSet c position)
   pub refused : (n s : ℕ) → Stopped bytes n s → r ≡ CODE_STEP * n + s
 
 -- a sheet: its bytes where the buffer has room for all of them, and their number; SHEET_BYTES are always enough. It says what demands 1 and 3 say

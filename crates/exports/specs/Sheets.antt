@@ -4,10 +4,10 @@ use mathlib.Core.Logic.{_↔_}
 use mathlib.Core.List.{List}
 use Prim.Native.Nat.{ℕ, _+_, _*_, _<_}
 use Rattle.plan.specs.Faults.{CODE_STEP}
-use Rattle.reading.specs.Layout.{Contents, recordOf}
+use Rattle.reading.specs.Layout.{Contents, recordOf, Lays}
 use Rattle.reading.specs.Refusals.{Stopped}
+use Rattle.judge.specs.Settled.{PositionsMean}
 use Rattle.judge.specs.Sheets.{sheetJudged, sheetCode, NoSheet, Laid, AllSettle, FirstNot}
-use Rattle.demands.specs.Demand1.{Lays}
 
 -- 256 exactly if all positions are answer sets of the plan's rules with its given atoms as facts; a place exactly if the position there is the
 -- first that is not, and then below 256, since a sheet has at most 256 positions; the number and the spot of a reading fault, and after these 24 at 0.
@@ -20,3 +20,4 @@ pub record SheetJudgeHanded (bytes sheet : List ℕ) (r : ℕ) : Type 0 where
   pub all-settled : (c : Contents) → Lays bytes c → (positions : List ℕ) → Laid positions sheet → (r ≡ 256) ↔ AllSettle (recordOf c) positions
   pub first-not : (c : Contents) → Lays bytes c → (positions : List ℕ) → Laid positions sheet → (place : ℕ)
       → ((place < 256) × (r ≡ place)) ↔ FirstNot (recordOf c) positions place
+  pub meaning : PositionsMean bytes

@@ -2,3 +2,5 @@
 pub mod TruthTables
 -- The record of a plan's lists means what the lists say
 pub mod RecordMeans
+-- The answer sets of what was read are those of the lists
+pub mod AnswerSetsMean

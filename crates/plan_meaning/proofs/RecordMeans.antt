@@ -20,7 +20,7 @@ use Rattle.plan.specs.Limits.{MAX_TABLES, MAX_RULES, MAX_UNITS, CONTACT_WORDS, 
 use Rattle.contact_tables.specs.Table.{tableAnswer}
 use Rattle.answer_sets.specs.Lent.{lent, ruleAt, negative, inputs, truth, uses, looks, USE_BITS, usedTable, asks, useHolds, usesHold, usedInputs}
 use Rattle.reading.specs.Layout.{TableWords, RuleWords, TableUse, UnitPair, Contents, twoWords, usesOf, ruleWords, predecessorsOf, recordOf}
-use Rattle.reading.specs.Layout.{GoodTable, GoodUse, All, WithinLimits}
+use Rattle.reading.specs.Layout.{GoodTable, GoodUse, All, WithinLimits, Lays}
 use Rattle.reading.specs.Reading.{reading}
 use Rattle.reading.specs.declared.reader.Reading.{Reading}
 use Rattle.reading.proofs.RoundTrip.{layout-is-read}
@@ -29,7 +29,7 @@ use Rattle.reading.proofs.KeyedWords.{has-entry, entry-has}
 use Rattle.reading.proofs.Program.{bitOf, tableWords, table-words-long, use-has}
 use Rattle.reading.proofs.Elements.{few-within, row-is, uses-are}
 use Rattle.plan_meaning.specs.Tables.{TrueAt}
-use Rattle.plan_meaning.specs.Meaning.{Number, first, later, UseHolds, RestHolds, LooksAt, negative as looks-negative, input, RuleMeans, Means, ReadMeans}
+use Rattle.plan_meaning.specs.Meaning.{Number, first, later, UseHolds, RestHolds, LooksAt, negative as looks-negative, input, RuleMeans, Means}
 use Rattle.plan_meaning.proofs.TruthTables.{answer-true}
 
 -- ---- numbers in a list
@@ -305,7 +305,6 @@ module _ (c : Contents) (within : WithinLimits c) where
   }
 
 -- what was read is the record of the lists
-pub read-means : (bytes : List ℕ) → ReadMeans bytes
-read-means bytes = record {
-  means = λ c w n e. subst (λ (r : Reading). Means c (r .plan)) (sym (ap reading e ∙ layout-is-read c w n)) (record-means c w);
-}
+pub read-record : (bytes : List ℕ) {c : Contents} → Lays bytes c → Means c (reading bytes .plan)
+read-record bytes {c} l =
+    subst (λ (r : Reading). Means c (r .plan)) (sym (ap reading (l .bytes-are) ∙ layout-is-read c (l .within) (l .counted))) (record-means c (l .within))

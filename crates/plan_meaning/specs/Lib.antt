@@ -1,2 +1,4 @@
 pub mod Tables
 pub mod Meaning
+pub mod AnswerSets
+pub mod Read

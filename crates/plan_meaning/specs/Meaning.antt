@@ -7,8 +7,7 @@ use Prim.Native.Nat.{ℕ, zero, suc, _<_}
 use lib.ListN.{length, getD}
 use Rattle.atoms.specs.Word.{ATOMS, Has, Apart}
 use Rattle.plan.specs.declared.record.Plan.{Plan}
-use Rattle.reading.specs.Layout.{TableWords, RuleWords, TableUse, UnitPair, Contents, layout, WithinLimits, Counted}
-use Rattle.reading.specs.Reading.{reading}
+use Rattle.reading.specs.Layout.{TableWords, RuleWords, TableUse, UnitPair, Contents}
 use Rattle.answer_sets.specs.Program.{Program}
 use Rattle.answer_sets.specs.Lent.{lent, looks}
 use Rattle.plan_meaning.specs.Tables.{TrueAt}
@@ -55,7 +54,3 @@ pub record Means (c : Contents) (p : Plan) : Type 0 where
       → Has (getD (p .predecessors) u 0) v ↔ ((e : UnitPair) × List·Memᴰ e (c .edges) × (e .u ≡ u) × (e .v ≡ v))
   -- S-11: "without it all 64 atoms show"
   pub shown : (a : ℕ) → a < ATOMS → Has (p .shown) a ↔ ((word : ℕ) → List·Memᴰ word (c .shown) → Has word a)
-
--- what was read of a plan's bytes means what its lists say
-pub record ReadMeans (bytes : List ℕ) : Type 0 where
-  pub means : (c : Contents) → WithinLimits c → Counted c → bytes ≡ layout c → Means c (reading bytes .plan)

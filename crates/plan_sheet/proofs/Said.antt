@@ -43,4 +43,4 @@ module _ (bytes table : List ℕ) (all : All IsByte bytes) where
       sym (sheet-refused (answer bytes table) (x .fault) (x .is)) ∙ ap₂ refusalSheet (x .number-is) (x .spot-is)
 
   pub sheet-says : SheetSays bytes table (sheetOf (answer bytes table))
-  sheet-says = record { positions = positions-said; refusal = refusal-said }
+  sheet-says = record { positions = positions-said; refusal = refusal-said; meaning = kept .meaning }

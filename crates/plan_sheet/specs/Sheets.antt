@@ -22,6 +22,7 @@ use Rattle.sheet.specs.declared.Written.the-variants.{Bytes, TooShort}
 use Rattle.plan_sheet.specs.declared.Sheet.{Sheet}
 use Rattle.demands.specs.Answer.{Answer, answer}
 use Rattle.demands.specs.Demand1.{Listable, FirstFault}
+use Rattle.demands.specs.UnitsMean.{ListsMean}
 
 -- by outcome: the last list's positions, or the refusal
 unfoldable pub sheetFor : Outcome → List ℕ → List ℕ → List ℕ
@@ -40,11 +41,12 @@ pub record Positions (p : Plan) (ws : List ℕ) : Type 0 where
   pub rising : Rising ws
   pub members : (X : ℕ) → List·Memᴰ X ws ↔ CutOf (p .shown) (AnswerSet (lent (p .rules)) (below (p .«rule_count»)) (p .given)) X
 
--- what a sheet says: of a plan that is listed its positions, one line each, and of any other its first fault
+-- what a sheet says: of a plan that is listed its positions, one line each, and of any other its first fault; and what the plan's lists mean
 pub record SheetSays (bytes table sheet : List ℕ) : Type 0 where
   pub positions : (c : Contents) → Listable bytes c → TABLE_WORDS ≤ length table
       → (ws : List ℕ) × (sheet ≡ positionsSheet ws) × Positions (recordOf c) ws
   pub refusal : (n s : ℕ) → FirstFault bytes table n s → sheet ≡ refusalSheet n s
+  pub meaning : ListsMean bytes
 
 -- the table is the answer's, and the sheet its sheet, where the buffer has room for it; SHEET_BYTES are always enough
 pub record Printed (bytes table table′ sheet sheet′ : List ℕ) (r : Written) : Type 0 where

@@ -28,7 +28,7 @@ use Rattle.reading.specs.Layout.{wordBytes, countBytes, givenBytes, tabl
 use Rattle.reading.specs.Layout.{unitBytes, edgeBytes, showBytes, commands, wordOf, usesOf, ruleWords, predecessorsOf, recordOf, IsByte, All, Distinct}
 use Rattle.reading.specs.Layout.{GoodUse, GoodEdge, WithinLimits}
 use Rattle.reading.specs.Reading.{commandBytes}
-use Rattle.reading.specs.Refusals.{countOf}
+use Rattle.reading.specs.Layout.{countOf}
 use Rattle.reading.proofs.CommandKinds.{each-kind, none-behind}
 use Rattle.reading.proofs.Numbers.{length-bytes, word-behind, word-bytes}
 use Rattle.reading.proofs.Edges.{not-bad-edge}

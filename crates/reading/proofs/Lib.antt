@@ -10,6 +10,8 @@ pub mod Edges
 pub mod Uses
 -- Kinds of commands
 pub mod CommandKinds
+-- The command table by kinds, and by bytes and lists
+pub mod CommandLines
 -- A command that is no fault: its kind, that no row of the fault table fits it, and what it does to the record
 pub mod Commands
 -- Reading on, command by command. `walk-keeps` is the one induction over what is left to read

@@ -22,26 +22,27 @@ use Rattle.plan.specs.Limits.{MAX_UNITS}
 use Rattle.plan.specs.Record.{usesAt}
 use Rattle.plan.specs.Faults.{number, spot, FaultRow, FirstFit}
 use Rattle.reading.specs.Words.{WORD_BYTES, wordAt}
-use Rattle.reading.specs.Commands.{Kind, sizes, given, table, rule, usage, unit, edge, show, end, byteOf, kindOf, operandBytes, orderOf, earliestBehind}
-use Rattle.reading.specs.Commands.{Most, once, upTo, runsOutAt, mostOf, carrying, kinds, countBehind, late, noRoom, full}
+use Rattle.reading.specs.Commands.{Kind, sizes, given, table, rule, usage, unit, edge, show, end, byteOf, kindOf, operandBytes, orderOf}
+use Rattle.reading.specs.Commands.{carrying, kinds, countBehind, late, full}
 use Rattle.reading.specs.Commands.{emptyRule, contradictory, badTable, badUse, absentRule, badEdge, miscounted}
 use Rattle.reading.specs.Commands.{Row, operandRows, rows, firstFit, ofKind, commandAt}
 use Rattle.reading.specs.Layout.{RuleWords, TableUse, UnitPair, Contents, Element, predecessorsOf, recordOf, IsByte, All, Counted}
-use Rattle.reading.specs.Refusals.{Begins, countOf, NoRoom, Full, UnknownByte, OutOfGroupOrder, OneTooMany, CutShort, before-end, inside-operands}
+use Rattle.reading.specs.Refusals.{Line, UnknownByte, OutOfGroupOrder, OneTooMany, CutShort, before-end, inside-operands}
 use Rattle.reading.specs.Refusals.{NoTable, WrongTable, NoNewUse, no-such-rule, no-such-table, another-sign, again, WrongUse}
 use Rattle.reading.specs.Refusals.{ZeroRule, ContradictoryRule, NamesAbsentRule, NoNewEdge, no-such-u, no-such-v, to-itself, repeated}
 use Rattle.reading.specs.Refusals.{WrongEdge, Miscounted, BytesAfterEnd}
 use Rattle.reading.specs.Refusals.{faultRow, readingPlace}
 use Rattle.reading.proofs.Numbers.{word-fits}
 use Rattle.reading.proofs.HighBits.{atom-from}
-use Rattle.reading.proofs.CommandKinds.{kind-of-byte, kind-byte, byte-own, each-kind, Later, later-there, none-behind}
+use Rattle.reading.proofs.CommandKinds.{kind-of-byte, kind-byte, byte-own, each-kind}
+use Rattle.reading.proofs.CommandLines.{kind-line, line-kind, kind-late, late-kind, kind-full, full-kind}
 use Rattle.reading.proofs.Commands.{Passed, none-fits, known-command, unknown-command, not-faulty}
 use Rattle.reading.proofs.Predecessors.{has-member, member-has}
 use Rattle.reading.proofs.Sizes.{decides-miscounted, some-wrong, none-wrong}
 use Rattle.reading.proofs.Tables.{decides-bad-table}
 use Rattle.reading.proofs.Program.{bitOf, use-has}
 use Rattle.reading.proofs.Elements.{operandsOf, elementAt, written-again, read-again, Sized, Few, decides-empty, decides-contradictory}
-use Rattle.reading.proofs.Elements.{count-of, row-is, uses-are, bit-of-use}
+use Rattle.reading.proofs.Elements.{row-is, uses-are, bit-of-use}
 use Rattle.plan.specs.declared.fault.Fault.{Fault}
 use Rattle.plan.specs.declared.fault.Fault.the-variants.{Truncated, UnknownCommand}
 use Rattle.reading.specs.declared.command.Command.{Command}
@@ -114,18 +115,10 @@ tail-same e = cc
 no-byte : {b : ℕ} {s : List ℕ} → [] ≡ b ∷ s → ⊥
 no-byte e = let z : _≡_ {A = ℕ} 0 1 = cc in omega arith
 
-begins-own : (j k : Kind) (operands : List ℕ) → Begins j (byteOf k ∷ operands) → j ≡ k
-begins-own j k operands b = byte-own j k (sym (head-same (b .is)))
-
 -- ---- what the tests decide
 
 decides-le : (a b : ℕ) → Decides (a ≤ b) (leb a b)
 decides-le a b = record { yes = leb-true a b; no = λ e h. omega (arith, leb-false a b e) }
-
-decides-room : (m : Most) (n : ℕ) → Decides (NoRoom m n) (noRoom m n)
-decides-room once n = record { yes = λ e. true≢false (sym e); no = λ e x. x }
-decides-room (upTo m) n = decides-le m n
-decides-room (runsOutAt m) n = record { yes = λ e. true≢false (sym e); no = λ e x. x }
 
 -- words that are not apart share an atom
 shared-atom : (a b : ℕ) → ¬ Apart a b → (i : ℕ) × Has a i × Has b i
@@ -134,9 +127,6 @@ shared-atom a b n =
     (i .0, cut-left a b (i .1), cut-right a b (i .1))
 
 module _ (c : Contents) (few : Few c) where
-  decides-full : (k : Kind) → Decides (Full c k) (full (recordOf c) k)
-  decides-full k = subst (λ (n : ℕ). Decides (Full c k) (noRoom (mostOf k) n)) (sym (count-of c k)) (decides-room (mostOf k) (countOf c k))
-
   decides-bad-use : (x : TableUse) → Decides (NoNewUse c x) (badUse (recordOf c) (x .rule) (x .table) (x .sign))
   unfolding recordOf badUse
   decides-bad-use x =
@@ -203,50 +193,42 @@ module _ (c : Contents) (few : Few c) where
 -- ---- a command of a known kind: row by row
 
 module _ (c : Contents) (few : Few c) (operands : List ℕ) where
-  abbrev begins : (k : Kind) → Begins k (byteOf k ∷ operands)
-  begins k = record { behind = operands; is = refl }
-
   known : (k : Kind) → ¬ UnknownByte (byteOf k ∷ operands)
-  known k u = u .names-none k (sym (head-same (u .is)))
+  known k u = u .names-none (operandBytes k) (subst (λ (b : ℕ). Line b (operandBytes k)) (head-same (u .is)) (kind-line k))
+
+  -- a byte that begins them is that of their kind
+  own : (k : Kind) {b : ℕ} {s : List ℕ} → byteOf k ∷ operands ≡ b ∷ s → (j : Kind) → b ≡ byteOf j → j ≡ k
+  own k e j f = byte-own j k (sym (head-same e ∙ f))
 
   -- bytes that begin with another command
   other : (j k : Kind) → eqb (byteOf j) (byteOf k) ≡ false → {s : List ℕ} → byteOf k ∷ operands ≡ byteOf j ∷ s → ⊥
   other j k e s = eqb-false _ _ e (sym (head-same s))
 
-  own : (k j : Kind) → Begins j (byteOf k ∷ operands) → j ≡ k
-  own k j b = begins-own j k operands b
-
   order-decided : (k : Kind) → Decides (OutOfGroupOrder c (byteOf k ∷ operands)) (late (recordOf c) (orderOf k))
   unfolding late
-  order-decided k = record { yes = λ e. behind-later (later-there (recordOf c) (orderOf k) (ltb-true _ _ e)); no = λ e. in-order (ltb-false _ _ e) }
-    where
-      behind-later : Later (recordOf c) (orderOf k) → OutOfGroupOrder c (byteOf k ∷ operands)
-      behind-later j =
-          record {
-            kind = k;
-            begins = begins k;
-            before = j .kind;
-            there = subst (λ (n : ℕ). 0 < n) (count-of c (j .kind)) (j .there);
-            too-late = j .behind;
-          }
-
-      in-order : countBehind (recordOf c) (orderOf k) kinds ≤ 0 → ¬ OutOfGroupOrder c (byteOf k ∷ operands)
-      in-order h o =
-          let too-late : orderOf k < orderOf (earliestBehind (o .before)) =
-          subst (λ (j : Kind). orderOf j < orderOf (earliestBehind (o .before))) (own k (o .kind) (o .begins)) (o .too-late) in
-          omega (arith, o .there, count-of c (o .before), none-behind (recordOf c) (orderOf k) h (o .before) too-late)
+  order-decided k = record {
+    yes = λ e. record { byte = byteOf k; behind = operands; is = refl; too-late = kind-late c k (ltb-true _ _ e) };
+    no = λ e o.
+        let j = late-kind c (o .too-late) in
+        let some = subst (λ (i : Kind). 0 < countBehind (recordOf c) (orderOf i) kinds) (own k (o .is) (j .0) (j .1)) (j .2) in
+        omega (arith, ltb-false 0 (countBehind (recordOf c) (orderOf k) kinds) e, some);
+  }
 
   many-decided : (k : Kind) → Decides (OneTooMany c (byteOf k ∷ operands)) (full (recordOf c) k)
-  many-decided k =
-      decides-iff (λ f. record { kind = k; begins = begins k; full = f }) (λ o. subst (Full c) (own k (o .kind) (o .begins)) (o .full))
-      (decides-full c few k)
+  many-decided k = record {
+    yes = λ e. record { byte = byteOf k; behind = operands; is = refl; no-room = kind-full c k e };
+    no = λ e o.
+        let j = full-kind c (o .no-room) in
+        true≢false (sym (subst (λ (i : Kind). full (recordOf c) i ≡ true) (own k (o .is) (j .0) (j .1)) (j .2)) ∙ e);
+  }
 
   short-decided : (k : Kind) → Decides (CutShort (byteOf k ∷ operands)) (ltb (length operands) (operandBytes k))
-  short-decided k = record { yes = λ e. inside-operands k (begins k) (ltb-true _ _ e); no = λ e. whole (ltb-false _ _ e) }
+  short-decided k = record { yes = λ e. inside-operands (kind-line k) refl (ltb-true _ _ e); no = λ e. whole (ltb-false _ _ e) }
     where
       whole : operandBytes k ≤ length operands → ¬ CutShort (byteOf k ∷ operands)
       whole h (before-end z) = no-byte (sym z)
-      whole h (inside-operands j b l) = omega (arith, ap operandBytes (own k j b), ap length (tail-same (b .is)))
+      whole h (inside-operands l e short) =
+          let j = line-kind l in omega (arith, short, ap operandBytes (own k e (j .0) (j .1)), j .2, ap length (tail-same e))
 
   module _ (small : All IsByte operands) where
     -- the operands are the bytes of the element that they spell, and of no other
@@ -489,11 +471,15 @@ judged : (c : Contents) → Few c → (at : ℕ) (s : List ℕ) → All IsByte s
 unfolding commandAt ofKind
 judged c few at [] small =
     stops (Truncated at) refl
-    (inr (λ u. no-byte (u .is), inr (λ o. no-byte (o .begins .is), inr (λ o. no-byte (o .begins .is), inl (before-end refl, (refl, refl))))))
+    (inr (λ u. no-byte (u .is), inr (λ o. no-byte (o .is), inr (λ o. no-byte (o .is), inl (before-end refl, (refl, refl))))))
 judged c few at (b ∷ operands) small = go (kindOf b) refl
   where
-    none-named : kindOf b ≡ none → (k : Kind) → ¬ (b ≡ byteOf k)
-    none-named e k h = let z : none ≡ some k = sym e ∙ ap kindOf h ∙ kind-of-byte k in let y : _≡_ {A = ℕ} 0 1 = cc in omega arith
+    none-named : kindOf b ≡ none → (operands : ℕ) → ¬ Line b operands
+    none-named e n l =
+        let j = line-kind l in
+        let z : none ≡ some (j .0) = sym e ∙ ap kindOf (j .1) ∙ kind-of-byte (j .0) in
+        let y : _≡_ {A = ℕ} 0 1 = cc in
+        omega arith
 
     of-kind : (k : Kind) → kindOf b ≡ some k
         → Passed (rows (recordOf c) at k operands) ⊎ FirstIs (rows (recordOf c) at k operands) (readingPlace c at (b ∷ operands)) (carrying k operands)

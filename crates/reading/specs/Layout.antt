@@ -118,6 +118,10 @@ listOf c edge = c .edges
 listOf c show = c .shown
 listOf c end = []
 
+-- how many commands of the kind there are
+abbrev pub countOf : Contents → Kind → ℕ
+countOf c kind = length (listOf c kind)
+
 -- COUNT "may be the first command", GIVEN "before all RULEs", TABLEs "before RULEs, after GIVEN", USE "after RULEs, before UNITs", "All RULEs come first,
 -- then UNITs, then EDGEs", SHOW "just before END": every command but END
 unfoldable pub commands : Contents → List ℕ
@@ -250,6 +254,16 @@ pub record Agrees (c : Contents) (s : Sizes) : Type 0 where
 -- a whole plan's COUNT, if there is one, is right
 abbrev pub Counted : Contents → Type 0
 Counted c = All (Agrees c) (c .declared)
+
+-- the bytes are the layout of these lists, which keep the limits; S-10: the declared sizes are theirs
+pub record Lays (bytes : List ℕ) (c : Contents) : Type 0 where
+  pub within : WithinLimits c
+  pub counted : Counted c
+  pub bytes-are : bytes ≡ layout c
+
+-- where the bytes are the layout of lists, this is their record
+pub record Records (bytes : List ℕ) (plan : Plan) : Type 0 where
+  pub of-lists : (c : Contents) → Lays bytes c → plan ≡ recordOf c
 
 -- the bytes are the layout of lists within the limits, rightly counted, and the record is theirs
 pub record IsPlan (bytes : List ℕ) (plan : Plan) : Type 0 where

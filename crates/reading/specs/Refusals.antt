@@ -1,68 +1,102 @@
--- What reading accepts and refuses, said of a plan's lists and their layout alone: the reader, its record and its steps are not spoken of.
+-- What reading accepts and refuses, said of a plan's lists and their layout alone: the reader, its command table, its record and its steps are not spoken of.
 -- Document 01, "Faults, by where they are found", place "reading"; document 02, S-1, S-4, S-6, S-10 and S-11.
 use mathlib.Core.Path.{_≡_}
 use mathlib.Core.List.{List, [], _∷_, _++_, List·Memᴰ}
 use mathlib.Core.Logic.{_↔_}
-use Prim.Native.Nat.{ℕ, suc, _^_, _≤_, _<_}
+use Prim.Native.Nat.{ℕ, suc, _+_, _^_, _≤_, _<_}
 use lib.Count.{ones}
 use lib.ListN.{length}
 use Rattle.atoms.specs.Word.{Has}
 use Rattle.plan.specs.Limits.{MAX_INPUTS}
 use Rattle.plan.specs.Faults.{RefusedBy, FaultRow, FirstFit}
 use Rattle.reading.specs.Words.{WORD_VALUES}
-use Rattle.reading.specs.Commands.{Kind, byteOf, operandBytes, orderOf}
-use Rattle.reading.specs.Commands.{Most, once, upTo, runsOutAt, mostOf, earliestBehind}
 use Rattle.reading.specs.Layout.{Sizes, TableWords, RuleWords, TableUse, UnitPair, Contents, tableBytes, ruleBytes, useBytes, unitBytes, edgeBytes}
-use Rattle.reading.specs.Layout.{listOf, endBytes, commands, layout, WithinLimits, Counted}
+use Rattle.reading.specs.Layout.{endBytes, commands, layout, WithinLimits, Counted}
 use Rattle.plan.specs.declared.fault.Outcome.{Outcome}
 use Rattle.plan.specs.declared.fault.Outcome.the-variants.{Accepted}
 
 -- ---- the rows: c is what the commands before say, `rest` the bytes from the command on
 
--- `rest` begins with a command of this kind
-pub record Begins (kind : Kind) (rest : List ℕ) : Type 0 where
-  pub behind : List ℕ
-  pub is : rest ≡ byteOf kind ∷ behind
-
--- how many commands of the kind there are
-abbrev pub countOf : Contents → Kind → ℕ
-countOf c kind = length (listOf c kind)
+-- columns "byte" and "operands" of the command table, the operands in bytes; GIVEN of S-1, TABLE and USE of S-4, COUNT of S-10, SHOW of S-11
+pub data Line : ℕ → ℕ → Type 0 where
+  end-line : Line 0x00 0
+  rule-line : Line 0x01 24
+  unit-line : Line 0x02 8
+  edge-line : Line 0x03 2
+  given-line : Line 0x04 8
+  table-line : Line 0x05 16
+  use-line : Line 0x06 3
+  count-line : Line 0x07 3
+  show-line : Line 0x08 8
 
 -- 3: "unknown command byte"
 pub record UnknownByte (rest : List ℕ) : Type 0 where
   pub byte : ℕ
   pub behind : List ℕ
   pub is : rest ≡ byte ∷ behind
-  pub names-none : (kind : Kind) → ¬ (byte ≡ byteOf kind)
+  pub names-none : (operands : ℕ) → ¬ Line byte operands
 
--- 4: "command out of group order", a command being there behind which it may not come; "a second or late GIVEN is 4",
--- COUNT "may be the first command .. Elsewhere it is 4",
--- "After SHOW every known command but END is 4"
+-- how many commands there are that stand behind all EDGEs, behind all UNITs, .. : SHOW "just before END", "All RULEs come first, then UNITs, then EDGEs",
+-- USE "after RULEs, before UNITs", TABLEs "before RULEs, after GIVEN", GIVEN "before all RULEs"
+abbrev pub behindEdges : Contents → ℕ
+behindEdges c = length (c .shown)
+
+abbrev pub behindUnits : Contents → ℕ
+behindUnits c = length (c .edges) + behindEdges c
+
+abbrev pub behindUses : Contents → ℕ
+behindUses c = length (c .units) + behindUnits c
+
+abbrev pub behindRules : Contents → ℕ
+behindRules c = length (c .uses) + behindUses c
+
+abbrev pub behindTables : Contents → ℕ
+behindTables c = length (c .rules) + behindRules c
+
+abbrev pub behindGiven : Contents → ℕ
+behindGiven c = length (c .tables) + behindTables c
+
+abbrev pub behindCount : Contents → ℕ
+behindCount c = length (c .given) + behindGiven c
+
+-- a command with this byte comes too late: one is there behind which it may not come. COUNT "may be the first command .. Elsewhere it is 4"; "a second or late
+-- GIVEN is 4"; SHOW "may stand once"; "After SHOW every known command but END is 4", and END never is
+pub data TooLate (c : Contents) : ℕ → Type 0 where
+  late-count : 0 < length (c .declared) + behindCount c → TooLate c 0x07
+  late-given : 0 < length (c .given) + behindGiven c → TooLate c 0x04
+  late-table : 0 < behindTables c → TooLate c 0x05
+  late-rule : 0 < behindRules c → TooLate c 0x01
+  late-use : 0 < behindUses c → TooLate c 0x06
+  late-unit : 0 < behindUnits c → TooLate c 0x02
+  late-edge : 0 < behindEdges c → TooLate c 0x03
+  second-show : 0 < length (c .shown) → TooLate c 0x08
+
+-- 4: "command out of group order"
 pub record OutOfGroupOrder (c : Contents) (rest : List ℕ) : Type 0 where
-  pub kind : Kind
-  pub begins : Begins kind rest
-  pub before : Kind
-  pub there : 0 < countOf c before
-  pub too-late : orderOf kind < orderOf (earliestBehind before)
+  pub byte : ℕ
+  pub behind : List ℕ
+  pub is : rest ≡ byte ∷ behind
+  pub too-late : TooLate c byte
 
--- 5: "65th RULE, 17th UNIT"; a 241st EDGE is 8, or 2 where it is cut short; S-4: "At most 16 tables and 256 USEs; the 17th and the 257th are 5"
-abbrev pub NoRoom : Most → ℕ → Type 0
-NoRoom once n = ⊥
-NoRoom (upTo m) n = m ≤ n
-NoRoom (runsOutAt m) n = ⊥
+-- no further command with this byte has room: "65th RULE, 17th UNIT"; S-4: "At most 16 tables and 256 USEs; the 17th and the 257th are 5". A 241st EDGE is 8,
+-- or 2 where it is cut short
+pub data NoRoom (c : Contents) : ℕ → Type 0 where
+  seventeenth-table : 16 ≤ length (c .tables) → NoRoom c 0x05
+  sixty-fifth-rule : 64 ≤ length (c .rules) → NoRoom c 0x01
+  two-hundred-fifty-seventh-use : 256 ≤ length (c .uses) → NoRoom c 0x06
+  seventeenth-unit : 16 ≤ length (c .units) → NoRoom c 0x02
 
-abbrev pub Full : Contents → Kind → Type 0
-Full c k = NoRoom (mostOf k) (countOf c k)
-
+-- 5: "65th RULE, 17th UNIT"
 pub record OneTooMany (c : Contents) (rest : List ℕ) : Type 0 where
-  pub kind : Kind
-  pub begins : Begins kind rest
-  pub full : Full c kind
+  pub byte : ℕ
+  pub behind : List ℕ
+  pub is : rest ≡ byte ∷ behind
+  pub no-room : NoRoom c byte
 
 -- 2: "bytes end before END or inside operands"
 pub data CutShort (rest : List ℕ) : Type 0 where
   before-end : rest ≡ [] → CutShort rest
-  inside-operands : (kind : Kind) (begins : Begins kind rest) → length (begins .behind) < operandBytes kind → CutShort rest
+  inside-operands : {byte operands : ℕ} {behind : List ℕ} → Line byte operands → rest ≡ byte ∷ behind → length behind < operands → CutShort rest
 
 -- 6: "RULE with three zero words"
 pub record ZeroRule (rest : List ℕ) : Type 0 where

@@ -4,6 +4,7 @@ ghost use Rattle.plan.specs.Record.{Fitting};
 ghost use Rattle.reading.specs.Commands.{given, table, rule, usage, unit, edge, show, end};
 ghost use Rattle.reading.specs.Progress.{placeAt, Reached};
 ghost use Rattle.reading.specs.Reading.{reading};
+ghost use Rattle.reading.specs.Layout.{Records};
 ghost use Rattle.reading.specs.Refusals.{ReadingJudged};
 use crate::command::Command;
 use crate::dispatch::read_command;
@@ -194,6 +195,7 @@ fn read_shows(bytes: &[u8], from: Progress) -> Progress
 pub fn read_plan(plan: &[u8]) -> Reading
     ensures read { λ r. ⌜ r ≡ reading (now (plan .entry)) ⌝ }
     ensures judged { λ r. ⌜ ReadingJudged (now (plan .entry)) (r .outcome) ⌝ }
+    ensures records { λ r. ⌜ Records (now (plan .entry)) (r .plan) ⌝ }
 {
     let counts = read_counts(plan);
     let givens = read_givens(plan, counts);

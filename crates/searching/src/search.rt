@@ -39,8 +39,8 @@ ghost use Rattle.states.specs.Narrowing.{Wanted};
 
 // Adds to the list the cut of every position that belongs there and completes the node's state, of which the filter says which entries may be joined:
 // the new count, or OVERFULL where that is more than LIST_WORDS. Beside it stands a member that was met, or that there is none. The memory keeps what is
-// learnt on the way. It goes no further where a rule of the unit is at a stop: a node below another one is entered only where none is. The pair that is handed back is completed by no member; where it lies
-// within the state that the first branch began from, the second branch has none.
+// learnt on the way. It goes no further where a rule of the unit is at a stop: a node below another one is entered only where none is. The pair that is
+// handed back is completed by no member; where it lies within the state that the first branch began from, the second branch has none.
 pub fn explore(
     rules: &[u64],
     table: &[u64],

@@ -24,9 +24,8 @@ use Rattle.plan.specs.declared.fault.Outcome.the-variants.{Accepted, Refused as
 use Rattle.reading.specs.Reading.{reading}
 use Rattle.reading.specs.declared.reader.Reading.{Reading}
 use Rattle.reading.proofs.Limits.{record-fits}
-use Rattle.plan_meaning.proofs.RecordMeans.{read-means}
 use Rattle.judge.specs.Settled.{Settles, settled}
-use Rattle.judge.proofs.Settled.{Headed, settled-headed, decides-settled}
+use Rattle.judge.proofs.Settled.{Headed, settled-headed, decides-settled, positions-mean}
 use Rattle.demands.proofs.Answers.{not-accepted}
 use Rattle.searching.specs.declared.witness.Witness.{Witness}
 use Rattle.searching.specs.declared.witness.Witness.the-variants.{Member, Nothing}
@@ -134,7 +133,7 @@ module _ (bytes : List ℕ) (from : From) {r : Reading} (read : r ≡ reading by
     is = sym (followed-refused bytes from f (outcome-is e));
     refused = λ g o. sym (followed-refused bytes from f (outcome-is e)) ∙ followed-refused bytes from g o;
     follows = λ a. absurd (not-accepted f (sym a ∙ outcome-is e));
-    meaning = read-means bytes;
+    meaning = positions-mean bytes;
   }
 
   accepted-followed : {x : Next} → r .outcome ≡ Accepted → Follows (r .plan) from x → Followed bytes from x
@@ -142,7 +141,7 @@ module _ (bytes : List ℕ) (from : From) {r : Reading} (read : r ≡ reading by
     is = follows-only here (followed-follows bytes from (outcome-is e));
     refused = λ f o. absurd (not-accepted f (sym (outcome-is e) ∙ o));
     follows = λ _. here;
-    meaning = read-means bytes;
+    meaning = positions-mean bytes;
   }
     where
       here : Follows (reading bytes .plan) from x

@@ -1,22 +1,30 @@
 -- `read_plan` meets its contract: behind all EDGEs and the SHOW stands END or a fault. What `reading` gives is judged by `reading-judged`.
-use mathlib.Core.Path.{_≡_, sym, subst}
+use mathlib.Core.Path.{_≡_, sym, ap, _∙_, subst}
 use mathlib.Core.List.{List}
 use Prim.Native.Nat.{ℕ}
 use denote.Ref.{now}
-use Rattle.reading.specs.Layout.{IsByte, All}
+use Rattle.reading.specs.Layout.{IsByte, All, Records}
 use Rattle.reading.specs.Reading.{reading}
 use Rattle.reading.specs.Refusals.{ReadingJudged}
 use Rattle.reading.specs.declared.reader.Reading.{Reading}
 use Rattle.reading.proofs.Groups.{accepted-here, refused-here}
 use Rattle.reading.proofs.Judged.{reading-judged}
 use Rattle.reading.proofs.Limits.{all-bytes}
+use Rattle.reading.proofs.RoundTrip.{layout-is-read}
 use borrow.Author.Needs.{needs}
 use Rattle.reading.proofs.reader.read_plan.Statement.{statement}
 use Rattle.reading.proofs.reader.read_plan.Tie as tie
 
--- what is handed back has both parts of the contract
-promised : {bytes : List ℕ} → All IsByte bytes → {r : Reading} → r ≡ reading bytes → (r ≡ reading bytes) × ReadingJudged bytes (r .outcome)
-promised {bytes} small e = (e, subst (λ (x : Reading). ReadingJudged bytes (x .outcome)) (sym e) (reading-judged bytes small))
+-- what is handed back has all parts of the contract
+promised : {bytes : List ℕ} → All IsByte bytes → {r : Reading} → r ≡ reading bytes
+    → (r ≡ reading bytes) × (ReadingJudged bytes (r .outcome) × Records bytes (r .plan))
+promised {bytes} small e = (
+  e,
+  (
+    subst (λ (x : Reading). ReadingJudged bytes (x .outcome)) (sym e) (reading-judged bytes small),
+    record { of-lists = λ c l. ap (λ (x : Reading). x .plan) (e ∙ ap reading (l .bytes-are) ∙ layout-is-read c (l .within) (l .counted)) },
+  ),
+)
 
 abbrev known : tie.After-read-shows → tie.After-shared-slice-known
 known c = c .before .before .before .before .before .before .before .before

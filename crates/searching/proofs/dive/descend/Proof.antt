@@ -69,7 +69,8 @@ moved c =
       (
         told .1 .1,
         (
-          further (goes-on k (way .before .phase-of .result) (way .branched .ensures)) (record { up-within = told .0 .up-grows; dropped-within = told .0 .dropped-grows }),
+          further (goes-on k (way .before .phase-of .result) (way .branched .ensures))
+              (record { up-within = told .0 .up-grows; dropped-within = told .0 .dropped-grows }),
           decided-falls (start k .args .f .state) (way .before .phase-of .result) (undecided-atom k)
               (way .branched .ensures) (told .0),
         ),
