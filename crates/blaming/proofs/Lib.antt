@@ -10,3 +10,5 @@ pub mod Blames
 pub mod BlameMeaning
 -- The results for the bytes of a plan
 pub mod Results
+-- The pass, computed from a plan's bytes
+pub mod Examples

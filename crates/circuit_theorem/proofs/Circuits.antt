@@ -20,7 +20,7 @@ use Rattle.reading.specs.Words.{spelled, wordAt}
 use Rattle.plan.specs.Record.{emptyPlan, withCount, withGiven, withTable, withRule, withUse, withUnit, withEdge, withShow}
 use Rattle.reading.specs.Commands.{kindOf, carrying, late, emptyRule, contradictory, badTable, badUse, absentRule, badEdge, miscounted, ofKind, commandAt}
 use Rattle.reading.specs.Reading.{walk, reading}
-use Rattle.plan.specs.declared.fault.Fault.the-variants.{UnknownCommand, OutOfOrder, TooMany, Cycle, NonmonotonicUnseen, MonotonicUnseen, WrongCount}
+use Rattle.plan.specs.declared.fault.Fault.the-variants.{Truncated, UnknownCommand, OutOfOrder, TooMany, Cycle, NonmonotonicUnseen, MonotonicUnseen, WrongCount}
 use Rattle.plan.specs.declared.fault.Outcome.{Outcome}
 use Rattle.plan.specs.declared.fault.Outcome.the-variants.{Accepted, Refused}
 use Rattle.dependency_graph.specs.Heads.{through, reachVia, reach, own, heads, inputHeads}
@@ -31,7 +31,9 @@ use Rattle.dependency_graph.specs.Offenders.{givenInHead, ruleInNoUnit, headedR
 use Rattle.dependency_graph.specs.Check.{faultOr, verdict}
 use Rattle.splitting.specs.UnitList.{withLast}
 use Rattle.judge.specs.Answers.{judged}
+use Rattle.judge.specs.Sheets.{badBytes, placesJudged, sheetJudged}
 use Rattle.judge.specs.declared.Answer.the-variants.{NotSettled}
+use Rattle.judge.specs.declared.sheet.SheetAnswer.the-variants.{AllSettled, NotSettledAt}
 use Rattle.demands.specs.Lists.{isInput, inList, unitList, lastList}
 use Rattle.demands.specs.Table.{listAt, runs, tableWith, countsWith, noCounts}
 use Rattle.demands.specs.Answer.{unlessRefused, workFrom, tableOutcome, answer}
@@ -205,3 +207,24 @@ pub one-too-many :
 unfolding reading walk commandAt ofKind kindOf carrying late emptyRule contradictory absentRule badEdge badTable badUse miscounted emptyPlan withTable
     withRule withUse withUnit spelled wordAt padded tabulate ones apart _∩_ _∪_ atom has
 one-too-many = (refl, refl, refl, refl)
+
+-- ---- the first row that fits
+
+-- a late RULE that is cut short and a 17th TABLE behind a RULE are 4, a 65th RULE that is cut short is 5, and three zero words that are cut short are 2
+pub first-rows :
+    (reading (show 3 ++ (1 ∷ [])) .outcome ≡ Refused (OutOfOrder 9))
+    × (reading (times 16 (table 1 2) ++ (rule 1 0 0 ++ table 1 2)) .outcome ≡ Refused (OutOfOrder 297))
+    × (reading (times 64 (rule 1 0 0) ++ (1 ∷ [])) .outcome ≡ Refused (TooMany 1600))
+    × (reading (1 ∷ word 0 ++ word 0) .outcome ≡ Refused (Truncated 0))
+unfolding reading walk commandAt ofKind kindOf carrying late emptyRule contradictory badTable miscounted emptyPlan withTable withRule withShow spelled wordAt
+    padded tabulate ones apart _∩_ has
+first-rows = (refl, refl, refl, refl)
+
+-- ---- whole sheets (02, S-12)
+
+-- "Each position is a word as in the plan, lowest byte first": 1 and 2, and 2 and 3, of circuit 2
+pub sheets : (sheetJudged circuit-2 (word 1 ++ word 2) ≡ AllSettled) × (sheetJudged circuit-2 (word 2 ++ word 3) ≡ NotSettledAt 1)
+unfolding sheetJudged badBytes placesJudged lowest reading walk commandAt ofKind kindOf carrying late emptyRule contradictory absentRule miscounted emptyPlan
+    withRule withUnit spelled wordAt padded tabulate lent usesHold useHolds usedTable asks answerSet someSmaller satisfiesAll satisfies body kept keptIf has
+    subset apart _∩_ _∪_ _∖_ atom below allBelow someBelow wordBelow unionIn said tableRow place ones members
+sheets = (refl, refl)

@@ -1,0 +1,33 @@
+-- The pass over the constraints, computed from a plan's bytes: it goes up by rule number, and given atoms are facts.
+use Prim.Native.Nat.{ℕ}
+use mathlib.Core.Path.{_≡_, refl}
+use mathlib.Core.List.{List, [], _∷_, _++_}
+use Rattle.atoms.specs.Word.{has, subset, apart, _∩_, _∪_, _∖_, atom, below}
+use Rattle.atoms.specs.Bounded.{allBelow, someBelow, wordBelow, unionIn}
+use Rattle.atoms.specs.Collected.{lowest}
+use Rattle.atoms.specs.Lists.{padded}
+use Rattle.answer_sets.specs.Lent.{usedTable, asks, useHolds, usesHold, lent}
+use Rattle.answer_sets.specs.Test.{body, satisfies, satisfiesAll, kept, keptIf, someSmaller, answerSet}
+use Rattle.plan.specs.Record.{emptyPlan, withGiven, withRule}
+use Rattle.reading.specs.Words.{spelled, wordAt}
+use Rattle.reading.specs.Commands.{kindOf, carrying, late, emptyRule, contradictory, miscounted, ofKind, commandAt}
+use Rattle.reading.specs.Reading.{walk, reading}
+use Rattle.stepping.specs.Followed.{nextIn, followed}
+use Rattle.blaming.specs.Blamed.{leaves, passed, heldIn, blamed}
+use Rattle.blaming.specs.declared.Blame.the-variants.{Held}
+
+-- a word below 256 in a plan
+abbrev word : ℕ → List ℕ
+word n = n ∷ 0 ∷ 0 ∷ 0 ∷ 0 ∷ 0 ∷ 0 ∷ 0 ∷ []
+
+abbrev rule : ℕ → ℕ → ℕ → List ℕ
+rule h p n = 1 ∷ word h ++ (word p ++ word n)
+
+-- the fact 0 and twice ←0: the first is dropped, since the second still leaves no answer set; and the same with 0 given
+pub going-up :
+    (blamed (rule 1 0 0 ++ (rule 0 1 0 ++ (rule 0 1 0 ++ (0 ∷ [])))) ≡ Held 4)
+    × (blamed (4 ∷ word 1 ++ (rule 0 1 0 ++ (rule 0 1 0 ++ (0 ∷ [])))) ≡ Held 2)
+unfolding blamed heldIn passed leaves followed nextIn reading walk commandAt ofKind kindOf carrying late emptyRule contradictory miscounted emptyPlan withGiven
+    withRule spelled wordAt padded lent usesHold useHolds usedTable asks answerSet someSmaller satisfiesAll satisfies body kept keptIf has subset apart _∩_
+    _∪_ _∖_ atom below allBelow someBelow wordBelow unionIn lowest
+going-up = (refl, refl)
