@@ -16,7 +16,7 @@ use Rattle.plan_meaning.specs.Meaning.{Number, Means}
 use Rattle.plan_meaning.specs.AnswerSets.{AnswerSetOf}
 use Rattle.plan_meaning.proofs.RecordMeans.{number-lt, number-there, record-means, read-record}
 use Rattle.plan_meaning.proofs.AnswerSetsMean.{sets-same}
-use Rattle.judge.proofs.Settled.{positions-mean}
+use Rattle.plan_meaning.proofs.AnswerSetsMean.{read-means}
 use Rattle.blaming.specs.Blamed.{Constraint, Among, headed-rule, constraint, Empties, Leaves, AmongRules, headed, held, ConstraintsMean, BlameMeans}
 
 module _ {c : Contents} {p : Plan} (m : Means c p) where
@@ -57,7 +57,7 @@ module _ {c : Contents} {p : Plan} (m : Means c p) where
 
 pub blame-means : (bytes : List ℕ) → BlameMeans bytes
 blame-means bytes = record {
-  positions = positions-mean bytes;
+  positions = read-means bytes;
   of-lists = λ c l. constraints-mean (record-means c (l .within));
   of-read = λ c l. constraints-mean (read-record bytes l);
 }

@@ -9,7 +9,7 @@ use Rattle.plan.specs.declared.fault.Outcome.the-variants.{Accepted, Refused as
 use Rattle.plan.specs.declared.record.Plan.{Plan}
 use Rattle.reading.specs.Reading.{reading}
 use Rattle.reading.specs.declared.reader.Reading.{Reading}
-use Rattle.judge.specs.Settled.{Settles}
+use Rattle.plan_meaning.specs.Settled.{Settles}
 use Rattle.searching.specs.declared.witness.Witness.{Witness}
 use Rattle.searching.specs.declared.witness.Witness.the-variants.{Member, Nothing}
 use Rattle.finding.specs.Least.{Behind, from-start, LeastOf, least, none}

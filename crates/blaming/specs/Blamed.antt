@@ -20,7 +20,8 @@ use Rattle.reading.specs.Reading.{reading}
 use Rattle.reading.specs.Layout.{RuleWords, Contents, Lays, recordOf}
 use Rattle.plan_meaning.specs.Meaning.{Number}
 use Rattle.plan_meaning.specs.AnswerSets.{AnswerSetOf}
-use Rattle.judge.specs.Settled.{Settles, PositionsMean}
+use Rattle.plan_meaning.specs.Settled.{Settles}
+use Rattle.plan_meaning.specs.Read.{ReadMeans}
 use Rattle.finding.specs.declared.least.From.the-variants.{Start}
 use Rattle.stepping.specs.Followed.{mayBeUp, followed}
 use Rattle.stepping.specs.declared.Next.the-variants.{Position as NextPosition, NoneLeft, Refused as NextRefused}
@@ -127,7 +128,7 @@ pub record ConstraintsMean (c : Contents) (p : Plan) : Type 0 where
 
 -- of the record of a plan's lists, and of what was read
 pub record BlameMeans (bytes : List ℕ) : Type 0 where
-  pub positions : PositionsMean bytes
+  pub positions : ReadMeans bytes
   pub of-lists : (c : Contents) → Lays bytes c → ConstraintsMean c (recordOf c)
   pub of-read : (c : Contents) → Lays bytes c → ConstraintsMean c (reading bytes .plan)
 

@@ -13,7 +13,7 @@ use Rattle.reading.specs.declared.reader.Reading.{Reading}
 use Rattle.reading.proofs.RoundTrip.{layout-is-read}
 use Rattle.dependency_graph.specs.Units.{Units}
 use Rattle.dependency_graph.specs.PlanUnits.{unitsOf}
-use Rattle.judge.specs.Settled.{settled}
+use Rattle.plan_meaning.specs.Settled.{settled}
 use Rattle.judge.specs.Answers.{yesNo, judged}
 use Rattle.judge.specs.declared.Answer.{Answer}
 use Rattle.judge.specs.declared.Answer.the-variants.{Refused}

@@ -7,12 +7,10 @@ use Prim.Native.Nat.{ℕ, _≤_, _<_}
 use native.Mathlib.Omega.{arith}
 use native.Mathlib.Decide.{ℕ-discrete, decLt}
 use lib.ListN.{length}
-use Rattle.atoms.specs.Word.{below}
 use Rattle.atoms.specs.Rising.{Rising}
 use Rattle.atoms.specs.Cuts.{CutOf}
 use Rattle.atoms.proofs.Cuts.{cut-for}
-use Rattle.answer_sets.specs.AnswerSet.{AnswerSet}
-use Rattle.answer_sets.specs.Lent.{lent}
+use Rattle.plan_meaning.specs.Settled.{Settles}
 use Rattle.plan.specs.Limits.{MAX_UNITS, LIST_WORDS, TABLE_WORDS, LAST_COUNT}
 use Rattle.plan.specs.declared.fault.Fault.the-variants.{LongList}
 use Rattle.plan.specs.declared.fault.Outcome.the-variants.{Accepted, Refused}
@@ -170,7 +168,7 @@ module _ (bytes table : List ℕ) (all : All IsByte bytes) (passed : Passed byte
           units = λ u l. subst (ListOf (Listed S u)) (sym (held-list k u (omega (arith, few)) ∙ list-there S u few l)) (unit-list-is u l);
           rising = subst Rising (sym last) (enumerated .last-one .rising);
           members = λ X.
-              subst (λ (l : List ℕ). List·Memᴰ X l ↔ CutOf (p .shown) (AnswerSet (lent (p .rules)) (below (p .«rule_count»)) (p .given)) X)
+              subst (λ (l : List ℕ). List·Memᴰ X l ↔ CutOf (p .shown) (Settles p) X)
               (sym last) (
                 λ m. cut-for (λ M. sets M .0) (enumerated .last-one .members X .0 m),
                 λ a. enumerated .last-one .members X .1 (cut-for (λ M. sets M .1) a),

@@ -10,17 +10,14 @@ use Rattle.atoms.proofs.Rising.{rising-ext}
 use Rattle.answer_sets.specs.AnswerSet.{AnswerSet}
 use Rattle.answer_sets.specs.Lent.{lent}
 use Rattle.answer_sets.proofs.Support.{Supported, supported}
+use Rattle.plan_meaning.specs.Settled.{Settles}
 use Rattle.plan.specs.declared.record.Plan.{Plan}
 use Rattle.demands.specs.Demands.{lastIn, ListsAll}
 use Rattle.demands.specs.declared.listing.Listing.{Listing}
 
--- an answer set of the whole program
-abbrev Answers : Plan → ℕ → Type 0
-Answers p M = AnswerSet (lent (p .rules)) (below (p .«rule_count»)) (p .given) M
-
 module _ {p : Plan} {r : Listing} {table : List ℕ} (l : ListsAll p r table) where
   -- where nothing shows and there is an answer set, the list is {0}
-  pub none-shown : p .shown ≡ 0 → (M : ℕ) → Answers p M → lastIn r table ≡ 0 ∷ []
+  pub none-shown : p .shown ≡ 0 → (M : ℕ) → Settles p M → lastIn r table ≡ 0 ∷ []
   none-shown e M a =
       rising-ext (lastIn r table) (0 ∷ []) (l .rising) (rising-cons above-nil rising-nil)
       (λ X m. let c = l .members X .0 m in List·Memᴰ·head (c .is ∙ nothing (c .whole)))
@@ -30,7 +27,7 @@ module _ {p : Plan} {r : Listing} {table : List ℕ} (l : ListsAll p r table) wh
       nothing N = ap (λ (w : ℕ). N ∩ w) e ∙ empty (N ∩ 0) (λ i h. has-none (cut-right N 0 h))
 
   -- where there is none, it is empty, whatever shows
-  pub none-settled : ((M : ℕ) → ¬ Answers p M) → lastIn r table ≡ []
+  pub none-settled : ((M : ℕ) → ¬ Settles p M) → lastIn r table ≡ []
   none-settled n =
       rising-ext (lastIn r table) [] (l .rising) rising-nil (λ X m. let c = l .members X .0 m in absurd (n (c .whole) (c .wanted)))
       (λ X m. absurd (List·Memᴰ·not-nil m))
@@ -43,7 +40,7 @@ pub record ShownAlike (p q : Plan) : Type 0 where
   pub shown : (i : ℕ) → Supported (lent (p .rules)) (below (p .«rule_count»)) (p .given) i → Has (p .shown) i ↔ Has (q .shown) i
 
 module _ {p q : Plan} (g : ShownAlike p q) where
-  same-cut : (M : ℕ) → Answers p M → M ∩ p .shown ≡ M ∩ q .shown
+  same-cut : (M : ℕ) → Settles p M → M ∩ p .shown ≡ M ∩ q .shown
   same-cut M a =
       ext (M ∩ p .shown) (M ∩ q .shown)
       (λ i h. has-cut M (q .shown) (cut-left M (p .shown) h) (alike i (cut-left M (p .shown) h) .0 (cut-right M (p .shown) h)))
@@ -52,13 +49,13 @@ module _ {p q : Plan} (g : ShownAlike p q) where
       alike : (i : ℕ) → Has M i → Has (p .shown) i ↔ Has (q .shown) i
       alike i h = g .shown i (supported (lent (p .rules)) (below (p .«rule_count»)) (p .given) M i a h)
 
-  carried : (M : ℕ) → Answers p M → Answers q M
+  carried : (M : ℕ) → Settles p M → Settles q M
   carried M a =
       subst (λ (w : ℕ). AnswerSet (lent (q .rules)) (below (q .«rule_count»)) w M) (g .given)
       (subst (λ (n : ℕ). AnswerSet (lent (q .rules)) (below n) (p .given) M) (g .rule-count)
       (subst (λ (w : List ℕ). AnswerSet (lent w) (below (p .«rule_count»)) (p .given) M) (g .rules) a))
 
-  brought-back : (M : ℕ) → Answers q M → Answers p M
+  brought-back : (M : ℕ) → Settles q M → Settles p M
   brought-back M a =
       subst (λ (w : List ℕ). AnswerSet (lent w) (below (p .«rule_count»)) (p .given) M) (sym (g .rules))
       (subst (λ (n : ℕ). AnswerSet (lent (q .rules)) (below n) (p .given) M) (sym (g .rule-count))

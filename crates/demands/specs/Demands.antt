@@ -4,18 +4,16 @@ use mathlib.Core.Logic.{_↔_, _⊎_}
 use mathlib.Core.List.{List, [], _∷_, List·Memᴰ}
 use Prim.Native.Nat.{ℕ, _*_, _≤_, _<_}
 use lib.ListN.{length, take, drop, getD}
-use Rattle.atoms.specs.Word.{below}
 use Rattle.atoms.specs.Rising.{Rising}
 use Rattle.atoms.specs.Collected.{Least}
 use Rattle.atoms.specs.Cuts.{CutOf}
-use Rattle.answer_sets.specs.AnswerSet.{AnswerSet}
-use Rattle.answer_sets.specs.Lent.{lent}
 use Rattle.reading.specs.Reading.{reading}
 use Rattle.plan.specs.Limits.{LIST_WORDS, LAST_LIST, TABLE_WORDS, LAST_COUNT}
 use Rattle.plan.specs.Faults.{RefusedBy}
 use Rattle.plan.specs.declared.record.Plan.{Plan}
 use Rattle.plan.specs.declared.fault.Outcome.{Outcome}
 use Rattle.plan.specs.declared.fault.Outcome.the-variants.{Accepted}
+use Rattle.plan_meaning.specs.Settled.{Settles}
 use Rattle.dependency_graph.specs.Units.{Units, GivenFree}
 use Rattle.dependency_graph.specs.PlanUnits.{unitsOf}
 use Rattle.dependency_graph.specs.Graph.{ConditionA, ConditionB, Acyclic, ConditionC, Passes}
@@ -91,7 +89,7 @@ pub record ListsAll (p : Plan) (r : Listing) (table : List ℕ) : Type 0 where
   pub units : (u : ℕ) → u < p .«unit_count» → ListOf (Listed (unitsOf p) u) (listIn r table u)
   pub rising : Rising (lastIn r table)
   pub members : (X : ℕ)
-      → List·Memᴰ X (lastIn r table) ↔ CutOf (p .shown) (AnswerSet (lent (p .rules)) (below (p .«rule_count»)) (p .given)) X
+      → List·Memᴰ X (lastIn r table) ↔ CutOf (p .shown) (Settles p) X
   pub counted : length (lastIn r table) ≡ getD (r .counts) LAST_COUNT 0
 
 -- in the working order, refusal 15 exactly at the first list above 256, and otherwise all answer sets

@@ -15,9 +15,10 @@ use Rattle.reading.specs.Refusals.{Stopped}
 use Rattle.reading.proofs.Limits.{record-fits}
 use Rattle.reading.proofs.Judged.{reading-judged}
 use Rattle.plan_meaning.specs.AnswerSets.{PlanAnswerSet}
-use Rattle.judge.specs.Settled.{settled}
+use Rattle.plan_meaning.specs.Settled.{settled}
 use Rattle.judge.specs.Answers.{yesNo, judged, code}
-use Rattle.judge.proofs.Settled.{decides-settled, judged-accepted, judged-refused, positions-mean}
+use Rattle.judge.proofs.Settled.{decides-settled, judged-accepted, judged-refused}
+use Rattle.plan_meaning.proofs.AnswerSetsMean.{read-means}
 use Rattle.demands.specs.Demand1.{FirstFault}
 use Rattle.demands.specs.Promised.{Promised}
 use Rattle.demands.specs.declared.listing.Listing.{Listing}
@@ -50,7 +51,7 @@ module _ (bytes : List ℕ) (position : ℕ) {r : ℕ} (small : All IsByte bytes
   module _ (c : Contents) (l : Lays bytes c) where
     decided : Decides (PlanAnswerSet c position) (settled (reading bytes .plan) position)
     decided =
-        let same = positions-mean bytes .of-read c l position in
+        let same = read-means bytes .of-read c l position in
         decides-iff (same .0) (same .1) (decides-settled (reading bytes .plan) position (record-fits bytes))
 
     coded : r ≡ code (yesNo (settled (reading bytes .plan) position))

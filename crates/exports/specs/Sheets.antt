@@ -6,7 +6,7 @@ use Prim.Native.Nat.{ℕ, _+_, _*_, _<_}
 use Rattle.plan.specs.Faults.{CODE_STEP}
 use Rattle.reading.specs.Layout.{Contents, recordOf, Lays}
 use Rattle.reading.specs.Refusals.{Stopped}
-use Rattle.judge.specs.Settled.{PositionsMean}
+use Rattle.plan_meaning.specs.Read.{ReadMeans}
 use Rattle.judge.specs.Sheets.{sheetJudged, sheetCode, NoSheet, Laid, AllSettle, FirstNot}
 
 -- 256 exactly if all positions are answer sets of the plan's rules with its given atoms as facts; a place exactly if the position there is the
@@ -20,4 +20,4 @@ pub record SheetJudgeHanded (bytes sheet : List ℕ) (r : ℕ) : Type 0 where
   pub all-settled : (c : Contents) → Lays bytes c → (positions : List ℕ) → Laid positions sheet → (r ≡ 256) ↔ AllSettle (recordOf c) positions
   pub first-not : (c : Contents) → Lays bytes c → (positions : List ℕ) → Laid positions sheet → (place : ℕ)
       → ((place < 256) × (r ≡ place)) ↔ FirstNot (recordOf c) positions place
-  pub meaning : PositionsMean bytes
+  pub meaning : ReadMeans bytes

@@ -5,7 +5,7 @@ use Prim.Native.Nat.{ℕ, _+_, _*_}
 use Rattle.plan.specs.Faults.{CODE_STEP}
 use Rattle.reading.specs.Layout.{Contents, recordOf, Lays}
 use Rattle.reading.specs.Refusals.{Stopped}
-use Rattle.judge.specs.Settled.{PositionsMean}
+use Rattle.plan_meaning.specs.Read.{ReadMeans}
 use Rattle.finding.specs.declared.least.From.{From}
 use Rattle.stepping.specs.Followed.{Follows, followed, code}
 use Rattle.stepping.specs.declared.Next.{Next}
@@ -29,4 +29,4 @@ pub record NextHanded (bytes : List ℕ) (from : From) (found found′ : List �
   pub tells : Tells (followed bytes from) found found′ r
   pub next : (c : Contents) → Lays bytes c → (x : Next) × Follows (recordOf c) from x × Tells x found found′ r
   pub refused : (n s : ℕ) → Stopped bytes n s → (r ≡ CODE_STEP * n + s) × (found′ ≡ found)
-  pub meaning : PositionsMean bytes
+  pub meaning : ReadMeans bytes

@@ -29,12 +29,13 @@ use Rattle.reading.specs.declared.reader.Reading.{Reading}
 use Rattle.reading.proofs.Limits.{record-fits}
 use Rattle.reading.proofs.Longest.{elements-long}
 use Rattle.reading.proofs.Numbers.{length-bytes, word-behind, word-bytes, word-fits, all-drop}
-use Rattle.judge.specs.Settled.{Settles, settled}
+use Rattle.plan_meaning.specs.Settled.{Settles, settled}
 use Rattle.judge.specs.Sheets.{MAX_POSITIONS, badBytes, positionsIn, positionAt, unsettledAt, placesJudged, sheetJudged}
 use Rattle.judge.specs.Sheets.{NoSheet, Laid, Right, all-settled, first-not, SheetJudged}
 use Rattle.judge.specs.declared.sheet.SheetAnswer.{SheetAnswer}
 use Rattle.judge.specs.declared.sheet.SheetAnswer.the-variants.{AllSettled, NotSettledAt, Refused, BadSheet}
-use Rattle.judge.proofs.Settled.{decides-settled, positions-mean}
+use Rattle.judge.proofs.Settled.{decides-settled}
+use Rattle.plan_meaning.proofs.AnswerSetsMean.{read-means}
 
 -- ---- what is no sheet
 
@@ -273,7 +274,7 @@ sheet-right bytes sheet answer small is = record {
       (places-right laid (reading bytes .plan) (record-fits bytes));
   laid = sheet-laid sheet small;
   place-below = λ place e. subst PlaceBelow (sym is ∙ e) (answer-below bytes sheet);
-  meaning = positions-mean bytes;
+  meaning = read-means bytes;
 }
 
 -- ---- the answers of the code, from what reading gave

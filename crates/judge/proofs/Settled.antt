@@ -18,13 +18,12 @@ use Rattle.plan.specs.Limits.{MAX_RULES, PROGRAM_WORDS}
 use Rattle.plan.specs.Record.{Fitting}
 use Rattle.reading.specs.Reading.{reading}
 use Rattle.reading.proofs.Limits.{record-fits}
-use Rattle.plan_meaning.proofs.RecordMeans.{record-means, read-record}
-use Rattle.plan_meaning.proofs.AnswerSetsMean.{whole-same, read-means}
+use Rattle.plan_meaning.proofs.AnswerSetsMean.{read-means}
 use Rattle.plan.specs.declared.record.Plan.{Plan}
 use Rattle.plan.specs.declared.fault.Fault.{Fault}
 use Rattle.plan.specs.declared.fault.Outcome.the-variants.{Accepted, Refused as RefusedWith}
 use Rattle.reading.specs.declared.reader.Reading.{Reading}
-use Rattle.judge.specs.Settled.{Settles, settled, PositionsMean}
+use Rattle.plan_meaning.specs.Settled.{Settles, settled}
 use Rattle.judge.specs.Answers.{yesNo, isYes, judged, Judged}
 use Rattle.judge.specs.declared.Answer.{Answer}
 use Rattle.judge.specs.declared.Answer.the-variants.{Settled, NotSettled, Refused}
@@ -64,17 +63,9 @@ judged-decides bytes position e =
     rw (judged-accepted bytes position e, yes-no (settled (reading bytes .plan) position))
     (decides-settled (reading bytes .plan) position (record-fits bytes))
 
--- and the whole program is that of the lists
-pub positions-mean : (bytes : List ℕ) → PositionsMean bytes
-positions-mean bytes = record {
-  read-means = read-means bytes;
-  of-lists = λ c l. whole-same (record-means c (l .within)) .same;
-  of-read = λ c l. whole-same (read-record bytes l) .same;
-}
-
 -- so an answer that is the definition's meets the whole contract
 pub judged-right : (bytes : List ℕ) (position : ℕ) (answer : Answer) → answer ≡ judged bytes position → Judged bytes position answer
-judged-right bytes position answer e = record { is = e; decides = λ a. rw e (judged-decides bytes position a); meaning = positions-mean bytes }
+judged-right bytes position answer e = record { is = e; decides = λ a. rw e (judged-decides bytes position a); meaning = read-means bytes }
 
 -- ---- the answers of the code, from what reading gave
 

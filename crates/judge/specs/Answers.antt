@@ -8,7 +8,8 @@ use Rattle.atoms.specs.Bounded.{Decides}
 use Rattle.plan.specs.Faults.{refusalCode}
 use Rattle.reading.specs.Reading.{reading}
 use Rattle.plan.specs.declared.fault.Outcome.the-variants.{Accepted, Refused as RefusedWith}
-use Rattle.judge.specs.Settled.{Settles, settled, PositionsMean}
+use Rattle.plan_meaning.specs.Settled.{Settles, settled}
+use Rattle.plan_meaning.specs.Read.{ReadMeans}
 use Rattle.judge.specs.declared.Answer.{Answer}
 use Rattle.judge.specs.declared.Answer.the-variants.{Settled, NotSettled, Refused}
 
@@ -32,7 +33,7 @@ judged bytes position =
 pub record Judged (bytes : List ℕ) (position : ℕ) (answer : Answer) : Type 0 where
   pub is : answer ≡ judged bytes position
   pub decides : reading bytes .outcome ≡ Accepted → Decides (Settles (reading bytes .plan) position) (isYes answer)
-  pub meaning : PositionsMean bytes
+  pub meaning : ReadMeans bytes
 
 -- the answer as one number
 abbrev pub code : Answer → ℕ

@@ -1,3 +1,2 @@
-pub mod Settled
 pub mod Answers
 pub mod Sheets

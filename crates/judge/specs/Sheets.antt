@@ -14,7 +14,8 @@ use Rattle.plan.specs.declared.fault.Outcome.the-variants.{Accepted, Refused as
 use Rattle.reading.specs.Words.{WORD_BYTES, WORD_VALUES, wordAt}
 use Rattle.reading.specs.Layout.{All, wordBytes}
 use Rattle.reading.specs.Reading.{reading}
-use Rattle.judge.specs.Settled.{Settles, settled, PositionsMean}
+use Rattle.plan_meaning.specs.Settled.{Settles, settled}
+use Rattle.plan_meaning.specs.Read.{ReadMeans}
 use Rattle.judge.specs.declared.sheet.SheetAnswer.{SheetAnswer}
 use Rattle.judge.specs.declared.sheet.SheetAnswer.the-variants.{AllSettled, NotSettledAt, Refused, BadSheet}
 
@@ -101,4 +102,4 @@ pub record SheetJudged (bytes sheet : List ℕ) (answer : SheetAnswer) : Type 0 
   pub judges : reading bytes .outcome ≡ Accepted → (positions : List ℕ) → Laid positions sheet → Right (reading bytes .plan) positions answer
   pub laid : ¬ NoSheet sheet → (positions : List ℕ) × Laid positions sheet
   pub place-below : (place : ℕ) → answer ≡ NotSettledAt place → place < sheetCode AllSettled
-  pub meaning : PositionsMean bytes
+  pub meaning : ReadMeans bytes

@@ -10,7 +10,7 @@ pub use sheet::judge_sheet;
 pub use sheet::sheet_code;
 ghost use mathlib.Core.Path.{_≡_};
 ghost use Rattle.plan.specs.Record.{Fitting};
-ghost use Rattle.judge.specs.Settled.{settled};
+ghost use Rattle.plan_meaning.specs.Settled.{settled};
 ghost use Rattle.judge.specs.Answers.{Judged, code};
 
 // What the question is answered: yes, no, or the fault for which the plan is refused.

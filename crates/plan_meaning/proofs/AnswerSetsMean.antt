@@ -15,8 +15,9 @@ use Rattle.answer_sets.specs.Program.{Program, Body, Satisfies}
 use Rattle.answer_sets.specs.AnswerSet.{ReductModel, AnswerSet}
 use Rattle.plan_meaning.specs.Meaning.{Number, RuleMeans, Means}
 use Rattle.plan_meaning.specs.AnswerSets.{BodyHolds, RuleSatisfied, KeptModel, AnswerSetOf, PlanAnswerSet}
-use Rattle.plan_meaning.specs.Read.{SameSets, ReadMeans}
-use Rattle.plan_meaning.proofs.RecordMeans.{number-lt, number-there, read-record}
+use Rattle.plan_meaning.specs.Settled.{Settles}
+use Rattle.plan_meaning.specs.Read.{ReadMeans}
+use Rattle.plan_meaning.proofs.RecordMeans.{number-lt, number-there, record-means, read-record}
 
 -- ---- one rule
 
@@ -64,11 +65,14 @@ module _ {c : Contents} {p : Plan} (m : Means c p) (which : ℕ) (These : ℕ �
 
 -- ---- all rules
 
-pub whole-same : {c : Contents} {p : Plan} → Means c p → SameSets c p
-whole-same {c} {p} m = record {
-  same = sets-same m (below (p .«rule_count»)) (λ r. Unit {0}) (λ r h. omega (arith, below-lt (p .«rule_count») h, m .rule-count)) (λ r h. tt)
-      (λ r l t. has-below (p .«rule_count») r (omega (arith, m .rule-count)));
-}
+pub whole-same : {c : Contents} {p : Plan} → Means c p → (M : ℕ) → Settles p M ↔ PlanAnswerSet c M
+whole-same {c} {p} m =
+    sets-same m (below (p .«rule_count»)) (λ r. Unit {0}) (λ r h. omega (arith, below-lt (p .«rule_count») h, m .rule-count)) (λ r h. tt)
+    (λ r l t. has-below (p .«rule_count») r (omega (arith, m .rule-count)))
 
 pub read-means : (bytes : List ℕ) → ReadMeans bytes
-read-means bytes = record { means = λ c l. read-record bytes l; answer-sets = λ c l. whole-same (read-record bytes l) }
+read-means bytes = record {
+  means = λ c l. read-record bytes l;
+  of-lists = λ c l. whole-same (record-means c (l .within));
+  of-read = λ c l. whole-same (read-record bytes l);
+}

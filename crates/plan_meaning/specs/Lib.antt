@@ -1,4 +1,5 @@
 pub mod Tables
 pub mod Meaning
 pub mod AnswerSets
+pub mod Settled
 pub mod Read

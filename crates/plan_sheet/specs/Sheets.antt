@@ -9,11 +9,9 @@ use Rattle.plan.specs.Faults.{number, spot}
 use Rattle.plan.specs.declared.record.Plan.{Plan}
 use Rattle.plan.specs.declared.fault.Outcome.{Outcome}
 use Rattle.plan.specs.declared.fault.Outcome.the-variants.{Accepted, Refused}
-use Rattle.atoms.specs.Word.{below}
 use Rattle.atoms.specs.Rising.{Rising}
 use Rattle.atoms.specs.Cuts.{CutOf}
-use Rattle.answer_sets.specs.AnswerSet.{AnswerSet}
-use Rattle.answer_sets.specs.Lent.{lent}
+use Rattle.plan_meaning.specs.Settled.{Settles}
 use Rattle.reading.specs.Layout.{Contents, recordOf, IsByte, All}
 use Rattle.sheet.specs.Sheet.{lineLength, positionsSheet, refusalSheet}
 use Rattle.sheet.specs.Lent.{bytesWritten as written, filled}
@@ -39,7 +37,7 @@ SHEET_BYTES = 14 + lineLength * LIST_WORDS
 -- the positions of a plan's sheet: what shows of the answer sets of all its rules as one set, with its given atoms as facts, each once, rising
 pub record Positions (p : Plan) (ws : List ℕ) : Type 0 where
   pub rising : Rising ws
-  pub members : (X : ℕ) → List·Memᴰ X ws ↔ CutOf (p .shown) (AnswerSet (lent (p .rules)) (below (p .«rule_count»)) (p .given)) X
+  pub members : (X : ℕ) → List·Memᴰ X ws ↔ CutOf (p .shown) (Settles p) X
 
 -- what a sheet says: of a plan that is listed its positions, one line each, and of any other its first fault; and what the plan's lists mean
 pub record SheetSays (bytes table sheet : List ℕ) : Type 0 where

@@ -17,7 +17,7 @@ use Rattle.plan.specs.declared.fault.Outcome.the-variants.{Accepted}
 use Rattle.reading.specs.Reading.{reading}
 use Rattle.reading.specs.declared.reader.Reading.{Reading}
 use Rattle.reading.proofs.Limits.{record-fits}
-use Rattle.judge.specs.Settled.{Settles, settled}
+use Rattle.plan_meaning.specs.Settled.{Settles, settled}
 use Rattle.judge.proofs.Settled.{decides-settled}
 use Rattle.demands.specs.Demands.{lastIn, ListsAll}
 use Rattle.demands.specs.Promised.{Promised}

@@ -24,8 +24,9 @@ use Rattle.plan.specs.declared.fault.Outcome.the-variants.{Accepted, Refused as
 use Rattle.reading.specs.Reading.{reading}
 use Rattle.reading.specs.declared.reader.Reading.{Reading}
 use Rattle.reading.proofs.Limits.{record-fits}
-use Rattle.judge.specs.Settled.{Settles, settled}
-use Rattle.judge.proofs.Settled.{Headed, settled-headed, decides-settled, positions-mean}
+use Rattle.plan_meaning.specs.Settled.{Settles, settled}
+use Rattle.judge.proofs.Settled.{Headed, settled-headed, decides-settled}
+use Rattle.plan_meaning.proofs.AnswerSetsMean.{read-means}
 use Rattle.demands.proofs.Answers.{not-accepted}
 use Rattle.searching.specs.declared.witness.Witness.{Witness}
 use Rattle.searching.specs.declared.witness.Witness.the-variants.{Member, Nothing}
@@ -133,7 +134,7 @@ module _ (bytes : List ℕ) (from : From) {r : Reading} (read : r ≡ reading by
     is = sym (followed-refused bytes from f (outcome-is e));
     refused = λ g o. sym (followed-refused bytes from f (outcome-is e)) ∙ followed-refused bytes from g o;
     follows = λ a. absurd (not-accepted f (sym a ∙ outcome-is e));
-    meaning = positions-mean bytes;
+    meaning = read-means bytes;
   }
 
   accepted-followed : {x : Next} → r .outcome ≡ Accepted → Follows (r .plan) from x → Followed bytes from x
@@ -141,7 +142,7 @@ module _ (bytes : List ℕ) (from : From) {r : Reading} (read : r ≡ reading by
     is = follows-only here (followed-follows bytes from (outcome-is e));
     refused = λ f o. absurd (not-accepted f (sym (outcome-is e) ∙ o));
     follows = λ _. here;
-    meaning = positions-mean bytes;
+    meaning = read-means bytes;
   }
     where
       here : Follows (reading bytes .plan) from x

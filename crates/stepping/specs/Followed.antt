@@ -14,7 +14,8 @@ use Rattle.plan.specs.declared.fault.Fault.{Fault}
 use Rattle.plan.specs.declared.fault.Outcome.the-variants.{Accepted, Refused as RefusedWith}
 use Rattle.plan.specs.declared.record.Plan.{Plan}
 use Rattle.reading.specs.Reading.{reading}
-use Rattle.judge.specs.Settled.{Settles, settled, PositionsMean}
+use Rattle.plan_meaning.specs.Settled.{Settles, settled}
+use Rattle.plan_meaning.specs.Read.{ReadMeans}
 use Rattle.finding.specs.Least.{Behind}
 use Rattle.finding.specs.declared.least.From.{From}
 use Rattle.finding.specs.declared.least.From.the-variants.{Start, Above}
@@ -56,7 +57,7 @@ pub record Followed (bytes : List ℕ) (from : From) (r : Next) : Type 0 where
   pub is : r ≡ followed bytes from
   pub refused : (f : Fault) → reading bytes .outcome ≡ RefusedWith f → r ≡ Refused f
   pub follows : reading bytes .outcome ≡ Accepted → Follows (reading bytes .plan) from r
-  pub meaning : PositionsMean bytes
+  pub meaning : ReadMeans bytes
 
 -- the result as one number, beside the position
 abbrev pub code : Next → ℕ

@@ -6,7 +6,7 @@ use plan::Outcome;
 use plan::Plan;
 use searching::witness::Witness;
 ghost use Rattle.plan.specs.Record.{Fitting};
-ghost use Rattle.judge.specs.Settled.{Settles};
+ghost use Rattle.plan_meaning.specs.Settled.{Settles};
 ghost use Rattle.finding.specs.Least.{LeastOf, Behind};
 ghost use Rattle.stepping.specs.Followed.{Followed};
 
