@@ -1,4 +1,4 @@
--- How a search comes to a state (document 02, S-7): "The search goes no further where some rule's body holds and all its head atoms are dropped".
+-- How a search comes to a state, and that it goes on from none in which a rule is at a stop (document 02, S-7).
 use mathlib.Core.Path.{_≡_}
 use mathlib.Core.Bool.{Bool}
 use mathlib.Core.List.{List}
