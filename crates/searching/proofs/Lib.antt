@@ -6,5 +6,7 @@ pub mod Gathered
 pub mod Witnesses
 -- The search: what belongs to the list survives propagation, and the two ways to decide an atom together miss nothing
 pub mod SearchSteps
--- Nodes: what is known below them, and what they hand back
+-- Nodes: what they hand back
 pub mod Nodes
+-- The cases of a node, each with all that is said of it
+pub mod ExploredNodes

@@ -1,13 +1,34 @@
--- How a search comes to a state (document 02, S-7): "The search goes no further where some rule's body holds and all its head atoms are dropped".
+-- How a search comes to a state, and that it goes on from none in which a rule is at a stop (document 02, S-7).
 use mathlib.Core.Path.{_≡_}
-use mathlib.Core.Bool.{Bool, true, false}
+use mathlib.Core.Bool.{Bool}
 use mathlib.Core.List.{List}
 use Prim.Native.Nat.{ℕ, _<_}
 use Rattle.atoms.specs.Word.{ATOMS}
-use Rattle.states.specs.Narrowing.{Overlaps, Within, branchOf}
+use Rattle.states.specs.Narrowing.{Overlaps, Within, Narrows, branchOf}
 use Rattle.states.specs.declared.state.State.{State}
 use Rattle.narrowing.specs.Stops.{NoStop}
+use Rattle.learning.specs.Reason.{Remembers}
+use Rattle.joining.specs.Filter.{Filtered}
+use Rattle.propagating.specs.Job.{Belongs}
+use Rattle.searching.specs.Outlook.{Leaves}
+use Rattle.searching.specs.declared.node.Branch.{Branch}
 use Rattle.searching.specs.declared.node.Node.{Node}
+
+-- a node stands behind its branch: the same members complete its state, and `next` is what that state leaves to search
+pub record Entered (rules table counts desk : List ℕ) (branch : Branch) (memory filter : List ℕ) (node : Node) : Type 0 where
+  pub same : node
+      ≡ record {
+        unit = branch .unit;
+        shown = branch .shown;
+        count = branch .count;
+        way = node .way;
+        front = node .front;
+        next = node .next;
+      }
+  pub narrows : Narrows (Belongs rules table counts desk (branch .unit)) (branch .front .state) (node .front .state)
+  pub filtered : Filtered table counts desk (branch .unit .nearest) (node .front .state) filter
+  pub remembers : Remembers (Belongs rules table counts desk (branch .unit)) memory
+  pub leaves : Leaves rules (branch .unit .rules) (node .front .state) (node .next)
 
 -- one atom further: it is decided where no rule of the word is at a stop
 pub record GoesOn (rules : List ℕ) (which : ℕ) (from to : State) : Type 0 where
@@ -16,11 +37,6 @@ pub record GoesOn (rules : List ℕ) (which : ℕ) (from to : State) : Type 0 wh
   pub is-atom : atom < ATOMS
   pub phase : Bool
   pub decided : to ≡ branchOf from atom phase
-
--- a node is entered: the search begins there, or it goes on from the state in which the atom was decided
-pub data Entered (rules : List ℕ) (node : Node) : Type 0 where
-  at-start : node .begins ≡ true → Entered rules node
-  going-on : node .begins ≡ false → GoesOn rules (node .unit .rules) (node .base) (node .front .state) → Entered rules node
 
 -- one step of a way down: it goes on, and steps are taken behind that; or it ends, where nothing completes its state
 pub data WentDown (rules : List ℕ) (which : ℕ) (from to : State) : Type 0 where

@@ -4,8 +4,13 @@ use mathlib.Core.Bool.{Bool, true, false}
 use mathlib.Core.List.{List}
 use Prim.Native.Nat.{ℕ, _<_, _≤_}
 use Rattle.plan.specs.Limits.{LIST_WORDS}
-use Rattle.learning.specs.Reason.{Lifted}
-use Rattle.searching.specs.Witness.{Met}
+use Rattle.atoms.specs.Cuts.{CutOf}
+use Rattle.states.specs.Narrowing.{Wanted}
+use Rattle.states.specs.declared.state.State.{State}
+use Rattle.learning.specs.Nogood.{Nogood}
+use Rattle.learning.specs.Reason.{Remembers, Lifted}
+use Rattle.searching.specs.Listing.{Gathered, Grown}
+use Rattle.searching.specs.Witness.{Met, Witnessed}
 use Rattle.searching.specs.declared.node.Found.{Found}
 
 -- nothing more is to be found: the list is too long, or a member was met and nothing is left that shows
@@ -23,3 +28,11 @@ pub record HandedUp (K : ℕ → Type 0) (found : Found) (before after : List �
   pub same-count : r .count ≡ found .count
   pub same-witness : r .witness ≡ found .witness
   pub lifted : Lifted K (found .nogood) before after (r .nogood)
+
+-- all that is said of a searched state: its members' cuts are in the list; a member was met or there is none, unless the list is too long; what is
+-- remembered holds of every member; and no member completes the pair
+pub record Explored (K : ℕ → Type 0) (shown : ℕ) (s : State) (list : List ℕ) (count : ℕ) (after memory : List ℕ) (r : Found) : Type 0 where
+  pub gathered : Gathered (Grown list count (CutOf shown (Wanted K s))) after (r .count)
+  pub witnessed : r .count ≤ LIST_WORDS → Witnessed (Wanted K s) (r .witness)
+  pub remembers : Remembers K memory
+  pub nogood : Nogood K (r .nogood)

@@ -1,4 +1,4 @@
--- Inner: what a state leaves to search.
+-- What a state leaves to search (document 02, S-7): "The search goes no further where some rule's body holds and all its head atoms are dropped".
 use mathlib.Core.Path.{_≡_}
 use mathlib.Core.Logic.{_⊎_}
 use mathlib.Core.List.{List}

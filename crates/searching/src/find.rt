@@ -1,4 +1,5 @@
 // One member that completes a state, or that there is none.
+use crate::enter::enter;
 use crate::node::root;
 use crate::search::explore;
 use crate::witness::Witness;
@@ -34,13 +35,14 @@ pub fn find(
         (now (memory .exit)) ⌝ }
 {
     let mut list = [0u64; LIST_WORDS];
-    let filter = full_filter(counts);
+    let mut filter = full_filter(counts);
     let base = start.state;
     let both = State {
         up: atoms::union(base.up, s.up),
         dropped: atoms::union(base.dropped, s.dropped),
     };
-    let node = root(unit, 0, moved(desk, start, both), base);
+    let branch = root(unit, 0, moved(desk, start, both), base);
+    let node = enter(rules, table, counts, desk, memory, &mut filter, branch);
     let found = explore(rules, table, counts, desk, &mut list, memory, &filter, node);
     let witness = found.witness;
     witness

@@ -1,6 +1,7 @@
 // The search for the list of one unit.
 pub mod begin;
 mod dive;
+mod enter;
 pub mod find;
 mod listing;
 mod member;

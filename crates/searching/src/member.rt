@@ -9,7 +9,6 @@ use answer_sets::Judged;
 use answer_sets::judge_set;
 use joining::join::joins;
 use propagating::Unit;
-use propagating::front::Front;
 use states::everything;
 ghost use Rattle.atoms.specs.Bounded.{Decides};
 ghost use Rattle.learning.specs.Nogood.{Nogood};
@@ -46,7 +45,7 @@ fn belongs(
     )
 }
 
-// Adds the cut of the full position at this front to the list if it belongs there: the new count, or OVERFULL where there is no room; and the position,
+// Adds the cut of the full position at this node to the list if it belongs there: the new count, or OVERFULL where there is no room; and the position,
 // if it does. Else the pair is one that the position completes, if a smaller set shows it.
 pub fn offer(
     rules: &[u64],
@@ -56,25 +55,25 @@ pub fn offer(
     list: &mut [u64],
     memory: &mut [u64],
     node: Node,
-    f: Front,
 ) -> Found
     requires { ⌜ Prepared (now rules) (now table) (now counts) (now desk) (node .unit) × Ordered (now list) (node .count)
         × Remembers (Belongs (now rules) (now table) (now counts) (now desk) (node .unit)) (now memory) ⌝ }
     ensures gathered { λ r. ⌜ Gathered (Grown (now (list .entry)) (node .count) (CutOf (node .shown)
-        (Offered (Belongs (now (rules .entry)) (now (table .entry)) (now (counts .entry)) (now (desk .entry)) (node .unit)) (f .state .up))))
+        (Offered (Belongs (now (rules .entry)) (now (table .entry)) (now (counts .entry)) (now (desk .entry)) (node .unit)) (node .front .state .up))))
         (now (list .exit)) (r .count) ⌝ }
     ensures witnessed { λ r. ⌜ Witnessed
-        (Offered (Belongs (now (rules .entry)) (now (table .entry)) (now (counts .entry)) (now (desk .entry)) (node .unit)) (f .state .up)) (r .witness) ⌝ }
+        (Offered (Belongs (now (rules .entry)) (now (table .entry)) (now (counts .entry)) (now (desk .entry)) (node .unit)) (node .front .state .up)) (r .witness) ⌝ }
     ensures remembers { λ _. ⌜ Remembers (Belongs (now (rules .entry)) (now (table .entry)) (now (counts .entry)) (now (desk .entry)) (node .unit))
         (now (memory .exit)) ⌝ }
     ensures nogood { λ r. ⌜ Nogood (Belongs (now (rules .entry)) (now (table .entry)) (now (counts .entry)) (now (desk .entry)) (node .unit)) (r .nogood) ⌝ }
 {
     let unit = node.unit;
+    let f = node.front;
     let s = f.state;
     let judged = belongs(rules, table, counts, desk, unit, s.up);
     if !judged.answers {
         let x = atoms::without(s.up, judged.smaller);
-        let nogood = reject(rules, table, counts, desk, memory, node, f, x);
+        let nogood = reject(rules, table, counts, desk, memory, node, x);
         return handed(node.count, nogood, Witness::Nothing);
     }
     let after = insert(list, node.count, atoms::cut(s.up, node.shown));

@@ -1,9 +1,9 @@
 // Nodes of the search, and what is found below them.
+use crate::outlook::Outlook;
 use crate::witness::Witness;
 use crate::witness::either;
 use crate::witness::is_enough;
 use explaining::lift::Stretch;
-use explaining::lift::span;
 use learning::nogood::merge;
 use plan::LIST_WORDS;
 use propagating::Unit;
@@ -11,7 +11,6 @@ use propagating::front::Front;
 use propagating::front::branched;
 use states::State;
 ghost use mathlib.Core.Path.{_≡_};
-ghost use mathlib.Core.Bool.{true, false};
 ghost use Prim.Native.Nat.{_<_};
 ghost use lib.ListN.{length};
 ghost use Rattle.atoms.specs.Word.{ATOMS};
@@ -22,15 +21,24 @@ ghost use Rattle.propagating.specs.Desk.{DESK_WORDS};
 ghost use Rattle.searching.specs.Witness.{eitherOf};
 ghost use Rattle.searching.specs.Node.{Finishes};
 
-// A node of the search: its unit, the atoms that show, how many positions are listed so far, where propagation stands, the state in which
-// the atom was decided, and whether the search begins here, where none was.
-pub struct Node {
+// A way into the search: its unit, the atoms that show, how many positions are listed so far, where propagation stands, and the state in which the
+// atom was decided.
+pub struct Branch {
     pub unit: Unit,
     pub shown: u64,
     pub count: usize,
     pub front: Front,
     pub base: State,
-    pub begins: bool,
+}
+
+// A node of the search: a branch with its steps taken, the way that they went, and what the state then leaves to search.
+pub struct Node {
+    pub unit: Unit,
+    pub shown: u64,
+    pub count: usize,
+    pub way: Stretch,
+    pub front: Front,
+    pub next: Outlook,
 }
 
 // What was found below a node: how many positions are listed now, a pair that no member completes, and a member there.
@@ -40,51 +48,35 @@ pub struct Found {
     pub witness: Witness,
 }
 
-// The node at which a search begins: nothing is listed yet.
-pub fn root(unit: Unit, shown: u64, front: Front, base: State) -> Node
-    ensures { λ r. ⌜ r ≡ record { unit = unit; shown = shown; count = 0; front = front; base = base; begins = true } ⌝ }
+// Where a search begins: nothing is listed yet.
+pub fn root(unit: Unit, shown: u64, front: Front, base: State) -> Branch
+    ensures { λ r. ⌜ r ≡ record { unit = unit; shown = shown; count = 0; front = front; base = base } ⌝ }
 {
-    Node {
+    Branch {
         unit,
         shown,
         count: 0,
         front,
         base,
-        begins: true,
     }
 }
 
-// A node below another one: in the same search, at this count, one atom further down from this front.
-pub fn below(
-    rules: &[u64],
-    desk: &[u64],
-    node: Node,
-    count: usize,
-    f: Front,
-    i: usize,
-    phase: bool,
-) -> Node
-    requires { ⌜ NoStop (now rules) (node .unit .rules) (f .state) × (length (now desk) ≡ DESK_WORDS) × (i < ATOMS) ⌝ }
-    ensures same { λ r. ⌜ r ≡ record { unit = node .unit; shown = node .shown; count = count; front = r .front; base = f .state; begins = false } ⌝ }
-    ensures branch { λ r. ⌜ r .front .state ≡ branchOf (f .state) i phase ⌝ }
+// A branch of a node: in the same search, at this count, one atom further down.
+pub fn below(rules: &[u64], desk: &[u64], node: Node, count: usize, i: usize, phase: bool) -> Branch
+    requires { ⌜ NoStop (now rules) (node .unit .rules) (node .front .state) × (length (now desk) ≡ DESK_WORDS) × (i < ATOMS) ⌝ }
+    ensures same { λ r. ⌜ r ≡ record { unit = node .unit; shown = node .shown; count = count; front = r .front; base = node .front .state } ⌝ }
+    ensures decided { λ r. ⌜ r .front .state ≡ branchOf (node .front .state) i phase ⌝ }
 {
     let unit = node.unit;
-    let base = f.state;
-    Node {
+    let front = node.front;
+    let base = front.state;
+    Branch {
         unit,
         shown: node.shown,
         count,
-        front: branched(rules, unit, desk, f, i, phase),
+        front: branched(rules, unit, desk, front, i, phase),
         base,
-        begins: false,
     }
-}
-
-// The steps of a node, up to this front.
-pub fn way_to(node: Node, f: Front) -> Stretch {
-    let base = node.base;
-    let front = node.front;
-    span(base, front.top, f.top)
 }
 
 // What was found, put together.

@@ -1,5 +1,6 @@
 // The search over undecided atoms.
 use crate::begin::begin;
+use crate::enter::enter;
 use crate::member::offer;
 use crate::node::Found;
 use crate::node::Node;
@@ -8,7 +9,6 @@ use crate::node::is_done;
 use crate::node::joined;
 use crate::node::root;
 use crate::outlook::Outlook;
-use crate::outlook::outlook_of;
 use crate::outlook::phase_of;
 use crate::stop::halt;
 use crate::stop::hand_up;
@@ -20,18 +20,14 @@ use propagating::Unit;
 use propagating::agenda::every_step;
 use propagating::desk::lay_out;
 use propagating::front::Front;
-use propagating::propagate::propagate;
 use states::State;
 use states::lies_within;
 use states::undecided;
-ghost use Prim.Native.Nat.{_≤_};
-ghost use Rattle.plan.specs.Limits.{LIST_WORDS};
-ghost use Rattle.learning.specs.Nogood.{Nogood};
 ghost use Rattle.learning.specs.Reason.{Remembers};
 ghost use Rattle.searching.specs.Listing.{Ordered, Gathered, Grown};
 ghost use Rattle.atoms.specs.Cuts.{CutOf};
-ghost use Rattle.searching.specs.Witness.{Witnessed};
-ghost use Rattle.searching.specs.Entered.{Entered};
+ghost use Rattle.searching.specs.Node.{Explored};
+ghost use Rattle.searching.specs.Outlook.{Leaves};
 ghost use Rattle.joining.specs.Filter.{Filtered};
 ghost use Rattle.propagating.specs.Desk.{Prepared};
 ghost use Rattle.propagating.specs.Job.{Belongs, Searchable};
@@ -39,8 +35,8 @@ ghost use Rattle.states.specs.Narrowing.{Wanted};
 
 // Adds to the list the cut of every position that belongs there and completes the node's state, of which the filter says which entries may be joined:
 // the new count, or OVERFULL where that is more than LIST_WORDS. Beside it stands a member that was met, or that there is none. The memory keeps what is
-// learnt on the way. It goes no further where a rule of the unit is at a stop: a node below another one is entered only where none is. The pair that is
-// handed back is completed by no member; where it lies within the state that the first branch began from, the second branch has none.
+// learnt on the way. It goes no further where a rule of the unit is at a stop: a node is open only where none is. The pair that is handed back is
+// completed by no member; where it lies within the state that the first branch began from, the second branch has none.
 pub fn explore(
     rules: &[u64],
     table: &[u64],
@@ -54,40 +50,35 @@ pub fn explore(
     requires { ⌜ Prepared (now rules) (now table) (now counts) (now desk) (node .unit) × Ordered (now list) (node .count)
         × Remembers (Belongs (now rules) (now table) (now counts) (now desk) (node .unit)) (now memory)
         × Filtered (now table) (now counts) (now desk) (node .unit .nearest) (node .front .state) (now filter)
-        × Entered (now rules) node ⌝ }
-    ensures gathered { λ r. ⌜ Gathered (Grown (now (list .entry)) (node .count) (CutOf (node .shown)
-        (Wanted (Belongs (now (rules .entry)) (now (table .entry)) (now (counts .entry)) (now (desk .entry)) (node .unit)) (node .front .state))))
-        (now (list .exit)) (r .count) ⌝ }
-    ensures witnessed { λ r. ⌜ (r .count ≤ LIST_WORDS → Witnessed
-        (Wanted (Belongs (now (rules .entry)) (now (table .entry)) (now (counts .entry)) (now (desk .entry)) (node .unit))
-        (node .front .state)) (r .witness)) ⌝ }
-    ensures remembers { λ _. ⌜ Remembers (Belongs (now (rules .entry)) (now (table .entry)) (now (counts .entry)) (now (desk .entry)) (node .unit))
-        (now (memory .exit)) ⌝ }
-    ensures nogood { λ r. ⌜ Nogood (Belongs (now (rules .entry)) (now (table .entry)) (now (counts .entry)) (now (desk .entry)) (node .unit)) (r .nogood) ⌝ }
+        × Leaves (now rules) (node .unit .rules) (node .front .state) (node .next) ⌝ }
+    ensures { λ r. ⌜ Explored (Belongs (now (rules .entry)) (now (table .entry)) (now (counts .entry)) (now (desk .entry)) (node .unit)) (node .shown)
+        (node .front .state) (now (list .entry)) (node .count) (now (list .exit)) (now (memory .exit)) r ⌝ }
 {
-    let unit = node.unit;
-    let front = node.front;
-    let mut mine = copied(filter);
-    let f = propagate(rules, table, counts, desk, unit, memory, &mut mine, front);
-    let t = f.state;
-    let next = outlook_of(rules, unit, memory, t, node.shown);
+    let next = node.next;
     match next {
-        Outlook::Stop => halt(rules, table, counts, desk, memory, node, f),
-        Outlook::Leaf => offer(rules, table, counts, desk, list, memory, node, f),
+        Outlook::Stop => halt(rules, table, counts, desk, memory, node),
+        Outlook::Leaf => offer(rules, table, counts, desk, list, memory, node),
         Outlook::Open(i) => {
+            let unit = node.unit;
+            let front = node.front;
+            let t = front.state;
             let phase = phase_of(rules, desk, unit.rules, memory, t, i);
-            let one = below(rules, desk, node, node.count, f, i, phase);
-            let first = explore(rules, table, counts, desk, list, memory, &mine, one);
+            let mut mine = copied(filter);
+            let one = below(rules, desk, node, node.count, i, phase);
+            let here = enter(rules, table, counts, desk, memory, &mut mine, one);
+            let first = explore(rules, table, counts, desk, list, memory, &mine, here);
             if is_done(first, atoms::cut(undecided(t.up, t.dropped), node.shown)) {
                 return first;
             }
             if lies_within(first.nogood, t) {
-                return hand_up(rules, table, counts, desk, memory, node, f, first);
+                return hand_up(rules, table, counts, desk, memory, node, first);
             }
-            let other = below(rules, desk, node, first.count, f, i, !phase);
-            let second = explore(rules, table, counts, desk, list, memory, &mine, other);
+            mine = copied(filter);
+            let other = below(rules, desk, node, first.count, i, !phase);
+            let there = enter(rules, table, counts, desk, memory, &mut mine, other);
+            let second = explore(rules, table, counts, desk, list, memory, &mine, there);
             let both = joined(first, second, t, i, phase);
-            hand_up(rules, table, counts, desk, memory, node, f, both)
+            hand_up(rules, table, counts, desk, memory, node, both)
         },
     }
 }
@@ -127,7 +118,8 @@ pub fn search(
         front,
     );
     let base = f.state;
-    let node = root(unit, shown, f, base);
+    let start = root(unit, shown, f, base);
+    let node = enter(rules, table, counts, &desk, &mut memory, &mut filter, start);
     explore(
         rules,
         table,

@@ -3,7 +3,6 @@
 use crate::node::Found;
 use crate::node::Node;
 use crate::node::handed;
-use crate::node::way_to;
 use crate::witness::Witness;
 use explaining::lift::Stretch;
 use explaining::lift::blame;
@@ -16,7 +15,6 @@ use learning::trail::note_unfounded;
 use learning::trail::read_step;
 use narrowing::unfounded::drop_unfounded;
 use propagating::Unit;
-use propagating::front::Front;
 use propagating::step::UNFOUNDED_STEP;
 use states::State;
 use states::everything;
@@ -99,7 +97,6 @@ pub fn halt(
     desk: &[u64],
     memory: &mut [u64],
     node: Node,
-    f: Front,
 ) -> Found
     requires { ⌜ Prepared (now rules) (now table) (now counts) (now desk) (node .unit)
         × Remembers (Belongs (now rules) (now table) (now counts) (now desk) (node .unit)) (now memory) ⌝ }
@@ -109,7 +106,7 @@ pub fn halt(
     ensures nogood { λ r. ⌜ Nogood (Belongs (now (rules .entry)) (now (table .entry)) (now (counts .entry)) (now (desk .entry)) (node .unit)) (r .nogood) ⌝ }
 {
     let unit = node.unit;
-    let way = way_to(node, f);
+    let way = node.way;
     let nogood = stop(rules, table, counts, desk, unit, memory, way);
     handed(node.count, nogood, Witness::Nothing)
 }
@@ -122,7 +119,6 @@ pub fn reject(
     desk: &[u64],
     memory: &mut [u64],
     node: Node,
-    f: Front,
     x: u64,
 ) -> State
     requires { ⌜ Prepared (now rules) (now table) (now counts) (now desk) (node .unit)
@@ -135,17 +131,18 @@ pub fn reject(
         return everything();
     }
     let unit = node.unit;
+    let f = node.front;
     let s = f.state;
     note_unfounded(memory, x);
     let t = drop_unfounded(rules, unit.rules, unit.inputs, x, s);
     let top = note_step(memory, f.top, UNFOUNDED_STEP, s, t);
-    let way = way_to(node, f);
+    let way = node.way;
     let base = way.base;
     let longer = span(base, way.from, top);
     stop(rules, table, counts, desk, unit, memory, longer)
 }
 
-// What was found below a node, with its pair lifted over the steps that led from the decision above the node to this front.
+// What was found below a node, with its pair lifted over the steps that led from the decision above to the node.
 pub fn hand_up(
     rules: &[u64],
     table: &[u64],
@@ -153,7 +150,6 @@ pub fn hand_up(
     desk: &[u64],
     memory: &mut [u64],
     node: Node,
-    f: Front,
     found: Found,
 ) -> Found
     requires { ⌜ Prepared (now rules) (now table) (now counts) (now desk) (node .unit) × (MEMORY_WORDS ≤ length (now memory)) ⌝ }
@@ -161,7 +157,7 @@ pub fn hand_up(
         (now (memory .entry)) (now (memory .exit)) r ⌝ }
 {
     let unit = node.unit;
-    let way = way_to(node, f);
+    let way = node.way;
     let n = found.nogood;
     let nogood = blame(rules, table, counts, desk, unit, memory, way, n);
     let witness = found.witness;

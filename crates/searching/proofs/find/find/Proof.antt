@@ -1,36 +1,40 @@
 -- Nothing shows, so the list holds one cut at most, and the witness says whether a member was met.
-use mathlib.Core.Path.{refl}
 use Rattle.joining.proofs.JoinedLists.{joinable-some}
 use Rattle.joining.proofs.Filters.{full-filtered}
 use Rattle.searching.proofs.Witnesses.{hidden-few}
 use Rattle.searching.proofs.Gathered.{zeros-ordered}
-use Rattle.searching.specs.Entered.{at-start}
+use Rattle.searching.proofs.ExploredNodes.{entered-ready, explored-branch}
 use borrow.Author.Needs.{needs}
 use Rattle.searching.proofs.find.find.Statement.{statement}
 use Rattle.searching.proofs.find.find.Tie as tie
 
-explore-requires : tie.Need-explore-requires
-explore-requires c κs =
-    let made = c .before .before .before .before .before .before .before .before in
+enter-requires : tie.Need-enter-requires
+enter-requires c κs =
+    let made = c .before .before .before .before .before .before .before in
     let pre = made .before .before .before .before .before .before .pre in
-    rw (c .before .before .before .root .ensures) (
+    rw (c .before .before .root .ensures) (
       pre .0,
-      zeros-ordered,
       pre .1,
       full-filtered _ _ _ _ _ _ (joinable-some (pre .0 .searchable .near) (pre .0 .searchable .joinable)) (made .full-filter .ensures),
-      at-start refl,
     )
+
+explore-requires : tie.Need-explore-requires
+explore-requires c κs =
+    let node = c .before .before .before .before .before .before in
+    let at-root = node .before .before .before in
+    entered-ready (at-root .root .ensures) (node .enter .ensures) (at-root .before .before .before .before .before .before .before .before .before .before .before .pre .0) zeros-ordered
 
 returns : tie.Need-returns
 returns c =
     let found = c .before .before .before in
-    let at-root = found .before .before .before .before in
+    let node = found .before .before .before .before .before .before .before in
+    let at-root = node .before .before .before in
     let front = at-root .before in
     let at-union2 = front .before in
     let at-union = at-union2 .before in
-    let told = rw (at-root .root .ensures) at (found .explore .ensures) in (
-      rw (front .moved .ensures, at-union .union .ensures, at-union2 .union2 .ensures) at (told .1 .0 (hidden-few (told .0))),
-      told .1 .1 .0,
+    let told = explored-branch (at-root .root .ensures) (node .enter .ensures) (found .explore .ensures) in (
+      rw (front .moved .ensures, at-union .union .ensures, at-union2 .union2 .ensures) at (told .witnessed (hidden-few (told .gathered))),
+      told .remembers,
     )
 
 pub find-spec : {M : Type 1} → statement M
@@ -42,6 +46,8 @@ find-spec =
     (λ c κs. search needs)
     (λ c κs. search needs)
     (λ c κs. search needs)
+    (λ c. search needs)
+    enter-requires
     (λ c. search needs)
     (λ c. search needs)
     explore-requires

@@ -12,9 +12,9 @@ returns c =
     let rejected = c .before .before .before in
     let at-if1 = rejected .before .before .before in
     let test = at-if1 .before .before in
-    let start = test .before .before .before .before .before .before .before .before .before in
+    let start = test .before .before .before .before .before .before .before .before .before .before in
     let at = start .args in
-    offer-none (now (at .list)) (at .node .count) (at .node .shown) (at .f .state .up) (start .pre .1)
+    offer-none (now (at .list)) (at .node .count) (at .node .shown) (at .node .front .state .up) (start .pre .1)
     (rw (not-true (test .belongs .result .answers) (at-if1 .if1 .taken)) at (test .belongs .ensures))
     (c .handed .ensures) (rejected .reject .ensures .0) (rejected .reject .ensures .1)
 
@@ -24,9 +24,9 @@ returns-2 c =
     let at-cut = put .before in
     let at-if1 = at-cut .before .before in
     let test = at-if1 .before .before in
-    let start = test .before .before .before .before .before .before .before .before .before in
+    let start = test .before .before .before .before .before .before .before .before .before .before in
     let at = start .args in
-    offer-one (now (at .list)) (at .node .count) (at .node .shown) (at .f .state .up) (put .insert .last .0) (start .pre .1)
+    offer-one (now (at .list)) (at .node .count) (at .node .shown) (at .node .front .state .up) (put .insert .last .0) (start .pre .1)
     (test .belongs .ensures .yes (not-false (test .belongs .result .answers) (at-if1 .if1 .left)))
     (at-cut .cut .ensures) (put .insert .ensures) (c .handed2 .ensures) (start .pre .2) (overlap-nogood (c .before .everything .ensures .0))
 
@@ -34,7 +34,7 @@ pub offer-spec : {M : Type 1} → statement M
 offer-spec =
     tie.close
     (tie.spec
-    (λ c κs. c .before .before .before .before .before .before .before .before .pre .0 .searchable)
+    (λ c κs. c .before .before .before .before .before .before .before .before .before .pre .0 .searchable)
     (λ c κs. search needs)
     (λ c κs. search needs)
     (λ c κs. search needs)

@@ -1,12 +1,12 @@
 -- At first nothing is learnt, every entry may be joined, and every step is on the agenda. What is wanted through the desk is what is wanted.
-use mathlib.Core.Path.{refl, sym}
+use mathlib.Core.Path.{sym}
 use denote.Ref.{now}
 use Rattle.learning.proofs.Reasons.{remembers-empty}
 use Rattle.joining.proofs.JoinedLists.{joinable-some}
 use Rattle.joining.proofs.Filters.{full-filtered}
 use Rattle.propagating.proofs.Desks.{prepared, belongs-desk, desk-belongs}
-use Rattle.searching.proofs.SearchSteps.{search-narrowed, search-alike}
-use Rattle.searching.specs.Entered.{at-start}
+use Rattle.searching.proofs.SearchSteps.{search-alike}
+use Rattle.searching.proofs.ExploredNodes.{explored-narrowed, entered-ready, explored-branch}
 use borrow.Author.Needs.{needs}
 use Rattle.searching.proofs.search.search.Statement.{statement}
 use Rattle.searching.proofs.search.search.Tie as tie
@@ -33,30 +33,31 @@ begin-requires c κs =
       full-filtered _ _ _ _ _ _ (joinable-some (ready .searchable .near) (ready .searchable .joinable)) (full .full-filter .ensures),
     )
 
-explore-requires : tie.Need-explore-requires
-explore-requires c κs =
-    let at-root = c .before .before .before .before in
+enter-requires : tie.Need-enter-requires
+enter-requires c κs =
+    let at-root = c .before .before .before in
     let begun = at-root .before .before .before .before in
     let desk = laid begun in
+    rw (at-root .root .ensures) (prepared (desk .lay-out .ensures) (entry desk .pre .0), begun .begin .ensures .1 .1, begun .begin .ensures .1 .0)
+
+explore-requires : tie.Need-explore-requires
+explore-requires c κs =
+    let node = c .before .before .before .before .before .before in
+    let at-root = node .before .before .before .before in
+    let desk = laid (at-root .before .before .before .before) in
     let pre = entry desk .pre in
-    rw (at-root .root .ensures) (
-      prepared (desk .lay-out .ensures) (pre .0),
-      pre .1,
-      begun .begin .ensures .1 .1,
-      begun .begin .ensures .1 .0,
-      at-start refl,
-    )
+    entered-ready (at-root .root .ensures) (node .enter .ensures) (prepared (desk .lay-out .ensures) (pre .0)) (pre .1)
 
 returns : tie.Need-returns
 returns c =
     let done = c .before .before .before in
-    let at-root = done .before .before .before .before .before in
+    let node = done .before .before .before .before .before .before .before in
+    let at-root = node .before .before .before .before in
     let begun = at-root .before .before .before .before in
     let desk = laid begun in
-    let at = entry desk .args in
-    let told = rw (at-root .root .ensures) at (done .explore .ensures) in
-    search-alike (desk-belongs (desk .lay-out .ensures) _ _) (belongs-desk (desk .lay-out .ensures) _ _) (now (at .list)) 0
-    (search-narrowed (now (at .list)) 0 (begun .begin .ensures .0) (told .0, told .1 .0) .0)
+    let told = explored-branch (at-root .root .ensures) (node .enter .ensures) (done .explore .ensures) in
+    search-alike (desk-belongs (desk .lay-out .ensures) _ _) (belongs-desk (desk .lay-out .ensures) _ _) (now (entry desk .args .list)) 0
+    (explored-narrowed (begun .begin .ensures .0) told .gathered)
 
 pub search-spec : {M : Type 1} → statement M
 search-spec =
@@ -73,6 +74,10 @@ search-spec =
     begin-requires
     (λ c κs. search needs)
     (λ c. sym (laid (c .before .before .before .before .before) .lay-out .ensures .long))
+    (λ c. search needs)
+    (λ c. search needs)
+    enter-requires
+    (λ c. sym (laid (c .before .before .before .before .before .before .before .before .before .before .before) .lay-out .ensures .long))
     (λ c. search needs)
     (λ c. search needs)
     explore-requires

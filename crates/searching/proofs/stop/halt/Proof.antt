@@ -8,4 +8,4 @@ returns : tie.Need-returns
 returns c = rw (c .handed .ensures) (refl, c .before .before .before .stop .ensures)
 
 pub halt-spec : {M : Type 1} → statement M
-halt-spec = tie.close (tie.spec (λ c κs. search needs) (λ c κs. search needs) (λ c κs. search needs) (λ c. search needs) returns)
+halt-spec = tie.close (tie.spec (λ c κs. search needs) (λ c κs. search needs) (λ c. search needs) returns)

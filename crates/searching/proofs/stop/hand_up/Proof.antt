@@ -8,4 +8,4 @@ returns : tie.Need-returns
 returns c = handed-up (c .handed .ensures) (c .before .before .before .blame .ensures)
 
 pub hand-up-spec : {M : Type 1} → statement M
-hand-up-spec = tie.close (tie.spec (λ c κs. search needs) (λ c κs. search needs) (λ c κs. search needs) (λ c. search needs) returns)
+hand-up-spec = tie.close (tie.spec (λ c κs. search needs) (λ c κs. search needs) (λ c. search needs) returns)

@@ -9,7 +9,7 @@ stop-requires : tie.Need-stop-requires
 stop-requires c κs =
     let noted = c .before .before .before .before .before .before in
     let given = noted .before .before .before .before .before in
-    let pre = given .before .before .before .before .before .before .before .before .before .before .pre in
+    let pre = given .before .before .before .before .before .before .before .before .before .before .before .pre in
     (pre .0, remembers-same (remembers-same (pre .1) (given .note-unfounded .ensures)) (noted .note-step .ensures))
 
 pub reject-spec : {M : Type 1} → statement M
@@ -17,8 +17,7 @@ reject-spec =
     tie.close
     (tie.spec
     (λ c κs. search needs)
-    (λ c. (c .before .before .before .before .before .before .before .pre .1, overlap-nogood (c .everything .ensures .0)))
-    (λ c κs. search needs)
+    (λ c. search (overlap-nogood, needs))
     (λ c κs. search needs)
     (λ c κs. search needs)
     (λ c κs. search needs)
