@@ -85,7 +85,8 @@ circuit-7 = rule 3 0 0 ++ (rule 4 1 0 ++ (rule 8 1 0 ++ (rule 16 12 0 ++ (unit 1
 -- facts 0 and 1 in units that do not see each other, and a table over atom 0 that no rule uses; P that declares its sizes, and that without its EDGE;
 -- sizes of 0 declared of a plan without units and one with a unit, with a byte behind END; a second COUNT, and one behind a GIVEN; three rules, two units and
 -- one edge, declared rightly, and with rules and units exchanged; a second GIVEN, and a late one; ←0,not 2 in a unit that sees 0∨1 and 2∨3, and in one that
--- sees 2∨3 alone: a positive atom of a rule with a negative one makes no nonmonotonic dependence
+-- sees 2∨3 alone: a positive atom of a rule with a negative one makes no nonmonotonic dependence; rules that depend on themselves alone, 0∨1←not 0 and 2←2, in
+-- units without an edge; two equal facts in two units, which are two rules and depend on each other
 abbrev pub plans : List (List ℕ)
 plans =
     circuit-2
@@ -124,6 +125,8 @@ plans =
     ∷ (given 4 ++ (given 4 ++ end))
     ∷ (given 4 ++ (rule 1 4 0 ++ (given 4 ++ end)))
     ∷ (rule 3 0 0 ++ (rule 12 0 0 ++ (rule 0 1 4 ++ (unit 1 ++ (unit 2 ++ (unit 4 ++ (unit 4 ++ (edge 2 0 ++ (edge 2 1 ++ (edge 3 1 ++ end))))))))))
+    ∷ (rule 3 0 1 ++ (rule 4 4 0 ++ (unit 1 ++ (unit 2 ++ end))))
+    ∷ (rule 1 0 0 ++ (rule 1 0 0 ++ (unit 1 ++ (unit 2 ++ end))))
     ∷ []
 
 abbrev pub results : List (Outcome × List ℕ)
@@ -164,6 +167,8 @@ results =
     ∷ (Refused (OutOfOrder 9), [])
     ∷ (Refused (OutOfOrder 34), [])
     ∷ (Accepted, 5 ∷ 6 ∷ 10 ∷ [])
+    ∷ (Accepted, 2 ∷ [])
+    ∷ (Refused (MonotonicUnseen 0), [])
     ∷ []
 
 -- what `answer` gives for the bytes and a table of zeros: its outcome, and "the words from 4,096 on, as many as the last count says"
