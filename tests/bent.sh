@@ -17,7 +17,7 @@ if [ "$1" = --one ]; then
     if [ -d target/stamp ]; then
         cp -R target/stamp target/rlib "$copy/target"
     fi
-    if ! patch -s -p1 -d "$copy" <"$patch" >"$log" 2>&1; then
+    if ! patch -s -f -E -p1 -d "$copy" <"$patch" >"$log" 2>&1; then
         echo "$patch: does not fit the sources; see $log" >&2
         exit 1
     fi
