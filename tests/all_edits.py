@@ -6,6 +6,9 @@ other's proofs, and are tried together: each must be refused by an error in the 
 name was not admitted. What is left without such an error, and edits of definitions, constants or several functions, are tried one at a time. It works on a
 copy in target/all-edits, where LOG/CRATE/LABEL.log has the errors of each. The last line is 'N passed, M failed'.
 
+An edit shows something only if a fact no longer holds. One that merely makes a proof file unfit, so that every error says that a name or a field is not
+there, has failed too: UNFIT.
+
 With --gate it proves nothing itself and tries the edits of tests/must-fail/gate.txt alone, each as soon as the gate that runs beside it has proved the crate.
 """
 import argparse
@@ -24,6 +27,8 @@ WORK = ROOT / "target/all-edits"
 LOG = WORK / "log"
 GATE = ROOT / "tests/must-fail/gate.txt"
 FUNCTION = re.compile(r'^(?:pub )?(?:extern "C" )?fn (\w+)', re.M)
+ERROR = r"(?:\n  .*)*"  # what an error's next lines say belongs to it
+UNFIT = re.compile(r"has\s+no\s+`[^`]*`\s+that\s+can\s+be\s+named|has\s+no\s+field\s+`|was\s+not\s+admitted|rattle\s+cites\s+`|λ\s+has\s+\d+\s+binders")
 Edit = collections.namedtuple("Edit", "crate label pairs")
 
 
@@ -108,14 +113,19 @@ def check(copy, crate, tried):
 
 
 def own_errors(said, crate, function):
-    """The errors in the proof of a function itself."""
+    """The errors in the proof of a function itself: facts that no longer hold there."""
     module, name = function
     at_root = module in ("lib", "main")
     folder = "" if at_root else f"{module}/"
     path = f"{crate}::{name}" if at_root else f"{crate}::{module}::{name}"
-    errors = re.findall(rf"^\S*/proofs/{folder}[+]?{name}/\S*: error: .*$", said, re.M)
+    errors = re.findall(rf"^\S*/proofs/{folder}[+]?{name}/\S*: error: .*{ERROR}", said, re.M)
     errors += re.findall(rf"^fn {path}: no proof: .*`search` does not close.*$", said, re.M)
-    return [error for error in errors if "was not admitted" not in error]
+    return facts(errors)
+
+
+def facts(errors):
+    """The errors that say more than that a name or a field is not there."""
+    return [error for error in errors if not UNFIT.search(error)]
 
 
 def keep(edit, errors):
@@ -138,11 +148,14 @@ def try_together(copy, crate, tried):
     return left
 
 
-def is_refused(copy, edit):
-    """Whether the edit by itself is refused."""
+def amiss(copy, edit):
+    """What is amiss with the edit, tried by itself: it is not refused, or no fact fails; nothing where it is refused as it should be."""
     said = check(copy, edit.crate, [edit])
-    keep(edit, re.findall(r"^.*: error: .*$|^fn .*: no proof: .*$", said, re.M) or [said])
-    return "logic=not-proved" in said
+    errors = re.findall(rf"^.*: error: .*{ERROR}|^fn .*: no proof: .*`search` does not close.*$", said, re.M)
+    keep(edit, errors or [said])
+    if "logic=not-proved" not in said:
+        return "NOT REFUSED"
+    return "UNFIT" if errors and not facts(errors) else ""
 
 
 def rounds_of(edits):
@@ -178,15 +191,15 @@ def wait_for(crate):
 
 
 def try_crate(crate, edits, below):
-    """Tries these edits of a crate: how many were refused, and those that were not."""
+    """Tries these edits of a crate: how many there are, and those that were not refused by a fact, each with a word."""
     wait_for(crate)
     copy = copy_of(crate, below)
     rounds, alone = rounds_of(edits)
     for tried in rounds:
         alone += try_together(copy, crate, tried)
-    passed = [edit.label for edit in alone if not is_refused(copy, edit)]
+    words = [(amiss(copy, edit), edit.label) for edit in alone]
     shutil.rmtree(copy)
-    return crate, len(edits), passed
+    return crate, len(edits), [f"{word}: {label}" for word, label in words if word]
 
 
 def main():
@@ -208,10 +221,10 @@ def main():
     shutil.rmtree(WORK, ignore_errors=True)
     refused = failed = 0
     with concurrent.futures.ThreadPoolExecutor(options.j) as pool:
-        for crate, count, passed in pool.map(lambda crate: try_crate(crate, edits[crate], below[crate]), crates):
-            print(f"{crate}: {count - len(passed)} of {count} refused" + "".join(f"; NOT REFUSED: {label}" for label in passed), flush=True)
-            refused += count - len(passed)
-            failed += len(passed)
+        for crate, count, wrong in pool.map(lambda crate: try_crate(crate, edits[crate], below[crate]), crates):
+            print("; ".join([f"{crate}: {count - len(wrong)} of {count} refused", *wrong]), flush=True)
+            refused += count - len(wrong)
+            failed += len(wrong)
     print(f"{refused} passed, {failed} failed")
     return 1 if failed else 0
 

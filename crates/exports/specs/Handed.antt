@@ -18,6 +18,7 @@ use Rattle.demands.specs.Promised.{Promised}
 use Rattle.demands.specs.declared.listing.Listing.{Listing}
 use Rattle.sheet.specs.Lent.{bytesWritten as written, filled}
 use Rattle.plan_sheet.specs.Sheets.{SHEET_BYTES, SheetSays, writtenBytes, planSheet}
+use Rattle.questions.specs.Counts.{CountsMean}
 use Rattle.questions.specs.Questions.{outcome, code as countCode, answered}
 use Rattle.questions.specs.Words.{questionsIn, inWords, behind}
 use Rattle.questions.specs.Common.{CommonAtoms}
@@ -59,10 +60,11 @@ pub record SheetHanded (bytes sheet sheet′ : List ℕ) (r : ℕ) : Type 0 wher
   pub at-most : length (planSheet bytes) ≤ SHEET_BYTES
   pub says : SheetSays bytes (replicate {A = ℕ} TABLE_WORDS 0) (planSheet bytes)
 
--- questions: the answer's code, and every lent word; a rest that is no whole question is as it was
+-- questions: the answer's code, and every lent word; a rest that is no whole question is as it was; the counts are numbers of places
 pub record CountHanded (list words words′ : List ℕ) (r : ℕ) : Type 0 where
   pub code-is : r ≡ countCode (outcome (questionsIn words))
   pub words-are : words′ ≡ inWords (answered list (questionsIn words)) ++ behind words
+  pub meaning : CountsMean list
 
 -- common atoms: the two words, as far as there is room
 pub record CommonHanded (list atoms atoms′ : List ℕ) (r : ℕ) : Type 0 where

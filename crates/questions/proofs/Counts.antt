@@ -8,14 +8,15 @@ use native.Mathlib.Omega.{arith}
 use lib.Dec.{eqb}
 use mir.Val.{boolByte}
 use lib.ListN.{length, getD, take, length-append}
-use lib.Seq.{take-suc}
+use lib.Seq.{take-suc, take-all}
 use Rattle.atoms.specs.Word.{Has, _∩_, _∪_, _∖_}
 use Rattle.atoms.specs.Bounded.{Decides}
 use Rattle.atoms.specs.Rising.{members}
 use Rattle.atoms.proofs.Sets.{decides-subset, decides-apart, has-dec, has-left, has-right, has-none, empty}
 use Rattle.atoms.proofs.Sets.{has-without, without-left, without-right, has-cut, cut-left, cut-right, union-cases}
-use Rattle.atoms.proofs.Tests.{decides-and, decides-iff, decides-same, decides-equal, decided-false}
-use Rattle.questions.specs.Counts.{Fits, fits, one, countOf}
+use Rattle.atoms.proofs.Tests.{decides-and, decides-iff, decides-same, decides-equal, decided-true, decided-false}
+use Rattle.atoms.proofs.Rising.{members-at, members-has, members-rising}
+use Rattle.questions.specs.Counts.{Fits, fits, one, countOf, Places, CountsMean}
 
 -- ---- one position
 
@@ -101,3 +102,22 @@ count-places list up dropped (suc n) l =
     one-more : (xs : List ℕ) (n : ℕ) (b : Bool) → length xs + one b ≡ length (xs ++ elim b [ true ↦ n ∷ [] | false ↦ [] ])
     one-more xs n true = sym (length-append xs (n ∷ []))
     one-more xs n false = sym (length-append xs [])
+
+-- so the contract says it
+pub counts-mean : (list : List ℕ) → CountsMean list
+counts-mean list = record { count = λ up dropped. at-places up dropped }
+  where
+    at-places : (up dropped : ℕ) → Places list up dropped (countOf list up dropped)
+    at-places up dropped =
+        let test : ℕ → Bool = λ at. fits up dropped (getD list at 0) in
+        record {
+          places = members test (length list);
+          rising = members-rising test (length list);
+          where-it-fits = λ at. (
+            λ m. let h = members-at test (length list) at m in (h .0, decides-fits up dropped (getD list at 0) .yes (h .1)),
+            λ k. members-has test (length list) at (k .0) (decided-true (decides-fits up dropped (getD list at 0)) (k .1)),
+          );
+          as-many =
+              sym (count-places list up dropped (length list) (omega arith))
+              ∙ ap (λ (xs : List ℕ). countOf xs up dropped) (take-all (length list) list (omega arith));
+        }

@@ -15,6 +15,7 @@ use Rattle.questions.specs.Questions.{withCount, counted, outcome, answe
 use Rattle.questions.specs.declared.counter.Asked.{Asked}
 use Rattle.questions.specs.declared.question.Question.{Question}
 use Rattle.questions.specs.declared.question.Counted.the-variants.{Filled, TooManyQuestions}
+use Rattle.questions.proofs.Counts.{counts-mean}
 use Rattle.questions.proofs.Held.{counts-long, count-is}
 
 -- what stands in the place of a question that is not there
@@ -119,6 +120,7 @@ refused list qs l =
     record {
       outcome-is = ap (λ (b : Bool). elim b [ true ↦ TooManyQuestions | false ↦ Filled ]) (sym (lt-ltb MAX_QUESTIONS (length qs) l));
       questions-are = ap (λ (b : Bool). elim b [ true ↦ qs | false ↦ map (counted list) qs ]) (sym (lt-ltb MAX_QUESTIONS (length qs) l));
+      meaning = counts-mean list;
     }
 
 -- counts that are right, filled in, are the answer
@@ -153,6 +155,7 @@ filled list qs zs asked cs l ea ec ez =
       questions-are =
           ez ∙ counted-all list qs cs (omega (arith, ap length ec, counts-long list (length qs) (asked .up) (asked .dropped))) right
           ∙ ap (λ (b : Bool). elim b [ true ↦ qs | false ↦ map (counted list) qs ]) (sym (le-ltb MAX_QUESTIONS (length qs) l));
+      meaning = counts-mean list;
     }
   where
     right : (i : ℕ) → i < length qs → getD cs i 0 ≡ countOf list (getD qs i blank .up) (getD qs i blank .dropped)

@@ -1,11 +1,14 @@
 -- How many listed positions fit a question. Document 02, S-2: "these up, these dropped".
+use mathlib.Core.Path.{_≡_}
 use mathlib.Core.Bool.{Bool, true, false, _&&_}
-use mathlib.Core.List.{List, [], _∷_}
-use Prim.Native.Nat.{ℕ, _+_}
+use mathlib.Core.Logic.{_↔_}
+use mathlib.Core.List.{List, [], _∷_, List·Memᴰ}
+use Prim.Native.Nat.{ℕ, _+_, _<_}
 use lib.ListN.{length, getD}
 use lib.Dec.{ltb}
 use Rattle.atoms.specs.Word.{_⊆_, Apart, subset, apart}
 use Rattle.atoms.specs.Lists.{tabulate}
+use Rattle.atoms.specs.Rising.{Rising}
 
 -- "The caller lends up to 64 questions together"
 abbrev pub MAX_QUESTIONS : ℕ
@@ -28,6 +31,17 @@ one false = 0
 unfoldable pub countOf : List ℕ → ℕ → ℕ → ℕ
 countOf [] up dropped = 0
 countOf (p ∷ ps) up dropped = one (fits up dropped p) + countOf ps up dropped
+
+-- the same of places: "the number of listed positions that ..", and "a repeat counts at each place"
+pub record Places (list : List ℕ) (up dropped n : ℕ) : Type 0 where
+  pub places : List ℕ
+  pub rising : Rising places
+  pub where-it-fits : (at : ℕ) → List·Memᴰ at places ↔ ((at < length list) × Fits up dropped (getD list at 0))
+  pub as-many : length places ≡ n
+
+-- each count of a list is that
+pub record CountsMean (list : List ℕ) : Type 0 where
+  pub count : (up dropped : ℕ) → Places list up dropped (countOf list up dropped)
 
 -- the number that f gives below n, and 0 from n on
 unfoldable pub upTo : ℕ → (ℕ → ℕ) → ℕ → ℕ

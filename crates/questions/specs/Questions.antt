@@ -7,7 +7,7 @@ use lib.ListN.{length}
 use lib.Dec.{ltb}
 use Rattle.atoms.specs.Lists.{padded}
 use Rattle.plan.specs.Faults.{CODE_STEP}
-use Rattle.questions.specs.Counts.{MAX_QUESTIONS, countOf}
+use Rattle.questions.specs.Counts.{MAX_QUESTIONS, countOf, CountsMean}
 use Rattle.questions.specs.declared.counter.Asked.{Asked}
 use Rattle.questions.specs.declared.question.Question.{Question}
 use Rattle.questions.specs.declared.question.Counted.{Counted}
@@ -42,10 +42,11 @@ outcome questions = elim (ltb MAX_QUESTIONS (length questions)) [ true ↦ TooMa
 unfoldable pub answered : List ℕ → List Question → List Question
 answered list questions = elim (ltb MAX_QUESTIONS (length questions)) [ true ↦ questions | false ↦ map (counted list) questions ]
 
--- a call: what it answers, and the lent questions afterwards
+-- a call: what it answers, and the lent questions afterwards; the counts are numbers of places
 pub record Answered (list : List ℕ) (before after : List Question) (r : Counted) : Type 0 where
   pub outcome-is : r ≡ outcome before
   pub questions-are : after ≡ answered list before
+  pub meaning : CountsMean list
 
 -- the words of the questions, zeros behind the last
 unfoldable pub askedOf : List Question → Asked

@@ -3,7 +3,7 @@ use mathlib.Core.Path.{_≡_}
 use mathlib.Core.List.{List, [], _∷_, _++_}
 use Prim.Native.Nat.{ℕ, _≤_}
 use lib.ListN.{length}
-use Rattle.questions.specs.Counts.{MAX_QUESTIONS}
+use Rattle.questions.specs.Counts.{MAX_QUESTIONS, CountsMean}
 use Rattle.questions.specs.Questions.{outcome, answered}
 use Rattle.questions.specs.declared.question.Question.{Question}
 use Rattle.questions.specs.declared.question.Counted.{Counted}
@@ -36,3 +36,4 @@ pub record Whole (words : List ℕ) (n : ℕ) : Type 0 where
 pub record AnsweredWords (list before after : List ℕ) (r : Counted) : Type 0 where
   pub outcome-is : r ≡ outcome (questionsIn before)
   pub words-are : after ≡ inWords (answered list (questionsIn before)) ++ behind before
+  pub meaning : CountsMean list
