@@ -14,7 +14,7 @@ ghost use Rattle.answer_sets.specs.Test.{body};
 ghost use Rattle.answer_sets.specs.Known.{BodySays, WordsSay};
 
 // What is known of the two words of a body; `down` are the atoms that are dropped and not up.
-fn words_known(rules: &[u64], rule: usize, up: u64, down: u64) -> Truth
+pub fn words_known(rules: &[u64], rule: usize, up: u64, down: u64) -> Truth
     requires { ⌜ IsLent (now rules) rule × Apart up down ⌝ }
     ensures { λ r. ⌜ WordsSay (now (rules .entry)) rule up down r ⌝ }
 {

@@ -1,11 +1,14 @@
 // The rule pass: what every position that satisfies the rules must have or lack, told from what is known of it.
 use crate::known::body_known;
+use crate::known::words_known;
 use crate::rule::head;
 use crate::rule::negative_body;
 use crate::rule::positive_body;
 use crate::truth::Truth;
 use crate::truth::is_success;
 use crate::uses::used_inputs;
+use crate::uses::uses;
+use crate::uses::with_uses;
 use states::State;
 use states::one_up;
 use states::undecided;
@@ -23,7 +26,11 @@ fn is_held(rules: &[u64], rule: usize, up: u64, dropped: u64) -> bool
     requires { ⌜ IsLent (now rules) rule ⌝ }
     ensures { λ r. ⌜ HeldInAll (now (rules .entry)) rule up dropped r ⌝ }
 {
-    is_success(body_known(rules, rule, up, dropped))
+    let words = words_known(rules, rule, up, atoms::without(dropped, up));
+    if uses(rules, rule) == 0 {
+        return is_success(words);
+    }
+    is_success(with_uses(rules, rule, up, dropped, words))
 }
 
 // The state in which the body does not hold by its last open atom: where it would with the atom up, the atom is dropped,

@@ -5,17 +5,17 @@ use mathlib.Core.List.{List, [], _∷_}
 use Prim.Native.Nat.{ℕ, zero, suc, _+_, _-_, _*_, _/_, _%_, _^_, _≤_, _<_}
 use native.Mathlib.Omega.{arith}
 use native.Mathlib.Decide.{decLt}
-use native.Mathlib.Nat.{pow-succ', mul-assoc, mul-add, mul-one, mod-eq-of-lt, add-mul-mod-self-left}
+use native.Mathlib.Nat.{pow-succ', mul-assoc, mul-add, mod-eq-of-lt, add-mul-mod-self-left}
 use native.Mathlib.Numerals.{add-one}
 use lib.Bits.{bitXor, and-step, xor-shr, xor-add-and}
 use lib.Dec.{eqb}
 use lib.ListN.{length, getD, set, drop, length-set, drop-of-length-le}
 use lib.Seq.{drop-cons}
-use Rattle.atoms.specs.Word.{digit, Has, _∩_, SomeOf}
+use Rattle.atoms.specs.Word.{digit, Has, _∩_}
 use Rattle.atoms.specs.Bounded.{Decides}
 use Rattle.atoms.specs.Tally.{tallied, Counted, preferred, HighestCount, MostCounted}
 use Rattle.atoms.proofs.Digits.{digit-lt, digit-zero, and-at}
-use Rattle.atoms.proofs.Sets.{has-cut, cut-left, cut-right, has-none, shared-atom, subset-refl}
+use Rattle.atoms.proofs.Sets.{has-cut, cut-left, cut-right, has-none, shared-atom}
 use Rattle.atoms.proofs.Tests.{decides-equal}
 
 -- ---- the counts
@@ -183,7 +183,8 @@ module _ (p : ℕ) (ps : List ℕ) {word best : ℕ} (c : MostCounted ps word be
 pub most-next : (places : List ℕ) (i : ℕ) {word best r : ℕ} → 0 < i → i ≤ length places → MostCounted (drop i places) word best
     → r ≡ preferred best (getD places (i - 1) 0) → MostCounted (drop (i - 1) places) word r
 most-next places zero l m c e = absurd (omega arith)
-most-next places (suc j) {word} {best} {r} l m c e = rw (less, drop-cons places j 0 (omega arith)) (most-of (getD places j 0) (drop (suc j) places) c (rw less at e))
+most-next places (suc j) {word} {best} {r} l m c e =
+    rw (less, drop-cons places j 0 (omega arith)) (most-of (getD places j 0) (drop (suc j) places) c (rw less at e))
   where
     less : suc j - 1 ≡ j
     less = omega arith

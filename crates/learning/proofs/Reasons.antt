@@ -1,5 +1,5 @@
 -- Reasons: a goal told by a step, a pair with the reason in the goal's place, and a nogood lifted over a trail.
-use mathlib.Core.Path.{_≡_, refl, sym, ap, _∙_}
+use mathlib.Core.Path.{_≡_, sym, ap, _∙_}
 use mathlib.Core.Bool.{Bool, true, false, not, true≢false}
 use mathlib.Core.Logic.{_⊎_, inl, inr}
 use mathlib.Core.List.{List}
@@ -14,7 +14,7 @@ use Rattle.states.specs.State.{Completes}
 use Rattle.states.specs.Narrowing.{Narrows, Within, Overlaps}
 use Rattle.states.specs.declared.state.State.{State}
 use Rattle.learning.specs.Nogood.{Avoids, Nogood}
-use Rattle.learning.specs.Store.{RING, pairAt, AvoidsAll, Empty, Keeps, SamePairs, Learnt}
+use Rattle.learning.specs.Store.{AvoidsAll, Empty, Keeps, SamePairs, Learnt}
 use Rattle.learning.specs.Reason.{Heeds, Remembers, Explains, Tells, beyondOf, replaced, Leads, Lifted, WorthLearning, LearntOnce}
 use Rattle.learning.proofs.Nogoods.{overlap-avoided}
 use Rattle.states.proofs.Within.{completes-within}
@@ -141,7 +141,8 @@ reason-nogood r e o = record {
 
 -- ---- a pair is learnt once
 
-module _ (base n : State) {new : State} {all : ℕ} {b : Bool} (e : new ≡ beyondOf n base) (u : all ≡ new .up ∪ new .dropped) (d : Decides (AtMostOne all) b) where
+module _ (base n : State) {new : State} {all : ℕ} {b : Bool} (e : new ≡ beyondOf n base)
+    (u : all ≡ new .up ∪ new .dropped) (d : Decides (AtMostOne all) b) where
   same : all ≡ beyondOf n base .up ∪ beyondOf n base .dropped
   same = u ∙ ap (λ (x : State). x .up ∪ x .dropped) e
 

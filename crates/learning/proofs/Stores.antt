@@ -2,7 +2,6 @@
 use mathlib.Core.Path.{_≡_, refl, sym, ap, subst, _∙_}
 use mathlib.Core.Bool.{Bool, true, false, not, true≢false, false≢true}
 use mathlib.Core.List.{List, _++_}
-use mathlib.Core.Logic.{_⊎_, inl, inr}
 use Prim.Native.Nat.{ℕ, _+_, _*_, _%_, _≤_, _<_}
 use native.Mathlib.Omega.{arith}
 use native.Mathlib.Decide.{ℕ-discrete}
@@ -167,7 +166,8 @@ not-news {b = b} u d e k t = record {
 pub is-news : {n s : State} {up dropped all known : ℕ} {b r : Bool} → up ≡ n .up ∖ s .up → dropped ≡ n .dropped ∖ s .dropped → all ≡ up ∪ dropped
     → Decides (AtMostOne all) b → not b ≡ false → known ≡ s .up ∪ s .dropped → r ≡ apart all known → Decides (News n s) r
 is-news {n} {s} {all = all} {known} {b} u d e k t m a =
-    decides-iff {P = Apart all known} (λ f. record { few = rw same at (k .yes (not-false b t)); undecided = rw (same, m) at f }) (λ w. rw (same, m) (w .undecided))
+    decides-iff {P = Apart all known} (λ f. record { few = rw same at (k .yes (not-false b t)); undecided = rw (same, m) at f })
+    (λ w. rw (same, m) (w .undecided))
     (rw a (decides-apart all known))
   where
     same : all ≡ missing n s

@@ -13,7 +13,7 @@ use Rattle.atoms.specs.Tally.{Counted}
 use Rattle.atoms.proofs.Tests.{decides-iff}
 use Rattle.states.specs.declared.state.State.{State}
 use Rattle.learning.specs.Store.{STEPS, SCORES, SCORE_PLACES, MEMORY_WORDS}
-use Rattle.learning.specs.Trail.{stepPlace, withStep, StepNoted, scoresOf, Scored}
+use Rattle.learning.specs.Trail.{stepPlace, withStep, StepNoted, Scored}
 use Rattle.learning.proofs.Stores.{pair-of}
 
 -- ---- steps

@@ -41,7 +41,12 @@ module _ {rules : List ℕ} {r within before : ℕ} {positive : ℕ} {b : Bool} 
           let q : Has (within ∩ head) a = rw s at p in
           inr (
             cut-left within head q,
-            record { in-head = rw h at (cut-right within head q); atom = shared .0; positive = subst (λ (w : ℕ). Has w (shared .0)) reads (shared .1); among = shared .2 },
+            record {
+              in-head = rw h at (cut-right within head q);
+              atom = shared .0;
+              positive = subst (λ (w : ℕ). Has w (shared .0)) reads (shared .1);
+              among = shared .2;
+            },
           )
 
 -- ---- the rules one by one; those of `rest` are still to come

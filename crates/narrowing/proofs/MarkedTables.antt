@@ -10,7 +10,7 @@ use Rattle.atoms.specs.Word.{Has, _⊆_, _∪_, _∖_, atom, Lowest}
 use Rattle.atoms.proofs.Sets.{subset-refl, subset-trans, has-left, has-right, union-cases, has-without, without-left, without-right, has-atom}
 use Rattle.atoms.proofs.Counts.{taken-within}
 use Rattle.atoms.proofs.TakenNumbers.{none-done, all-done, done-cases, taken-lent}
-use Rattle.narrowing.specs.Marks.{Adds, ByOne, NotedAt, Marked}
+use Rattle.narrowing.specs.Marks.{Adds, ByOne, Marked}
 
 -- ---- one after the other
 

@@ -26,10 +26,11 @@ WOKEN_WORDS = 4 * ATOMS
 abbrev pub either : List ℕ → ℕ → ℕ
 either rules r = looks rules r ∖ negative rules r
 
--- the atoms that may make the body hold once they are up, and it fail or the head narrower once they are dropped; and the other way round
+-- the atoms by which the body may come to hold once they are up, and to fail once they are dropped
 abbrev pub holdsUp : List ℕ → ℕ → ℕ
 holdsUp rules r = lent rules .positive r ∪ either rules r
 
+-- the atoms by which it may come to fail, or the head has one up, once they are up; and to hold, or the head is without them, once they are dropped
 abbrev pub failsUp : List ℕ → ℕ → ℕ
 failsUp rules r = (lent rules .head r ∪ negative rules r) ∪ either rules r
 

@@ -1,4 +1,4 @@
--- The invariant: some of the atoms are left, those with the highest count in the places that were looked at. The measure is how many places are to be looked at.
+-- The invariant: some of the atoms are left, those with the highest count in the places that were looked at. The measure is how many are left.
 use native.Mathlib.Omega.{arith}
 use Prim.Native.Nat.{_≤_}
 use lib.ListN.{length, drop}

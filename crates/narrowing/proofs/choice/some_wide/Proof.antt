@@ -4,7 +4,6 @@ use Rattle.atoms.proofs.Counts.{taken-less}
 use Rattle.atoms.proofs.TakenNumbers.{Taking, taking-start, taking-next, taken-lent}
 use Rattle.narrowing.specs.Wide.{IsWide}
 use Rattle.narrowing.proofs.WideRules.{wide-found, none-wide}
-use borrow.Author.Needs.{needs}
 use Rattle.narrowing.proofs.choice.some_wide.Statement.{statement}
 use Rattle.narrowing.proofs.choice.some_wide.Tie as tie
 
