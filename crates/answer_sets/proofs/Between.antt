@@ -1,5 +1,5 @@
 -- The subset test: what each of its steps says of the completions of a state that are proper subsets of M and satisfy the rules.
-use mathlib.Core.Path.{_≡_, sym, _∙_}
+use mathlib.Core.Path.{_≡_, refl, sym, _∙_}
 use mathlib.Core.Bool.{Bool, true, false, not, true≢false, false≢true}
 use mathlib.Core.Logic.{_⊎_, inl, inr}
 use mathlib.Core.List.{List}
@@ -13,8 +13,8 @@ use Rattle.answer_sets.specs.Program.{Program, Body, Satisfies, Satisfie
 use Rattle.answer_sets.specs.Lent.{lent, Lent}
 use Rattle.states.specs.State.{Completes, undecided}
 use Rattle.answer_sets.specs.RulePass.{Sifted}
-use Rattle.answer_sets.specs.SubsetTest.{Between, Confines, Candidates, InRule, in-head, in-looks}
-use Rattle.answer_sets.specs.Test.{Smaller, SubsetTested}
+use Rattle.answer_sets.specs.SubsetTest.{Between, Finds, Confines, Candidates, InRule, in-head, in-looks}
+use Rattle.answer_sets.specs.Test.{Smaller, SubsetTested, SmallerSet}
 use Rattle.states.specs.declared.state.State.{State}
 use Rattle.answer_sets.specs.declared.rule_pass.Passed.{Passed}
 use Rattle.states.proofs.Narrows.{completes-back, overlap-none, with-up, with-dropped, without-up, without-dropped}
@@ -40,23 +40,29 @@ module _ {P : Program} {which M : ℕ} where
   between-as : {s t : State} (b : Between P which M s) → Completes t (b .set) → Between P which M t
   between-as b c = record { set = b .set; proper = b .proper; completes = c; satisfied = b .satisfied }
 
-  -- a round changes nothing, and the rules that it leaves out are satisfied
-  pub between-passed : {s : State} {p : Passed} {r : Bool} → Sifted P which s which p → Decides (Between P (p .left) M (p .state)) r
-      → Decides (Between P which M s) r
-  between-passed {s} {p} k d = decides-iff back on d
+  -- the rules that a round leaves out are satisfied
+  passed-back : {s : State} {p : Passed} → Sifted P which s which p → Between P (p .left) M (p .state) → Between P which M s
+  passed-back {s} {p} k b = record {
+    set = b .set;
+    proper = b .proper;
+    completes = completes-back (k .narrows) (b .completes);
+    satisfied = record { each = λ i h. go i h (has-dec (p .left) i) };
+  }
     where
-      back : Between P (p .left) M (p .state) → Between P which M s
-      back b = record {
-        set = b .set;
-        proper = b .proper;
-        completes = completes-back (k .narrows) (b .completes);
-        satisfied = record { each = λ i h. go i h (has-dec (p .left) i) };
-      }
-        where
-          go : (i : ℕ) → Has which i → Dec (Has (p .left) i) → Satisfies P i (b .set)
-          go i h (yes l) = b .satisfied .each i l
-          go i h (no n) = k .gone i h n .each (b .set) (b .completes)
+      go : (i : ℕ) → Has which i → Dec (Has (p .left) i) → Satisfies P i (b .set)
+      go i h (yes l) = b .satisfied .each i l
+      go i h (no n) = k .gone i h n .each (b .set) (b .completes)
 
+  -- and else it changes nothing
+  pub finds-passed : {s : State} {p : Passed} {r : Bool} {set : ℕ} → Sifted P which s which p → Finds P (p .left) M (p .state) r set
+      → Finds P which M s r set
+  unfolding passed-back
+  finds-passed {s} {p} k f = record {
+    exactly = decides-iff (passed-back k) on (f .exactly);
+    shown = λ e. let b = f .shown e in (passed-back k (b .0), b .1);
+    none = f .none;
+  }
+    where
       on : Between P which M s → Between P (p .left) M (p .state)
       on b = record {
         set = b .set;
@@ -65,21 +71,30 @@ module _ {P : Program} {which M : ℕ} where
         satisfied = record { each = λ i l. b .satisfied .each i (k .part .each i l) };
       }
 
-  -- an overlap: none
-  pub between-clash : {t : State} {r : Bool} → r ≡ apart (t .up) (t .dropped) → not r ≡ true → Decides (Between P which M t) false
-  between-clash {t} {r} e f = record {
-    yes = λ g. absurd (false≢true g);
-    no = λ g b. overlap-none (record { overlap = decides-apart (t .up) (t .dropped) .no (sym e ∙ not-true r f) }) (b .completes);
+  pub finds-none : {t : State} → ¬ Between P which M t → Finds P which M t false 0
+  finds-none n = record {
+    exactly = record { yes = λ g. absurd (false≢true g); no = λ g. n };
+    shown = λ g. absurd (false≢true g);
+    none = λ g. refl;
   }
 
+  -- an overlap: none
+  pub between-clash : {t : State} {r : Bool} → r ≡ apart (t .up) (t .dropped) → not r ≡ true → Finds P which M t false 0
+  between-clash {t} {r} e f =
+      finds-none (λ b. overlap-none (record { overlap = decides-apart (t .up) (t .dropped) .no (sym e ∙ not-true r f) }) (b .completes))
+
   -- all atoms of M are up: none
-  pub between-whole : {t : State} → t .up ≡ M → Decides (Between P which M t) false
-  between-whole e = record { yes = λ g. absurd (false≢true g); no = λ g b. b .proper .short (rw e at (b .completes .has-up)) }
+  pub between-whole : {t : State} → t .up ≡ M → Finds P which M t false 0
+  between-whole e = finds-none (λ b. b .proper .short (rw e at (b .completes .has-up)))
 
   -- the atoms that are up satisfy the rules, and are not all of M: they are such a set
   pub between-model : {t : State} → t .up < 2 ^ ATOMS → Confines M (t .dropped) → Apart (t .up) (t .dropped) → ¬ (t .up ≡ M)
-      → SatisfiesAll P which (t .up) → Decides (Between P which M t) true
-  between-model {t} fits conf free less all = record { yes = λ g. found; no = λ g. absurd (true≢false g) }
+      → SatisfiesAll P which (t .up) → Finds P which M t true (t .up)
+  between-model {t} fits conf free less all = record {
+    exactly = record { yes = λ g. found; no = λ g. absurd (true≢false g) };
+    shown = λ g. (found, refl);
+    none = λ g. absurd (true≢false g);
+  }
     where
       inside : t .up ⊆ M
       inside = record { each = λ i p. go i p (has-dec M i) }
@@ -97,22 +112,40 @@ module _ {P : Program} {which M : ℕ} where
       }
 
   -- one atom is tried both ways
-  pub branch-yes : (i : ℕ) {s : State} {x up : ℕ} {r : Bool} → up ≡ s .up ∪ x → x ≡ atom i
-      → Decides (Between P which M (record { up = up; dropped = s .dropped })) r → r ≡ true → Decides (Between P which M s) true
-  branch-yes i {s} u a d e = record {
-    yes = λ f. let b = rw (u, a) at (d .yes e) in between-as b (without-up s i (b .completes));
-    no = λ f. absurd (true≢false f);
-  }
+  raised : (i : ℕ) {s : State} → Between P which M (record { up = s .up ∪ atom i; dropped = s .dropped }) → Between P which M s
+  raised i {s} b = between-as b (without-up s i (b .completes))
 
-  pub branch-no : (i : ℕ) {s : State} {x up dropped : ℕ} {q r : Bool} → up ≡ s .up ∪ x → dropped ≡ s .dropped ∪ x → x ≡ atom i
-      → Decides (Between P which M (record { up = up; dropped = s .dropped })) q → q ≡ false
-      → Decides (Between P which M (record { up = s .up; dropped = dropped })) r → Decides (Between P which M s) r
-  branch-no i {s} u v a d e f =
-      decides-iff (λ b. between-as b (without-dropped s i (b .completes))) (λ b. go b (has-dec (b .set) i)) (rw (v, a) at f)
+  lowered : (i : ℕ) {s : State} → Between P which M (record { up = s .up; dropped = s .dropped ∪ atom i }) → Between P which M s
+  lowered i {s} b = between-as b (without-dropped s i (b .completes))
+
+  pub branch-yes : (i : ℕ) {s : State} {x up set : ℕ} {r : Bool} → up ≡ s .up ∪ x → x ≡ atom i
+      → Finds P which M (record { up = up; dropped = s .dropped }) r set → r ≡ true → Finds P which M s true set
+  unfolding raised between-as
+  branch-yes i {s} {set = set} u a d e = record {
+    exactly = record { yes = λ f. shown .0; no = λ f. absurd (true≢false f) };
+    shown = λ f. shown;
+    none = λ f. absurd (true≢false f);
+  }
     where
+      shown : (b : Between P which M s) × (b .set ≡ set)
+      shown = let b = (rw (u, a) at d) .shown e in (raised i (b .0), b .1)
+
+  pub branch-no : (i : ℕ) {s : State} {x up dropped set₁ set : ℕ} {q r : Bool} → up ≡ s .up ∪ x → dropped ≡ s .dropped ∪ x → x ≡ atom i
+      → Finds P which M (record { up = up; dropped = s .dropped }) q set₁ → q ≡ false
+      → Finds P which M (record { up = s .up; dropped = dropped }) r set → Finds P which M s r set
+  unfolding lowered between-as
+  branch-no i {s} {set = set} {r = r} u v a d e f = record {
+    exactly = decides-iff (lowered i) (λ b. go b (has-dec (b .set) i)) (second .exactly);
+    shown = λ h. let b = second .shown h in (lowered i (b .0), b .1);
+    none = f .none;
+  }
+    where
+      second : Finds P which M (record { up = s .up; dropped = s .dropped ∪ atom i }) r set
+      second = rw (v, a) at f
+
       go : (b : Between P which M s) → Dec (Has (b .set) i)
           → Between P which M (record { up = s .up; dropped = s .dropped ∪ atom i })
-      go b (yes h) = absurd (d .no e (rw (u, a) (between-as b (with-up s i (b .completes) h))))
+      go b (yes h) = absurd (d .exactly .no e (rw (u, a) (between-as b (with-up s i (b .completes) h))))
       go b (no h) = between-as b (with-dropped s i (b .completes) h)
 
 -- ---- a rule that can come to be satisfied no more
@@ -142,11 +175,9 @@ module _ (rules : List ℕ) (r : ℕ) (t : State)
   }
 
 pub between-stuck : {rules : List ℕ} {which M r free w : ℕ} {t : State} → free ≡ undecided (t .up) (t .dropped)
-    → Candidates rules r free w → w ≡ 0 → Has which r × ¬ Satisfies (lent rules) r (t .up) → Decides (Between (lent rules) which M t) false
-between-stuck {rules} {r = r} {t = t} e k z u = record {
-  yes = λ f. absurd (false≢true f);
-  no = λ f b. u .1 (settled-rule rules r t (rw e at (k .none-left z)) (b .set) (b .completes) (b .satisfied .each r (u .0)));
-}
+    → Candidates rules r free w → w ≡ 0 → Has which r × ¬ Satisfies (lent rules) r (t .up) → Finds (lent rules) which M t false 0
+between-stuck {rules} {r = r} {t = t} e k z u =
+    finds-none (λ b. u .1 (settled-rule rules r t (rw e at (k .none-left z)) (b .set) (b .completes) (b .satisfied .each r (u .0))))
 
 -- ---- from the facts on
 
@@ -169,8 +200,16 @@ module _ {P : Program} {which facts M : ℕ} where
   facts-inside : Smaller P which facts M → facts ⊆ M
   facts-inside s = subset-trans (s .facts-up) (s .proper .within)
 
-  pub subset-tested : {dropped : ℕ} {r : Bool} → which < 2 ^ ATOMS → dropped ≡ outside M
-      → Decides (Between P which M (record { up = facts; dropped = dropped })) r → SubsetTested P which facts M r
+  pub smaller-set : {dropped set : ℕ} {r : Bool} → dropped ≡ outside M → Finds P which M (record { up = facts; dropped = dropped }) r set
+      → SmallerSet P which facts M r set
+  unfolding smaller-of-between
+  smaller-set e d = record {
+    shown = λ f. let b = (rw e at d) .shown f in (smaller-of-between (b .0), b .1);
+    none = d .none;
+  }
+
+  pub subset-tested : {dropped set : ℕ} {r : Bool} → which < 2 ^ ATOMS → dropped ≡ outside M
+      → Finds P which M (record { up = facts; dropped = dropped }) r set → SubsetTested P which facts M r
   subset-tested {r = r} fits e d = record {
     exactly = told;
     computed = decides-same told (decides-smaller P which facts M fits) (λ s. s) (λ s. s);
@@ -178,4 +217,4 @@ module _ {P : Program} {which facts M : ℕ} where
   }
     where
       told : Decides (Smaller P which facts M) r
-      told = decides-iff smaller-of-between between-of-smaller (rw e at d)
+      told = decides-iff smaller-of-between between-of-smaller (rw e at (d .exactly))

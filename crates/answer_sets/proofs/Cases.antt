@@ -1,11 +1,14 @@
 -- Which case of a computing definition the tests of the code pick: the answers' equations come in the order of the code.
-use mathlib.Core.Path.{_≡_, sym, _∙_}
-use mathlib.Core.Bool.{Bool, true, false, not}
+use mathlib.Core.Path.{_≡_, refl, sym, _∙_}
+use mathlib.Core.Bool.{Bool, true, false, not, false≢true}
+use mathlib.Core.Logic.{inl, inr}
 use Prim.Native.Nat.{ℕ}
 use borrow.Author.Tests.{not-true, not-false}
 use Rattle.atoms.specs.Word.{subset, apart, _∖_, atom}
+use Rattle.atoms.proofs.Sets.{decides-subset}
 use Rattle.answer_sets.specs.Program.{Program}
-use Rattle.answer_sets.specs.Test.{body, satisfies, satisfiesAll, kept, keptIf, someSmaller, answerSet}
+use Rattle.answer_sets.specs.Test.{body, satisfies, satisfiesAll, kept, keptIf, someSmaller, answerSet, SmallerSet, RefutedBy}
+use Rattle.answer_sets.proofs.Judged.{decides-all-satisfied, kept-fits}
 
 -- ---- one rule
 
@@ -33,11 +36,30 @@ module _ (P : Program) (which facts M : ℕ) {f : Bool} (has-facts : f ≡ subse
   unfolding answerSet
   no-facts e = simp (sym has-facts, not-true f e)
 
+  pub refuted-facts : not f ≡ true → RefutedBy P which facts M false M
+  refuted-facts e = record {
+    refuted = λ g. inl (refl, λ k. decides-subset facts M .no (sym has-facts ∙ not-true f e) (k .0));
+    none = λ g. absurd (false≢true g);
+  }
+
   module _ {word : ℕ} {model : Bool} (e : not f ≡ false) (keeps : word ≡ kept P which M) (tested : model ≡ satisfiesAll P word M) where
     pub no-model : not model ≡ true → false ≡ answerSet P which facts M
     unfolding answerSet
     no-model g = simp (sym has-facts, not-false f e, ← keeps, sym tested, not-true model g)
 
+    pub refuted-model : not model ≡ true → RefutedBy P which facts M false M
+    refuted-model g = record {
+      refuted = λ h.
+          inl (refl, λ k. decides-all-satisfied P (kept P which M) M (kept-fits P which M) .no (sym (rw keeps at tested) ∙ not-true model g) (k .1));
+      none = λ h. absurd (false≢true h);
+    }
+
     pub model-judged : {smaller : Bool} → not model ≡ false → smaller ≡ someSmaller P word facts M → not smaller ≡ answerSet P which facts M
     unfolding answerSet
     model-judged g s = simp (sym has-facts, not-false f e, ← keeps, sym tested, not-false model g, s)
+
+pub refuted-smaller : {P : Program} {which facts M word set : ℕ} {smaller : Bool} → word ≡ kept P which M
+    → SmallerSet P word facts M smaller set → RefutedBy P which facts M (not smaller) set
+refuted-smaller {smaller = smaller} e s =
+    let k = rw e at s in
+    record { refuted = λ g. inr (k .shown (not-false smaller g)); none = λ g. k .none (not-true smaller g) }

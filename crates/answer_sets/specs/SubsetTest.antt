@@ -1,8 +1,10 @@
 -- Inner: the statements of the subset test's functions.
 use mathlib.Core.Path.{_≡_}
+use mathlib.Core.Bool.{Bool, true, false}
 use mathlib.Core.List.{List}
 use Prim.Native.Nat.{ℕ, _<_}
 use Rattle.atoms.specs.Word.{ATOMS, Has, _⊆_, _⊂_}
+use Rattle.atoms.specs.Bounded.{Decides}
 use Rattle.answer_sets.specs.Program.{Program, Satisfies, SatisfiesAll}
 use Rattle.answer_sets.specs.Lent.{lent, looks}
 use Rattle.states.specs.State.{Completes}
@@ -16,6 +18,12 @@ pub record Between (P : Program) (which M : ℕ) (s : State) : Type 0 where
   pub proper : set ⊂ M
   pub completes : Completes s set
   pub satisfied : SatisfiesAll P which set
+
+-- whether there is such a set, and beside it one, or 0
+pub record Finds (P : Program) (which M : ℕ) (s : State) (found : Bool) (set : ℕ) : Type 0 where
+  pub exactly : Decides (Between P which M s) found
+  pub shown : found ≡ true → (b : Between P which M s) × (b .set ≡ set)
+  pub none : found ≡ false → set ≡ 0
 
 -- every atom outside the position is dropped, so that completions lie within it
 pub record Confines (M dropped : ℕ) : Type 0 where

@@ -1,6 +1,7 @@
 -- The computing twins of the definitions: what the functions return.
 use mathlib.Core.Path.{_≡_}
 use mathlib.Core.Bool.{Bool, true, false, not, _&&_, _||_}
+use mathlib.Core.Logic.{_⊎_}
 use Prim.Native.Nat.{ℕ}
 use Rattle.atoms.specs.Word.{has, _⊂_, _⊆_, subset, apart, _∖_, atom}
 use Rattle.atoms.specs.Bounded.{Decides, allIn, someBelow, wordBelow}
@@ -44,7 +45,18 @@ pub record SubsetTested (P : Program) (numbers facts M : ℕ) (answer : Bool) : 
   pub computed : answer ≡ someSmaller P numbers facts M
   pub facts-outside : ¬ (facts ⊆ M) → answer ≡ false
 
+-- the set beside that answer: a smaller one where there is one, else 0
+pub record SmallerSet (P : Program) (numbers facts M : ℕ) (answer : Bool) (set : ℕ) : Type 0 where
+  pub shown : answer ≡ true → (s : Smaller P numbers facts M) × (s .set ≡ set)
+  pub none : answer ≡ false → set ≡ 0
+
 -- M is an answer set
 unfoldable pub answerSet : Program → ℕ → ℕ → ℕ → Bool
 answerSet P which facts M =
     subset facts M && (satisfiesAll P (kept P which M) M && not (someSmaller P (kept P which M) facts M))
+
+-- the set beside that answer: what shows that M is none, M itself where it lacks a fact or does not satisfy a kept rule, else a smaller set; 0 where M is one
+pub record RefutedBy (P : Program) (which facts M : ℕ) (answer : Bool) (set : ℕ) : Type 0 where
+  pub refuted : answer ≡ false
+      → ((set ≡ M) × ¬ ((facts ⊆ M) × SatisfiesAll P (kept P which M) M)) ⊎ ((s : Smaller P (kept P which M) facts M) × (s .set ≡ set))
+  pub none : answer ≡ true → set ≡ 0

@@ -7,18 +7,19 @@ use plan::MAX_RULES;
 ghost use mathlib.Core.Path.{_≡_};
 ghost use Prim.Native.Nat.{min};
 ghost use Rattle.answer_sets.specs.Lent.{lent, Lent, numbered};
-ghost use Rattle.answer_sets.specs.Test.{SubsetTested, answerSet};
+ghost use Rattle.answer_sets.specs.Test.{SubsetTested, answerSet, RefutedBy};
 
-// Whether a position is an answer set, and if it is none, a smaller set that shows it, if one was found. Nothing is promised of that one.
+// Whether a position is an answer set, and if it is none, what shows it: a smaller set, or the position itself. Which smaller set it is, is free.
 pub struct Judged {
     pub answers: bool,
     pub smaller: u64,
 }
 
-// Whether the position is an answer set of the rules numbered in `which` with the facts added.
+// Whether the position is an answer set of the rules numbered in `which` with the facts added, and what shows that it is none.
 pub fn judge_set(rules: &[u64], which: u64, facts: u64, position: u64) -> Judged
     requires { ⌜ Lent (now rules) which ⌝ }
-    ensures { λ r. ⌜ r .answers ≡ answerSet (lent (now (rules .entry))) which facts position ⌝ }
+    ensures answers { λ r. ⌜ r .answers ≡ answerSet (lent (now (rules .entry))) which facts position ⌝ }
+    ensures refuted { λ r. ⌜ RefutedBy (lent (now (rules .entry))) which facts position (r .answers) (r .smaller) ⌝ }
 {
     if !atoms::is_subset(facts, position) {
         return Judged {
@@ -40,7 +41,7 @@ pub fn judge_set(rules: &[u64], which: u64, facts: u64, position: u64) -> Judged
     }
 }
 
-// The same, told alone.
+// The first of both, told alone.
 pub fn is_answer_set(rules: &[u64], which: u64, facts: u64, position: u64) -> bool
     requires { ⌜ Lent (now rules) which ⌝ }
     ensures { λ r. ⌜ r ≡ answerSet (lent (now (rules .entry))) which facts position ⌝ }

@@ -9,12 +9,11 @@ use states::State;
 use states::undecided;
 ghost use mathlib.Core.Path.{_≡_};
 ghost use mathlib.Core.Bool.{false};
-ghost use Rattle.atoms.specs.Bounded.{Decides};
 ghost use Rattle.answer_sets.specs.Lent.{lent, Lent};
-ghost use Rattle.answer_sets.specs.Test.{SubsetTested};
-ghost use Rattle.answer_sets.specs.SubsetTest.{Between, Confines};
+ghost use Rattle.answer_sets.specs.Test.{SubsetTested, SmallerSet};
+ghost use Rattle.answer_sets.specs.SubsetTest.{Confines, Finds};
 
-// Whether there is a smaller set, and if so one that was found. Nothing is promised of that one.
+// Whether there is a smaller set, and if so one that was found. Which one it is, is free.
 pub struct Smaller {
     pub found: bool,
     pub set: u64,
@@ -22,7 +21,7 @@ pub struct Smaller {
 
 // That there is none.
 fn none_smaller() -> Smaller
-    ensures { λ r. ⌜ r .found ≡ false ⌝ }
+    ensures { λ r. ⌜ r ≡ record { found = false; set = 0 } ⌝ }
 {
     Smaller {
         found: false,
@@ -30,10 +29,10 @@ fn none_smaller() -> Smaller
     }
 }
 
-// Whether some completion of the state is a proper subset of the position and satisfies each rule of the word.
+// Whether some completion of the state is a proper subset of the position and satisfies each rule of the word, and one that does.
 fn some_between(rules: &[u64], which: u64, position: u64, up: u64, dropped: u64) -> Smaller
     requires { ⌜ Lent (now rules) which × Confines position dropped ⌝ }
-    ensures { λ r. ⌜ Decides (Between (lent (now (rules .entry))) which position (record { up = up; dropped = dropped })) (r .found) ⌝ }
+    ensures { λ r. ⌜ Finds (lent (now (rules .entry))) which position (record { up = up; dropped = dropped }) (r .found) (r .set) ⌝ }
 {
     let passed = rule_pass(rules, which, State { up, dropped });
     let t = passed.state;
@@ -68,10 +67,11 @@ fn some_between(rules: &[u64], which: u64, position: u64, up: u64, dropped: u64)
     some_between(rules, left, position, t.up, atoms::union(t.dropped, atom))
 }
 
-// Whether some proper subset of the position has all the facts and satisfies each rule of the word.
+// Whether some proper subset of the position has all the facts and satisfies each rule of the word, and one that does.
 pub fn some_smaller(rules: &[u64], which: u64, facts: u64, position: u64) -> Smaller
     requires { ⌜ Lent (now rules) which ⌝ }
-    ensures { λ r. ⌜ SubsetTested (lent (now (rules .entry))) which facts position (r .found) ⌝ }
+    ensures tested { λ r. ⌜ SubsetTested (lent (now (rules .entry))) which facts position (r .found) ⌝ }
+    ensures set { λ r. ⌜ SmallerSet (lent (now (rules .entry))) which facts position (r .found) (r .set) ⌝ }
 {
     some_between(rules, which, position, facts, atoms::outside(position))
 }

@@ -28,3 +28,5 @@ pub mod Insertion
 pub mod Cuts
 -- Words that are stored one by one, and areas that are put together of stored parts
 pub mod StoredWords
+-- Tallies: what a write does to the counts, a word counted place by place, and the atoms with the highest count
+pub mod Tallies

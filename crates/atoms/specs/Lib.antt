@@ -4,3 +4,4 @@ pub mod Collected
 pub mod Rising
 pub mod Lists
 pub mod Cuts
+pub mod Tally

@@ -1,13 +1,12 @@
-// Counts of all atoms side by side, in binary places: word i of `places` has the atoms whose count has place i. A tally is for preferences: nothing
-// is promised of the counts.
+// Counts of all atoms side by side, in binary places: word i of `places` has the atoms whose count has place i. A tally is for preferences.
 use crate::cut;
 ghost use mathlib.Core.Path.{_≡_};
-ghost use lib.ListN.{length};
 ghost use Rattle.atoms.specs.Word.{SomeOf};
+ghost use Rattle.atoms.specs.Tally.{Counted, preferred, MostCounted};
 
 // Adds one to the count of each atom of the word. What is carried beyond the last place is lost.
 pub fn count_atoms(places: &mut [u64], word: u64)
-    ensures { λ _. ⌜ length (now (places .exit)) ≡ length (now (places .entry)) ⌝ }
+    ensures { λ _. ⌜ Counted word (now (places .entry)) (now (places .exit)) ⌝ }
 {
     let mut carried = word;
     let mut i = 0;
@@ -22,7 +21,8 @@ pub fn count_atoms(places: &mut [u64], word: u64)
 // The atoms of both words, or of the first where none is in both.
 pub fn prefer(word: u64, better: u64) -> u64
     requires { ⌜ (word ≡ 0 → ⊥) ⌝ }
-    ensures { λ r. ⌜ SomeOf word r ⌝ }
+    ensures some { λ r. ⌜ SomeOf word r ⌝ }
+    ensures is { λ r. ⌜ r ≡ preferred word better ⌝ }
 {
     let both = cut(word, better);
     if both == 0 {
@@ -34,7 +34,8 @@ pub fn prefer(word: u64, better: u64) -> u64
 // The atoms of the word with the highest count.
 pub fn most(places: &[u64], word: u64) -> u64
     requires { ⌜ (word ≡ 0 → ⊥) ⌝ }
-    ensures { λ r. ⌜ SomeOf word r ⌝ }
+    ensures some { λ r. ⌜ SomeOf word r ⌝ }
+    ensures most { λ r. ⌜ MostCounted (now (places .entry)) word r ⌝ }
 {
     let mut best = word;
     let mut i = places.len();

@@ -6,3 +6,5 @@ pub mod Stores
 pub mod Reasons
 -- Steps run again: what belongs to the list and completes no learnt pair survives each of them
 pub mod HeededSteps
+-- The trail and the scores: a step that is noted, and a tally that is a part of the memory
+pub mod Trails

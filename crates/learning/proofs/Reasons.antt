@@ -1,23 +1,25 @@
 -- Reasons: a goal told by a step, a pair with the reason in the goal's place, and a nogood lifted over a trail.
-use mathlib.Core.Path.{_≡_, _∙_}
-use mathlib.Core.Bool.{Bool, true, false, true≢false}
+use mathlib.Core.Path.{_≡_, sym, ap, _∙_}
+use mathlib.Core.Bool.{Bool, true, false, not, true≢false}
 use mathlib.Core.Logic.{_⊎_, inl, inr}
 use mathlib.Core.List.{List}
 use Prim.Native.Nat.{ℕ}
 use native.Mathlib.Omega.{arith}
-use Rattle.atoms.specs.Word.{Has, Apart, _∩_}
+use borrow.Author.Tests.{not-true, not-false}
+use Rattle.atoms.specs.Word.{Has, AtMostOne, Apart, apart, _∩_, _∪_}
 use Rattle.atoms.specs.Bounded.{Decides}
-use Rattle.atoms.proofs.Sets.{has-cut, has-left, has-right, has-without, has-dec}
+use Rattle.atoms.proofs.Sets.{has-cut, has-left, has-right, has-without, has-dec, decides-apart}
+use Rattle.atoms.proofs.Tests.{not-both}
 use Rattle.states.specs.State.{Completes}
 use Rattle.states.specs.Narrowing.{Narrows, Within, Overlaps}
 use Rattle.states.specs.declared.state.State.{State}
 use Rattle.learning.specs.Nogood.{Avoids, Nogood}
-use Rattle.learning.specs.Store.{AvoidsAll, Empty, Keeps, SamePairs}
-use Rattle.learning.specs.Reason.{Heeds, Remembers, Explains, Tells, beyondOf, replaced, Leads, Lifted}
+use Rattle.learning.specs.Store.{AvoidsAll, Empty, Keeps, SamePairs, Learnt}
+use Rattle.learning.specs.Reason.{Heeds, Remembers, Explains, Tells, beyondOf, replaced, Leads, Lifted, WorthLearning, LearntOnce}
 use Rattle.learning.proofs.Nogoods.{overlap-avoided}
 use Rattle.states.proofs.Within.{completes-within}
 use Rattle.states.proofs.Narrows.{narrows-for}
-use Rattle.learning.proofs.Stores.{keeps-refl, keeps-same}
+use Rattle.learning.proofs.Stores.{keeps-refl, keeps-same, same-pairs}
 
 -- ---- a goal and its reason
 
@@ -136,3 +138,56 @@ pub reason-nogood : {K : ℕ → Type 0} {memory : List ℕ} {part goal : State}
 reason-nogood r e o = record {
   avoided = λ N h. record { never = λ c. overlap-avoided N o .never (e .completes N (record { has = h; avoids = r .avoids N h }) c) };
 }
+
+-- ---- a pair is learnt once
+
+module _ (base n : State) {new : State} {all : ℕ} {b : Bool} (e : new ≡ beyondOf n base)
+    (u : all ≡ new .up ∪ new .dropped) (d : Decides (AtMostOne all) b) where
+  same : all ≡ beyondOf n base .up ∪ beyondOf n base .dropped
+  same = u ∙ ap (λ (x : State). x .up ∪ x .dropped) e
+
+  -- it names too much
+  pub names-many : not b ≡ true → ¬ WorthLearning base n
+  names-many t w = d .no (not-true b t) (rw same (w .few))
+
+  pub worth-learning : {a : Bool} → a ≡ apart (n .up) (n .dropped) → not a ≡ false → not b ≡ false → WorthLearning base n
+  worth-learning {a} f t k = record {
+    completed = decides-apart (n .up) (n .dropped) .yes (sym f ∙ not-false a t);
+    few = rw same at (d .yes (not-false b k));
+  }
+
+module _ {base n : State} where
+  -- nothing completes it
+  pub contradicts : {a : Bool} → a ≡ apart (n .up) (n .dropped) → not a ≡ true → ¬ WorthLearning base n
+  contradicts {a} e t w = decides-apart (n .up) (n .dropped) .no (sym e ∙ not-true a t) (w .completed)
+
+  pub once-before : {learnt : Bool} {memory : List ℕ} → learnt ≡ true → LearntOnce base n learnt memory memory true
+  once-before e = record {
+    told = record { yes = λ f. inl e; no = λ f. absurd (true≢false f) };
+    stored = λ f g. absurd (not-both e f);
+    same = λ f. same-pairs;
+  }
+
+  pub once-not : {learnt : Bool} {before after : List ℕ} → learnt ≡ false → ¬ WorthLearning base n → SamePairs before after
+      → LearntOnce base n learnt before after false
+  once-not {learnt} e w m = record {
+    told = record { yes = λ f. absurd (true≢false (sym f)); no = λ f h. never h };
+    stored = λ f g. absurd (true≢false (sym g));
+    same = λ f. m;
+  }
+    where
+      never : (learnt ≡ true) ⊎ WorthLearning base n → ⊥
+      never (inl f) = not-both f e
+      never (inr f) = w f
+
+  pub once-now : {learnt : Bool} {before memory after : List ℕ} → learnt ≡ false → WorthLearning base n → Learnt n before memory → SamePairs memory after
+      → {first : List ℕ} → LearntOnce base n learnt first after true
+  once-now {learnt} e w k m = record {
+    told = record { yes = λ f. inr w; no = λ f. absurd (true≢false f) };
+    stored = λ f g. (k .place, k .in-ring, m .same (k .place) (omega (arith, k .in-ring)) ∙ k .stored);
+    same = λ f. absurd (never f);
+  }
+    where
+      never : (learnt ≡ true) ⊎ (true ≡ false) → ⊥
+      never (inl f) = not-both f e
+      never (inr f) = true≢false f

@@ -1,17 +1,24 @@
 -- The store: what it is at first, and what a write changes.
 use mathlib.Core.Path.{_≡_, refl, sym, ap, subst, _∙_}
+use mathlib.Core.Bool.{Bool, true, false, not, true≢false, false≢true}
 use mathlib.Core.List.{List, _++_}
-use Prim.Native.Nat.{ℕ, _+_, _*_, _≤_, _<_}
+use Prim.Native.Nat.{ℕ, _+_, _*_, _%_, _≤_, _<_}
 use native.Mathlib.Omega.{arith}
 use native.Mathlib.Decide.{ℕ-discrete}
+use lib.Dec.{ltb}
 use lib.ListN.{length, getD, set, take, replicate, length-set, length-replicate, getD-replicate, List·getD-append}
 use lib.Seq.{getD-set-same, getD-set-other, getD-take, length-take-le}
 use borrow.Rule.Slice.PartMut.{midOf, postOf, putMid, same-len-mid}
-use Rattle.atoms.specs.Word.{Has}
+use borrow.Author.Tests.{lt-ltb, le-ltb, not-true, not-false}
+use Rattle.atoms.specs.Word.{Has, AtMostOne, Apart, apart, _∪_, _∖_}
+use Rattle.atoms.specs.Bounded.{Decides}
+use Rattle.atoms.proofs.Sets.{decides-apart}
+use Rattle.atoms.proofs.Tests.{decides-iff}
 use Rattle.states.specs.declared.state.State.{State}
 use Rattle.learning.specs.Nogood.{Avoids}
 use Rattle.states.specs.Narrowing.{Overlaps}
-use Rattle.learning.specs.Store.{RING, PAIRS, MEMORY_WORDS, pairAt, AvoidsAll, Empty, Keeps, SamePairs, PairWritten, Learnt}
+use Rattle.learning.specs.Store.{RING, PAIRS, PLACE, MEMORY_WORDS, pairAt, AvoidsAll, Empty, Keeps, SamePairs, PairWritten, Learnt}
+use Rattle.learning.specs.Store.{withPair, nextPlace, learntIn, learntPairs, missing, News, NextNews}
 use Rattle.learning.proofs.Nogoods.{overlap-avoided}
 
 -- ---- at first
@@ -35,7 +42,7 @@ empty-of {w} h = record {
 
 -- ---- writing
 
-pair-of : {up dropped : ℕ} (n : State) → up ≡ n .up → dropped ≡ n .dropped → record { up = up; dropped = dropped } ≡ n
+pub pair-of : {up dropped : ℕ} (n : State) → up ≡ n .up → dropped ≡ n .dropped → record { up = up; dropped = dropped } ≡ n
 pair-of n e f = rw (e, f)
 
 pub written : (store : List ℕ) (i : ℕ) (n : State) → 2 * i + 1 < length store
@@ -123,6 +130,91 @@ learnt-at i l m w = record {
   in-ring = l;
   stored = w .here;
 }
+
+-- the place behind this one
+pub next-low : (place : ℕ) → place < RING → place + 1 ≡ nextPlace place
+unfolding nextPlace
+next-low place l = go (ltb place RING) (lt-ltb place RING l)
+  where
+    go : (b : Bool) → b ≡ true → place + 1 ≡ elim b [ true ↦ place + 1 | false ↦ RING + place % RING + 1 ]
+    go true e = refl
+    go false e = absurd (false≢true e)
+
+pub next-high : (place : ℕ) → RING ≤ place → RING + place % RING + 1 ≡ nextPlace place
+unfolding nextPlace
+next-high place l = go (ltb place RING) (le-ltb place RING l)
+  where
+    go : (b : Bool) → b ≡ false → RING + place % RING + 1 ≡ elim b [ true ↦ place + 1 | false ↦ RING + place % RING + 1 ]
+    go true e = absurd (true≢false e)
+    go false e = refl
+
+pub learnt-is : (n : State) (memory : List ℕ) {between after : List ℕ} {next : ℕ} → next ≡ nextPlace (getD memory PLACE 0) → between ≡ set memory PLACE next
+    → after ≡ withPair between (getD memory PLACE 0 % RING) n → after ≡ learntIn memory n
+learnt-is n memory e m w =
+    w ∙ ap (λ (l : List ℕ). withPair l (getD memory PLACE 0 % RING) n) (m ∙ ap (λ (v : ℕ). set memory PLACE v) e)
+
+-- ---- news
+
+-- whether a pair is news
+pub not-news : {n s : State} {up dropped all : ℕ} {b : Bool} → up ≡ n .up ∖ s .up → dropped ≡ n .dropped ∖ s .dropped → all ≡ up ∪ dropped
+    → Decides (AtMostOne all) b → not b ≡ true → Decides (News n s) false
+not-news {b = b} u d e k t = record {
+  yes = λ f. absurd (false≢true f);
+  no = λ f w. k .no (not-true b t) (rw (e, u, d) (w .few));
+}
+
+pub is-news : {n s : State} {up dropped all known : ℕ} {b r : Bool} → up ≡ n .up ∖ s .up → dropped ≡ n .dropped ∖ s .dropped → all ≡ up ∪ dropped
+    → Decides (AtMostOne all) b → not b ≡ false → known ≡ s .up ∪ s .dropped → r ≡ apart all known → Decides (News n s) r
+is-news {n} {s} {all = all} {known} {b} u d e k t m a =
+    decides-iff {P = Apart all known} (λ f. record { few = rw same at (k .yes (not-false b t)); undecided = rw (same, m) at f })
+    (λ w. rw (same, m) (w .undecided))
+    (rw a (decides-apart all known))
+  where
+    same : all ≡ missing n s
+    same = rw (e, u, d)
+
+-- the ones that were passed over are none
+pub record Passing (memory : List ℕ) (from : ℕ) (s : State) (i : ℕ) : Type 0 where
+  pub beyond : from ≤ i
+  pub none : (j : ℕ) → from ≤ j → j < i → ¬ News (pairAt memory j) s
+
+pub passing-start : {memory : List ℕ} {from : ℕ} {s : State} → Passing memory from s from
+passing-start = record { beyond = omega arith; none = λ j l m. absurd (omega (arith, l, m)) }
+
+pub passing-next : {memory : List ℕ} {from i : ℕ} {s n : State} {b : Bool} → Passing memory from s i → n ≡ pairAt memory i → Decides (News n s) b
+    → b ≡ false → Passing memory from s (i + 1)
+passing-next {memory} {from} {i} {s} p e d f = record { beyond = omega (arith, p .beyond); none = λ j l m. go j l m (ℕ-discrete j i) }
+  where
+    go : (j : ℕ) → from ≤ j → j < i + 1 → Dec (j ≡ i) → ¬ News (pairAt memory j) s
+    go j l m (yes q) w = d .no f (rw e (subst (λ (x : ℕ). News (pairAt memory x) s) q w))
+    go j l m (no q) w = p .none j l (omega (arith, m, q)) w
+
+module _ (memory : List ℕ) (from : ℕ) {s : State} {a : Bool} (tested : a ≡ apart (s .up) (s .dropped)) where
+  pub news-stopped : not a ≡ true → NextNews memory from s RING
+  news-stopped t = record {
+    news = λ l. absurd (omega (arith, l));
+    passed = λ n. absurd (decides-apart (s .up) (s .dropped) .no (sym tested ∙ not-true a t) n);
+    stopped = λ n. refl;
+  }
+
+  module _ (t : not a ≡ false) {end : ℕ} (is : end ≡ learntPairs memory) where
+    free : Apart (s .up) (s .dropped)
+    free = decides-apart (s .up) (s .dropped) .yes (sym tested ∙ not-false a t)
+
+    pub news-met : {i : ℕ} {n : State} {b : Bool} → Passing memory from s i → i < end → n ≡ pairAt memory i → Decides (News n s) b → b ≡ true
+        → NextNews memory from s i
+    news-met p l e d f = record {
+      news = λ k. (rw is at l, rw e at (d .yes f));
+      passed = λ n j m k h. p .none j m k;
+      stopped = λ n. absurd (n free);
+    }
+
+    pub news-none : {i : ℕ} → Passing memory from s i → end ≤ i → NextNews memory from s RING
+    news-none p l = record {
+      news = λ k. absurd (omega (arith, k));
+      passed = λ n j m k h. p .none j m (omega (arith, l, h, is));
+      stopped = λ n. refl;
+    }
 
 -- a part behind the pairs may be lent: what comes back in its place is as long
 pub same-part : (memory part : List ℕ) (from words : ℕ) → 2 * PAIRS ≤ from → from ≤ length memory → length part ≡ length (midOf from words memory)

@@ -1,8 +1,11 @@
 -- Inner: the store of learnt pairs, and what is promised of it: whoever avoided all its pairs, and the one that is learnt, avoids all of them after.
 use mathlib.Core.Path.{_≡_}
 use mathlib.Core.List.{List}
-use Prim.Native.Nat.{ℕ, _+_, _*_, _<_}
-use lib.ListN.{length, getD}
+use mathlib.Core.Bool.{true, false}
+use Prim.Native.Nat.{ℕ, _+_, _*_, _%_, _≤_, _<_, min}
+use lib.Dec.{ltb}
+use lib.ListN.{length, getD, set}
+use Rattle.atoms.specs.Word.{AtMostOne, Apart, _∪_, _∖_}
 use Rattle.states.specs.declared.state.State.{State}
 use Rattle.learning.specs.Nogood.{Avoids}
 
@@ -16,9 +19,13 @@ COPIES = 66
 abbrev pub PAIRS : ℕ
 PAIRS = RING + COPIES
 
--- where the trail starts, how many steps it has and how many words each, and the word of unfounded atoms behind it
+-- where it stands in which place the ring is written next; where the trail starts, how many steps it has and how many words each; the word of unfounded
+-- atoms behind it
+abbrev pub PLACE : ℕ
+PLACE = 2 * PAIRS
+
 abbrev pub TRAIL : ℕ
-TRAIL = 2 * PAIRS + 1
+TRAIL = PLACE + 1
 
 abbrev pub STEPS : ℕ
 STEPS = 66
@@ -29,9 +36,15 @@ STEP_WORDS = 3
 abbrev pub UNFOUNDED : ℕ
 UNFOUNDED = TRAIL + STEP_WORDS * STEPS
 
--- how many words the pairs and the advice behind them take, sixteen of scores last
+-- where the scores stand and how many words they have, and how many words the pairs and the advice behind them take
+abbrev pub SCORES : ℕ
+SCORES = UNFOUNDED + 1
+
+abbrev pub SCORE_PLACES : ℕ
+SCORE_PLACES = 16
+
 abbrev pub MEMORY_WORDS : ℕ
-MEMORY_WORDS = UNFOUNDED + 1 + 16
+MEMORY_WORDS = SCORES + SCORE_PLACES
 
 -- pair i: two words
 abbrev pub pairAt : List ℕ → ℕ → State
@@ -68,3 +81,42 @@ pub record Learnt (n : State) (before after : List ℕ) : Type 0 where
   pub place : ℕ
   pub in-ring : place < RING
   pub stored : pairAt after place ≡ n
+
+-- ---- what is written, word for word
+
+-- the store with n as pair i
+abbrev pub withPair : List ℕ → ℕ → State → List ℕ
+withPair memory i n = set (set memory (2 * i) (n .up)) (2 * i + 1) (n .dropped)
+
+-- how many pairs of the ring were learnt: the word has the place that is written next, and once the ring is full the number stays above it
+abbrev pub learntPairs : List ℕ → ℕ
+learntPairs memory = min RING (getD memory PLACE 0)
+
+unfoldable pub nextPlace : ℕ → ℕ
+nextPlace place = elim (ltb place RING) [ true ↦ place + 1 | false ↦ RING + place % RING + 1 ]
+
+-- the store with n in the ring, in place of the oldest pair there
+abbrev pub learntIn : List ℕ → State → List ℕ
+learntIn memory n = withPair (set memory PLACE (nextPlace (getD memory PLACE 0))) (getD memory PLACE 0 % RING) n
+
+-- a copy of n is kept beside the trail, as far as there is room
+pub record Copied (at : ℕ) (n : State) (before after : List ℕ) : Type 0 where
+  pub room : at < COPIES → after ≡ withPair before (RING + at) n
+  pub full : COPIES ≤ at → after ≡ before
+
+-- ---- which pair is news
+
+-- the atoms of the pair that are missing in the state
+abbrev pub missing : State → State → ℕ
+missing n s = (n .up ∖ s .up) ∪ (n .dropped ∖ s .dropped)
+
+-- the pair has something new to tell of the state: no more than one of its atoms is missing, and that one is undecided
+pub record News (n s : State) : Type 0 where
+  pub few : AtMostOne (missing n s)
+  pub undecided : Apart (missing n s) (s .up ∪ s .dropped)
+
+-- the first pair of those learnt, from this one on, that is news, or RING; nothing is where nothing completes the state
+pub record NextNews (memory : List ℕ) (from : ℕ) (s : State) (r : ℕ) : Type 0 where
+  pub news : r < RING → (r < learntPairs memory) × News (pairAt memory r) s
+  pub passed : Apart (s .up) (s .dropped) → (i : ℕ) → from ≤ i → i < r → i < learntPairs memory → ¬ News (pairAt memory i) s
+  pub stopped : ¬ Apart (s .up) (s .dropped) → r ≡ RING

@@ -9,7 +9,7 @@ ghost use lib.ListN.{length};
 ghost use Rattle.atoms.specs.Bounded.{Decides};
 ghost use Rattle.learning.specs.Nogood.{Avoids};
 ghost use Rattle.learning.specs.Store.{MEMORY_WORDS, Keeps};
-ghost use Rattle.learning.specs.Reason.{Tells, beyondOf, replaced};
+ghost use Rattle.learning.specs.Reason.{Tells, beyondOf, replaced, LearntOnce};
 
 // Whether a step that came to this state tells the goal: the state has all of it, or nothing completes the state.
 pub fn tells(t: State, goal: State) -> bool
@@ -45,7 +45,8 @@ pub fn replace(n: State, s: State, part: State) -> State
 // then the atoms score that were replaced since the pair before.
 pub fn learn_once(memory: &mut [u64], base: State, old: State, n: State, learnt: bool) -> bool
     requires { ⌜ MEMORY_WORDS ≤ length (now memory) ⌝ }
-    ensures { λ _. ⌜ Keeps (Avoids n) (now (memory .entry)) (now (memory .exit)) ⌝ }
+    ensures keeps { λ _. ⌜ Keeps (Avoids n) (now (memory .entry)) (now (memory .exit)) ⌝ }
+    ensures once { λ r. ⌜ LearntOnce base n learnt (now (memory .entry)) (now (memory .exit)) r ⌝ }
 {
     if learnt {
         return true;

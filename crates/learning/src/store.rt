@@ -3,9 +3,11 @@
 use states::State;
 ghost use mathlib.Core.Path.{_≡_};
 ghost use Prim.Native.Nat.{_*_, _≤_, _<_};
-ghost use lib.ListN.{length};
+ghost use lib.ListN.{length, set};
+ghost use Rattle.atoms.specs.Bounded.{Decides};
 ghost use Rattle.learning.specs.Nogood.{Avoids};
 ghost use Rattle.learning.specs.Store.{RING, PAIRS, MEMORY_WORDS, pairAt, Empty, Keeps, SamePairs, PairWritten, Learnt};
+ghost use Rattle.learning.specs.Store.{withPair, learntPairs, nextPlace, learntIn, Copied, News, NextNews};
 
 // Pairs that propagate, and behind them pairs kept beside the trail.
 pub const RING: usize = 128;
@@ -38,7 +40,8 @@ const ALL: u64 = 0xffff_ffff_ffff_ffff;
 // Writes one word behind the pairs.
 pub fn note(memory: &mut [u64], at: usize, word: u64)
     requires { ⌜ (2 * PAIRS ≤ at) × (at < length (now memory)) ⌝ }
-    ensures { λ _. ⌜ SamePairs (now (memory .entry)) (now (memory .exit)) ⌝ }
+    ensures same { λ _. ⌜ SamePairs (now (memory .entry)) (now (memory .exit)) ⌝ }
+    ensures is { λ _. ⌜ now (memory .exit) ≡ set (now (memory .entry)) at word ⌝ }
 {
     memory[at] = word;
 }
@@ -78,14 +81,17 @@ pub fn read_pair(memory: &[u64], i: usize) -> State
 // Writes the pair into place i.
 fn write_pair(memory: &mut [u64], i: usize, n: State)
     requires { ⌜ (MEMORY_WORDS ≤ length (now memory)) × (i < PAIRS) ⌝ }
-    ensures { λ _. ⌜ PairWritten i n (now (memory .entry)) (now (memory .exit)) ⌝ }
+    ensures written { λ _. ⌜ PairWritten i n (now (memory .entry)) (now (memory .exit)) ⌝ }
+    ensures is { λ _. ⌜ now (memory .exit) ≡ withPair (now (memory .entry)) i n ⌝ }
 {
     memory[2 * i] = n.up;
     memory[2 * i + 1] = n.dropped;
 }
 
 // The place behind this one. Once the ring is full the number stays above it, so that it tells how many pairs are there.
-fn next_place(place: usize) -> usize {
+fn next_place(place: usize) -> usize
+    ensures { λ r. ⌜ r ≡ nextPlace place ⌝ }
+{
     if place < RING {
         return place + 1;
     }
@@ -95,7 +101,8 @@ fn next_place(place: usize) -> usize {
 // Puts the pair into the ring, in place of the oldest one there.
 pub fn learn(memory: &mut [u64], n: State)
     requires { ⌜ MEMORY_WORDS ≤ length (now memory) ⌝ }
-    ensures { λ _. ⌜ Learnt n (now (memory .entry)) (now (memory .exit)) ⌝ }
+    ensures learnt { λ _. ⌜ Learnt n (now (memory .entry)) (now (memory .exit)) ⌝ }
+    ensures is { λ _. ⌜ now (memory .exit) ≡ learntIn (now (memory .entry)) n ⌝ }
 {
     let place = memory[PLACE] as usize;
     note(memory, PLACE, next_place(place) as u64);
@@ -105,7 +112,8 @@ pub fn learn(memory: &mut [u64], n: State)
 // How many pairs of the ring were learnt.
 pub fn learnt_pairs(memory: &[u64]) -> usize
     requires { ⌜ MEMORY_WORDS ≤ length (now memory) ⌝ }
-    ensures { λ r. ⌜ r ≤ RING ⌝ }
+    ensures few { λ r. ⌜ r ≤ RING ⌝ }
+    ensures is { λ r. ⌜ r ≡ learntPairs (now (memory .entry)) ⌝ }
 {
     let place = memory[PLACE] as usize;
     if place < RING {
@@ -117,7 +125,8 @@ pub fn learnt_pairs(memory: &[u64]) -> usize
 // Keeps a copy of the pair beside the trail, as far as there is room.
 pub fn copy_pair(memory: &mut [u64], at: usize, n: State)
     requires { ⌜ MEMORY_WORDS ≤ length (now memory) ⌝ }
-    ensures { λ _. ⌜ Keeps (Avoids n) (now (memory .entry)) (now (memory .exit)) ⌝ }
+    ensures keeps { λ _. ⌜ Keeps (Avoids n) (now (memory .entry)) (now (memory .exit)) ⌝ }
+    ensures copied { λ _. ⌜ Copied at n (now (memory .entry)) (now (memory .exit)) ⌝ }
 {
     if COPIES <= at {
         return;
@@ -126,7 +135,9 @@ pub fn copy_pair(memory: &mut [u64], at: usize, n: State)
 }
 
 // Whether the pair has something new to tell of the state: no more than one of its atoms is missing, and that one is undecided.
-fn is_news(n: State, s: State) -> bool {
+fn is_news(n: State, s: State) -> bool
+    ensures { λ r. ⌜ Decides (News n s) r ⌝ }
+{
     let up = atoms::without(n.up, s.up);
     let dropped = atoms::without(n.dropped, s.dropped);
     let missing = atoms::union(up, dropped);
@@ -139,7 +150,8 @@ fn is_news(n: State, s: State) -> bool {
 // The first pair of the ring, from this one on, that has something new to tell of the state, or RING; nothing is new where nothing completes it.
 pub fn next_pair(memory: &[u64], from: usize, s: State) -> usize
     requires { ⌜ (MEMORY_WORDS ≤ length (now memory)) × (from ≤ RING) ⌝ }
-    ensures { λ r. ⌜ (from ≤ r) × (r ≤ RING) ⌝ }
+    ensures bounds { λ r. ⌜ (from ≤ r) × (r ≤ RING) ⌝ }
+    ensures news { λ r. ⌜ NextNews (now (memory .entry)) from s r ⌝ }
 {
     if !atoms::are_apart(s.up, s.dropped) {
         return RING;

@@ -1,5 +1,4 @@
-// Advice beside the store: the steps that changed the state, and how often each atom stood in what was learnt. Nothing is promised of it but that
-// the pairs stay as they are.
+// Advice beside the store: the steps that changed the state, and how often each atom stood in what was learnt. The pairs stay as they are.
 use crate::store::MEMORY_WORDS;
 use crate::store::SCORES;
 use crate::store::STEP_WORDS;
@@ -13,10 +12,11 @@ use atoms::tally::most;
 use states::State;
 ghost use Prim.Native.Nat.{_≤_, _<_};
 ghost use mathlib.Core.Path.{_≡_};
-ghost use lib.ListN.{length, getD};
+ghost use lib.ListN.{length, getD, set};
 ghost use Rattle.atoms.specs.Word.{SomeOf, _∖_};
+ghost use Rattle.atoms.specs.Bounded.{Decides};
 ghost use Rattle.learning.specs.Store.{MEMORY_WORDS, STEPS, UNFOUNDED, SamePairs};
-ghost use Rattle.learning.specs.Trail.{stepAt};
+ghost use Rattle.learning.specs.Trail.{stepAt, StepNoted, Scored, Leading};
 
 // A step by its number, and the state before it.
 pub struct Recorded {
@@ -25,7 +25,9 @@ pub struct Recorded {
 }
 
 // Whether the two states are the same.
-fn is_same(s: State, t: State) -> bool {
+fn is_same(s: State, t: State) -> bool
+    ensures { λ r. ⌜ Decides (s ≡ t) r ⌝ }
+{
     if s.up != t.up {
         return false;
     }
@@ -35,7 +37,8 @@ fn is_same(s: State, t: State) -> bool {
 // Notes a step that changed the state as step `at` of the trail, as far as there is room; where the next one is noted.
 pub fn note_step(memory: &mut [u64], at: usize, step: usize, before: State, after: State) -> usize
     requires { ⌜ MEMORY_WORDS ≤ length (now memory) ⌝ }
-    ensures { λ _. ⌜ SamePairs (now (memory .entry)) (now (memory .exit)) ⌝ }
+    ensures same { λ _. ⌜ SamePairs (now (memory .entry)) (now (memory .exit)) ⌝ }
+    ensures noted { λ r. ⌜ StepNoted at step before after (now (memory .entry)) (now (memory .exit)) r ⌝ }
 {
     if is_same(before, after) {
         return at;
@@ -76,7 +79,8 @@ pub fn decided_since(memory: &[u64], at: usize, which: u64) -> u64
 // Notes the atoms that a full position has beyond a smaller set, which the test of the position found.
 pub fn note_unfounded(memory: &mut [u64], which: u64)
     requires { ⌜ MEMORY_WORDS ≤ length (now memory) ⌝ }
-    ensures { λ _. ⌜ SamePairs (now (memory .entry)) (now (memory .exit)) ⌝ }
+    ensures same { λ _. ⌜ SamePairs (now (memory .entry)) (now (memory .exit)) ⌝ }
+    ensures is { λ _. ⌜ now (memory .exit) ≡ set (now (memory .entry)) UNFOUNDED which ⌝ }
 {
     note(memory, UNFOUNDED, which);
 }
@@ -92,7 +96,8 @@ pub fn noted_unfounded(memory: &[u64]) -> u64
 // Notes that these atoms stood in what was learnt.
 pub fn score_atoms(memory: &mut [u64], which: u64)
     requires { ⌜ MEMORY_WORDS ≤ length (now memory) ⌝ }
-    ensures { λ _. ⌜ SamePairs (now (memory .entry)) (now (memory .exit)) ⌝ }
+    ensures same { λ _. ⌜ SamePairs (now (memory .entry)) (now (memory .exit)) ⌝ }
+    ensures scored { λ _. ⌜ Scored which (now (memory .entry)) (now (memory .exit)) ⌝ }
 {
     count_atoms(&mut memory[SCORES..MEMORY_WORDS], which);
 }
@@ -100,7 +105,8 @@ pub fn score_atoms(memory: &mut [u64], which: u64)
 // Of these atoms those with the highest score; at first all.
 pub fn leaders(memory: &[u64], which: u64) -> u64
     requires { ⌜ (MEMORY_WORDS ≤ length (now memory)) × (which ≡ 0 → ⊥) ⌝ }
-    ensures { λ r. ⌜ SomeOf which r ⌝ }
+    ensures some { λ r. ⌜ SomeOf which r ⌝ }
+    ensures leading { λ r. ⌜ Leading (now (memory .entry)) which r ⌝ }
 {
     if learnt_pairs(memory) == 0 {
         return which;

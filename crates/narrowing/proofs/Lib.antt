@@ -1,6 +1,6 @@
 -- Support: each atom of an answer set that is no fact has a rule that supports it
 pub mod Supports
--- A table in which a word was noted for some atoms: what each turn of the loop adds
+-- Tables of words to which numbers are added: one after the other, by a loop over the numbers of a word, and one word at a place
 pub mod MarkedTables
 -- The table of the rules that may back an atom: one rule more is noted at each turn
 pub mod BackedAtoms
@@ -12,3 +12,9 @@ pub mod UnfoundedAtoms
 pub mod NumberedSteps
 -- Rules at a stop (document 02, S-7): what that means, where a rule stands, and that no answer set completes the state there
 pub mod StoppedRules
+-- Rules with a wide head: where a rule stands it stands alone, and what a loop over the rules finds
+pub mod WideRules
+-- Atoms that hold each other up: what one rule adds, what all rules add, and the largest such set
+pub mod LoopedAtoms
+-- The steps that a rule has woken: the four parts of the table
+pub mod WokenSteps

@@ -18,16 +18,17 @@ pub record RuleBacks (rules : List ℕ) (r : ℕ) (before after : List ℕ) : Ty
   pub same-length : length after ≡ length before
   pub noted : (a : ℕ) → Backs rules r a → Has (getD after a 0) r
   pub grown : (a : ℕ) → getD before a 0 ⊆ getD after a 0
-  pub no-more : (a q : ℕ) → Has (getD after a 0) q → Has (getD before a 0) q ⊎ (r ≡ q)
+  pub no-more : (a q : ℕ) → Has (getD after a 0) q → Has (getD before a 0) q ⊎ ((r ≡ q) × Backs rules r a)
 
 -- so is each numbered rule
 pub record RulesBack (rules : List ℕ) (which : ℕ) (before after : List ℕ) : Type 0 where
   pub same-length : length after ≡ length before
   pub noted : (r a : ℕ) → Has which r → Backs rules r a → Has (getD after a 0) r
-  pub no-more : (a q : ℕ) → Has (getD after a 0) q → Has (getD before a 0) q ⊎ Has which q
+  pub no-more : (a q : ℕ) → Has (getD after a 0) q → Has (getD before a 0) q ⊎ (Has which q × Backs rules q a)
 
--- for each atom numbered rules alone, and among them each that may back it
+-- for each atom the numbered rules that may back it
 pub record Backers (rules : List ℕ) (which : ℕ) (backers : List ℕ) : Type 0 where
   pub long : length backers ≡ ATOMS
   pub numbered : (a : ℕ) → getD backers a 0 ⊆ which
   pub every : (r a : ℕ) → Has which r → Backs rules r a → Has (getD backers a 0) r
+  pub no-more : (r a : ℕ) → Has (getD backers a 0) r → Backs rules r a

@@ -5,3 +5,5 @@ pub mod Backers
 pub mod Unfounded
 pub mod Woken
 pub mod Stops
+pub mod Wide
+pub mod Loops

@@ -12,9 +12,11 @@ ghost use mathlib.Core.Path.{_≡_};
 ghost use mathlib.Core.Bool.{true};
 ghost use mathlib.Core.Logic.{_↔_};
 ghost use lib.ListN.{length};
+ghost use Rattle.atoms.specs.Bounded.{Decides};
 ghost use Rattle.answer_sets.specs.Lent.{IsLent, Lent};
 ghost use Rattle.narrowing.specs.declared.choice.Standing.the-variants.{Stopped};
 ghost use Rattle.narrowing.specs.Stops.{Stands, Met, Chosen};
+ghost use Rattle.narrowing.specs.Wide.{IsWide, SomeWide};
 
 // Seven binary places count up to 127, for at most MAX_RULES rules.
 const PLACES: usize = 7;
@@ -72,17 +74,20 @@ const WIDE: usize = 3;
 // Whether the rule has a wide head and is live: then dropping one head atom tells little.
 fn is_wide(rules: &[u64], rule: usize, s: State) -> bool
     requires { ⌜ IsLent (now rules) rule ⌝ }
+    ensures { λ r. ⌜ Decides (IsWide (now (rules .entry)) rule s) r ⌝ }
 {
     let standing = standing_of(rules, rule, s);
-    let Standing::Live = standing else {
-        return false;
-    };
-    WIDE <= atoms::count(atoms::without(head(rules, rule), s.dropped))
+    match standing {
+        Standing::Spent => false,
+        Standing::Stopped => false,
+        Standing::Live => WIDE <= atoms::count(atoms::without(head(rules, rule), s.dropped)),
+    }
 }
 
 // Whether one of the rules is wide.
 pub fn some_wide(rules: &[u64], which: u64, s: State) -> bool
     requires { ⌜ Lent (now rules) which ⌝ }
+    ensures { λ r. ⌜ Decides (SomeWide (now (rules .entry)) which s) r ⌝ }
 {
     let mut rest = which;
     while rest != 0 {

@@ -1,14 +1,14 @@
-// Which atoms may hold each other up: advice for whoever asks when the founded step is worth its while.
+// Which atoms may hold each other up, told from the rules' words: for whoever asks when the founded step is worth its while.
 use answer_sets::rule::head;
 use answer_sets::rule::positive_body;
 use atoms::ATOMS;
-ghost use Rattle.atoms.specs.Word.{_⊆_};
 ghost use Rattle.answer_sets.specs.Lent.{IsLent, Lent};
+ghost use Rattle.narrowing.specs.Loops.{HeldMore, HeldAmong, Looped};
 
 // Of the atoms those in the head of a rule with a positive atom among them, added to the others found so far.
 fn held_on(rules: &[u64], rule: usize, within: u64, held: u64) -> u64
-    requires { ⌜ IsLent (now rules) rule × (held ⊆ within) ⌝ }
-    ensures { λ r. ⌜ r ⊆ within ⌝ }
+    requires { ⌜ IsLent (now rules) rule ⌝ }
+    ensures { λ r. ⌜ HeldMore (now (rules .entry)) rule within held r ⌝ }
 {
     if atoms::are_apart(positive_body(rules, rule), within) {
         return held;
@@ -19,7 +19,7 @@ fn held_on(rules: &[u64], rule: usize, within: u64, held: u64) -> u64
 // So for all rules of the word.
 fn held_on_all(rules: &[u64], which: u64, within: u64) -> u64
     requires { ⌜ Lent (now rules) which ⌝ }
-    ensures { λ r. ⌜ r ⊆ within ⌝ }
+    ensures { λ r. ⌜ HeldAmong (now (rules .entry)) which within r ⌝ }
 {
     let mut rest = which;
     let mut held = 0;
@@ -31,10 +31,10 @@ fn held_on_all(rules: &[u64], which: u64, within: u64) -> u64
     held
 }
 
-// The atoms that depend on a positive loop of the rules, or on nothing else: with none the founded step has nothing to say beyond the support
-// steps. Nothing is promised of them.
+// The atoms that depend on a positive loop of the rules: with none the founded step has nothing to say beyond the support steps.
 pub fn looped_atoms(rules: &[u64], which: u64) -> u64
     requires { ⌜ Lent (now rules) which ⌝ }
+    ensures { λ r. ⌜ Looped (now (rules .entry)) which r ⌝ }
 {
     let mut within = atoms::first(ATOMS);
     let mut held = held_on_all(rules, which, within);

@@ -1,17 +1,18 @@
-// Which steps may have something new to say once an atom is decided, told once from the rules' words. All of it is advice: a step that is not
-// named is left out, which costs pruning and no member.
+// Which steps may have something new to say once an atom is decided, told once from the rules' words. Which ones are named is free: a step that is
+// left out costs pruning and no member.
 use crate::marks::mark;
 use answer_sets::rule::head;
 use answer_sets::rule::looks;
 use answer_sets::rule::negative_body;
 use answer_sets::rule::positive_body;
 use atoms::ATOMS;
-ghost use mathlib.Core.Path.{_≡_};
+ghost use mathlib.Core.Logic.{_⊎_};
 ghost use Prim.Native.Nat.{_+_, _≤_, _<_};
 ghost use lib.ListN.{length};
 ghost use Rattle.atoms.specs.Word.{ATOMS};
 ghost use Rattle.answer_sets.specs.Lent.{IsLent, Lent};
-ghost use Rattle.narrowing.specs.Woken.{WOKEN_WORDS};
+ghost use Rattle.narrowing.specs.Marks.{Adds, NotedAt};
+ghost use Rattle.narrowing.specs.Woken.{WOKEN_WORDS, Wakes, SomeWakes};
 
 // The table's parts, a word for each atom in each: the rules to look at once the atom is up, and once it is dropped; the atoms whose support to
 // look at once it is up, and once it is dropped.
@@ -28,7 +29,7 @@ pub const WOKEN_WORDS: usize = 4 * ATOMS;
 // Notes for these atoms a rule in one part of the table and its head in another.
 fn note(table: &mut [u64], rules_at: usize, supports_at: usize, which: u64, rule: u64, head: u64)
     requires { ⌜ («rules_at» + ATOMS ≤ length (now table)) × («supports_at» + ATOMS ≤ length (now table)) ⌝ }
-    ensures { λ _. ⌜ length (now (table .exit)) ≡ length (now (table .entry)) ⌝ }
+    ensures { λ _. ⌜ Adds (λ i q. NotedAt «rules_at» which rule i q ⊎ NotedAt «supports_at» which head i q) (now (table .entry)) (now (table .exit)) ⌝ }
 {
     mark(table, rules_at, which, rule);
     mark(table, supports_at, which, head);
@@ -38,7 +39,7 @@ fn note(table: &mut [u64], rules_at: usize, supports_at: usize, which: u64, rule
 // concern its head atoms' support. What else the body looks at may do either.
 fn note_rule(rules: &[u64], rule: usize, table: &mut [u64])
     requires { ⌜ IsLent (now rules) rule × (rule < ATOMS) × (WOKEN_WORDS ≤ length (now table)) ⌝ }
-    ensures { λ _. ⌜ length (now (table .exit)) ≡ length (now (table .entry)) ⌝ }
+    ensures { λ _. ⌜ Adds (Wakes (now (rules .entry)) rule) (now (table .entry)) (now (table .exit)) ⌝ }
 {
     let head = head(rules, rule);
     let negative = negative_body(rules, rule);
@@ -50,10 +51,10 @@ fn note_rule(rules: &[u64], rule: usize, table: &mut [u64])
     note(table, RULES_DOWN, SUPPORTS_UP, down, this, head);
 }
 
-// Notes all rules of the word.
+// Notes for each atom the steps that rules of the word have woken.
 pub fn note_rules(rules: &[u64], which: u64, table: &mut [u64])
     requires { ⌜ Lent (now rules) which × (WOKEN_WORDS ≤ length (now table)) ⌝ }
-    ensures { λ _. ⌜ length (now (table .exit)) ≡ length (now (table .entry)) ⌝ }
+    ensures { λ _. ⌜ Adds (SomeWakes (now (rules .entry)) which) (now (table .entry)) (now (table .exit)) ⌝ }
 {
     let mut rest = which;
     while rest != 0 {

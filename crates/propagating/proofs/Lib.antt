@@ -4,3 +4,5 @@ pub mod Agendas
 pub mod Desks
 -- Propagation: what belongs to the list survives each step, and the filter keeps its entry
 pub mod Propagation
+-- The index of woken steps: its lists, the founded step, and all of it from zeros on
+pub mod WakeIndices

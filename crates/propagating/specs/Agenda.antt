@@ -1,11 +1,19 @@
--- Inner: the agenda's weight, by which propagation falls.
+-- Inner: the agenda's weight, by which propagation falls, and the index of the steps that a decided atom wakes. Which steps are on the agenda is free: one
+-- that is left out costs pruning and no member.
 use mathlib.Core.Path.{_≡_}
+use mathlib.Core.List.{List}
 use Prim.Native.Nat.{ℕ, _+_, _≤_, _<_}
 use lib.Count.{ones}
-use Rattle.atoms.specs.Word.{ATOMS}
+use lib.ListN.{length, getD}
+use Rattle.atoms.specs.Word.{ATOMS, Apart, _∪_, atom}
+use Rattle.atoms.specs.Collected.{Collects}
+use Rattle.plan.specs.Limits.{MAX_UNITS}
+use Rattle.answer_sets.specs.Lent.{lent, looks}
 use Rattle.states.specs.State.{undecided}
 use Rattle.states.specs.declared.state.State.{State}
-use Rattle.narrowing.specs.Woken.{WOKEN_WORDS}
+use Rattle.narrowing.specs.Marks.{NotedAt, ByOne}
+use Rattle.narrowing.specs.Woken.{WOKEN_WORDS, SomeWakes}
+use Rattle.propagating.specs.declared.unit.Unit.{Unit}
 use Rattle.propagating.specs.declared.agenda.Agenda.{Agenda}
 use Rattle.propagating.specs.declared.agenda.Taken.{Taken}
 
@@ -30,3 +38,31 @@ pub record Woken (before after : State) (a r : Agenda) : Type 0 where
 -- the index has a word for each atom in each of its parts
 abbrev pub INDEX_WORDS : ℕ
 INDEX_WORDS = WOKEN_WORDS + ATOMS
+
+-- the founded step's place in the agenda's third word, behind the lists
+abbrev pub FOUNDED_PLACE : ℕ
+FOUNDED_PLACE = MAX_UNITS
+
+-- the atoms of rule r
+abbrev pub atomsOf : List ℕ → ℕ → ℕ
+atomsOf rules r = lent rules .head r ∪ (lent rules .positive r ∪ looks rules r)
+
+-- list v is woken by its head atoms
+abbrev pub WakesList : List ℕ → ℕ → ℕ → ℕ → Type 0
+WakesList heads v i q = NotedAt WOKEN_WORDS (getD heads v 0) (atom v) i q
+
+-- the founded step is woken by the atoms of a rule with a looped head atom
+pub record WakesFounded (rules : List ℕ) (looped r i q : ℕ) : Type 0 where
+  pub is-looped : ¬ Apart (lent rules .head r) looped
+  pub noted : NotedAt WOKEN_WORDS (atomsOf rules r) (atom FOUNDED_PLACE) i q
+
+-- step q stands at place i of the index of a unit
+pub data Indexed (rules heads : List ℕ) (unit : Unit) (looped i q : ℕ) : Type 0 where
+  by-rule : SomeWakes rules (unit .rules) i q → Indexed rules heads unit looped i q
+  by-list : ByOne (WakesList heads) (unit .nearest) i q → Indexed rules heads unit looped i q
+  by-loop : ByOne (WakesFounded rules looped) (unit .rules) i q → Indexed rules heads unit looped i q
+
+-- the whole index
+pub record WakeIndex (rules heads : List ℕ) (unit : Unit) (looped : ℕ) (index : List ℕ) : Type 0 where
+  pub long : length index ≡ INDEX_WORDS
+  pub words : (i : ℕ) → Collects (Indexed rules heads unit looped i) (getD index i 0)

@@ -16,13 +16,16 @@ use narrowing::woken::note_rules;
 use states::State;
 use states::undecided;
 ghost use mathlib.Core.Path.{_≡_};
+ghost use mathlib.Core.Bool.{not};
 ghost use Prim.Native.Nat.{_^_, _≤_, _<_};
+ghost use lib.Dec.{eqb};
 ghost use lib.ListN.{length};
-ghost use Rattle.atoms.specs.Word.{ATOMS, outside};
-ghost use Rattle.atoms.specs.Bounded.{Decides};
+ghost use Rattle.atoms.specs.Word.{ATOMS, outside, Apart, _∪_};
+ghost use Rattle.atoms.specs.Bounded.{Decides, singleIf};
 ghost use Rattle.plan.specs.Limits.{MAX_UNITS};
-ghost use Rattle.answer_sets.specs.Lent.{IsLent, Lent};
-ghost use Rattle.propagating.specs.Agenda.{Idle, TakenFrom, Woken, INDEX_WORDS};
+ghost use Rattle.answer_sets.specs.Lent.{lent, IsLent, Lent};
+ghost use Rattle.narrowing.specs.Marks.{Adds, ByOne};
+ghost use Rattle.propagating.specs.Agenda.{Idle, TakenFrom, Woken, INDEX_WORDS, FOUNDED_PLACE, atomsOf, WakesList, WakesFounded, WakeIndex};
 
 // The founded step's place in the agenda's third word, behind the lists.
 const FOUNDED_PLACE: usize = FOUNDED_STEP - LISTS;
@@ -146,7 +149,7 @@ pub fn woken(index: &[u64], a: Agenda, before: State, after: State) -> Agenda
 // Notes for each atom the lists that look at it.
 fn note_lists(heads: &[u64], near: u64, index: &mut [u64])
     requires { ⌜ (MAX_UNITS ≤ length (now heads)) × (near < 2 ^ MAX_UNITS) × (INDEX_WORDS ≤ length (now index)) ⌝ }
-    ensures { λ _. ⌜ length (now (index .exit)) ≡ length (now (index .entry)) ⌝ }
+    ensures { λ _. ⌜ Adds (ByOne (WakesList (now (heads .entry))) near) (now (index .entry)) (now (index .exit)) ⌝ }
 {
     let mut rest = near;
     while rest != 0 {
@@ -159,6 +162,8 @@ fn note_lists(heads: &[u64], near: u64, index: &mut [u64])
 // The atoms of a rule that has a looped head atom, and else none.
 fn looped_rule(rules: &[u64], rule: usize, looped: u64) -> u64
     requires { ⌜ IsLent (now rules) rule ⌝ }
+    ensures looped { λ r. ⌜ ((Apart (lent (now (rules .entry)) .head rule) looped → ⊥) → r ≡ atomsOf (now (rules .entry)) rule) ⌝ }
+    ensures none { λ r. ⌜ (Apart (lent (now (rules .entry)) .head rule) looped → r ≡ 0) ⌝ }
 {
     let head = head(rules, rule);
     if atoms::are_apart(head, looped) {
@@ -173,7 +178,7 @@ fn looped_rule(rules: &[u64], rule: usize, looped: u64) -> u64
 // Notes the founded step for the atoms of the rules that have a looped head atom.
 fn note_founded(rules: &[u64], which: u64, looped: u64, index: &mut [u64])
     requires { ⌜ Lent (now rules) which × (INDEX_WORDS ≤ length (now index)) ⌝ }
-    ensures { λ _. ⌜ length (now (index .exit)) ≡ length (now (index .entry)) ⌝ }
+    ensures { λ _. ⌜ Adds (ByOne (WakesFounded (now (rules .entry)) looped) which) (now (index .entry)) (now (index .exit)) ⌝ }
 {
     let founded = atoms::single(FOUNDED_PLACE);
     let mut rest = which;
@@ -187,7 +192,7 @@ fn note_founded(rules: &[u64], which: u64, looped: u64, index: &mut [u64])
 // The index of the steps that a decided atom wakes, in a unit whose looped atoms are these.
 pub fn wake_index(rules: &[u64], heads: &[u64], unit: Unit, looped: u64) -> [u64; INDEX_WORDS]
     requires { ⌜ Lent (now rules) (unit .rules) × (MAX_UNITS ≤ length (now heads)) × (unit .nearest < 2 ^ MAX_UNITS) ⌝ }
-    ensures { λ r. ⌜ length r ≡ INDEX_WORDS ⌝ }
+    ensures { λ r. ⌜ WakeIndex (now (rules .entry)) (now (heads .entry)) unit looped r ⌝ }
 {
     let mut index = [0u64; INDEX_WORDS];
     note_rules(rules, unit.rules, &mut index);
@@ -198,7 +203,8 @@ pub fn wake_index(rules: &[u64], heads: &[u64], unit: Unit, looped: u64) -> [u64
 
 // The agenda of all steps; without looped atoms the founded step has nothing to say beyond the supports.
 pub fn every_step(unit: Unit, looped: u64) -> Agenda
-    ensures { λ r. ⌜ (r .rules ≡ unit .rules) × (r .supports ≡ outside (unit .inputs)) ⌝ }
+    ensures rules { λ r. ⌜ (r .rules ≡ unit .rules) × (r .supports ≡ outside (unit .inputs)) ⌝ }
+    ensures others { λ r. ⌜ r .others ≡ unit .nearest ∪ singleIf (not (eqb looped 0)) FOUNDED_PLACE ⌝ }
 {
     Agenda {
         rules: unit.rules,

@@ -8,12 +8,12 @@ use atoms::words::store;
 use narrowing::backers::backers;
 use plan::MAX_UNITS;
 ghost use mathlib.Core.Path.{_≡_};
-ghost use Prim.Native.Nat.{_^_, _≤_, _<_};
-ghost use lib.ListN.{length};
-ghost use Rattle.atoms.specs.Word.{ATOMS, _⊆_};
+ghost use Prim.Native.Nat.{_+_, _^_, _≤_, _<_};
+ghost use lib.ListN.{length, getD};
+ghost use Rattle.atoms.specs.Word.{ATOMS, _⊆_, _∩_};
 ghost use Rattle.plan.specs.Limits.{MAX_UNITS};
 ghost use Rattle.answer_sets.specs.Lent.{Lent};
-ghost use Rattle.propagating.specs.Desk.{DESK_WORDS, LaidOut};
+ghost use Rattle.propagating.specs.Desk.{BACKERS_AT, DESK_WORDS, LaidOut};
 
 pub const BACKERS: usize = MAX_UNITS;
 
@@ -38,7 +38,8 @@ pub fn lay_out(rules: &[u64], heads: &[u64], unit: Unit, looped: u64) -> [u64; D
 // The rules that may back an atom, as the desk has them.
 pub fn backing(desk: &[u64], which: u64, atom: usize) -> u64
     requires { ⌜ (length (now desk) ≡ DESK_WORDS) × (atom < ATOMS) ⌝ }
-    ensures { λ r. ⌜ r ⊆ which ⌝ }
+    ensures within { λ r. ⌜ r ⊆ which ⌝ }
+    ensures is { λ r. ⌜ r ≡ which ∩ getD (now (desk .entry)) (BACKERS_AT + atom) 0 ⌝ }
 {
     atoms::cut(which, desk[BACKERS + atom])
 }

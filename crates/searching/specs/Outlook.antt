@@ -2,12 +2,16 @@
 use mathlib.Core.Path.{_≡_}
 use mathlib.Core.Logic.{_⊎_}
 use mathlib.Core.List.{List}
-use Prim.Native.Nat.{ℕ, _<_}
-use Rattle.atoms.specs.Word.{ATOMS, Has, Apart}
+use Prim.Native.Nat.{ℕ, _+_, _<_}
+use lib.ListN.{getD}
+use Rattle.atoms.specs.Word.{ATOMS, Has, Apart, _∩_}
 use Rattle.states.specs.State.{undecided}
 use Rattle.states.specs.Narrowing.{Overlaps}
 use Rattle.states.specs.declared.state.State.{State}
 use Rattle.narrowing.specs.Stops.{AtStop, NoStop}
+use Rattle.narrowing.specs.Wide.{SomeWide}
+use Rattle.learning.specs.Store.{learntPairs}
+use Rattle.propagating.specs.Desk.{BACKERS_AT}
 use Rattle.searching.specs.declared.outlook.Outlook.{Outlook}
 use Rattle.searching.specs.declared.outlook.Outlook.the-variants.{Stop, Leaf, Open}
 
@@ -22,3 +26,12 @@ abbrev pub Leaves : List ℕ → ℕ → State → Outlook → Type 0
 Leaves rules which s Stop = Overlaps s ⊎ SomeStop rules which s
 Leaves rules which s Leaf = Apart (s .up) (s .dropped) × (undecided (s .up) (s .dropped) ≡ 0)
 Leaves rules which s (Open i) = Has (undecided (s .up) (s .dropped)) i × (i < ATOMS) × NoStop rules which s
+
+-- with so many pairs learnt it is refuting that takes the time
+abbrev pub MANY : ℕ
+MANY = 64
+
+-- atom i is tried up first: not so much was learnt yet, and a rule that may back it is wide. Which phase comes first is free
+pub record TriedUp (rules desk : List ℕ) (which : ℕ) (memory : List ℕ) (s : State) (i : ℕ) : Type 0 where
+  pub few : learntPairs memory < MANY
+  pub wide : SomeWide rules (which ∩ getD desk (BACKERS_AT + i) 0) s

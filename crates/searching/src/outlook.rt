@@ -14,11 +14,12 @@ ghost use mathlib.Core.Path.{_≡_};
 ghost use Prim.Native.Nat.{_≤_, _<_};
 ghost use lib.ListN.{length};
 ghost use Rattle.atoms.specs.Word.{ATOMS};
+ghost use Rattle.atoms.specs.Bounded.{Decides};
 ghost use Rattle.answer_sets.specs.Lent.{Lent};
 ghost use Rattle.narrowing.specs.Stops.{Chosen};
 ghost use Rattle.learning.specs.Store.{MEMORY_WORDS};
 ghost use Rattle.propagating.specs.Desk.{DESK_WORDS};
-ghost use Rattle.searching.specs.Outlook.{Leaves};
+ghost use Rattle.searching.specs.Outlook.{Leaves, TriedUp};
 
 // What a state leaves to search: nothing, since no member completes it; one full position; or two branches on this atom.
 pub enum Outlook {
@@ -54,6 +55,7 @@ const MANY: usize = RING / 2;
 // once much was learnt, since that refutes sooner.
 pub fn phase_of(rules: &[u64], desk: &[u64], which: u64, memory: &[u64], s: State, i: usize) -> bool
     requires { ⌜ Lent (now rules) which × (length (now desk) ≡ DESK_WORDS) × (MEMORY_WORDS ≤ length (now memory)) × (i < ATOMS) ⌝ }
+    ensures { λ r. ⌜ Decides (TriedUp (now (rules .entry)) (now (desk .entry)) which (now (memory .entry)) s i) r ⌝ }
 {
     if MANY <= learnt_pairs(memory) {
         return false;

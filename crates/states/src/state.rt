@@ -2,7 +2,7 @@
 use atoms::EVERY_ATOM;
 ghost use mathlib.Core.Path.{_≡_};
 ghost use Prim.Native.Nat.{_<_};
-ghost use Rattle.atoms.specs.Word.{ATOMS};
+ghost use Rattle.atoms.specs.Word.{ATOMS, EVERY_ATOM};
 ghost use Rattle.atoms.specs.Bounded.{Decides};
 ghost use Rattle.states.specs.State.{undecided as undecidedOf};
 ghost use Rattle.states.specs.Narrowing.{Overlaps, Within, clashed, branchOf};
@@ -34,6 +34,7 @@ pub fn clash(s: State) -> State
 pub fn everything() -> State
     ensures overlaps { λ r. ⌜ Overlaps r ⌝ }
     ensures decided { λ r. ⌜ undecidedOf (r .up) (r .dropped) ≡ 0 ⌝ }
+    ensures is { λ r. ⌜ r ≡ record { up = EVERY_ATOM; dropped = EVERY_ATOM } ⌝ }
 {
     State {
         up: EVERY_ATOM,

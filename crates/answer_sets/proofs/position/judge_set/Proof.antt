@@ -1,7 +1,7 @@
 -- The facts, the kept rules, and no smaller model of them: the three parts of the definition.
 use denote.Ref.{now}
 use Rattle.answer_sets.specs.Lent.{Lent}
-use Rattle.answer_sets.proofs.Cases.{no-facts, no-model, model-judged}
+use Rattle.answer_sets.proofs.Cases.{no-facts, no-model, model-judged, refuted-facts, refuted-model, refuted-smaller}
 use Rattle.answer_sets.proofs.Lent.{lent-kept}
 use borrow.Author.Needs.{needs}
 use Rattle.answer_sets.proofs.position.judge_set.Statement.{statement}
@@ -14,22 +14,29 @@ kept-lent : (c : tie.After-kept-rules) → Lent (now (start c .args .rules)) (c 
 kept-lent c = lent-kept (start c .args .position) (c .kept-rules .ensures) (start c .pre)
 
 returns : tie.Need-returns
-returns c = no-facts _ _ _ _ (c .before .is-subset .ensures) (c .if1 .taken)
+returns c = (
+  no-facts _ _ _ _ (c .before .is-subset .ensures) (c .if1 .taken),
+  refuted-facts _ _ _ _ (c .before .is-subset .ensures) (c .if1 .taken),
+)
 
 returns-2 : tie.Need-returns-2
 returns-2 c =
     let k = c .before .before in
-    no-model _ _ _ _ (k .before .before .is-subset .ensures) (k .before .if1 .left) (k .kept-rules .ensures)
-    (c .before .all-satisfied .ensures) (c .if2 .taken)
+    let facts = k .before .before .is-subset .ensures in (
+      no-model _ _ _ _ facts (k .before .if1 .left) (k .kept-rules .ensures) (c .before .all-satisfied .ensures) (c .if2 .taken),
+      refuted-model _ _ _ _ facts (k .before .if1 .left) (k .kept-rules .ensures) (c .before .all-satisfied .ensures) (c .if2 .taken),
+    )
 
 returns-3 : tie.Need-returns-3
 returns-3 c =
     let smaller = c .before in
     let k = smaller .before .before .before in
     let at-if1 = k .before in
-    let at-is-subset = at-if1 .before in
-    model-judged _ _ _ _ (at-is-subset .is-subset .ensures) (at-if1 .if1 .left) (k .kept-rules .ensures)
-    (smaller .before .before .all-satisfied .ensures) (smaller .before .if2 .left) (smaller .some-smaller .ensures .computed)
+    let at-is-subset = at-if1 .before in (
+      model-judged _ _ _ _ (at-is-subset .is-subset .ensures) (at-if1 .if1 .left) (k .kept-rules .ensures)
+          (smaller .before .before .all-satisfied .ensures) (smaller .before .if2 .left) (smaller .some-smaller .ensures .0 .computed),
+      refuted-smaller (k .kept-rules .ensures) (smaller .some-smaller .ensures .1),
+    )
 
 pub judge-set-spec : {M : Type 1} → statement M
 judge-set-spec =

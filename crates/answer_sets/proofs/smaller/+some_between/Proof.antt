@@ -14,7 +14,7 @@ use Rattle.answer_sets.specs.Program.{Satisfies}
 use Rattle.answer_sets.specs.Lent.{lent, Lent}
 use Rattle.states.specs.State.{undecided}
 use Rattle.answer_sets.specs.SubsetTest.{Confines}
-use Rattle.answer_sets.proofs.Between.{lent-part, confines-more, between-passed, between-clash, between-whole, between-model, between-stuck}
+use Rattle.answer_sets.proofs.Between.{lent-part, confines-more, finds-passed, between-clash, between-whole, between-model, between-stuck}
 use Rattle.answer_sets.proofs.Between.{branch-yes, branch-no}
 use Rattle.states.proofs.Branches.{pass-falls, raise-falls, lower-falls}
 use Rattle.answer_sets.proofs.smaller.some_between.Reads as some-between
@@ -142,12 +142,12 @@ module _ (t : ℕ) where
   overlap c =
       let test = c .before .before in
       rw (c .none-smaller .ensures)
-      (between-passed (test .before .before .rule-pass .ensures) (between-clash (test .are-apart .ensures) (c .before .if1 .taken)))
+      (finds-passed (test .before .before .rule-pass .ensures) (between-clash (test .are-apart .ensures) (c .before .if1 .taken)))
 
   whole : some-between-lts.Need-returns-2 (calls t) (some-between-at t) some-between.Post
   whole c =
       let start = c .before .before .before .before .before .before in
-      rw (c .none-smaller2 .ensures) (between-passed (start .rule-pass .ensures) (between-whole (c .before .if2 .taken)))
+      rw (c .none-smaller2 .ensures) (finds-passed (start .rule-pass .ensures) (between-whole (c .before .if2 .taken)))
 
   again-requires : some-between-lts.Need-some-between-requires (calls t) (some-between-at t) some-between.Post
   again-requires c κs =
@@ -158,13 +158,13 @@ module _ (t : ℕ) where
       )
 
   again : some-between-lts.Need-returns-3 (calls t) (some-between-at t) some-between.Post
-  again c = between-passed (c .before .before .before .before .before .before .before .before .before .rule-pass .ensures) (c .some-between .ensures)
+  again c = finds-passed (c .before .before .before .before .before .before .before .before .before .rule-pass .ensures) (c .some-between .ensures)
 
   satisfied : some-between-lts.Need-returns-4 (calls t) (some-between-at t) some-between.Post
   satisfied c =
       let u = c .before .before .before in
       let unlike = u .before .before .before in
-      between-passed (passed u .rule-pass .ensures)
+      finds-passed (passed u .rule-pass .ensures)
       (between-model (unlike .before .struct-known .given .0 .fits) (confined (passed u)) (apart-up u) (unlike .if2 .left)
       (rw (c .enum-told .given .1) at (c .before .before .find-unsatisfied .ensures)))
 
@@ -176,7 +176,7 @@ module _ (t : ℕ) where
       let f = c .before .before .before .before in
       let u = f .before .before .before in
       rw (c .none-smaller3 .ensures)
-      (between-passed (passed u .rule-pass .ensures)
+      (finds-passed (passed u .rule-pass .ensures)
       (between-stuck (u .before .before .undecided .ensures) (c .before .before .candidates .ensures) (c .before .if4 .taken) (unsatisfied f)))
 
   tried-next-requires : some-between-lts.Need-tried-next-requires (calls t) (some-between-at t) some-between.Post
@@ -198,7 +198,7 @@ module _ (t : ℕ) where
       let up = c .before in
       let single = up .before .before in
       rw (c .if5 .taken)
-      (between-passed (passed (unchanged (single .before)) .rule-pass .ensures)
+      (finds-passed (passed (unchanged (single .before)) .rule-pass .ensures)
       (branch-yes (single .before .lowest .result) (up .before .union .ensures) (single .single .ensures) (up .some-between2 .ensures)
       (c .if5 .taken)))
 
@@ -218,7 +218,7 @@ module _ (t : ℕ) where
   both-tried c =
       let up = c .before .before .before in
       let single = up .before .before in
-      between-passed (passed (unchanged (single .before)) .rule-pass .ensures)
+      finds-passed (passed (unchanged (single .before)) .rule-pass .ensures)
       (branch-no (single .before .lowest .result) (up .before .union .ensures) (c .before .union2 .ensures) (single .single .ensures)
       (up .some-between2 .ensures) (c .before .before .if5 .left) (c .some-between3 .ensures))
 

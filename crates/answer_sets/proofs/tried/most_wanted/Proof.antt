@@ -28,7 +28,7 @@ loop-again : tie.Need-loop-again Inv-loop μ-loop
 loop-again c =
     let low = taken c in
     carrying-next (low .before .before .loop .inv) (low .lowest .ensures .0) (c .drop .ensures)
-    (λ h e. e ∙ sym (c .before .before .count-atoms .ensures))
+    (λ h e. e ∙ sym (c .before .before .count-atoms .ensures .same-length))
 
 pub most-wanted-spec : {M : Type 1} → statement M
 most-wanted-spec =
@@ -46,4 +46,4 @@ most-wanted-spec =
     loop-again
     (λ c. c .before .before .loop .inv .fact)
     (λ c κs. c .before .before .before .before .pre .1)
-    (λ c. c .most .ensures))
+    (λ c. c .most .ensures .0))

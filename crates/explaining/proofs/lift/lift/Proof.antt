@@ -23,7 +23,7 @@ long : (c : tie.At-loop Inv-loop μ-loop) → MEMORY_WORDS ≤ length (c .loop .
 long c =
     let once = c .before .before .before in
     let pre = once .before .before .before .before .before .before .before .before .before .before .pre in
-    omega (arith, c .loop .inv .0 .keeps .same-length, once .learn-once .ensures .same-length, pre .1)
+    omega (arith, c .loop .inv .0 .keeps .same-length, once .learn-once .ensures .0 .same-length, pre .1)
 
 lift-over-requires : tie.Need-lift-over-requires Inv-loop μ-loop
 lift-over-requires c κs =
@@ -36,10 +36,10 @@ loop-again c =
     let learnt = c .before .before in
     let over = learnt .before .before in
     let loop = over .before .before .before .before .loop .inv in
-    (lifted-learn (lifted-over (loop .0) (over .lift-over .ensures)) (learnt .learn-once2 .ensures), omega (arith, loop .1))
+    (lifted-learn (lifted-over (loop .0) (over .lift-over .ensures)) (learnt .learn-once2 .ensures .0), omega (arith, loop .1))
 
 returns : tie.Need-returns-2 Inv-loop μ-loop
-returns c = let loop = c .before .before in lifted-after (loop .before .before .before .learn-once .ensures) (loop .loop .inv .0)
+returns c = let loop = c .before .before in lifted-after (loop .before .before .before .learn-once .ensures .0) (loop .loop .inv .0)
 
 pub lift-spec : {M : Type 1} → statement M
 lift-spec =

@@ -21,7 +21,7 @@ backing-requires c κs =
     (start decoded .pre .1, (rw (c .before .atom .given .1) at (decoded .decode .ensures)) .0)
 
 excluding-requires : tie.Need-excluding-requires
-excluding-requires c κs = lent-within (c .backing .ensures) (start (c .before .before .before .before) .pre .0)
+excluding-requires c κs = lent-within (c .backing .ensures .0) (start (c .before .before .before .before) .pre .0)
 
 -- the list is one of those on the desk
 on-desk : (c : tie.After-known-told3) → c .before .list .given .0 .0 < MAX_UNITS

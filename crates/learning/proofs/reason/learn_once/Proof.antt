@@ -1,27 +1,52 @@
 -- Nothing is learnt, or the pair is; the scores stand behind the pairs.
-use Rattle.learning.proofs.Stores.{keeps-trans, keeps-same}
+use mathlib.Core.Path.{_≡_}
+use mathlib.Core.Bool.{false}
+use Rattle.learning.proofs.Stores.{keeps-refl, keeps-trans, keeps-same}
+use Rattle.learning.proofs.Reasons.{contradicts, names-many, worth-learning, once-before, once-not, once-now}
 use borrow.Author.Needs.{needs}
 use Rattle.learning.proofs.reason.learn_once.Statement.{statement}
 use Rattle.learning.proofs.reason.learn_once.Tie as tie
 
+-- none was learnt before
+unlearnt : (c : tie.After-score-atoms) → c .before .before .before .before .before .before .before .args .learnt ≡ false
+unlearnt c = c .before .before .before .before .before .if1 .left
+
 returns-2 : tie.Need-returns-2
-returns-2 c = keeps-same (c .before .before .before .before .score-atoms .ensures)
+returns-2 c =
+    let score = c .before .before .before .before in (
+      keeps-same (score .score-atoms .ensures .0),
+      once-not (unlearnt score) (contradicts (c .before .are-apart .ensures) (c .if2 .taken)) (score .score-atoms .ensures .0),
+    )
 
 returns-3 : tie.Need-returns-3
-returns-3 c = keeps-same (c .before .before .before .before .before .before .before .before .score-atoms .ensures)
+returns-3 c =
+    let all = c .before .before in
+    let score = all .before .before .before .before .before .before in (
+      keeps-same (score .score-atoms .ensures .0),
+      once-not (unlearnt score) (names-many _ _ (all .before .beyond .ensures) (all .union3 .ensures) (c .before .at-most-one .ensures) (c .if3 .taken))
+          (score .score-atoms .ensures .0),
+    )
 
 returns-4 : tie.Need-returns-4
 returns-4 c =
     let score = c .before .before in
     let learn = score .before .before .before .before in
-    let first = learn .before .before .before .before .before .before .before .before .before .before in
-    keeps-trans (keeps-same (first .score-atoms .ensures)) (keeps-trans (learn .learn .ensures .keeps) (keeps-same (score .score-atoms2 .ensures)))
+    let few = learn .before .before in
+    let all = few .before .before in
+    let free = all .before .before in
+    let first = free .before .before .before .before in (
+      keeps-trans (keeps-same (first .score-atoms .ensures .0)) (keeps-trans (learn .learn .ensures .0 .keeps) (keeps-same (score .score-atoms2 .ensures .0))),
+      once-now (unlearnt first)
+          (worth-learning _ _ (all .before .beyond .ensures) (all .union3 .ensures) (few .before .at-most-one .ensures) (free .before .are-apart .ensures)
+          (free .if2 .left) (few .if3 .left))
+          (learn .learn .ensures .0) (score .score-atoms2 .ensures .0),
+    )
 
 pub learn-once-spec : {M : Type 1} → statement M
 learn-once-spec =
     tie.close
     (tie.spec
-    (λ c. search needs)
+    (λ c. (keeps-refl, once-before (c .if1 .taken)))
     (λ c κs. search needs)
     (λ c κs. search needs)
     (λ c κs. search needs)

@@ -22,7 +22,7 @@ loop-again : tie.Need-loop-again Inv-loop μ-loop
 loop-again c =
     let call = c .before .before in
     let inv = call .before .before .before .loop .inv in
-    (omega (arith, inv .0), same-trans (inv .1) (call .note .ensures))
+    (omega (arith, inv .0), same-trans (inv .1) (call .note .ensures .0))
 
 pub clear-advice-spec : {M : Type 1} → statement M
 clear-advice-spec =

@@ -1,4 +1,5 @@
 -- Two writes, the second beside the first.
+use mathlib.Core.Path.{refl}
 use native.Mathlib.Omega.{arith}
 use Prim.Native.Nat.{_*_}
 use lib.ListN.{length-set}
@@ -12,7 +13,7 @@ slice-write-memory-2 : tie.Need-slice-write-memory-2
 slice-write-memory-2 c = omega (arith, c .pre, length-set (now (c .args .memory)) (2 * c .args .i) (c .args .n .up))
 
 returns : tie.Need-returns
-returns c = written _ _ _ (omega (arith, c .pre))
+returns c = (written _ _ _ (omega (arith, c .pre)), refl)
 
 pub write-pair-spec : {M : Type 1} → statement M
 write-pair-spec =

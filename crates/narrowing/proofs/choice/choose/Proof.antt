@@ -12,7 +12,7 @@ chosen c =
     let second = c .before in
     let first = second .before in
     let told = first .before .before .before in
-    let within = subset-trans (second .most2 .ensures .within) (first .most .ensures .within) in (
+    let within = subset-trans (second .most2 .ensures .0 .within) (first .most .ensures .0 .within) in (
       within .each (c .lowest .result) (c .lowest .ensures .0 .here),
       c .lowest .ensures .1,
       rw (told .enum-told .given .1) at (told .before .before .before .before .count-rules .ensures .0),
@@ -30,7 +30,7 @@ choose-spec =
     (λ c. search needs)
     (λ c. search needs)
     (λ c κs. search needs)
-    (λ c κs. c .most .ensures .some)
-    (λ c κs. c .most2 .ensures .some)
+    (λ c κs. c .most .ensures .0 .some)
+    (λ c κs. c .most2 .ensures .0 .some)
     stopped
     chosen)

@@ -1,22 +1,32 @@
--- What is left are rules of the word. The measure is how many are left.
+-- The rules that are done are not wide. The measure is how many are left.
 use lib.Count.{ones}
-use Rattle.atoms.specs.Word.{_⊆_}
-use Rattle.atoms.proofs.Sets.{subset-refl}
-use Rattle.atoms.proofs.Counts.{taken-less, taken-within}
-use Rattle.atoms.proofs.TakenNumbers.{taken-lent}
-use borrow.Author.Needs.{needs}
+use Rattle.atoms.proofs.Counts.{taken-less}
+use Rattle.atoms.proofs.TakenNumbers.{Taking, taking-start, taking-next, taken-lent}
+use Rattle.narrowing.specs.Wide.{IsWide}
+use Rattle.narrowing.proofs.WideRules.{wide-found, none-wide}
 use Rattle.narrowing.proofs.choice.some_wide.Statement.{statement}
 use Rattle.narrowing.proofs.choice.some_wide.Tie as tie
 
 abbrev Inv-loop : tie.InvT-loop
-Inv-loop rules which s rest₀ rest = rest ⊆ which
+Inv-loop rules which s rest₀ rest = Taking which rest (λ r. ¬ IsWide rules r s)
 
 abbrev μ-loop : tie.MeasureT-loop
 μ-loop rules which s rest₀ rest = ones rest
 
 is-wide-requires : tie.Need-is-wide-requires Inv-loop μ-loop
 is-wide-requires c κs =
-    let at = c .before .before in at .before .before .pre .each _ (taken-lent (at .loop .inv) (c .lowest .ensures .0))
+    let at = c .before .before in at .before .before .pre .each _ (taken-lent (at .loop .inv .within) (c .lowest .ensures .0))
+
+found : tie.Need-returns Inv-loop μ-loop
+found c =
+    let low = c .before .before in
+    wide-found _ (taken-lent (low .before .before .loop .inv .within) (low .lowest .ensures .0)) (c .before .is-wide .ensures) (c .if1 .taken)
+
+loop-again : tie.Need-loop-again Inv-loop μ-loop
+loop-again c =
+    let test = c .before .before in
+    let low = test .before in
+    taking-next (low .before .before .loop .inv) (low .lowest .ensures .0) (c .drop .ensures) (λ j n. n) (test .is-wide .ensures .no (c .before .if1 .left))
 
 pub some-wide-spec : {M : Type 1} → statement M
 some-wide-spec =
@@ -24,11 +34,11 @@ some-wide-spec =
     (tie.spec
     Inv-loop
     μ-loop
-    (λ c. subset-refl)
+    (λ c. taking-start)
     (λ c κs. c .loop-test .taken)
     is-wide-requires
-    (λ c. search needs)
+    found
     (λ c κs. c .before .before .lowest .ensures .1)
     (λ c. taken-less (c .before .before .before .lowest .ensures .0) (c .drop .ensures))
-    (λ c. taken-within (c .before .before .before .before .before .loop .inv) (c .before .before .before .lowest .ensures .0) (c .drop .ensures))
-    (λ c. search needs))
+    loop-again
+    (λ c. none-wide (c .before .loop .inv) (c .loop-test .left)))

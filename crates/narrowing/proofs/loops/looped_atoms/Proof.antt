@@ -1,20 +1,23 @@
--- The measure is how many atoms are left.
+-- The loop carries that every set that holds itself up is within. The measure is how many atoms are left.
 use native.Mathlib.Omega.{arith}
 use lib.Count.{ones}
-use Rattle.atoms.specs.Word.{_⊆_}
 use Rattle.atoms.proofs.Counts.{count-proper}
-use borrow.Author.Needs.{needs}
+use Rattle.narrowing.specs.Loops.{HeldAmong}
+use Rattle.narrowing.proofs.LoopedAtoms.{Above, above-all, above-next, held-within, looped-end}
 use Rattle.narrowing.proofs.loops.looped_atoms.Statement.{statement}
 use Rattle.narrowing.proofs.loops.looped_atoms.Tie as tie
 
 abbrev Inv-loop : tie.InvT-loop
-Inv-loop rules which within₀ held₀ within held = held ⊆ within
+Inv-loop rules which within₀ held₀ within held = HeldAmong rules which within held × Above rules which within
 
 abbrev μ-loop : tie.MeasureT-loop
 μ-loop rules which within₀ held₀ within held = ones within
 
 loop-less : tie.Need-loop-less Inv-loop μ-loop
-loop-less c = count-proper _ _ (c .before .before .loop .inv) (c .before .loop-test .taken)
+loop-less c = count-proper _ _ (held-within (c .before .before .loop .inv .0)) (c .before .loop-test .taken)
+
+loop-again : tie.Need-loop-again Inv-loop μ-loop
+loop-again c = let inv = c .before .before .loop .inv in (c .held-on-all2 .ensures, above-next (inv .0) (inv .1))
 
 pub looped-atoms-spec : {M : Type 1} → statement M
 looped-atoms-spec =
@@ -24,8 +27,8 @@ looped-atoms-spec =
     μ-loop
     (λ c κs. omega arith)
     (λ c κs. c .before .before .pre)
-    (λ c. c .held-on-all .ensures)
+    (λ c. (c .held-on-all .ensures, above-all (c .before .first .ensures)))
     (λ c κs. c .before .before .before .before .before .pre)
     loop-less
-    (λ c. c .held-on-all2 .ensures)
-    (λ c. search needs))
+    loop-again
+    (λ c. let inv = c .before .loop .inv in looped-end (inv .0) (inv .1) (c .loop-test .left)))

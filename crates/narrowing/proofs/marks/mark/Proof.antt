@@ -1,26 +1,22 @@
 -- The loop carries that the word was noted for the atoms that are done. The measure is how many are left.
-use mathlib.Core.Path.{sym, subst}
-use Prim.Native.Nat.{ℕ, _+_, _<_}
+use Prim.Native.Nat.{_+_, _<_}
 use native.Mathlib.Omega.{arith}
 use lib.Count.{ones}
-use lib.ListN.{length, set}
-use denote.Ref.{now}
+use lib.ListN.{length}
 use borrow.Author.Needs.{needs}
-use Rattle.atoms.specs.Word.{_∖_}
 use Rattle.atoms.proofs.Counts.{taken-less}
-use Rattle.narrowing.specs.Marks.{Marked}
-use Rattle.narrowing.proofs.MarkedTables.{marked-start, marked-next, marked-end}
+use Rattle.narrowing.proofs.MarkedTables.{Adding, adding-start, adding-next, IsAt, word-added, marked-end}
 use Rattle.narrowing.proofs.marks.mark.Statement.{statement}
 use Rattle.narrowing.proofs.marks.mark.Tie as tie
 
 abbrev Inv-loop : tie.InvT-loop
-Inv-loop table₀ base which word rest₀ table rest = Marked base (which ∖ rest) word table₀ table
+Inv-loop table₀ base which word rest₀ table rest = Adding (IsAt base word) which rest table₀ table
 
 abbrev μ-loop : tie.MeasureT-loop
 μ-loop table₀ base which word rest₀ table rest = ones rest
 
 loop-holds : tie.Need-loop-holds Inv-loop μ-loop
-loop-holds c = marked-start _ _ _ _
+loop-holds c = adding-start
 
 lowest-requires : tie.Need-lowest-requires Inv-loop μ-loop
 lowest-requires c κs = c .loop-test .taken
@@ -28,7 +24,7 @@ lowest-requires c κs = c .loop-test .taken
 -- the word's place is in the table
 inside : (c : tie.After-lowest Inv-loop μ-loop)
     → c .before .before .before .before .args .base + c .lowest .result < length (c .before .before .loop .table)
-inside c = omega (arith, c .lowest .ensures .1, c .before .before .loop .inv .same-length, c .before .before .before .before .pre)
+inside c = omega (arith, c .lowest .ensures .1, c .before .before .loop .inv .done .same-length, c .before .before .before .before .pre)
 
 add-union : tie.Need-add-union Inv-loop μ-loop
 add-union c = omega (arith, inside c)
@@ -57,20 +53,14 @@ loop-less c = taken-less (c .before .before .before .lowest .ensures .0) (c .dro
 loop-again : tie.Need-loop-again Inv-loop μ-loop
 loop-again c =
     let low = c .before .before .before in
-    let head = low .before .before in
-    let start = head .before .before in
-    let old = head .loop in
-    let at = start .args in
-    subst
-    (λ (rest : ℕ).
-    Marked (at .base) (at .which ∖ rest) (at .word) (now (at .table)) (set (old .table) (at .base + low .lowest .result) (c .before .union .result)))
-    (sym (c .drop .ensures)) (marked-next _ _ _ _ (low .lowest .result) _ _ _ (inside low) (c .before .union .ensures) (old .inv))
+    adding-next (low .before .before .loop .inv) (low .lowest .ensures .0) (c .drop .ensures)
+    (word-added _ _ _ _ (inside low) (c .before .union .ensures))
 
 same-length : tie.Need-same-length Inv-loop μ-loop
-same-length c = c .before .loop .inv .same-length
+same-length c = c .before .loop .inv .done .same-length
 
 returns : tie.Need-returns Inv-loop μ-loop
-returns c = marked-end _ _ _ _ _ _ (c .loop-test .left) (c .before .loop .inv)
+returns c = marked-end (c .before .loop .inv) (c .loop-test .left)
 
 pub mark-spec : {M : Type 1} → statement M
 mark-spec =

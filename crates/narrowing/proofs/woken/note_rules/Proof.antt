@@ -1,15 +1,15 @@
--- The table keeps its length. The measure is how many rules are left.
-use mathlib.Core.Path.{_≡_, refl, _∙_}
+-- The loop adds what each rule has woken. The measure is how many are left.
 use native.Mathlib.Omega.{arith}
 use lib.Count.{ones}
-use lib.ListN.{length}
 use Rattle.atoms.proofs.Counts.{taken-less}
-use Rattle.atoms.proofs.TakenNumbers.{Carrying, carrying-start, carrying-next, taken-lent}
+use Rattle.atoms.proofs.TakenNumbers.{taken-lent}
+use Rattle.narrowing.specs.Woken.{Wakes}
+use Rattle.narrowing.proofs.MarkedTables.{Adding, adding-start, adding-next, adding-end}
 use Rattle.narrowing.proofs.woken.note_rules.Statement.{statement}
 use Rattle.narrowing.proofs.woken.note_rules.Tie as tie
 
 abbrev Inv-loop : tie.InvT-loop
-Inv-loop rules which table₀ rest₀ table rest = Carrying which rest (length table ≡ length table₀)
+Inv-loop rules which table₀ rest₀ table rest = Adding (Wakes rules) which rest table₀ table
 
 abbrev μ-loop : tie.MeasureT-loop
 μ-loop rules which table₀ rest₀ table rest = ones rest
@@ -21,14 +21,13 @@ note-rule-requires c κs =
     let start = at .before .before .before in (
       start .pre .0 .each _ (taken-lent (at .loop .inv .within) (low .lowest .ensures .0)),
       low .lowest .ensures .1,
-      omega (arith, start .pre .1, at .loop .inv .fact),
+      omega (arith, start .pre .1, at .loop .inv .done .same-length),
     )
 
 loop-again : tie.Need-loop-again Inv-loop μ-loop
 loop-again c =
     let low = c .before .before .before .before .before in
-    carrying-next (low .before .before .loop .inv) (low .lowest .ensures .0) (c .drop .ensures)
-    (λ h e. c .before .before .before .note-rule .ensures ∙ e)
+    adding-next (low .before .before .loop .inv) (low .lowest .ensures .0) (c .drop .ensures) (c .before .before .before .note-rule .ensures)
 
 pub note-rules-spec : {M : Type 1} → statement M
 note-rules-spec =
@@ -36,11 +35,11 @@ note-rules-spec =
     (tie.spec
     Inv-loop
     μ-loop
-    (λ c. carrying-start refl)
+    (λ c. adding-start)
     (λ c κs. c .loop-test .taken)
     note-rule-requires
     (λ c κs. c .before .before .before .before .lowest .ensures .1)
     (λ c. taken-less (c .before .before .before .before .before .lowest .ensures .0) (c .drop .ensures))
     loop-again
-    (λ c. c .before .loop .inv .fact)
-    (λ c. c .before .loop .inv .fact))
+    (λ c. c .before .loop .inv .done .same-length)
+    (λ c. adding-end (c .before .loop .inv) (c .loop-test .left)))

@@ -18,4 +18,4 @@ backing-spec =
     (λ c. search needs)
     (λ c. search needs)
     (λ c κs. search needs)
-    (λ c. cut-within _ _ (c .cut .ensures)))
+    (λ c. (cut-within _ _ (c .cut .ensures), c .cut .ensures)))

@@ -12,8 +12,8 @@ returns c =
     let index = first .before .before .before in
     let backed = index .before in
     let start = backed .before .before .before in
-    laid-out _ _ _ (index .wake-index .result) (search needs) (start .pre .1) (backed .backers .ensures) (index .wake-index .ensures) (first .store .ensures)
-    (second .store2 .ensures)
+    laid-out _ _ _ (index .wake-index .result) (search needs) (start .pre .1) (backed .backers .ensures) (index .wake-index .ensures .long)
+    (first .store .ensures) (second .store2 .ensures)
     (third .store3 .ensures) (search needs)
 
 pub lay-out-spec : {M : Type 1} → statement M

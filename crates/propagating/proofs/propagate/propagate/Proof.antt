@@ -51,7 +51,7 @@ loop-less : tie.Need-loop-less Inv-loop μ-loop
 loop-less c =
     let next = c .before .before .before .before in
     let test = next .before .before .before .before .before .before .before .before .before in
-    omega (arith, next .next-pair .ensures .0, next .next-pair .ensures .1, test .loop-test .taken)
+    omega (arith, next .next-pair .ensures .0 .0, next .next-pair .ensures .0 .1, test .loop-test .taken)
 
 loop-again : tie.Need-loop-again Inv-loop μ-loop
 loop-again c =
@@ -85,7 +85,7 @@ propagate-spec =
     run-agenda-requires
     next-pair-requires
     take-pair-requires
-    (λ c. omega (arith, c .before .before .before .before .next-pair .ensures .1))
+    (λ c. omega (arith, c .before .before .before .before .next-pair .ensures .0 .1))
     loop-less
     loop-again
     (λ c. c .before .loop .inv .3)

@@ -70,7 +70,7 @@ loop-again c =
     let old = step .before .before .before .before .before .loop .inv in (
       narrows-trans (old .0) (step .take-step .ensures .0),
       step .take-step .ensures .1,
-      same-trans (old .2) (c .before .before .before .before .note-step .ensures),
+      same-trans (old .2) (c .before .before .before .before .note-step .ensures .0),
     )
 
 same-filter : tie.Need-same-length-2 Inv-loop μ-loop

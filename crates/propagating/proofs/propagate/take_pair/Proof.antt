@@ -14,7 +14,7 @@ returns-2 c =
     let copied = refuted .before .before .before in
     let read = copied .before .before in (
       pair-narrows _ (omega arith) (read .read-pair .ensures) (refuted .refute .ensures .0),
-      copied-keeps _ (omega arith) (read .read-pair .ensures) (copied .copy-pair .ensures) (noted .note-step .ensures),
+      copied-keeps _ (omega arith) (read .read-pair .ensures) (copied .copy-pair .ensures .0) (noted .note-step .ensures .0),
     )
 
 pub take-pair-spec : {M : Type 1} → statement M

@@ -23,7 +23,7 @@ returns-2 c =
     let at = start .args in
     joined-answers (now (at .rules)) (now (at .table)) (now (at .counts)) (now (at .heads)) (at .unit) (at .position) (c .judge-set .result .answers)
     (start .fits .position .fits) (sym (at-joins .joins .ensures) ∙ not-false (at-joins .joins .result) (c .before .before .if1 .left))
-    (c .judge-set .ensures ∙ ap (λ (w : ℕ). answerSet (lent (now (at .rules))) (at .unit .rules) w (at .position)) (c .before .cut .ensures))
+    (c .judge-set .ensures .0 ∙ ap (λ (w : ℕ). answerSet (lent (now (at .rules))) (at .unit .rules) w (at .position)) (c .before .cut .ensures))
 
 pub belongs-spec : {M : Type 1} → statement M
 belongs-spec =

@@ -8,7 +8,7 @@ use Rattle.searching.proofs.outlook.pick.Tie as tie
 returns : tie.Need-returns
 returns c =
     let led = c .before .before in
-    chosen-within _ _ _ (c .choose .result) (subset-trans (led .leaders .ensures .within) (led .before .prefer .ensures .within)) (c .choose .ensures)
+    chosen-within _ _ _ (c .choose .result) (subset-trans (led .leaders .ensures .0 .within) (led .before .prefer .ensures .0 .within)) (c .choose .ensures)
 
 pub pick-spec : {M : Type 1} → statement M
 pick-spec =

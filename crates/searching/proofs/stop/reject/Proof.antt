@@ -10,7 +10,7 @@ stop-requires c κs =
     let noted = c .before .before .before .before .before .before in
     let given = noted .before .before .before .before .before in
     let pre = given .before .before .before .before .before .before .before .before .before .before .before .pre in
-    (pre .0, remembers-same (remembers-same (pre .1) (given .note-unfounded .ensures)) (noted .note-step .ensures))
+    (pre .0, remembers-same (remembers-same (pre .1) (given .note-unfounded .ensures .0)) (noted .note-step .ensures .0))
 
 pub reject-spec : {M : Type 1} → statement M
 reject-spec =

@@ -5,7 +5,7 @@ use Rattle.states.proofs.state.everything.Statement.{statement}
 use Rattle.states.proofs.state.everything.Tie as tie
 
 returns : tie.Need-returns
-returns c = (record { overlap = λ a. a .none 0 (record { bit = refl }) (record { bit = refl }) }, all-decided)
+returns c = (record { overlap = λ a. a .none 0 (record { bit = refl }) (record { bit = refl }) }, (all-decided, refl))
 
 pub everything-spec : {M : Type 1} → statement M
 everything-spec =

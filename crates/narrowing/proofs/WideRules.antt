@@ -1,0 +1,56 @@
+-- Rules with a wide head: where a rule stands it stands alone, and what a loop over the rules finds.
+use mathlib.Core.Path.{_≡_, ap, sym, subst, _∙_}
+use mathlib.Core.Bool.{Bool, true, false, false≢true}
+use mathlib.Core.List.{List}
+use Prim.Native.Nat.{ℕ}
+use lib.Count.{ones}
+use lib.Dec.{leb}
+use borrow.Author.Tests.{leb-true, le-leb}
+use Rattle.atoms.specs.Word.{Has, _∖_}
+use Rattle.atoms.specs.Bounded.{Decides}
+use Rattle.atoms.proofs.Tests.{decides}
+use Rattle.atoms.proofs.TakenNumbers.{Taking, taking-end}
+use Rattle.answer_sets.specs.Lent.{lent}
+use Rattle.states.specs.declared.state.State.{State}
+use Rattle.narrowing.specs.declared.choice.Standing.{Standing}
+use Rattle.narrowing.specs.declared.choice.Standing.the-variants.{Spent, Stopped, Live}
+use Rattle.narrowing.specs.Stops.{Stands}
+use Rattle.narrowing.specs.Wide.{WIDE, IsWide, SomeWide}
+
+module _ {rules : List ℕ} {r : ℕ} {s : State} where
+  -- a rule that is spent or at a stop is not wide
+  pub spent-narrow : {t : Standing} → Stands rules r s t → t ≡ Spent → Decides (IsWide rules r s) false
+  spent-narrow k e = record {
+    yes = λ f. absurd (false≢true f);
+    no = λ f w. w .live .0 (subst (Stands rules r s) e k);
+  }
+
+  pub stopped-narrow : {t : Standing} → Stands rules r s t → t ≡ Stopped → Decides (IsWide rules r s) false
+  stopped-narrow k e = record {
+    yes = λ f. absurd (false≢true f);
+    no = λ f w. w .live .1 (subst (Stands rules r s) e k);
+  }
+
+  -- a live rule is where its head is
+  pub live-wide : {t : Standing} {head left count : ℕ} → Stands rules r s t → t ≡ Live → head ≡ lent rules .head r → left ≡ head ∖ s .dropped
+      → count ≡ ones left → Decides (IsWide rules r s) (leb WIDE count)
+  live-wide {count = count} k e h l n =
+      decides (leb WIDE count) (λ f. record { live = subst (Stands rules r s) e k; wide = rw same at (leb-true WIDE count f) })
+      (λ w. le-leb WIDE count (rw same (w .wide)))
+    where
+      same : count ≡ ones (lent rules .head r ∖ s .dropped)
+      same = n ∙ ap ones (l ∙ ap (λ (x : ℕ). x ∖ s .dropped) h)
+
+module _ {rules : List ℕ} {which : ℕ} {s : State} where
+  pub wide-found : (r : ℕ) → Has which r → {b : Bool} → Decides (IsWide rules r s) b → b ≡ true → Decides (SomeWide rules which s) true
+  wide-found r h d e = record {
+    yes = λ f. record { rule = r; numbered = h; is-wide = d .yes e };
+    no = λ f. absurd (false≢true (sym f));
+  }
+
+  -- none of the rules was
+  pub none-wide : {rest : ℕ} → Taking which rest (λ r. ¬ IsWide rules r s) → rest ≡ 0 → Decides (SomeWide rules which s) false
+  none-wide t e = record {
+    yes = λ f. absurd (false≢true f);
+    no = λ f w. taking-end t e (w .rule) (w .numbered) (w .is-wide);
+  }

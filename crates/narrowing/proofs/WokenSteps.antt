@@ -1,0 +1,30 @@
+-- The steps that a rule has woken: the four parts of the table.
+use mathlib.Core.Path.{_≡_}
+use mathlib.Core.List.{List}
+use mathlib.Core.Logic.{_⊎_, inl, inr}
+use Prim.Native.Nat.{ℕ}
+use Rattle.atoms.specs.Word.{atom}
+use Rattle.answer_sets.specs.Lent.{lent}
+use Rattle.narrowing.specs.Marks.{Adds, NotedAt}
+use Rattle.narrowing.specs.Woken.{RULES_UP, RULES_DOWN, SUPPORTS_UP, SUPPORTS_DOWN, holdsUp, failsUp, Wakes, rule-up, support-down, rule-down, support-up}
+use Rattle.narrowing.proofs.MarkedTables.{adds-iff, adds-trans}
+
+pub rule-wakes : (rules : List ℕ) (r : ℕ) {holds fails this head : ℕ} {before table after : List ℕ} → holds ≡ holdsUp rules r → fails ≡ failsUp rules r
+    → this ≡ atom r → head ≡ lent rules .head r
+    → Adds (λ i q. NotedAt RULES_UP holds this i q ⊎ NotedAt SUPPORTS_DOWN holds head i q) before table
+    → Adds (λ i q. NotedAt RULES_DOWN fails this i q ⊎ NotedAt SUPPORTS_UP fails head i q) table after → Adds (Wakes rules r) before after
+rule-wakes rules r {holds} {fails} {this} {head} h f t e a b = adds-iff into from (adds-trans a b)
+  where
+    into : (i q : ℕ) → (NotedAt RULES_UP holds this i q ⊎ NotedAt SUPPORTS_DOWN holds head i q)
+        ⊎ (NotedAt RULES_DOWN fails this i q ⊎ NotedAt SUPPORTS_UP fails head i q) → Wakes rules r i q
+    into i q (inl (inl k)) = rule-up (rw (h, t) at k)
+    into i q (inl (inr k)) = support-down (rw (h, e) at k)
+    into i q (inr (inl k)) = rule-down (rw (f, t) at k)
+    into i q (inr (inr k)) = support-up (rw (f, e) at k)
+
+    from : (i q : ℕ) → Wakes rules r i q → (NotedAt RULES_UP holds this i q ⊎ NotedAt SUPPORTS_DOWN holds head i q)
+        ⊎ (NotedAt RULES_DOWN fails this i q ⊎ NotedAt SUPPORTS_UP fails head i q)
+    from i q (rule-up k) = inl (inl (rw (h, t) k))
+    from i q (support-down k) = inl (inr (rw (h, e) k))
+    from i q (rule-down k) = inr (inl (rw (f, t) k))
+    from i q (support-up k) = inr (inr (rw (f, e) k))
