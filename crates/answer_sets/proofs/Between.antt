@@ -5,13 +5,14 @@ use mathlib.Core.Logic.{_⊎_, inl, inr}
 use mathlib.Core.List.{List}
 use Prim.Native.Nat.{ℕ, _<_, _^_}
 use borrow.Author.Tests.{not-true}
-use Rattle.atoms.specs.Word.{ATOMS, Has, _⊆_, Apart, apart, _∪_, atom, outside}
+use Rattle.atoms.specs.Word.{ATOMS, Has, _⊆_, Apart, apart, atom, outside}
 use Rattle.atoms.specs.Bounded.{Decides}
 use Rattle.atoms.proofs.Tests.{decides-iff, decides-same, decided-false}
-use Rattle.atoms.proofs.Sets.{decides-apart, has-dec, has-lt, subset-refl, subset-trans, subset-antisym, has-outside, outside-lacks}
+use Rattle.atoms.proofs.Sets.{decides-apart, has-dec, has-lt, has-left, subset-refl, subset-trans, subset-antisym, has-outside, outside-lacks}
 use Rattle.answer_sets.specs.Program.{Program, Body, Satisfies, SatisfiesAll}
 use Rattle.answer_sets.specs.Lent.{lent, Lent}
 use Rattle.states.specs.State.{Completes, undecided}
+use Rattle.states.specs.Narrowing.{branchOf}
 use Rattle.answer_sets.specs.RulePass.{Sifted}
 use Rattle.answer_sets.specs.SubsetTest.{Between, Confines, Candidates, InRule, in-head, in-looks}
 use Rattle.answer_sets.specs.Test.{Smaller, SubsetTested}
@@ -26,6 +27,11 @@ use Rattle.answer_sets.proofs.Judged.{decides-smaller}
 
 pub confines-more : {M d e : ℕ} → Confines M d → d ⊆ e → Confines M e
 confines-more c f = record { outside = λ i l h. f .each i (c .outside i l h) }
+
+-- a branch has no fewer dropped
+pub confines-branch : {M : ℕ} (s : State) (i : ℕ) (b : Bool) {t : State} → Confines M (s .dropped) → t ≡ branchOf s i b → Confines M (t .dropped)
+confines-branch s i true c e = rw e c
+confines-branch s i false c e = rw e (confines-more c (record { each = λ j h. has-left (s .dropped) (atom i) h }))
 
 pub lent-part : {rules : List ℕ} {which left : ℕ} → Lent rules which → left ⊆ which → Lent rules left
 lent-part k f = record { each = λ r h. k .each r (f .each r h) }
@@ -97,22 +103,20 @@ module _ {P : Program} {which M : ℕ} where
       }
 
   -- one atom is tried both ways
-  pub branch-yes : (i : ℕ) {s : State} {x up : ℕ} {r : Bool} → up ≡ s .up ∪ x → x ≡ atom i
-      → Decides (Between P which M (record { up = up; dropped = s .dropped })) r → r ≡ true → Decides (Between P which M s) true
-  branch-yes i {s} u a d e = record {
-    yes = λ f. let b = rw (u, a) at (d .yes e) in between-as b (without-up s i (b .completes));
+  pub branch-yes : (i : ℕ) {s t : State} {r : Bool} → t ≡ branchOf s i true → Decides (Between P which M t) r → r ≡ true
+      → Decides (Between P which M s) true
+  branch-yes i {s} u d e = record {
+    yes = λ f. let b = rw u at (d .yes e) in between-as b (without-up s i (b .completes));
     no = λ f. absurd (true≢false f);
   }
 
-  pub branch-no : (i : ℕ) {s : State} {x up dropped : ℕ} {q r : Bool} → up ≡ s .up ∪ x → dropped ≡ s .dropped ∪ x → x ≡ atom i
-      → Decides (Between P which M (record { up = up; dropped = s .dropped })) q → q ≡ false
-      → Decides (Between P which M (record { up = s .up; dropped = dropped })) r → Decides (Between P which M s) r
-  branch-no i {s} u v a d e f =
-      decides-iff (λ b. between-as b (without-dropped s i (b .completes))) (λ b. go b (has-dec (b .set) i)) (rw (v, a) at f)
+  pub branch-no : (i : ℕ) {s t u : State} {q r : Bool} → t ≡ branchOf s i true → u ≡ branchOf s i false
+      → Decides (Between P which M t) q → q ≡ false → Decides (Between P which M u) r → Decides (Between P which M s) r
+  branch-no i {s} u v d e f =
+      decides-iff (λ b. between-as b (without-dropped s i (b .completes))) (λ b. go b (has-dec (b .set) i)) (rw v at f)
     where
-      go : (b : Between P which M s) → Dec (Has (b .set) i)
-          → Between P which M (record { up = s .up; dropped = s .dropped ∪ atom i })
-      go b (yes h) = absurd (d .no e (rw (u, a) (between-as b (with-up s i (b .completes) h))))
+      go : (b : Between P which M s) → Dec (Has (b .set) i) → Between P which M (branchOf s i false)
+      go b (yes h) = absurd (d .no e (rw u (between-as b (with-up s i (b .completes) h))))
       go b (no h) = between-as b (with-dropped s i (b .completes) h)
 
 -- ---- a rule that can come to be satisfied no more
