@@ -2,7 +2,8 @@
 //!
 //! Each NAME.plan of the folders is given to SETTLE on standard input, and NAME.lp, the same
 //! program, to `CLINGO -n 257` with the options that its first line names. Runs of the two alternate, and with those of another
-//! settle that the environment's BEFORE may name. NODES counts the nodes of the search, untimed.
+//! settle that the environment's BEFORE may name, and of clingo with options that a first line `% also --..` names. NODES counts the
+//! nodes of the search, untimed.
 //! The table is written as Markdown.
 
 mod timing;
@@ -57,18 +58,26 @@ impl Programs {
     }
 
     fn clingo(&self, plan: &Path) -> Command {
-        let program = plan.with_extension("lp");
+        self.clingo_with(plan, options(plan, "% --").unwrap_or_default())
+    }
+
+    /// clingo with the options that it is asked for a second time with.
+    fn clingo_too(&self, plan: &Path) -> Option<Command> {
+        options(plan, "% also --").map(|options| self.clingo_with(plan, options))
+    }
+
+    fn clingo_with(&self, plan: &Path, options: Vec<String>) -> Command {
         let mut command = Command::new(&self.clingo);
-        command.args(["-n", "257"]).args(options(&program)).arg(program).stdin(Stdio::null());
+        command.args(["-n", "257"]).args(options).arg(plan.with_extension("lp")).stdin(Stdio::null());
         command
     }
 }
 
-/// The options that a first line `% --..` of clingo's program asks for.
-fn options(program: &Path) -> Vec<String> {
-    let text = fs::read_to_string(program).expect("clingo's program cannot be read");
-    let first = text.lines().next().and_then(|line| line.strip_prefix("% --"));
-    first.map_or(Vec::new(), |options| format!("--{}", options).split_whitespace().map(String::from).collect())
+/// The options that the first line of clingo's program names behind these words, which end with their two dashes.
+fn options(plan: &Path, words: &str) -> Option<Vec<String>> {
+    let text = fs::read_to_string(plan.with_extension("lp")).expect("clingo's program cannot be read");
+    let named = text.lines().next()?.strip_prefix(words)?;
+    Some(format!("--{}", named).split_whitespace().map(String::from).collect())
 }
 
 // ---- Measuring -------------------------------------------------------------------------------
@@ -80,6 +89,7 @@ struct Row {
     settle: Option<Run>,
     clingo: Option<Run>,
     before: Option<Run>,
+    clingo_too: Option<Run>,
     agreement: Agreement,
 }
 
@@ -95,6 +105,7 @@ fn measure(programs: &Programs, plan: &Path) -> Row {
     let mut settle = vec![time(programs.settle(plan))];
     let mut clingo = vec![time(programs.clingo(plan))];
     let mut before = vec![programs.before(plan).and_then(time)];
+    let mut clingo_too = vec![programs.clingo_too(plan).and_then(time)];
     let is_quick = |run: &Option<Run>| run.map_or(false, |run| run.wall < QUICK);
     let runs = if is_quick(&settle[0]) && is_quick(&clingo[0]) { QUICK_RUNS } else { SLOW_RUNS };
     for run in 0..runs {
@@ -103,6 +114,7 @@ fn measure(programs: &Programs, plan: &Path) -> Row {
         let other = |before: &mut Vec<Option<Run>>| repeat(before, || programs.before(plan).expect("it was run once"));
         if run % 2 == 0 { turn(&mut settle) } else { other(&mut before) }
         repeat(&mut clingo, || programs.clingo(plan));
+        repeat(&mut clingo_too, || programs.clingo_too(plan).expect("it was run once"));
         if run % 2 == 0 { other(&mut before) } else { turn(&mut settle) }
     }
     let sheet = if settle[0].is_some() { output(programs.settle(plan)) } else { String::new() };
@@ -110,10 +122,12 @@ fn measure(programs: &Programs, plan: &Path) -> Row {
     Row {
         name: plan.file_stem().unwrap_or_default().to_string_lossy().into_owned(),
         positions: positions(&sheet),
-        nodes: nodes(&output(programs.nodes(plan)), &positions(&sheet)),
+        // Counting takes a hundred times as long.
+        nodes: if is_quick(&settle[0]) { nodes(&output(programs.nodes(plan)), &positions(&sheet)) } else { "not counted".to_string() },
         settle: median(settle),
         clingo: median(clingo),
         before: median(before),
+        clingo_too: median(clingo_too),
         agreement: agreement(&sheet, &answers),
     }
 }
@@ -166,6 +180,7 @@ impl Row {
             milliseconds(settle, |run| run.cpu),
             milliseconds(clingo, |run| run.cpu),
             shown(ratio(settle, clingo, |run| run.cpu)),
+            shown(ratio(settle, self.clingo_too, |run| run.cpu)),
             shown(ratio(settle, before, |run| run.wall)),
             shown(ratio(settle, before, |run| run.cpu)),
             agreement.to_string(),
@@ -177,8 +192,8 @@ impl Row {
 fn report(rows: &[Row]) -> String {
     let lines: String = rows.iter().map(|row| row.line() + "\n").collect();
     format!(
-        "{}\n\n| plan | positions | nodes | settle ms | clingo ms | ratio | settle CPU ms | clingo CPU ms | ratio | to before | CPU | lists |\n\
-         |---|---|---:|---:|---:|---:|---:|---:|---:|---:|---:|---|\n{}",
+        "{}\n\n| plan | positions | nodes | settle ms | clingo ms | ratio | settle CPU ms | clingo CPU ms | ratio | also | to before | CPU | lists |\n\
+         |---|---|---:|---:|---:|---:|---:|---:|---:|---:|---:|---:|---|\n{}",
         summary(rows),
         lines
     )

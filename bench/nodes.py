@@ -1,8 +1,8 @@
 #!/usr/bin/env python3
-"""nodes.py [subset-tests] < PLAN: how many nodes the search visits, or how many subset tests it makes and how many steps these take together.
+"""nodes.py [subset-tests] < PLAN: how many nodes the search visits, or how many subset tests try atoms and how many steps these take together.
 
 The proved program is run under valgrind's callgrind, which counts the calls of each function: so the count is that of the program itself. A
-node is a call of `explore`, a subset test a call of `some_between` from elsewhere than itself, a step any call of it. The environment's SETTLE
+node is a call of `explore`, a subset test that tries atoms a call of `some_between` from elsewhere than itself, a step any call of it. The environment's SETTLE
 names the program (default target/bin/settle). Behind the count stands what the first line of the sheet says.
 """
 import os

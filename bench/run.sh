@@ -3,7 +3,7 @@
 #
 # SETTLE is the program (default: the environment's SETTLE, then target/bin/settle), OUTPUT the
 # Markdown table (default target/bench/results.md), and the folders hold NAME.plan and NAME.lp
-# (default: bench/plans, bench/tables and the families that bench/families.py writes). The environment's
+# (default: bench/plans, bench/tables, bench/hard and the families that bench/families.py writes). The environment's
 # BEFORE may name another settle, whose runs alternate with the others.
 set -e
 cd "$(dirname "$0")/.."
@@ -21,7 +21,7 @@ if [ ! -x "$settle" ]; then
 fi
 [ $# -gt 2 ] && shift 2 || {
     python3 bench/families.py target/bench/families
-    set -- bench/plans bench/tables target/bench/families
+    set -- bench/plans bench/tables bench/hard target/bench/families
 }
 
 build_program bench/measure.rs target/bench/measure

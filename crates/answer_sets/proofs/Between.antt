@@ -5,13 +5,14 @@ use mathlib.Core.Logic.{_⊎_, inl, inr}
 use mathlib.Core.List.{List}
 use Prim.Native.Nat.{ℕ, _<_, _^_}
 use borrow.Author.Tests.{not-true}
-use Rattle.atoms.specs.Word.{ATOMS, Has, _⊆_, Apart, apart, _∪_, atom, outside}
+use Rattle.atoms.specs.Word.{ATOMS, Has, _⊆_, Apart, apart, atom, outside}
 use Rattle.atoms.specs.Bounded.{Decides}
 use Rattle.atoms.proofs.Tests.{decides-iff, decides-same, decided-false}
-use Rattle.atoms.proofs.Sets.{decides-apart, has-dec, has-lt, subset-refl, subset-trans, subset-antisym, has-outside, outside-lacks}
+use Rattle.atoms.proofs.Sets.{decides-apart, has-dec, has-lt, has-left, subset-refl, subset-trans, subset-antisym, has-outside, outside-lacks}
 use Rattle.answer_sets.specs.Program.{Program, Body, Satisfies, SatisfiesAll}
 use Rattle.answer_sets.specs.Lent.{lent, Lent}
 use Rattle.states.specs.State.{Completes, undecided}
+use Rattle.states.specs.Narrowing.{branchOf}
 use Rattle.answer_sets.specs.RulePass.{Sifted}
 use Rattle.answer_sets.specs.SubsetTest.{Between, Finds, Confines, Candidates, InRule, in-head, in-looks}
 use Rattle.answer_sets.specs.Test.{Smaller, SubsetTested, SmallerSet}
@@ -26,6 +27,11 @@ use Rattle.answer_sets.proofs.Judged.{decides-smaller}
 
 pub confines-more : {M d e : ℕ} → Confines M d → d ⊆ e → Confines M e
 confines-more c f = record { outside = λ i l h. f .each i (c .outside i l h) }
+
+-- a branch has no fewer dropped
+pub confines-branch : {M : ℕ} (s : State) (i : ℕ) (b : Bool) {t : State} → Confines M (s .dropped) → t ≡ branchOf s i b → Confines M (t .dropped)
+confines-branch s i true c e = rw e c
+confines-branch s i false c e = rw e (confines-more c (record { each = λ j h. has-left (s .dropped) (atom i) h }))
 
 pub lent-part : {rules : List ℕ} {which left : ℕ} → Lent rules which → left ⊆ which → Lent rules left
 lent-part k f = record { each = λ r h. k .each r (f .each r h) }
@@ -112,40 +118,38 @@ module _ {P : Program} {which M : ℕ} where
       }
 
   -- one atom is tried both ways
-  raised : (i : ℕ) {s : State} → Between P which M (record { up = s .up ∪ atom i; dropped = s .dropped }) → Between P which M s
+  raised : (i : ℕ) {s : State} → Between P which M (branchOf s i true) → Between P which M s
   raised i {s} b = between-as b (without-up s i (b .completes))
 
-  lowered : (i : ℕ) {s : State} → Between P which M (record { up = s .up; dropped = s .dropped ∪ atom i }) → Between P which M s
+  lowered : (i : ℕ) {s : State} → Between P which M (branchOf s i false) → Between P which M s
   lowered i {s} b = between-as b (without-dropped s i (b .completes))
 
-  pub branch-yes : (i : ℕ) {s : State} {x up set : ℕ} {r : Bool} → up ≡ s .up ∪ x → x ≡ atom i
-      → Finds P which M (record { up = up; dropped = s .dropped }) r set → r ≡ true → Finds P which M s true set
+  pub branch-yes : (i : ℕ) {s t : State} {r : Bool} {set : ℕ} → t ≡ branchOf s i true → Finds P which M t r set → r ≡ true
+      → Finds P which M s true set
   unfolding raised between-as
-  branch-yes i {s} {set = set} u a d e = record {
+  branch-yes i {s} {set = set} u d e = record {
     exactly = record { yes = λ f. shown .0; no = λ f. absurd (true≢false f) };
     shown = λ f. shown;
     none = λ f. absurd (true≢false f);
   }
     where
       shown : (b : Between P which M s) × (b .set ≡ set)
-      shown = let b = (rw (u, a) at d) .shown e in (raised i (b .0), b .1)
+      shown = let b = (rw u at d) .shown e in (raised i (b .0), b .1)
 
-  pub branch-no : (i : ℕ) {s : State} {x up dropped set₁ set : ℕ} {q r : Bool} → up ≡ s .up ∪ x → dropped ≡ s .dropped ∪ x → x ≡ atom i
-      → Finds P which M (record { up = up; dropped = s .dropped }) q set₁ → q ≡ false
-      → Finds P which M (record { up = s .up; dropped = dropped }) r set → Finds P which M s r set
+  pub branch-no : (i : ℕ) {s t u : State} {q r : Bool} {set₁ set : ℕ} → t ≡ branchOf s i true → u ≡ branchOf s i false
+      → Finds P which M t q set₁ → q ≡ false → Finds P which M u r set → Finds P which M s r set
   unfolding lowered between-as
-  branch-no i {s} {set = set} {r = r} u v a d e f = record {
+  branch-no i {s} {r = r} {set = set} u v d e f = record {
     exactly = decides-iff (lowered i) (λ b. go b (has-dec (b .set) i)) (second .exactly);
     shown = λ h. let b = second .shown h in (lowered i (b .0), b .1);
     none = f .none;
   }
     where
-      second : Finds P which M (record { up = s .up; dropped = s .dropped ∪ atom i }) r set
-      second = rw (v, a) at f
+      second : Finds P which M (branchOf s i false) r set
+      second = rw v at f
 
-      go : (b : Between P which M s) → Dec (Has (b .set) i)
-          → Between P which M (record { up = s .up; dropped = s .dropped ∪ atom i })
-      go b (yes h) = absurd (d .exactly .no e (rw (u, a) (between-as b (with-up s i (b .completes) h))))
+      go : (b : Between P which M s) → Dec (Has (b .set) i) → Between P which M (branchOf s i false)
+      go b (yes h) = absurd (d .exactly .no e (rw u (between-as b (with-up s i (b .completes) h))))
       go b (no h) = between-as b (with-dropped s i (b .completes) h)
 
 -- ---- a rule that can come to be satisfied no more

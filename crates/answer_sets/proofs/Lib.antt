@@ -20,3 +20,5 @@ pub mod Candidates
 pub mod Between
 -- Answer sets by their members
 pub mod Support
+-- The memo of a subset test that said none
+pub mod Memos

@@ -168,3 +168,20 @@ module _ {P : Program} {r : ℕ} (p : Passed) {q : Passed} where
     part = subset-refl;
     gone = λ i h k. absurd (k h);
   })
+
+-- one round after another, over the rules that are left
+pub rounds-narrow : {P : Program} {which : ℕ} {s : State} {p q : Passed} → Sifted P which s which p → Sifted P (p .left) (p .state) (p .left) q
+    → Narrows (SatisfiesAll P which) (p .state) (q .state)
+rounds-narrow f g = narrows-for (λ N all. record { each = λ i k. all .each i (f .part .each i k) }) (g .narrows)
+
+pub sifted-more : {P : Program} {which : ℕ} {s : State} {p q : Passed} → Sifted P which s which p → Sifted P (p .left) (p .state) (p .left) q
+    → Sifted P which s which q
+sifted-more {P} {which} {s} {p} {q} f g = record {
+  narrows = narrows-trans (f .narrows) (rounds-narrow f g);
+  part = subset-trans (g .part) (f .part);
+  gone = λ i k n. cases i k n (has-dec (p .left) i);
+}
+  where
+    cases : (i : ℕ) → Has which i → ¬ Has (q .left) i → Dec (Has (p .left) i) → Met P i (q .state)
+    cases i k n (yes l) = g .gone i l n
+    cases i k n (no l) = met-later (g .narrows) (f .gone i k l)

@@ -5,3 +5,4 @@ pub mod Lent
 pub mod Known
 pub mod RulePass
 pub mod SubsetTest
+pub mod Memo

@@ -1,7 +1,9 @@
 // Judging one position over lent rules: the single-position crate.
 pub mod known;
+pub mod memo;
 mod position;
 pub mod reduct;
+mod rounds;
 pub mod rule;
 pub mod rule_pass;
 mod smaller;

@@ -1,4 +1,5 @@
 // The answer-set test of one position, over lent rules and a word of their numbers; and the same for any lent words and any numbers.
+use crate::memo::blank_memo;
 use crate::reduct::all_satisfied;
 use crate::reduct::kept_rules;
 use crate::rule::rule_count;
@@ -7,6 +8,7 @@ use plan::MAX_RULES;
 ghost use mathlib.Core.Path.{_≡_};
 ghost use Prim.Native.Nat.{min};
 ghost use Rattle.answer_sets.specs.Lent.{lent, Lent, numbered};
+ghost use Rattle.answer_sets.specs.Memo.{Memo};
 ghost use Rattle.answer_sets.specs.Test.{SubsetTested, answerSet, RefutedBy};
 
 // Whether a position is an answer set, and if it is none, what shows it: a smaller set, or the position itself. Which smaller set it is, is free.
@@ -15,11 +17,13 @@ pub struct Judged {
     pub smaller: u64,
 }
 
-// Whether the position is an answer set of the rules numbered in `which` with the facts added, and what shows that it is none.
-pub fn judge_set(rules: &[u64], which: u64, facts: u64, position: u64) -> Judged
-    requires { ⌜ Lent (now rules) which ⌝ }
+// Whether the position is an answer set of the rules numbered in `which` with the facts added, and what shows that it is none. The subset test's memo
+// may go from one position to the next.
+pub fn judge_set(rules: &[u64], which: u64, facts: u64, position: u64, memo: &mut [u64]) -> Judged
+    requires { ⌜ Lent (now rules) which × Memo (now rules) (now memo) ⌝ }
     ensures answers { λ r. ⌜ r .answers ≡ answerSet (lent (now (rules .entry))) which facts position ⌝ }
     ensures refuted { λ r. ⌜ RefutedBy (lent (now (rules .entry))) which facts position (r .answers) (r .smaller) ⌝ }
+    ensures memo { λ _. ⌜ Memo (now (rules .entry)) (now (memo .exit)) ⌝ }
 {
     if !atoms::is_subset(facts, position) {
         return Judged {
@@ -34,7 +38,7 @@ pub fn judge_set(rules: &[u64], which: u64, facts: u64, position: u64) -> Judged
             smaller: position,
         };
     }
-    let smaller = some_smaller(rules, kept, facts, position);
+    let smaller = some_smaller(rules, kept, facts, position, memo);
     Judged {
         answers: !smaller.found,
         smaller: smaller.set,
@@ -46,7 +50,8 @@ pub fn is_answer_set(rules: &[u64], which: u64, facts: u64, position: u64) -> bo
     requires { ⌜ Lent (now rules) which ⌝ }
     ensures { λ r. ⌜ r ≡ answerSet (lent (now (rules .entry))) which facts position ⌝ }
 {
-    judge_set(rules, which, facts, position).answers
+    let mut memo = blank_memo();
+    judge_set(rules, which, facts, position, &mut memo).answers
 }
 
 // The lesser of two numbers.
@@ -69,7 +74,9 @@ pub fn lent_numbers(rules: &[u64], n: usize, which: u64) -> u64
 pub fn has_smaller(rules: &[u64], n: usize, kept: u64, facts: u64, position: u64) -> bool
     ensures { λ r. ⌜ SubsetTested (lent (now (rules .entry))) (numbered (now (rules .entry)) n kept) facts position r ⌝ }
 {
-    some_smaller(rules, lent_numbers(rules, n, kept), facts, position).found
+    let mut memo = blank_memo();
+    let numbers = lent_numbers(rules, n, kept);
+    some_smaller(rules, numbers, facts, position, &mut memo).found
 }
 
 // The answer-set test over the n rules lent. Bits with no rule are ignored.

@@ -99,6 +99,16 @@ pub struct Passed {
     pub left: u64,
 }
 
+// A round by its three words.
+fn round_of(up: u64, dropped: u64, left: u64) -> Passed
+    ensures { λ r. ⌜ r ≡ record { state = record { up = up; dropped = dropped }; left = left } ⌝ }
+{
+    Passed {
+        state: State { up, dropped },
+        left,
+    }
+}
+
 // The round without a rule that every completion satisfies.
 fn without_rule(p: Passed, rule: usize) -> Passed
     requires { ⌜ rule < MAX_RULES ⌝ }
@@ -140,20 +150,24 @@ fn pass_rule(rules: &[u64], rule: usize, p: Passed) -> Passed
     }
 }
 
-// The state after one round over the rules of the word, and those of them that some completion of it may not satisfy.
+// The state after one round over the rules of the word, and those of them that some completion of it may not satisfy. The loop has the words apart: a
+// struct that is written by halves and read as a whole makes the processor wait at each rule.
 pub fn rule_pass(rules: &[u64], which: u64, s: State) -> Passed
     requires { ⌜ Lent (now rules) which ⌝ }
     ensures { λ r. ⌜ Sifted (lent (now (rules .entry))) which s which r ⌝ }
 {
     let mut rest = which;
-    let mut p = Passed {
-        state: s,
-        left: which,
-    };
+    let mut up = s.up;
+    let mut dropped = s.dropped;
+    let mut left = which;
     while rest != 0 {
         let rule = atoms::lowest(rest);
-        p = pass_rule(rules, rule, p);
+        let p = pass_rule(rules, rule, round_of(up, dropped, left));
+        let t = p.state;
+        up = t.up;
+        dropped = t.dropped;
+        left = p.left;
         rest = atoms::drop(rest, rule);
     }
-    p
+    round_of(up, dropped, left)
 }

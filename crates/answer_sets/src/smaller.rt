@@ -1,15 +1,19 @@
 // The subset test: whether some proper subset of a position has all the facts and satisfies each rule of a word.
 // It grows from the facts: what every such subset must have goes up, and only then is an atom tried both ways.
+use crate::memo::memo_tells;
+use crate::memo::write_memo;
 use crate::reduct::FoundRule;
 use crate::reduct::find_unsatisfied;
-use crate::rule_pass::rule_pass;
+use crate::rounds::rounds;
 use crate::tried::candidates;
 use crate::tried::tried_next;
 use states::State;
+use states::decide;
 use states::undecided;
 ghost use mathlib.Core.Path.{_≡_};
 ghost use mathlib.Core.Bool.{false};
 ghost use Rattle.answer_sets.specs.Lent.{lent, Lent};
+ghost use Rattle.answer_sets.specs.Memo.{Memo};
 ghost use Rattle.answer_sets.specs.Test.{SubsetTested, SmallerSet};
 ghost use Rattle.answer_sets.specs.SubsetTest.{Confines, Finds};
 
@@ -29,49 +33,71 @@ fn none_smaller() -> Smaller
     }
 }
 
-// Whether some completion of the state is a proper subset of the position and satisfies each rule of the word, and one that does.
-fn some_between(rules: &[u64], which: u64, position: u64, up: u64, dropped: u64) -> Smaller
-    requires { ⌜ Lent (now rules) which × Confines position dropped ⌝ }
-    ensures { λ r. ⌜ Finds (lent (now (rules .entry))) which position (record { up = up; dropped = dropped }) (r .found) (r .set) ⌝ }
+// Whether some completion of the state, to which the rounds have nothing to say, is a proper subset of the position and satisfies each rule of the word,
+// and one that does.
+fn some_between(rules: &[u64], which: u64, position: u64, s: State) -> Smaller
+    requires { ⌜ Lent (now rules) which × Confines position (s .dropped) ⌝ }
+    ensures { λ r. ⌜ Finds (lent (now (rules .entry))) which position s (r .found) (r .set) ⌝ }
 {
-    let passed = rule_pass(rules, which, State { up, dropped });
-    let t = passed.state;
-    let left = passed.left;
-    if !atoms::are_apart(t.up, t.dropped) {
+    if !atoms::are_apart(s.up, s.dropped) {
         return none_smaller();
     }
-    if t.up == position {
+    if s.up == position {
         return none_smaller();
     }
-    let free = undecided(t.up, t.dropped);
-    if free != undecided(up, dropped) {
-        return some_between(rules, left, position, t.up, t.dropped);
-    }
-    let found = find_unsatisfied(rules, left, t.up);
+    let found = find_unsatisfied(rules, which, s.up);
     let FoundRule::Rule(rule) = found else {
         return Smaller {
             found: true,
-            set: t.up,
+            set: s.up,
         };
     };
+    let free = undecided(s.up, s.dropped);
     let choice = candidates(rules, rule, free);
     if choice == 0 {
         return none_smaller();
     }
-    let tried = tried_next(rules, left, position, t.dropped, free, choice);
-    let atom = atoms::single(atoms::lowest(tried));
-    let raised = some_between(rules, left, position, atoms::union(t.up, atom), t.dropped);
+    let tried = tried_next(rules, which, position, s.dropped, free, choice);
+    let atom = atoms::lowest(tried);
+    let up = rounds(rules, which, position, decide(s, atom, true));
+    let raised = some_between(rules, up.left, position, up.state);
     if raised.found {
         return raised;
     }
-    some_between(rules, left, position, t.up, atoms::union(t.dropped, atom))
+    let down = rounds(rules, which, position, decide(s, atom, false));
+    some_between(rules, down.left, position, down.state)
 }
 
-// Whether some proper subset of the position has all the facts and satisfies each rule of the word, and one that does.
-pub fn some_smaller(rules: &[u64], which: u64, facts: u64, position: u64) -> Smaller
-    requires { ⌜ Lent (now rules) which ⌝ }
+// Whether some proper subset of the position has all the facts and satisfies each rule of the word, and one that does. Where the rounds leave what the
+// last test left that said none, as far as the rules look, nothing is tried.
+pub fn some_smaller(
+    rules: &[u64],
+    which: u64,
+    facts: u64,
+    position: u64,
+    memo: &mut [u64],
+) -> Smaller
+    requires { ⌜ Lent (now rules) which × Memo (now rules) (now memo) ⌝ }
     ensures tested { λ r. ⌜ SubsetTested (lent (now (rules .entry))) which facts position (r .found) ⌝ }
     ensures set { λ r. ⌜ SmallerSet (lent (now (rules .entry))) which facts position (r .found) (r .set) ⌝ }
+    ensures memo { λ _. ⌜ Memo (now (rules .entry)) (now (memo .exit)) ⌝ }
 {
-    some_between(rules, which, position, facts, atoms::outside(position))
+    let start = State {
+        up: facts,
+        dropped: atoms::outside(position),
+    };
+    let p = rounds(rules, which, position, start);
+    let t = p.state;
+    if t.up == position {
+        return none_smaller();
+    }
+    if memo_tells(rules, memo, position, p) {
+        return none_smaller();
+    }
+    let smaller = some_between(rules, p.left, position, t);
+    if smaller.found {
+        return smaller;
+    }
+    write_memo(memo, p);
+    smaller
 }

@@ -1,4 +1,6 @@
 // A whole sheet judged (document 02, S-12): up to 256 positions in any order, eight bytes each, lowest first.
+use answer_sets::judge_set;
+use answer_sets::memo::blank_memo;
 use plan::CODE_STEP;
 use plan::Fault;
 use plan::Outcome;
@@ -34,17 +36,20 @@ fn is_bad_sheet(bytes: usize) -> bool
     bytes % WORD_BYTES != 0
 }
 
-// The first position that is no answer set of all the plan's rules with the given atoms as facts. Each is read where it stands.
+// The first position that is no answer set of all the plan's rules with the given atoms as facts. Each is read where it stands; the memo
+// of the subset test goes from one to the next.
 fn judge_places(plan: Plan, positions: &[u8]) -> SheetAnswer
     requires { ⌜ Fitting plan ⌝ }
     ensures { λ r. ⌜ r ≡ placesJudged plan (now (positions .entry)) ⌝ }
 {
     let whole_program = atoms::first(plan.rule_count);
     let count = positions.len() / WORD_BYTES;
+    let mut memo = blank_memo();
     let mut place = 0;
     while place < count {
         let position = read_word(positions, WORD_BYTES * place);
-        if !answer_sets::is_answer_set(&plan.rules, whole_program, plan.given, position) {
+        let judged = judge_set(&plan.rules, whole_program, plan.given, position, &mut memo);
+        if !judged.answers {
             return SheetAnswer::NotSettledAt(place);
         }
         place += 1;

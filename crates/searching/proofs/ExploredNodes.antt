@@ -8,6 +8,7 @@ use Prim.Native.Nat.{ℕ, _<_, _≤_, _^_}
 use Rattle.atoms.specs.Word.{ATOMS, Has, Apart, _∩_}
 use Rattle.atoms.specs.Cuts.{CutOf}
 use Rattle.plan.specs.Limits.{LIST_WORDS}
+use Rattle.answer_sets.specs.Memo.{Memo}
 use Rattle.states.specs.State.{undecided}
 use Rattle.states.specs.Narrowing.{Overlaps, Narrows, Within, branchOf}
 use Rattle.states.specs.declared.state.State.{State}
@@ -54,8 +55,9 @@ module _ {K : ℕ → Type 0} where
   }
 
   -- at a stop nothing is found
-  pub explored-stop : {rules list memory : List ℕ} {which inputs count shown : ℕ} {t n : State} {r : Found} → ((M : ℕ) → K M → AnswersInputs rules which inputs M)
-      → Ordered list count → Overlaps t ⊎ SomeStop rules which t → r ≡ record { count = count; nogood = n; witness = Nothing } → Remembers K memory
+  pub explored-stop : {rules list memory : List ℕ} {which inputs count shown : ℕ} {t n : State} {r : Found}
+      → ((M : ℕ) → K M → AnswersInputs rules which inputs M) → Ordered list count → Overlaps t ⊎ SomeStop rules which t
+      → r ≡ record { count = count; nogood = n; witness = Nothing } → Remembers K memory
       → Nogood K n → Explored K shown t list count list memory r
   explored-stop f o k e m n =
       let a = search-halt f o k in rw e (record { gathered = a .0; witnessed = a .1; remembers = m; nogood = n })
@@ -110,17 +112,19 @@ module _ (rules : List ℕ) (which : ℕ) {s : State} {next : Outlook} where
   pub is-open : {i : ℕ} → next ≡ Open i → Leaves rules which s next → Has (undecided (s .up) (s .dropped)) i × (i < ATOMS) × NoStop rules which s
   is-open e l = rw e at l
 
-module _ {rules table counts desk : List ℕ} {unit : Unit} {shown count : ℕ} {front : Front} {base : State} {branch : Branch} {memory filter : List ℕ} {node : Node}
+module _ {rules table counts desk : List ℕ} {unit : Unit} {shown count : ℕ} {front : Front} {base : State} {branch : Branch}
+    {memory filter : List ℕ} {node : Node}
     (b : branch ≡ record { unit = unit; shown = shown; count = count; front = front; base = base })
     (e : Entered rules table counts desk branch memory filter node) where
   -- the node may be searched
-  pub entered-ready : {list : List ℕ} → Prepared rules table counts desk unit → Ordered list count
+  pub entered-ready : {list memo : List ℕ} → Prepared rules table counts desk unit → Ordered list count → Memo rules memo
       → Prepared rules table counts desk (node .unit)
       × Ordered list (node .count)
       × Remembers (Belongs rules table counts desk (node .unit)) memory
       × Filtered table counts desk (node .unit .nearest) (node .front .state) filter
       × Leaves rules (node .unit .rules) (node .front .state) (node .next)
-  entered-ready p o = rw (e .same) (rw b (p, o, rw b at (e .remembers), rw b at (e .filtered), rw b at (e .leaves)))
+      × Memo rules memo
+  entered-ready p o m = rw (e .same) (rw b (p, o, rw b at (e .remembers), rw b at (e .filtered), rw b at (e .leaves), m))
 
   -- what is said of it is said of the branch
   pub explored-branch : {list after later : List ℕ} {r : Found}

@@ -3,6 +3,7 @@ use crate::enter::enter;
 use crate::node::root;
 use crate::search::explore;
 use crate::witness::Witness;
+use answer_sets::memo::blank_memo;
 use joining::filter::full_filter;
 use plan::LIST_WORDS;
 use propagating::Unit;
@@ -35,6 +36,7 @@ pub fn find(
         (now (memory .exit)) ⌝ }
 {
     let mut list = [0u64; LIST_WORDS];
+    let mut memo = blank_memo();
     let mut filter = full_filter(counts);
     let base = start.state;
     let both = State {
@@ -43,7 +45,17 @@ pub fn find(
     };
     let branch = root(unit, 0, moved(desk, start, both), base);
     let node = enter(rules, table, counts, desk, memory, &mut filter, branch);
-    let found = explore(rules, table, counts, desk, &mut list, memory, &filter, node);
+    let found = explore(
+        rules,
+        table,
+        counts,
+        desk,
+        &mut list,
+        memory,
+        &mut memo,
+        &filter,
+        node,
+    );
     let witness = found.witness;
     witness
 }

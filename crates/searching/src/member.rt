@@ -11,6 +11,7 @@ use joining::join::joins;
 use propagating::Unit;
 use states::everything;
 ghost use Rattle.atoms.specs.Bounded.{Decides};
+ghost use Rattle.answer_sets.specs.Memo.{Memo};
 ghost use Rattle.learning.specs.Nogood.{Nogood};
 ghost use Rattle.learning.specs.Reason.{Remembers};
 ghost use Rattle.searching.specs.Listing.{Ordered, Gathered, Grown, Offered};
@@ -25,11 +26,14 @@ fn belongs(
     table: &[u64],
     counts: &[usize],
     heads: &[u64],
+    memo: &mut [u64],
     unit: Unit,
     position: u64,
 ) -> Judged
-    requires { ⌜ Searchable (now rules) (now table) (now counts) (now heads) unit ⌝ }
-    ensures { λ r. ⌜ Decides (Belongs (now (rules .entry)) (now (table .entry)) (now (counts .entry)) (now (heads .entry)) unit position) (r .answers) ⌝ }
+    requires { ⌜ Searchable (now rules) (now table) (now counts) (now heads) unit × Memo (now rules) (now memo) ⌝ }
+    ensures decides { λ r. ⌜ Decides (Belongs (now (rules .entry)) (now (table .entry)) (now (counts .entry)) (now (heads .entry)) unit position)
+        (r .answers) ⌝ }
+    ensures memo { λ _. ⌜ Memo (now (rules .entry)) (now (memo .exit)) ⌝ }
 {
     if !joins(table, counts, heads, unit.predecessors, position) {
         return Judged {
@@ -42,6 +46,7 @@ fn belongs(
         unit.rules,
         atoms::cut(position, unit.inputs),
         position,
+        memo,
     )
 }
 
@@ -54,15 +59,18 @@ pub fn offer(
     desk: &[u64],
     list: &mut [u64],
     memory: &mut [u64],
+    memo: &mut [u64],
     node: Node,
 ) -> Found
     requires { ⌜ Prepared (now rules) (now table) (now counts) (now desk) (node .unit) × Ordered (now list) (node .count)
-        × Remembers (Belongs (now rules) (now table) (now counts) (now desk) (node .unit)) (now memory) ⌝ }
+        × Remembers (Belongs (now rules) (now table) (now counts) (now desk) (node .unit)) (now memory) × Memo (now rules) (now memo) ⌝ }
+    ensures memo { λ _. ⌜ Memo (now (rules .entry)) (now (memo .exit)) ⌝ }
     ensures gathered { λ r. ⌜ Gathered (Grown (now (list .entry)) (node .count) (CutOf (node .shown)
         (Offered (Belongs (now (rules .entry)) (now (table .entry)) (now (counts .entry)) (now (desk .entry)) (node .unit)) (node .front .state .up))))
         (now (list .exit)) (r .count) ⌝ }
     ensures witnessed { λ r. ⌜ Witnessed
-        (Offered (Belongs (now (rules .entry)) (now (table .entry)) (now (counts .entry)) (now (desk .entry)) (node .unit)) (node .front .state .up)) (r .witness) ⌝ }
+        (Offered (Belongs (now (rules .entry)) (now (table .entry)) (now (counts .entry)) (now (desk .entry)) (node .unit)) (node .front .state .up))
+        (r .witness) ⌝ }
     ensures remembers { λ _. ⌜ Remembers (Belongs (now (rules .entry)) (now (table .entry)) (now (counts .entry)) (now (desk .entry)) (node .unit))
         (now (memory .exit)) ⌝ }
     ensures nogood { λ r. ⌜ Nogood (Belongs (now (rules .entry)) (now (table .entry)) (now (counts .entry)) (now (desk .entry)) (node .unit)) (r .nogood) ⌝ }
@@ -70,7 +78,7 @@ pub fn offer(
     let unit = node.unit;
     let f = node.front;
     let s = f.state;
-    let judged = belongs(rules, table, counts, desk, unit, s.up);
+    let judged = belongs(rules, table, counts, desk, memo, unit, s.up);
     if !judged.answers {
         let x = atoms::without(s.up, judged.smaller);
         let nogood = reject(rules, table, counts, desk, memory, node, x);

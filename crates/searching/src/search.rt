@@ -12,6 +12,7 @@ use crate::outlook::Outlook;
 use crate::outlook::phase_of;
 use crate::stop::halt;
 use crate::stop::hand_up;
+use answer_sets::memo::blank_memo;
 use joining::filter::copied;
 use joining::filter::full_filter;
 use learning::store::empty_store;
@@ -23,6 +24,7 @@ use propagating::front::Front;
 use states::State;
 use states::lies_within;
 use states::undecided;
+ghost use Rattle.answer_sets.specs.Memo.{Memo};
 ghost use Rattle.learning.specs.Reason.{Remembers};
 ghost use Rattle.searching.specs.Listing.{Ordered, Gathered, Grown};
 ghost use Rattle.atoms.specs.Cuts.{CutOf};
@@ -35,8 +37,8 @@ ghost use Rattle.states.specs.Narrowing.{Wanted};
 
 // Adds to the list the cut of every position that belongs there and completes the node's state, of which the filter says which entries may be joined:
 // the new count, or OVERFULL where that is more than LIST_WORDS. Beside it stands a member that was met, or that there is none. The memory keeps what is
-// learnt on the way. It goes no further where a rule of the unit is at a stop: a node is open only where none is. The pair that is handed back is
-// completed by no member; where it lies within the state that the first branch began from, the second branch has none.
+// learnt on the way, and the memo what the last subset test left. It goes no further where a rule of the unit is at a stop: a node is open only where none
+// is. The pair that is handed back is completed by no member; where it lies within the state that the first branch began from, the second branch has none.
 pub fn explore(
     rules: &[u64],
     table: &[u64],
@@ -44,20 +46,22 @@ pub fn explore(
     desk: &[u64],
     list: &mut [u64],
     memory: &mut [u64],
+    memo: &mut [u64],
     filter: &[u64],
     node: Node,
 ) -> Found
     requires { ⌜ Prepared (now rules) (now table) (now counts) (now desk) (node .unit) × Ordered (now list) (node .count)
         × Remembers (Belongs (now rules) (now table) (now counts) (now desk) (node .unit)) (now memory)
         × Filtered (now table) (now counts) (now desk) (node .unit .nearest) (node .front .state) (now filter)
-        × Leaves (now rules) (node .unit .rules) (node .front .state) (node .next) ⌝ }
-    ensures { λ r. ⌜ Explored (Belongs (now (rules .entry)) (now (table .entry)) (now (counts .entry)) (now (desk .entry)) (node .unit)) (node .shown)
+        × Leaves (now rules) (node .unit .rules) (node .front .state) (node .next) × Memo (now rules) (now memo) ⌝ }
+    ensures explored { λ r. ⌜ Explored (Belongs (now (rules .entry)) (now (table .entry)) (now (counts .entry)) (now (desk .entry)) (node .unit)) (node .shown)
         (node .front .state) (now (list .entry)) (node .count) (now (list .exit)) (now (memory .exit)) r ⌝ }
+    ensures memo { λ _. ⌜ Memo (now (rules .entry)) (now (memo .exit)) ⌝ }
 {
     let next = node.next;
     match next {
         Outlook::Stop => halt(rules, table, counts, desk, memory, node),
-        Outlook::Leaf => offer(rules, table, counts, desk, list, memory, node),
+        Outlook::Leaf => offer(rules, table, counts, desk, list, memory, memo, node),
         Outlook::Open(i) => {
             let unit = node.unit;
             let front = node.front;
@@ -66,7 +70,7 @@ pub fn explore(
             let mut mine = copied(filter);
             let one = below(rules, desk, node, node.count, i, phase);
             let here = enter(rules, table, counts, desk, memory, &mut mine, one);
-            let first = explore(rules, table, counts, desk, list, memory, &mine, here);
+            let first = explore(rules, table, counts, desk, list, memory, memo, &mine, here);
             if is_done(first, atoms::cut(undecided(t.up, t.dropped), node.shown)) {
                 return first;
             }
@@ -76,7 +80,7 @@ pub fn explore(
             mine = copied(filter);
             let other = below(rules, desk, node, first.count, i, !phase);
             let there = enter(rules, table, counts, desk, memory, &mut mine, other);
-            let second = explore(rules, table, counts, desk, list, memory, &mine, there);
+            let second = explore(rules, table, counts, desk, list, memory, memo, &mine, there);
             let both = joined(first, second, t, i, phase);
             hand_up(rules, table, counts, desk, memory, node, both)
         },
@@ -101,6 +105,7 @@ pub fn search(
     let looped = looped_atoms(rules, unit.rules);
     let desk = lay_out(rules, heads, unit, looped);
     let mut memory = empty_store();
+    let mut memo = blank_memo();
     let mut filter = full_filter(counts);
     let front = Front {
         state: s,
@@ -127,6 +132,7 @@ pub fn search(
         &desk,
         list,
         &mut memory,
+        &mut memo,
         &filter,
         node,
     ).count

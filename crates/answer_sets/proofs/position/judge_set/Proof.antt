@@ -8,15 +8,15 @@ use Rattle.answer_sets.proofs.position.judge_set.Statement.{statement}
 use Rattle.answer_sets.proofs.position.judge_set.Tie as tie
 
 abbrev start : tie.After-kept-rules → tie.Start
-start c = c .before .before .before .before
+start c = c .before .before .before .before .before
 
 kept-lent : (c : tie.After-kept-rules) → Lent (now (start c .args .rules)) (c .kept-rules .result)
-kept-lent c = lent-kept (start c .args .position) (c .kept-rules .ensures) (start c .pre)
+kept-lent c = lent-kept (start c .args .position) (c .kept-rules .ensures) (start c .pre .0)
 
 returns : tie.Need-returns
 returns c = (
   no-facts _ _ _ _ (c .before .is-subset .ensures) (c .if1 .taken),
-  refuted-facts _ _ _ _ (c .before .is-subset .ensures) (c .if1 .taken),
+  (refuted-facts _ _ _ _ (c .before .is-subset .ensures) (c .if1 .taken), c .before .before .before .before .pre .1),
 )
 
 returns-2 : tie.Need-returns-2
@@ -24,18 +24,20 @@ returns-2 c =
     let k = c .before .before in
     let facts = k .before .before .is-subset .ensures in (
       no-model _ _ _ _ facts (k .before .if1 .left) (k .kept-rules .ensures) (c .before .all-satisfied .ensures) (c .if2 .taken),
-      refuted-model _ _ _ _ facts (k .before .if1 .left) (k .kept-rules .ensures) (c .before .all-satisfied .ensures) (c .if2 .taken),
+      (
+        refuted-model _ _ _ _ facts (k .before .if1 .left) (k .kept-rules .ensures) (c .before .all-satisfied .ensures) (c .if2 .taken),
+        start k .pre .1,
+      ),
     )
 
 returns-3 : tie.Need-returns-3
 returns-3 c =
-    let smaller = c .before in
-    let k = smaller .before .before .before in
-    let at-if1 = k .before in
-    let at-is-subset = at-if1 .before in (
-      model-judged _ _ _ _ (at-is-subset .is-subset .ensures) (at-if1 .if1 .left) (k .kept-rules .ensures)
-          (smaller .before .before .all-satisfied .ensures) (smaller .before .if2 .left) (smaller .some-smaller .ensures .0 .computed),
-      refuted-smaller (k .kept-rules .ensures) (smaller .some-smaller .ensures .1),
+    let smaller = c .before .before .before in
+    let tested = smaller .before .before in
+    let k = tested .before .before in (
+      model-judged _ _ _ _ (k .before .before .is-subset .ensures) (k .before .if1 .left) (k .kept-rules .ensures)
+          (tested .before .all-satisfied .ensures) (tested .if2 .left) (smaller .some-smaller .ensures .0 .computed),
+      (refuted-smaller (k .kept-rules .ensures) (smaller .some-smaller .ensures .1 .0), smaller .some-smaller .ensures .1 .1),
     )
 
 pub judge-set-spec : {M : Type 1} → statement M
@@ -44,8 +46,9 @@ judge-set-spec =
     (tie.spec
     (λ c κs. search needs)
     returns
-    (λ c κs. search needs)
+    (λ c κs. c .before .before .before .before .pre .0)
     (λ c κs. kept-lent c)
     returns-2
-    (λ c κs. kept-lent (c .before .before))
+    (λ c κs. let k = c .before .before .before in (kept-lent k, start k .pre .1))
+    (λ c. search needs)
     returns-3)

@@ -1,51 +1,63 @@
--- The positions passed so far are answer sets (Passed).
-use mathlib.Core.Path.{sym, _∙_}
+-- The positions passed so far are answer sets (Passed), and the memo keeps its promise.
+use mathlib.Core.Path.{_≡_, sym, _∙_}
 use Prim.Native.Nat.{_-_}
 use native.Mathlib.Omega.{arith}
+use denote.Ref.{now}
 use borrow.Author.Needs.{needs}
 use borrow.Author.Tests.{not-true, not-false}
+use Rattle.answer_sets.specs.Memo.{Memo}
+use Rattle.judge.specs.Settled.{settled}
+use Rattle.judge.specs.Sheets.{positionAt}
 use Rattle.judge.proofs.Settled.{whole-lent}
 use Rattle.judge.proofs.JudgedSheets.{Passed, tested-at, passed-more, places-first, places-all}
 use Rattle.judge.proofs.sheet.judge_places.Statement.{statement}
 use Rattle.judge.proofs.sheet.judge_places.Tie as tie
 
 abbrev Inv-loop : tie.InvT-loop
-Inv-loop positions plan whole-program count place₀ place = Passed plan positions place
+Inv-loop positions plan whole-program count memo₀ place₀ memo place = Passed plan positions place × Memo (plan .rules) memo
 
 abbrev μ-loop : tie.MeasureT-loop
-μ-loop positions plan whole-program count place₀ place = count - place
+μ-loop positions plan whole-program count memo₀ place₀ memo place = count - place
 
-is-answer-set-requires : tie.Need-is-answer-set-requires Inv-loop μ-loop
-is-answer-set-requires c κs =
-    let whole = c .before .before .before .before .before .before in
+-- the turn in which a position is judged, and the start
+abbrev turn : tie.After-judge-set Inv-loop μ-loop → tie.At-loop Inv-loop μ-loop
+turn c = c .before .before .before .before .before .before .before
+
+abbrev whole : tie.After-judge-set Inv-loop μ-loop → tie.After-first Inv-loop μ-loop
+whole c = turn c .before .before
+
+abbrev word : tie.After-judge-set Inv-loop μ-loop → tie.After-read-word Inv-loop μ-loop
+word c = c .before .before .before .before .before
+
+judge-set-requires : tie.Need-judge-set-requires Inv-loop μ-loop
+judge-set-requires c κs =
+    let loop = c .before .before .before .before .before .before in
+    let whole = loop .before .before in
     let start = whole .before .before in
-    whole-lent (start .args .t1) _ (start .pre) (search needs) (whole .first .ensures)
+    (whole-lent (start .args .t1) _ (start .pre) (search needs) (whole .first .ensures), loop .loop .inv .1)
+
+-- the answer is that of the position at the place
+told : (c : tie.After-judge-set Inv-loop μ-loop)
+    → c .judge-set .result .answers
+    ≡ settled (whole c .before .before .args .t1) (positionAt (now (whole c .before .before .args .positions)) (turn c .loop .place))
+told c =
+    tested-at (whole c .before .before .args .t1) _ (turn c .loop .place) (c .judge-set .ensures .0) (whole c .first .ensures) (word c .read-word .ensures)
 
 returns : tie.Need-returns Inv-loop μ-loop
 returns c =
-    let test = c .before in
-    let word = test .before .before .before .before in
-    let test-2 = word .before in
-    let turn = test-2 .before in
-    let at-first = turn .before in
-    let start = at-first .before .before in
-    let plan = start .args .t1 in
-    let b = tested-at plan _ (turn .loop .place) (test .is-answer-set .ensures) (at-first .first .ensures) (word .read-word .ensures) in
-    sym (places-first plan _ _ (test-2 .loop-test .taken) (turn .loop .inv) (sym b ∙ not-true _ (c .if1 .taken)))
+    let judged = c .before .before .before in
+    sym (places-first (whole judged .before .before .args .t1) _ _ (word judged .before .loop-test .taken) (turn judged .loop .inv .0)
+    (sym (told judged) ∙ not-true _ (c .if1 .taken)))
 
 loop-again : tie.Need-loop-again Inv-loop μ-loop
 loop-again c =
-    let test = c .before in
-    let word = test .before .before .before .before in
-    let turn = word .before .before in
-    let at-first = turn .before in
-    let start = at-first .before .before in
-    let plan = start .args .t1 in
-    let b = tested-at plan _ (turn .loop .place) (test .is-answer-set .ensures) (at-first .first .ensures) (word .read-word .ensures) in
-    passed-more plan _ _ (turn .loop .inv) (sym b ∙ not-false _ (c .if1 .left))
+    let judged = c .before .before .before in (
+      passed-more (whole judged .before .before .args .t1) _ _ (turn judged .loop .inv .0) (sym (told judged) ∙ not-false _ (c .if1 .left)),
+      judged .judge-set .ensures .1,
+    )
 
 returns-2 : tie.Need-returns-2 Inv-loop μ-loop
-returns-2 c = sym (places-all _ _ (λ q l. c .before .loop .inv q (omega (arith, c .loop-test .left))))
+returns-2 c = sym (places-all _ _ (λ q l. c .before .loop .inv .0 q (omega (arith, c .loop-test .left))))
 
 pub judge-places-spec : {M : Type 1} → statement M
 judge-places-spec =
@@ -54,10 +66,12 @@ judge-places-spec =
     Inv-loop
     μ-loop
     (λ c κs. search needs)
-    (λ c q l. absurd (omega arith))
+    (λ c κs. search needs)
+    (λ c. ((λ q l. absurd (omega arith)), c .blank-memo .ensures .memo _))
     (λ c. search needs)
     (λ c κs. omega (arith, c .loop-test .taken))
-    is-answer-set-requires
+    (λ c. sym (c .before .before .before .before .before .before .loop .inv .1 .long))
+    judge-set-requires
     returns
     (λ c. search needs)
     (λ c. search needs)

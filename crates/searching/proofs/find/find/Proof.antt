@@ -1,4 +1,6 @@
 -- Nothing shows, so the list holds one cut at most, and the witness says whether a member was met.
+use mathlib.Core.Path.{sym}
+use mathlib.Core.List.{[]}
 use Rattle.joining.proofs.JoinedLists.{joinable-some}
 use Rattle.joining.proofs.Filters.{full-filtered}
 use Rattle.searching.proofs.Witnesses.{hidden-few}
@@ -11,7 +13,7 @@ use Rattle.searching.proofs.find.find.Tie as tie
 enter-requires : tie.Need-enter-requires
 enter-requires c κs =
     let made = c .before .before .before .before .before .before .before in
-    let pre = made .before .before .before .before .before .before .pre in
+    let pre = made .before .before .before .before .before .before .before .pre in
     rw (c .before .before .root .ensures) (
       pre .0,
       pre .1,
@@ -20,19 +22,21 @@ enter-requires c κs =
 
 explore-requires : tie.Need-explore-requires
 explore-requires c κs =
-    let node = c .before .before .before .before .before .before in
+    let node = c .before .before .before .before .before .before .before in
     let at-root = node .before .before .before in
-    entered-ready (at-root .root .ensures) (node .enter .ensures) (at-root .before .before .before .before .before .before .before .before .before .before .before .pre .0) zeros-ordered
+    let blank = at-root .before .before .before .before .before .before in
+    let start = blank .before .before .before .before .before .before in
+    entered-ready (at-root .root .ensures) (node .enter .ensures) (start .pre .0) zeros-ordered (blank .blank-memo .ensures .memo _)
 
 returns : tie.Need-returns
 returns c =
-    let found = c .before .before .before in
-    let node = found .before .before .before .before .before .before .before in
+    let found = c .before .before .before .before in
+    let node = found .before .before .before .before .before .before .before .before in
     let at-root = node .before .before .before in
     let front = at-root .before in
     let at-union2 = front .before in
     let at-union = at-union2 .before in
-    let told = explored-branch (at-root .root .ensures) (node .enter .ensures) (found .explore .ensures) in (
+    let told = explored-branch (at-root .root .ensures) (node .enter .ensures) (found .explore .ensures .0) in (
       rw (front .moved .ensures, at-union .union .ensures, at-union2 .union2 .ensures) at (told .witnessed (hidden-few (told .gathered))),
       told .remembers,
     )
@@ -46,9 +50,13 @@ find-spec =
     (λ c κs. search needs)
     (λ c κs. search needs)
     (λ c κs. search needs)
+    (λ c κs. search needs)
     (λ c. search needs)
     enter-requires
     (λ c. search needs)
+    (λ c.
+    let at-root = c .before .before .before .before .before .before .before .before .before in
+    sym (at-root .before .before .before .before .before .before .blank-memo .ensures .memo [] .long))
     (λ c. search needs)
     explore-requires
     (λ c. search needs)

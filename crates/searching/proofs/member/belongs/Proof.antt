@@ -12,19 +12,30 @@ use Rattle.searching.proofs.member.belongs.Tie as tie
 
 returns : tie.Need-returns
 returns c =
-    let at = c .before .before .before .before .before .before .args in
-    not-joined (now (at .rules)) (now (at .table)) (now (at .counts)) (now (at .heads)) (at .unit) (at .position)
-    (sym (c .before .joins .ensures) ∙ not-true (c .before .joins .result) (c .if1 .taken))
+    let start = c .before .before .before .before .before .before .before in
+    let at = start .args in (
+      not-joined (now (at .rules)) (now (at .table)) (now (at .counts)) (now (at .heads)) (at .unit) (at .position)
+          (sym (c .before .joins .ensures) ∙ not-true (c .before .joins .result) (c .if1 .taken)),
+      start .pre .1,
+    )
+
+judge-set-requires : tie.Need-judge-set-requires
+judge-set-requires c κs = let pre = c .before .before .before .before .before .before .before .before .before .pre in (pre .0 .rules-lent, pre .1)
 
 returns-2 : tie.Need-returns-2
 returns-2 c =
-    let at-joins = c .before .before .before in
-    let start = at-joins .before .before .before .before .before in
-    let at = start .args in
-    joined-answers (now (at .rules)) (now (at .table)) (now (at .counts)) (now (at .heads)) (at .unit) (at .position) (c .judge-set .result .answers)
-    (start .fits .position .fits) (sym (at-joins .joins .ensures) ∙ not-false (at-joins .joins .result) (c .before .before .if1 .left))
-    (c .judge-set .ensures .0 ∙ ap (λ (w : ℕ). answerSet (lent (now (at .rules))) (at .unit .rules) w (at .position)) (c .before .cut .ensures))
+    let judged = c .before .before in
+    let at-cut = judged .before .before in
+    let at-joins = at-cut .before .before in
+    let start = at-joins .before .before .before .before .before .before in
+    let at = start .args in (
+      joined-answers (now (at .rules)) (now (at .table)) (now (at .counts)) (now (at .heads)) (at .unit) (at .position) (judged .judge-set .result .answers)
+          (start .fits .position .fits) (sym (at-joins .joins .ensures) ∙ not-false (at-joins .joins .result) (at-cut .before .if1 .left))
+          (judged .judge-set .ensures .0
+          ∙ ap (λ (w : ℕ). answerSet (lent (now (at .rules))) (at .unit .rules) w (at .position)) (at-cut .cut .ensures)),
+      judged .judge-set .ensures .1 .1,
+    )
 
 pub belongs-spec : {M : Type 1} → statement M
 belongs-spec =
-    tie.close (tie.spec (λ c κs. search needs) returns (λ c κs. search needs) (λ c κs. search needs) returns-2)
+    tie.close (tie.spec (λ c κs. search needs) returns (λ c κs. search needs) judge-set-requires (λ c. search needs) returns-2)

@@ -11,38 +11,44 @@ returns : tie.Need-returns
 returns c =
     let rejected = c .before .before .before in
     let at-if1 = rejected .before .before .before in
-    let test = at-if1 .before .before in
-    let start = test .before .before .before .before .before .before .before .before .before .before in
-    let at = start .args in
-    offer-none (now (at .list)) (at .node .count) (at .node .shown) (at .node .front .state .up) (start .pre .1)
-    (rw (not-true (test .belongs .result .answers) (at-if1 .if1 .taken)) at (test .belongs .ensures))
-    (c .handed .ensures) (rejected .reject .ensures .0) (rejected .reject .ensures .1)
+    let test = at-if1 .before .before .before .before in
+    let start = test .before .before .before .before .before .before .before .before .before .before .before .before in
+    let at = start .args in (
+      test .belongs .ensures .1,
+      offer-none (now (at .list)) (at .node .count) (at .node .shown) (at .node .front .state .up) (start .pre .1)
+          (rw (not-true (test .belongs .result .answers) (at-if1 .if1 .taken)) at (test .belongs .ensures .0))
+          (c .handed .ensures) (rejected .reject .ensures .0) (rejected .reject .ensures .1),
+    )
 
 returns-2 : tie.Need-returns-2
 returns-2 c =
     let put = c .before .before .before .before in
     let at-cut = put .before in
     let at-if1 = at-cut .before .before in
-    let test = at-if1 .before .before in
-    let start = test .before .before .before .before .before .before .before .before .before .before in
-    let at = start .args in
-    offer-one (now (at .list)) (at .node .count) (at .node .shown) (at .node .front .state .up) (put .insert .last .0) (start .pre .1)
-    (test .belongs .ensures .yes (not-false (test .belongs .result .answers) (at-if1 .if1 .left)))
-    (at-cut .cut .ensures) (put .insert .ensures) (c .handed2 .ensures) (start .pre .2) (overlap-nogood (c .before .everything .ensures .0))
+    let test = at-if1 .before .before .before .before in
+    let start = test .before .before .before .before .before .before .before .before .before .before .before .before in
+    let at = start .args in (
+      test .belongs .ensures .1,
+      offer-one (now (at .list)) (at .node .count) (at .node .shown) (at .node .front .state .up) (put .insert .last .0) (start .pre .1)
+          (test .belongs .ensures .0 .yes (not-false (test .belongs .result .answers) (at-if1 .if1 .left)))
+          (at-cut .cut .ensures) (put .insert .ensures) (c .handed2 .ensures) (start .pre .2) (overlap-nogood (c .before .everything .ensures .0)),
+    )
 
 pub offer-spec : {M : Type 1} → statement M
 offer-spec =
     tie.close
     (tie.spec
-    (λ c κs. c .before .before .before .before .before .before .before .before .before .pre .0 .searchable)
+    (λ c κs. let pre = c .before .before .before .before .before .before .before .before .before .before .before .pre in (pre .0 .searchable, pre .3))
     (λ c κs. search needs)
     (λ c κs. search needs)
     (λ c κs. search needs)
+    (λ c. search needs)
     (λ c. search needs)
     returns
     (λ c κs. search needs)
     (λ c κs. search needs)
     (λ c κs. search needs)
     (λ c κs. search needs)
+    (λ c. search needs)
     (λ c. search needs)
     returns-2)

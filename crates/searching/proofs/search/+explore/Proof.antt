@@ -2,7 +2,7 @@
 -- or both are searched.
 use mathlib.Core.Path.{_≡_, refl, sym, _∙_}
 use mathlib.Core.Bool.{Bool, not}
-use Prim.Native.Nat.{ℕ, _<_, _^_}
+use Prim.Native.Nat.{ℕ, _<_, _≤_, _^_}
 use native.Mathlib.Omega.{arith}
 use lib.Count.{ones}
 use denote.Ref.{now}
@@ -10,6 +10,7 @@ use borrow.Author.Needs.{needs}
 use borrow.Fn.Kinds.{In}
 use borrow.Fn.PlainCycle.{Measures, is, falls, and}
 use Rattle.atoms.specs.Word.{ATOMS, Has}
+use Rattle.plan.specs.Limits.{LIST_WORDS}
 use Rattle.states.specs.State.{undecided}
 use Rattle.states.proofs.Branches.{decided-falls}
 use Rattle.narrowing.specs.Stops.{NoStop}
@@ -36,15 +37,15 @@ use Rattle.joining.proofs.filter.copied.Reads as copied-reads
 use Rattle.searching.proofs.search.+explore.{statement}
 use Rattle.searching.proofs.search.+explore.Tie.{close}
 
-abbrev μ-explore : Measures 7 explore-kinds.ps ℕ
+abbrev μ-explore : Measures 8 explore-kinds.ps ℕ
 μ-explore κs a =
-    ones (undecided (a .1 .1 .1 .1 .1 .1 .1 .0 .front .state .up) (a .1 .1 .1 .1 .1 .1 .1 .0 .front .state .dropped))
+    ones (undecided (a .1 .1 .1 .1 .1 .1 .1 .1 .0 .front .state .up) (a .1 .1 .1 .1 .1 .1 .1 .1 .0 .front .state .dropped))
 
-abbrev explore-at : ℕ → In 7 explore-kinds.ps
-explore-at t = and 7 explore-kinds.ps (is 7 explore-kinds.ps μ-explore t) explore′.Pre
+abbrev explore-at : ℕ → In 8 explore-kinds.ps
+explore-at t = and 8 explore-kinds.ps (is 8 explore-kinds.ps μ-explore t) explore′.Pre
 
-abbrev explore-below : ℕ → In 7 explore-kinds.ps
-explore-below t = and 7 explore-kinds.ps (falls 7 explore-kinds.ps _<_ μ-explore t) explore′.Pre
+abbrev explore-below : ℕ → In 8 explore-kinds.ps
+explore-below t = and 8 explore-kinds.ps (falls 8 explore-kinds.ps _<_ μ-explore t) explore′.Pre
 
 abbrev calls : ℕ → explore-lts.Claims
 calls t = (
@@ -101,7 +102,7 @@ module _ (t : ℕ) where
   Twice = explore-lts.After-explore2 (calls t) (explore-at t) explore′.Post
 
   abbrev start : Open → Start
-  start c = c .before .before .before .before .before .before .before .before .before
+  start c = c .before .before .before .before .before .before .before .before .before .before
 
   abbrev phased : Entered → explore-lts.After-phase-of (calls t) (explore-at t) explore′.Post
   phased c = c .before .before .before .before .before
@@ -110,13 +111,13 @@ module _ (t : ℕ) where
   chosen c = phased c .before .before .before .before .before .before
 
   abbrev entered : Searched → Entered
-  entered c = c .before .before .before .before .before .before .before
+  entered c = c .before .before .before .before .before .before .before .before
 
   abbrev reentered : Twice → Reentered
-  reentered c = c .before .before .before .before .before .before .before
+  reentered c = c .before .before .before .before .before .before .before .before
 
   abbrev searched : Reentered → Searched
-  searched c = c .before .before .before .before .before .before .before .before .before .before .before .before .before .before .before
+  searched c = c .before .before .before .before .before .before .before .before .before .before .before .before .before .before .before .before .before
 
   -- ---- what is known there
 
@@ -130,6 +131,10 @@ module _ (t : ℕ) where
       × (c .next .given .0 .0 < ATOMS)
       × NoStop (now (start c .args .rules)) (start c .args .node .unit .rules) (start c .args .node .front .state)
   free c = is-open _ _ (c .next .given .1) (start c .pre .1 .4)
+
+  -- after the first branch the list has room
+  roomy : (c : Reentered) → searched c .explore .result .count ≤ LIST_WORDS
+  roomy c = let test = c .before .before .before .before .before .before .before in test .before .is-done .ensures .room (test .if1 .left)
 
   -- ---- what the calls ask
 
@@ -147,30 +152,30 @@ module _ (t : ℕ) where
 
   first-requires : explore-lts.Need-explore-requires (calls t) (explore-at t) explore′.Post
   first-requires c κs =
-      let e = c .before .before .before .before .before .before in
+      let e = c .before .before .before .before .before .before .before in
       let one = e .before .before .before in
       let k = chosen e in (
         rw (start k .pre .0) at
             (decided-falls (start k .args .node .front .state) (phased e .phase-of .result) (free k .0) (one .below .ensures .1) (e .enter .ensures .narrows)),
-        entered-ready (one .below .ensures .0) (e .enter .ensures) (start k .pre .1 .0) (start k .pre .1 .1),
+        entered-ready (one .below .ensures .0) (e .enter .ensures) (start k .pre .1 .0) (start k .pre .1 .1) (start k .pre .1 .5),
       )
 
   reenter-requires : explore-lts.Need-enter-requires-2 (calls t) (explore-at t) explore′.Post
   reenter-requires c κs =
       let other = c .before .before in
-      let s = other .before .before .before .before .before .before .before .before .before .before .before .before in
+      let s = other .before .before .before .before .before .before .before .before .before .before .before .before .before .before in
       let k = chosen (entered s) in
       let pre = start k .pre .1 in
       rw (other .below2 .ensures .0) (
         pre .0,
-        explored-branch (entered s .before .before .before .below .ensures .0) (entered s .enter .ensures) (s .explore .ensures) .remembers,
+        explored-branch (entered s .before .before .before .below .ensures .0) (entered s .enter .ensures) (s .explore .ensures .0) .remembers,
         filtered-branch (start k .args .node .front .state) (k .next .given .0 .0) (not (phased (entered s) .phase-of .result)) (other .below2 .ensures .1)
             (rw (other .before .copied2 .ensures) (pre .3)),
       )
 
   second-requires : explore-lts.Need-explore-requires-2 (calls t) (explore-at t) explore′.Post
   second-requires c κs =
-      let e = c .before .before .before .before .before .before in
+      let e = c .before .before .before .before .before .before .before in
       let other = e .before .before .before in
       let s = searched e in
       let k = chosen (entered s) in (
@@ -178,7 +183,7 @@ module _ (t : ℕ) where
             (decided-falls (start k .args .node .front .state) (not (phased (entered s) .phase-of .result)) (free k .0) (other .below2 .ensures .1)
             (e .enter2 .ensures .narrows)),
         entered-ready (other .below2 .ensures .0) (e .enter2 .ensures) (start k .pre .1 .0)
-            (gathered-ordered (e .before .before .before .before .before .before .before .before .is-done .ensures .room (e .before .before .before .before .before .before .before .if1 .left)) (s .explore .ensures .gathered)),
+            (gathered-ordered (roomy e) (s .explore .ensures .0 .gathered)) (s .explore .ensures .1),
       )
 
   -- ---- what is handed back
@@ -186,101 +191,132 @@ module _ (t : ℕ) where
   halted : explore-lts.Need-returns-3 (calls t) (explore-at t) explore′.Post
   halted c =
       let stop = c .before .before in
-      let at = stop .before .before .before .before .before .before .before .before .before .before .before in
-      explored-stop (belongs-answers _ _ _ _ _ (fits at)) (at .pre .1 .1) (is-stop _ _ (stop .before .before .enum-told .given .1) (at .pre .1 .4)) (stop .halt .ensures .0)
-      (stop .halt .ensures .1 .0) (stop .halt .ensures .1 .1)
+      let at = stop .before .before .before .before .before .before .before .before .before .before .before .before in (
+        explored-stop (belongs-answers _ _ _ _ _ (fits at)) (at .pre .1 .1) (is-stop _ _ (stop .before .before .enum-told .given .1) (at .pre .1 .4))
+            (stop .halt .ensures .0) (stop .halt .ensures .1 .0) (stop .halt .ensures .1 .1),
+        at .pre .1 .5,
+      )
 
   offered : explore-lts.Need-returns-4 (calls t) (explore-at t) explore′.Post
   offered c =
-      let leaf = c .before .before .before .before in
-      let at = leaf .before .before .before .before .before .before .before .before .before .before .before .before in
-      explored-leaf (λ M b. b .word) (is-leaf _ _ (leaf .before .before .before .enum-told2 .given .1) (at .pre .1 .4)) (leaf .offer .ensures .0) (leaf .offer .ensures .1 .0)
-      (leaf .offer .ensures .1 .1 .0) (leaf .offer .ensures .1 .1 .1)
+      let leaf = c .before .before .before .before .before .before in
+      let at = leaf .before .before .before .before .before .before .before .before .before .before .before .before .before .before in
+      let told = leaf .offer .ensures .1 in (
+        explored-leaf (λ M b. b .word) (is-leaf _ _ (leaf .before .before .before .before .enum-told2 .given .1) (at .pre .1 .4))
+            (told .0) (told .1 .0) (told .1 .1 .0) (told .1 .1 .1),
+        leaf .offer .ensures .0,
+      )
 
   done : explore-lts.Need-returns (calls t) (explore-at t) explore′.Post
   done c =
-      let s = c .before .before .before .before .before .before .before .before in
+      let s = c .before .before .before .before .before .before .before .before .before .before in
       let one = entered s .before .before .before in
-      let first = explored-branch (one .below .ensures .0) (entered s .enter .ensures) (s .explore .ensures) in
-      explored-done (chosen (entered s) .next .given .0 .0) (phased (entered s) .phase-of .result) (one .below .ensures .1) first (λ M b. b .word) (rw (c .before .before .before .undecided .ensures) at (c .before .before .cut .ensures))
-      (c .before .is-done .ensures .done (c .if1 .taken))
+      let first = explored-branch (one .below .ensures .0) (entered s .enter .ensures) (s .explore .ensures .0) in (
+        explored-done (chosen (entered s) .next .given .0 .0) (phased (entered s) .phase-of .result) (one .below .ensures .1) first (λ M b. b .word)
+            (rw (c .before .before .before .undecided .ensures) at (c .before .before .cut .ensures)) (c .before .is-done .ensures .done (c .if1 .taken)),
+        s .explore .ensures .1,
+      )
 
   skipped : explore-lts.Need-returns-2 (calls t) (explore-at t) explore′.Post
   skipped c =
-      let s = c .before .before .before .before .before .before .before .before .before .before .before .before .before .before in
+      let within = c .before .before .before .before in
+      let s = within .before .before .before .before .before .before .before .before .before .before .before .before in
       let one = entered s .before .before .before in
-      let first = explored-branch (one .below .ensures .0) (entered s .enter .ensures) (s .explore .ensures) in
-      explored-skip (chosen (entered s) .next .given .0 .0) (phased (entered s) .phase-of .result) (one .below .ensures .1) first (c .before .before .before .before .before .lies-within .ensures .yes (c .before .before .before .before .if2 .taken)) (c .before .before .hand-up .ensures)
+      let first = explored-branch (one .below .ensures .0) (entered s .enter .ensures) (s .explore .ensures .0) in (
+        explored-skip (chosen (entered s) .next .given .0 .0) (phased (entered s) .phase-of .result) (one .below .ensures .1) first
+            (within .before .lies-within .ensures .yes (within .if2 .taken)) (c .before .before .hand-up .ensures),
+        s .explore .ensures .1,
+      )
 
   both-searched : explore-lts.Need-returns-5 (calls t) (explore-at t) explore′.Post
   both-searched c =
       let joined = c .before .before .before .before in
-      let h = joined .before .before .before .before .before in
+      let h = joined .before .before .before .before .before .before .before in
       let r = reentered h in
       let other = r .before .before .before in
       let s = searched r in
       let one = entered s .before .before .before in
-      let first = explored-branch (one .below .ensures .0) (entered s .enter .ensures) (s .explore .ensures) in
-      let second = explored-branch (other .below2 .ensures .0) (r .enter2 .ensures) (h .explore2 .ensures) in
-      explored-both (chosen (entered s) .next .given .0 .0) (phased (entered s) .phase-of .result) (one .below .ensures .1) first (r .before .before .before .before .before .before .before .before .is-done .ensures .room (r .before .before .before .before .before .before .before .if1 .left)) (other .below2 .ensures .1) second
-      (joined .joined .ensures .0) (joined .joined .ensures .1) (c .before .before .hand-up2 .ensures)
+      let first = explored-branch (one .below .ensures .0) (entered s .enter .ensures) (s .explore .ensures .0) in
+      let second = explored-branch (other .below2 .ensures .0) (r .enter2 .ensures) (h .explore2 .ensures .0) in (
+        explored-both (chosen (entered s) .next .given .0 .0) (phased (entered s) .phase-of .result) (one .below .ensures .1) first (roomy r)
+            (other .below2 .ensures .1) second (joined .joined .ensures .0) (joined .joined .ensures .1) (c .before .before .hand-up2 .ensures),
+        h .explore2 .ensures .1,
+      )
 
 pub +explore-spec : {M : Type 1} → statement M
 +explore-spec = close μ-explore λ t. explore-lts.spec (calls t)
     (explore-at t)
     explore′.Post
     (λ c. search needs)
-    (λ c κs. let pre = c .before .before .before .before .before .before .before .before .before .before .pre .1 in (pre .0, pre .2))
+    (λ c κs. let pre = c .before .before .before .before .before .before .before .before .before .before .before .pre .1 in (pre .0, pre .2))
     (λ c. search needs)
-    (λ c κs. let pre = c .before .before .before .before .before .before .before .before .before .before .before .pre .1 in (pre .0, pre .1, pre .2))
+    (λ c κs.
+    let pre = c .before .before .before .before .before .before .before .before .before .before .before .before .before .pre .1 in
+    (pre .0, pre .1, pre .2, pre .5))
     (λ c. search needs)
     (λ c κs.
     let k = c .before .before .before .before .before in
     let pre = start t k .pre .1 in
     (pre .0 .searchable .rules-lent, pre .0 .long, pre .2 .long, free t k .1))
-    (λ c κs. c .before .before .before .before .before .before .before .before .before .before .before .before .before .before .before .pre .1 .3 .long)
+    (λ c κs. c .before .before .before .before .before .before .before .before .before .before .before .before .before .before .before .before .pre .1 .3 .long)
     (λ c κs. let k = c .before .before .before .before .before .before .before in (free t k .2, start t k .pre .1 .0 .long, free t k .1))
     (λ c. search needs)
     (enter-requires t)
-    (λ c. sym (c .before .before .before .before .before .before .enter .ensures .filtered .long))
+    (λ c. sym (c .before .before .before .before .before .before .before .enter .ensures .filtered .long))
     (first-requires t)
     (λ c κs. search needs)
     (λ c κs. search needs)
     (λ c κs. search needs)
-    (λ c. c .before .before .before .before .before .before .before .before .explore .kept .1 .1 .1 .1 .0)
-    (λ c. let s = c .before .before .before .before .before .before .before .before in s .explore .kept .1 .1 .1 .1 .1 .0 ∙ entered t s .enter .kept .1 .1 .1 .1 .0)
+    (λ c. c .before .before .before .before .before .before .before .before .before .before .explore .kept .1 .1 .1 .1 .0)
+    (λ c.
+    let s = c .before .before .before .before .before .before .before .before .before .before in
+    s .explore .kept .1 .1 .1 .1 .1 .0 ∙ entered t s .enter .kept .1 .1 .1 .1 .0)
+    (λ c. c .before .before .before .before .before .before .before .before .before .before .explore .kept .1 .1 .1 .1 .1 .1 .0)
     (done t)
     (λ c κs. search needs)
-    (λ c κs. let s = c .before .before .before .before .before .before .before .before .before .before .before in (start t (chosen t (entered t s)) .pre .1 .0, s .explore .ensures .remembers .long))
-    (λ c. c .before .before .before .before .before .before .before .before .before .before .before .before .before .before .explore .kept .1 .1 .1 .1 .0)
-    (λ c.
-    let s = c .before .before .before .before .before .before .before .before .before .before .before .before .before .before in
-    c .before .before .hand-up .kept .1 .1 .1 .1 .0 ∙ s .explore .kept .1 .1 .1 .1 .1 .0 ∙ entered t s .enter .kept .1 .1 .1 .1 .0)
-    (skipped t)
-    (λ c κs. start t (chosen t (entered t (c .before .before .before .before .before .before .before .before .before .before))) .pre .1 .3 .long)
     (λ c κs.
-    let k = chosen t (entered t (c .before .before .before .before .before .before .before .before .before .before .before)) in
+    let s = c .before .before .before .before .before .before .before .before .before .before .before .before .before in
+    (start t (chosen t (entered t s)) .pre .1 .0, s .explore .ensures .0 .remembers .long))
+    (λ c.
+    let s = c .before .before .before .before .before .before .before .before .before .before .before .before .before .before .before .before in
+    s .explore .kept .1 .1 .1 .1 .0)
+    (λ c.
+    let s = c .before .before .before .before .before .before .before .before .before .before .before .before .before .before .before .before in
+    c .before .before .hand-up .kept .1 .1 .1 .1 .0 ∙ s .explore .kept .1 .1 .1 .1 .1 .0 ∙ entered t s .enter .kept .1 .1 .1 .1 .0)
+    (λ c.
+    let s = c .before .before .before .before .before .before .before .before .before .before .before .before .before .before .before .before in
+    s .explore .kept .1 .1 .1 .1 .1 .1 .0)
+    (skipped t)
+    (λ c κs.
+    let s = c .before .before .before .before .before .before .before .before .before .before .before .before in
+    start t (chosen t (entered t s)) .pre .1 .3 .long)
+    (λ c κs.
+    let k = chosen t (entered t (c .before .before .before .before .before .before .before .before .before .before .before .before .before)) in
     (free t k .2, start t k .pre .1 .0 .long, free t k .1))
     (λ c. search needs)
     (reenter-requires t)
-    (λ c. sym (c .before .before .before .before .before .before .enter2 .ensures .filtered .long))
+    (λ c. sym (c .before .before .before .before .before .before .before .enter2 .ensures .filtered .long))
     (second-requires t)
-    (λ c κs. free t (chosen t (entered t (searched t (reentered t (c .before .before .before .before))))) .1)
+    (λ c κs. free t (chosen t (entered t (searched t (reentered t (c .before .before .before .before .before .before))))) .1)
     (λ c κs.
-    let h = c .before .before .before .before .before .before in
-    (start t (chosen t (entered t (searched t (reentered t h)))) .pre .1 .0, h .explore2 .ensures .remembers .long))
+    let h = c .before .before .before .before .before .before .before .before in
+    (start t (chosen t (entered t (searched t (reentered t h)))) .pre .1 .0, h .explore2 .ensures .0 .remembers .long))
     (λ c. search needs)
     (halted t)
     (λ c. search needs)
     (λ c. search needs)
+    (λ c. search needs)
     (offered t)
     (λ c.
-    let h = c .before .before .before .before .before .before .before .before .before in
+    let h = c .before .before .before .before .before .before .before .before .before .before .before in
     h .explore2 .kept .1 .1 .1 .1 .0 ∙ searched t (reentered t h) .explore .kept .1 .1 .1 .1 .0)
     (λ c.
-    let h = c .before .before .before .before .before .before .before .before .before in
+    let h = c .before .before .before .before .before .before .before .before .before .before .before in
     let r = reentered t h in
     let s = searched t r in
     c .before .before .hand-up2 .kept .1 .1 .1 .1 .0 ∙ h .explore2 .kept .1 .1 .1 .1 .1 .0 ∙ r .enter2 .kept .1 .1 .1 .1 .0
     ∙ s .explore .kept .1 .1 .1 .1 .1 .0 ∙ entered t s .enter .kept .1 .1 .1 .1 .0)
+    (λ c.
+    let h = c .before .before .before .before .before .before .before .before .before .before .before in
+    h .explore2 .kept .1 .1 .1 .1 .1 .1 .0 ∙ searched t (reentered t h) .explore .kept .1 .1 .1 .1 .1 .1 .0)
     (both-searched t)

@@ -1,5 +1,6 @@
 -- At first nothing is learnt, every entry may be joined, and every step is on the agenda. What is wanted through the desk is what is wanted.
 use mathlib.Core.Path.{sym}
+use mathlib.Core.List.{[]}
 use denote.Ref.{now}
 use Rattle.learning.proofs.Reasons.{remembers-empty}
 use Rattle.joining.proofs.JoinedLists.{joinable-some}
@@ -15,7 +16,10 @@ abbrev entry : tie.After-lay-out → tie.Start
 entry c = c .before .before .before .before .before .before .before
 
 abbrev laid : tie.After-begin → tie.After-lay-out
-laid c = c .before .before .before .before .before .before .before
+laid c = c .before .before .before .before .before .before .before .before
+
+abbrev blank : tie.After-begin → tie.After-blank-memo
+blank c = c .before .before .before .before .before .before
 
 lay-out-requires : tie.Need-lay-out-requires
 lay-out-requires c κs =
@@ -25,7 +29,7 @@ lay-out-requires c κs =
 begin-requires : tie.Need-begin-requires
 begin-requires c κs =
     let full = c .before .before .before .before in
-    let at-empty-store = full .before in
+    let at-empty-store = full .before .before in
     let desk = at-empty-store .before in
     let ready = prepared (desk .lay-out .ensures) (entry desk .pre .0) in (
       ready,
@@ -42,20 +46,22 @@ enter-requires c κs =
 
 explore-requires : tie.Need-explore-requires
 explore-requires c κs =
-    let node = c .before .before .before .before .before .before in
-    let at-root = node .before .before .before .before in
-    let desk = laid (at-root .before .before .before .before) in
-    let pre = entry desk .pre in
-    entered-ready (at-root .root .ensures) (node .enter .ensures) (prepared (desk .lay-out .ensures) (pre .0)) (pre .1)
-
-returns : tie.Need-returns
-returns c =
-    let done = c .before .before .before in
-    let node = done .before .before .before .before .before .before .before in
+    let node = c .before .before .before .before .before .before .before in
     let at-root = node .before .before .before .before in
     let begun = at-root .before .before .before .before in
     let desk = laid begun in
-    let told = explored-branch (at-root .root .ensures) (node .enter .ensures) (done .explore .ensures) in
+    let pre = entry desk .pre in
+    entered-ready (at-root .root .ensures) (node .enter .ensures) (prepared (desk .lay-out .ensures) (pre .0)) (pre .1)
+    (blank begun .blank-memo .ensures .memo _)
+
+returns : tie.Need-returns
+returns c =
+    let done = c .before .before .before .before in
+    let node = done .before .before .before .before .before .before .before .before in
+    let at-root = node .before .before .before .before in
+    let begun = at-root .before .before .before .before in
+    let desk = laid begun in
+    let told = explored-branch (at-root .root .ensures) (node .enter .ensures) (done .explore .ensures .0) in
     search-alike (desk-belongs (desk .lay-out .ensures) _ _) (belongs-desk (desk .lay-out .ensures) _ _) (now (entry desk .args .list)) 0
     (explored-narrowed (begun .begin .ensures .0) told .gathered)
 
@@ -65,6 +71,7 @@ search-spec =
     (tie.spec
     (λ c κs. search needs)
     lay-out-requires
+    (λ c κs. search needs)
     (λ c κs. search needs)
     (λ c κs. search needs)
     (λ c κs. search needs)
@@ -79,6 +86,9 @@ search-spec =
     enter-requires
     (λ c. sym (laid (c .before .before .before .before .before .before .before .before .before .before .before) .lay-out .ensures .long))
     (λ c. search needs)
+    (λ c.
+    let at-root = c .before .before .before .before .before .before .before .before .before .before in
+    sym (blank (at-root .before .before .before .before) .blank-memo .ensures .memo [] .long))
     (λ c. search needs)
     explore-requires
     (λ c. search needs)

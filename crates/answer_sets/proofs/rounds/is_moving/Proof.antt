@@ -1,0 +1,18 @@
+-- The last test tells.
+use mathlib.Core.Path.{sym, _∙_}
+use mathlib.Core.Bool.{false≢true}
+use borrow.Author.Needs.{needs}
+use Rattle.answer_sets.proofs.rounds.is_moving.Statement.{statement}
+use Rattle.answer_sets.proofs.rounds.is_moving.Tie as tie
+
+pub is-moving-spec : {M : Type 1} → statement M
+is-moving-spec =
+    tie.close
+    (tie.spec
+    (λ c κs. search needs)
+    (λ c e f. false≢true e)
+    (λ c e f. false≢true e)
+    (λ c κs. search needs)
+    (λ c κs. search needs)
+    (λ c e f. false≢true e)
+    (λ c e f. c .if3 .left (c .before .before .undecided .ensures ∙ f ∙ sym (c .before .undecided2 .ensures))))

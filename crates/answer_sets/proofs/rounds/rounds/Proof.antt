@@ -1,0 +1,50 @@
+-- The loop carries what the rounds so far leave, and that the last one narrowed. The measure is how many atoms were undecided before it.
+use mathlib.Core.Path.{refl}
+use lib.Count.{ones}
+use borrow.Author.Needs.{needs}
+use Rattle.answer_sets.specs.Lent.{lent}
+use Rattle.answer_sets.specs.Program.{SatisfiesAll}
+use Rattle.answer_sets.specs.RulePass.{Sifted}
+use Rattle.states.specs.State.{undecided}
+use Rattle.states.specs.Narrowing.{Narrows}
+use Rattle.states.proofs.Branches.{pass-falls}
+use Rattle.answer_sets.proofs.RulePass.{sifted-more, rounds-narrow}
+use Rattle.answer_sets.proofs.Between.{lent-part}
+use Rattle.answer_sets.proofs.rounds.rounds.Statement.{statement}
+use Rattle.answer_sets.proofs.rounds.rounds.Tie as tie
+
+abbrev Inv-loop : tie.InvT-loop
+Inv-loop rules which position before₀ p₀ before p =
+    Sifted (lent rules) which before₀ which p × Narrows (SatisfiesAll (lent rules) which) before (p .state)
+
+abbrev μ-loop : tie.MeasureT-loop
+μ-loop rules which position before₀ p₀ before p = ones (undecided (before .up) (before .dropped))
+
+rule-pass-requires-2 : tie.Need-rule-pass-requires-2 Inv-loop μ-loop
+rule-pass-requires-2 c κs =
+    let at = c .before .before .before in
+    lent-part (at .before .before .before .pre) (at .loop .inv .0 .part)
+
+loop-less : tie.Need-loop-less Inv-loop μ-loop
+loop-less c =
+    let test = c .before .before in
+    pass-falls (test .before .before .loop .inv .1) refl refl (test .before .is-moving .ensures (test .if1 .taken)) refl
+
+loop-again : tie.Need-loop-again Inv-loop μ-loop
+loop-again c =
+    let inv = c .before .before .before .before .loop .inv in
+    (sifted-more (inv .0) (c .rule-pass2 .ensures), rounds-narrow (inv .0) (c .rule-pass2 .ensures))
+
+pub rounds-spec : {M : Type 1} → statement M
+rounds-spec =
+    tie.close
+    (tie.spec
+    Inv-loop
+    μ-loop
+    (λ c κs. c .before .pre)
+    (λ c. (c .rule-pass .ensures, c .rule-pass .ensures .narrows))
+    (λ c κs. search needs)
+    rule-pass-requires-2
+    loop-less
+    loop-again
+    (λ c. c .before .before .loop .inv .0))
