@@ -1,8 +1,8 @@
 //! walks WALK CLINGO OUTPUT FOLDER..: going from position to position beside clingo on the same plans.
 //!
-//! WALK meets the positions of NAME.plan one after the other; `CLINGO -n 0` lists all of NAME.lp, the same program. Both are timed as whole
-//! processes, in turn. The slowest single call of the walk stands beside the whole process of `CLINGO -n 1`, which looks for one answer set,
-//! both by the processor's time. The table is written as Markdown.
+//! WALK meets the positions of NAME.plan in two ways, one in a call and up to 256 in a call; `CLINGO -n 0` lists all of NAME.lp, the same program. All
+//! three are timed as whole processes, in turn. The slowest single call of the walk stands beside the whole process of `CLINGO -n 1`, which looks for one
+//! answer set, both by the processor's time. The table is written as Markdown.
 
 mod timing;
 
@@ -15,6 +15,11 @@ use timing::*;
 
 /// A walk ends after so many positions (bench/walk.c); then clingo is asked for as many.
 const MOST: usize = 8192;
+/// Positions in a call.
+const SINGLE: usize = 1;
+const BATCH: usize = 256;
+/// Walks that are told apart in the summary, by how many positions they meet.
+const GROUPS: [(&str, std::ops::RangeInclusive<usize>); 3] = [("under 100", 0..=99), ("100 to 1,000", 100..=1000), ("over 1,000", 1001..=MOST)];
 
 fn main() {
     let arguments: Vec<String> = std::env::args().skip(1).collect();
@@ -40,12 +45,15 @@ struct Programs {
 }
 
 impl Programs {
-    fn walk(&self, plan: &Path) -> Command {
-        reading(&self.walk, plan)
+    /// So many positions in a call.
+    fn walk(&self, plan: &Path, size: usize) -> Command {
+        let mut command = reading(&self.walk, plan);
+        command.arg(size.to_string());
+        command
     }
 
     fn calls(&self, plan: &Path, runs: usize) -> Command {
-        let mut command = reading(&self.walk, plan);
+        let mut command = self.walk(plan, SINGLE);
         command.arg(runs.to_string());
         command
     }
@@ -57,10 +65,14 @@ impl Programs {
         command
     }
 
-    /// The same with less preprocessing: with default settings clingo misses answer sets of some plans.
-    fn reference(&self, plan: &Path, count: usize) -> Command {
-        let mut command = self.clingo(plan, count);
-        command.args(["--eq=0", "--no-gamma"]);
+    /// The same of all atoms, those that do not show too, and with less preprocessing: with default settings clingo misses answer sets of some plans.
+    fn reference(&self, plan: &Path) -> Command {
+        let text = fs::read_to_string(plan.with_extension("lp")).expect("the program cannot be read");
+        let whole: String = text.lines().filter(|line| !line.starts_with("#show")).map(|line| line.to_owned() + "\n").collect();
+        let copy = std::env::temp_dir().join(format!("walks-{}.lp", std::process::id()));
+        fs::write(&copy, whole).expect("the program cannot be written");
+        let mut command = Command::new(&self.clingo);
+        command.args(["-n", "0", "--eq=0", "--no-gamma"]).arg(copy).stdin(Stdio::null());
         command
     }
 }
@@ -71,6 +83,7 @@ struct Row {
     name: String,
     positions: usize,
     walk: Option<Run>,
+    batches: Option<Run>,
     all: Option<Run>,
     /// The slowest call and its place from 0.
     call: Option<(Duration, usize)>,
@@ -79,18 +92,17 @@ struct Row {
 }
 
 fn measure(programs: &Programs, plan: &Path) -> Row {
-    let mut walk = vec![time(programs.walk(plan))];
-    let listed: Vec<u64> = match walk[0] {
-        Some(_) => output(programs.walk(plan)).lines().filter_map(|line| u64::from_str_radix(line, 16).ok()).collect(),
-        None => Vec::new(),
-    };
+    let mut walk = vec![time(programs.walk(plan, SINGLE))];
+    let mut batches = vec![time(programs.walk(plan, BATCH))];
+    let listed = if walk[0].is_some() { positions(programs.walk(plan, SINGLE)) } else { Vec::new() };
     let wanted = if listed.len() == MOST { MOST } else { 0 };
     let mut all = vec![time(programs.clingo(plan, wanted))];
     let mut one = vec![time(programs.clingo(plan, 1))];
     let is_quick = |run: &Option<Run>| run.map_or(false, |run| run.wall < QUICK);
     let runs = if is_quick(&walk[0]) && is_quick(&all[0]) { QUICK_RUNS } else { SLOW_RUNS };
     for _ in 0..runs {
-        repeat(&mut walk, || programs.walk(plan));
+        repeat(&mut walk, || programs.walk(plan, SINGLE));
+        repeat(&mut batches, || programs.walk(plan, BATCH));
         repeat(&mut all, || programs.clingo(plan, wanted));
         repeat(&mut one, || programs.clingo(plan, 1));
     }
@@ -99,12 +111,17 @@ fn measure(programs: &Programs, plan: &Path) -> Row {
         name: plan.file_stem().unwrap_or_default().to_string_lossy().into_owned(),
         positions: listed.len(),
         call: if has_ended { slowest(&output(programs.calls(plan, runs))) } else { None },
-        // Where both stop early they meet different positions.
-        is_same: (has_ended && wanted == 0).then(|| same(&listed, &output(programs.reference(plan, 0)))),
+        is_same: has_ended.then(|| positions(programs.walk(plan, BATCH)) == listed && same(programs, plan, &listed)),
         walk: median(walk),
+        batches: median(batches),
         all: median(all),
         one: median(one),
     }
+}
+
+/// The positions that WALK writes.
+fn positions(command: Command) -> Vec<u64> {
+    output(command).lines().filter_map(|line| u64::from_str_radix(line, 16).ok()).collect()
 }
 
 /// The time and place of the slowest call, out of what WALK writes.
@@ -113,10 +130,11 @@ fn slowest(line: &str) -> Option<(Duration, usize)> {
     Some((Duration::from_nanos(numbers.next()?.parse().ok()?), numbers.next()?.parse().ok()?))
 }
 
-/// Does the walk rise, and meet just clingo's answer sets?
-fn same(listed: &[u64], answers: &str) -> bool {
+/// Does the walk rise, and meet just clingo's answer sets? Where both stop early they meet different ones.
+fn same(programs: &Programs, plan: &Path, listed: &[u64]) -> bool {
     let is_rising = listed.windows(2).all(|pair| pair[0] < pair[1]);
-    is_rising && listed.iter().copied().collect::<BTreeSet<u64>>() == answer_sets(answers)
+    let met = || listed.iter().copied().collect::<BTreeSet<u64>>();
+    is_rising && (listed.len() == MOST || met() == answer_sets(&output(programs.reference(plan))))
 }
 
 // ---- The table -------------------------------------------------------------------------------
@@ -124,6 +142,11 @@ fn same(listed: &[u64], answers: &str) -> bool {
 impl Row {
     fn ratio(&self) -> Option<f64> {
         ratio(self.walk, self.all, |run| run.wall)
+    }
+
+    /// The same of the walk in calls of 256.
+    fn batch_ratio(&self) -> Option<f64> {
+        ratio(self.batches, self.all, |run| run.wall)
     }
 
     /// The slowest call against the whole process that finds one answer set.
@@ -137,11 +160,15 @@ impl Row {
             self.name.clone(),
             format!("{}{}", self.positions, end),
             milliseconds(self.walk, |run| run.wall),
+            milliseconds(self.batches, |run| run.wall),
             milliseconds(self.all, |run| run.wall),
             shown(self.ratio()),
+            shown(self.batch_ratio()),
             milliseconds(self.walk, |run| run.cpu),
+            milliseconds(self.batches, |run| run.cpu),
             milliseconds(self.all, |run| run.cpu),
             shown(ratio(self.walk, self.all, |run| run.cpu)),
+            shown(ratio(self.batches, self.all, |run| run.cpu)),
             self.call.map_or(String::new(), |call| format!("{:.3}", call.0.as_secs_f64() * 1000.0)),
             self.call.map_or(String::new(), |call| call.1.to_string()),
             milliseconds(self.one, |run| run.cpu),
@@ -155,9 +182,10 @@ impl Row {
 fn report(rows: &[Row]) -> String {
     let lines: String = rows.iter().map(|row| row.line() + "\n").collect();
     format!(
-        "{}\n\n| plan | positions | walk ms | clingo -n 0 ms | ratio | walk CPU ms | clingo CPU ms | ratio \
+        "{}\n\n| plan | positions | single calls ms | calls of 256 ms | clingo -n 0 ms | ratio, single | ratio, 256 \
+         | single CPU ms | 256 CPU ms | clingo CPU ms | ratio, single | ratio, 256 \
          | slowest call CPU ms | its place | clingo -n 1 CPU ms | ratio | lists |\n\
-         |---|---:|---:|---:|---:|---:|---:|---:|---:|---:|---:|---:|---|\n{}",
+         |---|---:|---:|---:|---:|---:|---:|---:|---:|---:|---:|---:|---:|---:|---:|---:|---|\n{}",
         summary(rows),
         lines
     )
@@ -172,11 +200,40 @@ fn spread(ratios: impl Iterator<Item = f64>) -> String {
     format!("median {}, above 1.0 on {} plans, at most {}", at(ratios.len() / 2), above, at(ratios.len().wrapping_sub(1)))
 }
 
+/// Geometric mean and greatest of some ratios.
+fn mean(ratios: &[f64]) -> String {
+    if ratios.is_empty() {
+        return "none".to_string();
+    }
+    let logarithms: f64 = ratios.iter().map(|ratio| ratio.ln()).sum();
+    let greatest = ratios.iter().copied().fold(0.0, f64::max);
+    format!("{:.2}, worst {:.2}", (logarithms / ratios.len() as f64).exp(), greatest)
+}
+
+/// One line for each group of walks: its ratios to `clingo -n 0` by wall time and by the processor's, both ways.
+fn groups(rows: &[Row]) -> String {
+    let line = |name: &str, range: &std::ops::RangeInclusive<usize>| {
+        let rows: Vec<&Row> = rows.iter().filter(|row| range.contains(&row.positions)).collect();
+        let of = |of_row: &dyn Fn(&Row) -> Option<f64>| mean(&rows.iter().filter_map(|row| of_row(row)).collect::<Vec<f64>>());
+        format!(
+            "Walks of {} positions ({} plans), ratio to `clingo -n 0`, geometric mean: single calls {} (CPU {}); calls of 256 {} (CPU {}).\n",
+            name,
+            rows.len(),
+            of(&Row::ratio),
+            of(&|row| ratio(row.walk, row.all, |run| run.cpu)),
+            of(&Row::batch_ratio),
+            of(&|row| ratio(row.batches, row.all, |run| run.cpu)),
+        )
+    };
+    GROUPS.iter().map(|(name, range)| line(name, range)).collect()
+}
+
 fn summary(rows: &[Row]) -> String {
     let count = |is_counted: fn(&Row) -> bool| rows.iter().filter(|row| is_counted(row)).count();
     format!(
         "{} plans; medians of {} alternating runs ({} where a run takes over {} ms).\n\
-         Ratio of the whole walk to `clingo -n 0`, whole processes: {}.\n\
+         Ratio of the whole walk to `clingo -n 0`, whole processes: single calls {}; calls of 256 {}.\n\
+         {}\
          Ratio of the slowest call to the whole process of `clingo -n 1`, CPU: {}.\n\
          Stopped after {} s: walk {}, clingo {}. Lists: {} the same, {} differ.",
         rows.len(),
@@ -184,6 +241,8 @@ fn summary(rows: &[Row]) -> String {
         SLOW_RUNS,
         QUICK.as_millis(),
         spread(rows.iter().filter_map(Row::ratio)),
+        spread(rows.iter().filter_map(Row::batch_ratio)),
+        groups(rows),
         spread(rows.iter().filter_map(Row::call_ratio)),
         TIME_LIMIT.as_secs(),
         count(|row| row.walk.is_none()),

@@ -1,6 +1,6 @@
 #!/bin/sh
-# bench/walks.sh [OUTPUT] [FOLDER..]: going from position to position by the proved library (target/staticlib, or the folder EXPORTS_DIR) beside
-# `clingo -n 0` on the same plans, and its slowest call beside `clingo -n 1`.
+# bench/walks.sh [OUTPUT] [FOLDER..]: walks over all positions by the proved library (target/staticlib, or the folder EXPORTS_DIR), one position in a call
+# and up to 256 in a call, beside `clingo -n 0` on the same plans, and the slowest single call beside `clingo -n 1`.
 #
 # OUTPUT is the Markdown table (default target/bench/walks.md), and the folders hold NAME.plan and NAME.lp, as for bench/run.sh.
 set -e

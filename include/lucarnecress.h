@@ -99,6 +99,34 @@ uint64_t lucarnecress_first(const uint8_t *plan, size_t plan_length, uint64_t *f
  * from the start: where 0 is settled, only lucarnecress_first finds it. */
 uint64_t lucarnecress_next(const uint8_t *plan, size_t plan_length, uint64_t position, uint64_t *found, size_t found_length);
 
+/* ---- several positions in one call ------------------------------------------------------------------------------------------- */
+
+#define LUCARNECRESS_WRITTEN 0u
+
+/* Fills found with the least settled positions, rising, until it is full or none is left: those that lucarnecress_first and then lucarnecress_next,
+ * call by call, would find. Gives LUCARNECRESS_WRITTEN with their number in count[0], as far as there is room; words of found behind them are left
+ * alone. A number below found_length says that no other is left. Or gives the code of a refusal in reading, with nothing written. Found may have any
+ * length, and one call for many positions is much faster than one call for each. */
+uint64_t lucarnecress_first_positions(const uint8_t *plan, size_t plan_length, uint64_t *found, size_t found_length, uint64_t *count,
+                                      size_t count_length);
+
+/* The same of the settled positions above this one, which need not be settled itself. After a full call, one above the last position found goes on. */
+uint64_t lucarnecress_next_positions(const uint8_t *plan, size_t plan_length, uint64_t position, uint64_t *found, size_t found_length,
+                                     uint64_t *count, size_t count_length);
+
+/* ---- what a sheet lacks ------------------------------------------------------------------------------------------------------ */
+
+#define LUCARNECRESS_FULL 0u
+#define LUCARNECRESS_LACKS 1u
+
+/* Looks for settled positions that are not among up to 256 positions in any order, repeats permitted; `length` is that of their bytes. Gives
+ * LUCARNECRESS_FULL where every settled position is among them, or LUCARNECRESS_LACKS with the least one that is not in found[0], as far as there is
+ * room; or the code of a refusal, as lucarnecress_judge_sheet does, with nothing written. The plan may have any number of settled positions.
+ * LUCARNECRESS_ALL_SETTLED from lucarnecress_judge_sheet and LUCARNECRESS_FULL from this are given for the same sheet exactly if its positions are, as a set,
+ * the settled ones. */
+uint64_t lucarnecress_missing(const uint8_t *plan, size_t plan_length, const uint8_t *positions, size_t length, uint64_t *found,
+                              size_t found_length);
+
 /* ---- the constraints to blame ----------------------------------------------------------------------------------------------- */
 
 #define LUCARNECRESS_HELD 0u

@@ -298,6 +298,26 @@ with_mistake "walk: every lent word is written" \
         *word = position;' 'if let Ok(Some(position)) = next {
         found.fill(position);'
 
+# Several positions in one call
+with_mistake "several: one fewer than there is room for" 'while written < found.len()' 'while written + 1 < found.len()'
+with_mistake "several: every call from the start" '(mut place, mut written) = (from, 0)' '(mut place, mut written) = (match from { _ => From::Start }, 0)'
+with_mistake "several: the room for the number" '*number = written as u64' '*number = found.len() as u64'
+with_mistake "several: words behind them are cleared" 'if let Some(number) = count.first_mut() {' 'found[written..].fill(0);
+    if let Some(number) = count.first_mut() {'
+with_mistake "several: no more than 256" 'while written < found.len()' 'while written < found.len().min(LIST_WORDS)'
+with_mistake "several: a refusal is counted as none" \
+    'if let Err(refusal) = read(bytes) {' 'if let Err(refusal) = read(bytes) {
+        count.iter_mut().take(1).for_each(|word| *word = 0);'
+
+# What a sheet lacks
+with_mistake "missing: the first position of the sheet is overlooked" \
+    'let positions: Vec<u64> = sheet.chunks_exact(POSITION_BYTES).map(word)' 'let positions: Vec<u64> = sheet.chunks_exact(POSITION_BYTES).skip(1).map(word)'
+with_mistake "missing: only the least position is looked for" \
+    'least = next(From::Above(position));' 'least = next(From::Above(position)).filter(|_| false);'
+with_mistake "missing: above the greatest on the sheet" \
+    'let mut least = next(From::Start);' 'let mut least = next(positions.iter().max().map_or(From::Start, |&position| From::Above(position)));'
+with_mistake "missing: 24 is not asked" 'judge_sheet(bytes, sheet, |_| true)?;' 'read(bytes)?;'
+
 # Whole sheets judged
 with_mistake "judged: places counted from 1" '|(place, _)| place as u64' '|(place, _)| place as u64 + 1'
 with_mistake "judged: the last that is not" 'places.find(' 'places.rfind('

@@ -305,6 +305,58 @@ static void check_walk_edges(void)
     same("first and next, nothing written", 99, found[0]);
 }
 
+/* Several positions in one call: plan P has two. */
+static void check_batches(void)
+{
+    uint64_t found[] = {99, 99, 99}, count[] = {99, 99};
+    same("positions", LUCARNECRESS_WRITTEN, lucarnecress_first_positions(plan_p, sizeof plan_p, found, 3, count, 2));
+    same("positions, how many", 2, count[0]);
+    same("positions, behind the count", 99, count[1]);
+    same("positions, the first", settled[0], found[0]);
+    same("positions, the second", settled[1], found[1]);
+    same("positions, behind", 99, found[2]);
+    found[0] = found[1] = 99;
+    same("positions, full", LUCARNECRESS_WRITTEN, lucarnecress_first_positions(plan_p, sizeof plan_p, found, 1, count, 1));
+    same("positions, full: how many", 1, count[0]);
+    same("positions, full: the first", settled[0], found[0]);
+    same("positions, full: behind", 99, found[1]);
+    same("positions, on", LUCARNECRESS_WRITTEN, lucarnecress_next_positions(plan_p, sizeof plan_p, settled[0], found, 2, count, 1));
+    same("positions, on: how many", 1, count[0]);
+    same("positions, on: the second", settled[1], found[0]);
+    same("positions, none left", LUCARNECRESS_WRITTEN, lucarnecress_next_positions(plan_p, sizeof plan_p, settled[1], found, 2, count, 1));
+    same("positions, none left: how many", 0, count[0]);
+    same("positions, none left: nothing written", settled[1], found[0]);
+    same("positions, no room", LUCARNECRESS_WRITTEN, lucarnecress_first_positions(plan_p, sizeof plan_p, found, 0, count, 0));
+    count[0] = 99;
+    same("positions, no END", refusal(LUCARNECRESS_TRUNCATED, sizeof plan_p - 1),
+         lucarnecress_first_positions(plan_p, sizeof plan_p - 1, found, 3, count, 1));
+    same("positions, no END: nothing written", settled[1], found[0]);
+    same("positions, no END: nothing counted", 99, count[0]);
+}
+
+/* What a sheet lacks. */
+static void check_missing(void)
+{
+    uint8_t *sheet = settled_sheet();
+    uint64_t found[] = {99, 99};
+    same("missing, full with repeats", LUCARNECRESS_FULL, lucarnecress_missing(plan_p, sizeof plan_p, sheet, MOST * POSITION, found, 2));
+    same("missing, full: nothing written", 99, found[0]);
+    same("missing, empty", LUCARNECRESS_LACKS, lucarnecress_missing(plan_p, sizeof plan_p, sheet, 0, found, 2));
+    same("missing, empty: the least", settled[0], found[0]);
+    same("missing, empty: behind", 99, found[1]);
+    same("missing, one", LUCARNECRESS_LACKS, lucarnecress_missing(plan_p, sizeof plan_p, sheet, POSITION, found, 2));
+    same("missing, one: the other", sheet[0] == settled[0] ? settled[1] : settled[0], found[0]);
+    found[0] = 99;
+    same("missing, 257", refusal(LUCARNECRESS_BAD_SHEET, 0),
+         lucarnecress_missing(plan_p, sizeof plan_p, sheet, (MOST + 1) * POSITION, found, 2));
+    same("missing, one byte", refusal(LUCARNECRESS_BAD_SHEET, 0), lucarnecress_missing(plan_p, sizeof plan_p, sheet, 1, found, 2));
+    same("missing, reading before 24", refusal(LUCARNECRESS_TRUNCATED, sizeof plan_p - 1),
+         lucarnecress_missing(plan_p, sizeof plan_p - 1, sheet, 1, found, 2));
+    same("missing, refused: nothing written", 99, found[0]);
+    same("missing, no graph", LUCARNECRESS_FULL, lucarnecress_missing(unseen_plan(), UNSEEN_LENGTH, sheet, MOST * POSITION, found, 2));
+    same("missing, no room", LUCARNECRESS_LACKS, lucarnecress_missing(plan_p, sizeof plan_p, sheet, 0, found, 0));
+}
+
 /* A rule of one head word and two body words, each below 256. */
 #define RULE(head, positive, negative) 0x01, head, 0, 0, 0, 0, 0, 0, 0, positive, 0, 0, 0, 0, 0, 0, 0, negative, 0, 0, 0, 0, 0, 0, 0
 
@@ -451,7 +503,7 @@ static void check_codes(void)
 static void (*const checks[])(void) = {check_list,     check_judge, check_judge_sheet, check_walk,     check_walk_edges,
                                        check_blame,    check_sheet, check_count,       check_rows,     check_common,
                                        check_readings, check_largest, check_codes,     check_tables,   check_shown,
-                                       check_counted};
+                                       check_counted,  check_batches, check_missing};
 
 int main(void)
 {

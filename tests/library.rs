@@ -19,6 +19,31 @@ extern "C" {
     fn lucarnecress_judge_sheet(plan: *const u8, plan_len: usize, positions: *const u8, positions_len: usize) -> u64;
     fn lucarnecress_first(plan: *const u8, plan_len: usize, found: *mut u64, found_len: usize) -> u64;
     fn lucarnecress_next(plan: *const u8, plan_len: usize, position: u64, found: *mut u64, found_len: usize) -> u64;
+    fn lucarnecress_first_positions(
+        plan: *const u8,
+        plan_len: usize,
+        found: *mut u64,
+        found_len: usize,
+        count: *mut u64,
+        count_len: usize,
+    ) -> u64;
+    fn lucarnecress_next_positions(
+        plan: *const u8,
+        plan_len: usize,
+        position: u64,
+        found: *mut u64,
+        found_len: usize,
+        count: *mut u64,
+        count_len: usize,
+    ) -> u64;
+    fn lucarnecress_missing(
+        plan: *const u8,
+        plan_len: usize,
+        positions: *const u8,
+        positions_len: usize,
+        found: *mut u64,
+        found_len: usize,
+    ) -> u64;
     fn lucarnecress_blame(plan: *const u8, plan_len: usize, found: *mut u64, found_len: usize) -> u64;
     fn lucarnecress_sheet(plan: *const u8, plan_len: usize, sheet: *mut u8, sheet_len: usize) -> u64;
     fn lucarnecress_reading_number(reading: u16) -> u64;
@@ -56,6 +81,24 @@ pub fn next(plan: &[u8], from: From, found: &mut [u64]) -> u64 {
         From::Start => unsafe { lucarnecress_first(plan.as_ptr(), plan.len(), words, room) },
         From::Above(position) => unsafe { lucarnecress_next(plan.as_ptr(), plan.len(), position, words, room) },
     }
+}
+
+/// 0 with the least positions of all, or above one, in the lent words and their number in the count; or the code of a refusal.
+pub fn next_positions(plan: &[u8], from: From, found: &mut [u64], count: &mut [u64]) -> u64 {
+    let (words, room) = (found.as_mut_ptr(), found.len());
+    let (number, space) = (count.as_mut_ptr(), count.len());
+    match from {
+        From::Start => unsafe { lucarnecress_first_positions(plan.as_ptr(), plan.len(), words, room, number, space) },
+        From::Above(position) => unsafe {
+            lucarnecress_next_positions(plan.as_ptr(), plan.len(), position, words, room, number, space)
+        },
+    }
+}
+
+/// 0 where every settled position is on the sheet, 1 with the least that is not in the lent words, or the code of a refusal.
+pub fn missing(plan: &[u8], positions: &[u8], found: &mut [u64]) -> u64 {
+    let (sheet, length) = (positions.as_ptr(), positions.len());
+    unsafe { lucarnecress_missing(plan.as_ptr(), plan.len(), sheet, length, found.as_mut_ptr(), found.len()) }
 }
 
 /// 1 with the least position, 0 with the held constraints in the lent words, or the code of a refusal.

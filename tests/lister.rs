@@ -669,6 +669,25 @@ pub fn hand_out(next: Result<Option<u64>, Refusal>, found: &mut [u64]) -> u64 {
     next.map_or_else(Refusal::code, |position| u64::from(position.is_some()))
 }
 
+/// The reply of a call for several positions, where `next` finds one: they go into the lent words until none is left or there is no room, and their number
+/// into the first word of the count; or the code of the refusal.
+pub fn hand_out_many(bytes: &[u8], from: From, next: impl Fn(From) -> Option<u64>, found: &mut [u64], count: &mut [u64]) -> u64 {
+    if let Err(refusal) = read(bytes) {
+        return refusal.code();
+    }
+    let (mut place, mut written) = (from, 0);
+    while written < found.len() {
+        let Some(position) = next(place) else { break };
+        found[written] = position;
+        written += 1;
+        place = From::Above(position);
+    }
+    if let Some(number) = count.first_mut() {
+        *number = written as u64;
+    }
+    0
+}
+
 // ---- A whole sheet judged: document 02, S-12 ------------------------------------------------
 
 /// 256 if every position of the sheet is settled, or the place from 0 of the first that is not. Only the reading place can refuse the plan; after it
@@ -680,6 +699,17 @@ pub fn judge_sheet(bytes: &[u8], sheet: &[u8], is_settled: impl Fn(u64) -> bool)
     }
     let mut places = sheet.chunks_exact(POSITION_BYTES).map(word).enumerate();
     Ok(places.find(|&(_, position)| !is_settled(position)).map_or(LIST_WORDS as u64, |(place, _)| place as u64))
+}
+
+/// The least settled position that is not on the sheet, where `next` finds one position after the other. Refused as a sheet that is judged.
+pub fn missing(bytes: &[u8], sheet: &[u8], next: impl Fn(From) -> Option<u64>) -> Result<Option<u64>, Refusal> {
+    judge_sheet(bytes, sheet, |_| true)?;
+    let positions: Vec<u64> = sheet.chunks_exact(POSITION_BYTES).map(word).collect();
+    let mut least = next(From::Start);
+    while let Some(position) = least.filter(|position| positions.contains(position)) {
+        least = next(From::Above(position));
+    }
+    Ok(least)
 }
 
 // ---- The few constraints that empty a plan: document 02, S-13 -----------------------------------

@@ -25,7 +25,17 @@ fn compare_sheet(bytes: &[u8], settled: &[u64], sheet: &[u8], tally: &mut Tally)
     let reply = lister::judge_sheet(bytes, sheet, |position| settled.binary_search(&position).is_ok());
     tally.note_sheet(sheet.len() / POSITION_BYTES, &reply);
     let shown = format!("reply for a sheet of {} bytes: {:02x?}", sheet.len(), sheet);
-    same(&shown, reply.unwrap_or_else(Refusal::code), library::judge_sheet(bytes, sheet))
+    same(&shown, reply.unwrap_or_else(Refusal::code), library::judge_sheet(bytes, sheet))?;
+    compare_missing(bytes, settled, sheet)
+}
+
+/// What the sheet lacks: the least settled position that is not on it.
+fn compare_missing(bytes: &[u8], settled: &[u64], sheet: &[u8]) -> Result<(), String> {
+    let missing = lister::missing(bytes, sheet, |place| lister::next_of(settled, place));
+    let (mut expected, mut found) = ([0, 0], [0, 0]);
+    let reply = library::missing(bytes, sheet, &mut found);
+    same(&format!("reply for what a sheet lacks: {:02x?}", sheet), lister::hand_out(missing, &mut expected), reply)?;
+    same(&format!("words lent for what a sheet lacks: {:02x?}", sheet), expected, found)
 }
 
 /// For a plan that does not read well: the empty sheet, one that is too long and one that is not of whole positions.

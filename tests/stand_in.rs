@@ -79,6 +79,51 @@ pub unsafe extern "C" fn lucarnecress_next(
     lister::hand_out(next, slice::from_raw_parts_mut(found, found_len))
 }
 
+#[no_mangle]
+pub unsafe extern "C" fn lucarnecress_first_positions(
+    plan: *const u8,
+    plan_len: usize,
+    found: *mut u64,
+    found_len: usize,
+    count: *mut u64,
+    count_len: usize,
+) -> u64 {
+    let (found, count) = (slice::from_raw_parts_mut(found, found_len), slice::from_raw_parts_mut(count, count_len));
+    many(slice::from_raw_parts(plan, plan_len), From::Start, found, count)
+}
+
+#[no_mangle]
+pub unsafe extern "C" fn lucarnecress_next_positions(
+    plan: *const u8,
+    plan_len: usize,
+    position: u64,
+    found: *mut u64,
+    found_len: usize,
+    count: *mut u64,
+    count_len: usize,
+) -> u64 {
+    let (found, count) = (slice::from_raw_parts_mut(found, found_len), slice::from_raw_parts_mut(count, count_len));
+    many(slice::from_raw_parts(plan, plan_len), From::Above(position), found, count)
+}
+
+fn many(plan: &[u8], from: From, found: &mut [u64], count: &mut [u64]) -> u64 {
+    lister::hand_out_many(plan, from, |place| next(plan, place).ok().flatten(), found, count)
+}
+
+#[no_mangle]
+pub unsafe extern "C" fn lucarnecress_missing(
+    plan: *const u8,
+    plan_len: usize,
+    positions: *const u8,
+    positions_len: usize,
+    found: *mut u64,
+    found_len: usize,
+) -> u64 {
+    let (plan, sheet) = (slice::from_raw_parts(plan, plan_len), slice::from_raw_parts(positions, positions_len));
+    let missing = lister::missing(plan, sheet, |place| next(plan, place).ok().flatten());
+    lister::hand_out(missing, slice::from_raw_parts_mut(found, found_len))
+}
+
 /// The next position of a plan.
 fn next(plan: &[u8], from: From) -> Result<Option<u64>, Refusal> {
     let rules = lister::read(plan).map_or(Vec::new(), |plan| plan.rules);

@@ -25,6 +25,8 @@ pub fn compare(bytes: &[u8], outcome: &Outcome, settled: Option<&[u64]>, random:
                 check_lister(bytes, settled, random.pick(&positions))?;
             }
             walk(bytes, settled, if outcome.is_ok() { WHOLE } else { STEPS }, tally)?;
+            several(bytes, From::Start, settled, random)?;
+            positions.iter().try_for_each(|&position| several(bytes, From::Above(position), settled, random))?;
             positions.into_iter().map(From::Above).try_for_each(|from| {
                 let next = lister::next_of(settled, from);
                 step(bytes, from, Ok(next), random.below(4), tally)
@@ -41,9 +43,25 @@ fn check_lister(bytes: &[u8], settled: &[u64], position: u64) -> Result<(), Stri
     })
 }
 
-/// From the start to the end.
+/// From the start to the end, one position in a call and 256 in a call.
 pub fn compare_whole(bytes: &[u8], settled: &[u64], tally: &mut Tally) -> Result<(), String> {
-    walk(bytes, settled, WHOLE, tally)
+    walk(bytes, settled, WHOLE, tally)?;
+    walk_by_calls(bytes, settled)
+}
+
+/// Calls for 256 positions, each above the last one found, until one is not full.
+fn walk_by_calls(bytes: &[u8], settled: &[u64]) -> Result<(), String> {
+    let (mut from, mut met) = (From::Start, Vec::new());
+    loop {
+        let (mut found, mut count) = ([PATTERN; LIST_WORDS], [PATTERN]);
+        same("reply to a call for 256 positions", 0, library::next_positions(bytes, from, &mut found, &mut count))?;
+        let written = &found[..found.len().min(count[0] as usize)];
+        met.extend(written);
+        match written.last() {
+            Some(&position) if written.len() == found.len() && met.len() <= settled.len() => from = From::Above(position),
+            _ => return same("positions met in calls of 256", settled, &met[..]),
+        }
+    }
 }
 
 /// From the start, each step above what the last one found, until none is left or so many are made.
@@ -87,6 +105,7 @@ fn chosen(plan: &Plan, settled: &[u64], random: &mut Random) -> Vec<u64> {
 fn refused(bytes: &[u8], refusal: Refusal, random: &mut Random, tally: &mut Tally) -> Result<(), String> {
     for from in [From::Start, From::Above(0), From::Above(random.word())] {
         step(bytes, from, Err(refusal), random.below(4), tally)?;
+        several(bytes, from, &[], random)?;
     }
     Ok(())
 }
@@ -98,4 +117,17 @@ fn step(bytes: &[u8], from: From, next: Result<Option<u64>, Refusal>, room: usiz
     tally.walks.note(&next);
     same(&format!("reply to a step, {:x?}", from), lister::hand_out(next, &mut expected), reply)?;
     same(&format!("words lent for a step, {:x?}", from), expected, found)
+}
+
+/// Several positions in one call, with any number of lent words, often one more than there are: the reply, the number and every word.
+fn several(bytes: &[u8], from: From, settled: &[u64], random: &mut Random) -> Result<(), String> {
+    let left = settled.iter().filter(|&&position| from.is_ahead(position)).count().min(LIST_WORDS);
+    let room = random.pick(&[0, 1, 2, 7, left, left + 1]);
+    let (mut found, mut count) = (vec![PATTERN; room], [PATTERN; 2]);
+    let reply = library::next_positions(bytes, from, &mut found, &mut count);
+    let (mut words, mut number) = (vec![PATTERN; room], [PATTERN; 2]);
+    let expected = lister::hand_out_many(bytes, from, |place| lister::next_of(settled, place), &mut words, &mut number);
+    same(&format!("reply to a call for {} positions, {:x?}", room, from), expected, reply)?;
+    same(&format!("number of {} positions, {:x?}", room, from), number, count)?;
+    same(&format!("words lent for several positions, {:x?}", from), words, found)
 }

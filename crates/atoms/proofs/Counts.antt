@@ -1,14 +1,15 @@
--- How many atoms a word has, and its lowest atom. The count of a smaller set is smaller: this is what recursion over undecided atoms falls by.
+-- How many atoms a word has, its lowest atom and its highest. The count of a smaller set is smaller: this is what recursion over undecided atoms falls by.
 use mathlib.Core.Path.{_≡_, refl, sym, _∙_, subst}
 use Prim.Native.Nat.{ℕ, zero, suc, _-_, _/_, _%_, _^_, _≤_, _<_}
 use native.Mathlib.Omega.{arith}
-use native.Mathlib.Nat.{pow-suc}
+use native.Mathlib.Nat.{pow-suc, le-div-iff-mul-le, div-lt-iff-lt-mul}
 use native.Mathlib.Decide.{ℕ-discrete}
-use lib.Count.{ones, ones-step, ones-le, leadingZeros, leading-le, trailingZeros, trailing-le, under}
+use lib.Count.{ones, ones-step, ones-le, leadingZeros, leading-le, leading-top, trailingZeros, trailing-le, under}
+use lib.Pow.{pow-pos}
 use lib.Arith.{bin-ind}
-use Rattle.atoms.specs.Word.{digit, Has, _⊆_, _∖_, atom, Lowest}
+use Rattle.atoms.specs.Word.{ATOMS, digit, Has, _⊆_, _∖_, atom, Lowest, Highest}
 use Rattle.atoms.proofs.Digits.{digit-low, digit-next}
-use Rattle.atoms.proofs.Sets.{has-dec, has-none, some-atom, has-without, without-left, without-right, has-atom, subset-antisym}
+use Rattle.atoms.proofs.Sets.{has-dec, has-lt, has-none, some-atom, has-without, without-left, without-right, has-atom, subset-antisym}
 
 has-half : {w i : ℕ} → Has w (suc i) → Has (w / 2) i
 has-half {w} {i} p = record { bit = sym (digit-next w i) ∙ p .bit }
@@ -84,6 +85,26 @@ trailing-lowest (suc k) w h l = go (w % 2) refl (λ n. trailing-lowest k (w / 2)
       here = record { bit = digit-low w ∙ omega arith };
       least = λ i q. absurd (omega arith);
     }
+
+-- the power of two below a word is its highest atom
+top-atom : (w j : ℕ) → 2 ^ j ≤ w → w < 2 ^ suc j → Highest w j
+top-atom w j l h = record { here = record { bit = one }; most = λ i k. let m = has-lt w (suc j) h k in omega arith }
+  where
+    low : 1 ≤ w / 2 ^ j
+    low = le-div-iff-mul-le (pow-pos j) .1 (omega arith)
+
+    upper : w / 2 ^ j < 2
+    upper = div-lt-iff-lt-mul (pow-pos j) .1 (omega (arith, pow-suc 2 j))
+
+    one : digit w j ≡ 1
+    one = omega (arith, low, upper)
+
+-- above it stand the `leading_zeros` of a word that is not 0
+pub leading-highest : (w : ℕ) → ¬ (w ≡ 0) → w < 2 ^ ATOMS → Highest w (63 - leadingZeros 64 w) × (leadingZeros 64 w < ATOMS)
+leading-highest w n l =
+    let t = leading-top 64 w (omega arith) l in
+    let e : t .0 ≡ 63 - leadingZeros 64 w = omega (arith, t .1) in
+    (subst (Highest w) e (top-atom w (t .0) (t .2) (t .3)), omega (arith, t .1))
 
 -- For a loop that takes one atom a turn: what is left, d, is smaller and still within.
 pub taken-less : {w r d : ℕ} → Lowest w r → d ≡ w ∖ atom r → ones d < ones w

@@ -6,7 +6,7 @@ pub mod Tests
 pub mod Sets
 -- The part of a word from an atom on, as a number: it is fixed by the atoms there, and one atom more doubles it
 pub mod HighParts
--- How many atoms a word has, and its lowest atom
+-- How many atoms a word has, its lowest atom and its highest
 pub mod Counts
 -- The laws of "each" and "some" below a bound, of "each in a word", and of the word of those of which a test holds
 pub mod Bounded
@@ -20,7 +20,7 @@ pub mod TakenNumbers
 pub mod GatheredWords
 -- Rising lists are fixed by their members; `members p n` is the rising list of the numbers below n of which p holds
 pub mod Rising
--- The laws of lists of words: filled up with zeros, and written down by number
+-- The laws of lists of words: members by index, filled up with zeros, and written down by number
 pub mod Lists
 -- A value put into its place in a rising list: the list stays rising and has one member more
 pub mod Insertion

@@ -5,10 +5,12 @@ use mathlib.Core.List.{List, [], _∷_, _++_, List·Memᴰ, List·Memᴰ·head, 
 use mathlib.Core.List.{List·Memᴰ·append-cases, List·Memᴰ·eq-of-singleton, Memᴰ·append-left, Memᴰ·append-right}
 use mathlib.Core.Logic.{_⊎_, inl, inr}
 use Prim.Native.Nat.{ℕ, zero, suc, _<_}
+use lib.ListN.{length, getD}
 use native.Mathlib.Omega.{arith}
 use native.Mathlib.Decide.{ℕ-discrete}
 use Rattle.atoms.specs.Rising.{Above, above-nil, above-cons, Rising, rising-nil, rising-cons, members}
 use Rattle.atoms.proofs.Tests.{not-both}
+use Rattle.atoms.proofs.Lists.{index-of}
 
 pub above-at : {b : ℕ} {xs : List ℕ} → Above b xs → (y : ℕ) → List·Memᴰ y xs → b < y
 above-at above-nil y m = absurd (List·Memᴰ·not-nil m)
@@ -22,6 +24,16 @@ pub above-intro : (b : ℕ) (xs : List ℕ) → ((y : ℕ) → List·Memᴰ y xs
 above-intro b [] f = above-nil
 above-intro b (x ∷ xs) f =
     above-cons (f x (List·Memᴰ·head refl)) (above-intro b xs (λ y m. f y (List·Memᴰ·tail m)))
+
+-- a list rises if its words do, by index
+pub rising-by : (xs : List ℕ) → ((i j : ℕ) → i < j → j < length xs → getD xs i 0 < getD xs j 0) → Rising xs
+rising-by [] f = rising-nil
+rising-by (x ∷ xs) f = rising-cons (above-intro x xs above) (rising-by xs (λ i j l k. f (suc i) (suc j) (omega arith) (omega arith)))
+  where
+    above : (y : ℕ) → List·Memᴰ y xs → x < y
+    above y m =
+        let p = index-of xs y m in
+        subst (λ (z : ℕ). x < z) (p .2) (f 0 (suc (p .0)) (omega arith) (omega (arith, p .1)))
 
 head-eq : (x y : ℕ) (xs ys : List ℕ) → Above x xs → Above y ys → List·Memᴰ x (y ∷ ys) → List·Memᴰ y (x ∷ xs) → x ≡ y
 head-eq x y xs ys a b m k = go (List·Memᴰ·cases-cons m) (List·Memᴰ·cases-cons k)

@@ -2,7 +2,7 @@
 -- The set operations are shut: what is cited above is proofs/Sets.antt, never a bit operation.
 use mathlib.Core.Path.{_≡_}
 use mathlib.Core.Bool.{Bool}
-use Prim.Native.Nat.{ℕ, _-_, _/_, _%_, _^_, _<_}
+use Prim.Native.Nat.{ℕ, _-_, _/_, _%_, _^_, _≤_, _<_}
 use lib.Bits.{bitAnd, bitOr}
 use lib.Dec.{eqb}
 
@@ -80,6 +80,11 @@ outside w = below ATOMS ∖ w
 pub record Lowest (w r : ℕ) : Type 0 where
   pub here : Has w r
   pub least : (i : ℕ) → i < r → ¬ Has w i
+
+-- r is the highest atom of w
+pub record Highest (w r : ℕ) : Type 0 where
+  pub here : Has w r
+  pub most : (i : ℕ) → Has w i → i ≤ r
 
 -- w has no two atoms
 pub record AtMostOne (w : ℕ) : Type 0 where

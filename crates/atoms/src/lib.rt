@@ -6,7 +6,7 @@ ghost use mathlib.Core.Path.{_≡_};
 ghost use Prim.Native.Nat.{_≤_, _<_};
 ghost use lib.Count.{ones};
 ghost use lib.ListN.{length, getD};
-ghost use Rattle.atoms.specs.Word.{ATOMS, _∩_, _∪_, _∖_, subset, apart, atom, below, outside, Lowest, AtMostOne};
+ghost use Rattle.atoms.specs.Word.{ATOMS, _∩_, _∪_, _∖_, subset, apart, atom, below, outside, Lowest, Highest, AtMostOne};
 ghost use Rattle.atoms.specs.Bounded.{Decides, singleIf, unionIn};
 
 // How many atoms there are.
@@ -93,6 +93,14 @@ pub fn lowest(w: u64) -> usize
     ensures { λ r. ⌜ Lowest w r × (r < ATOMS) ⌝ }
 {
     u64::trailing_zeros(w) as usize
+}
+
+// The highest atom of a word that has one.
+pub fn highest(w: u64) -> usize
+    requires { ⌜ (w ≡ 0 → ⊥) ⌝ }
+    ensures { λ r. ⌜ Highest w r × (r < ATOMS) ⌝ }
+{
+    63 - u64::leading_zeros(w) as usize
 }
 
 // How many atoms a word has.

@@ -16,3 +16,7 @@ pub mod RowCodes
 pub mod SheetCodes
 -- What code and word tell a host of the constraints that empty a plan, from what `blame_plan` promises
 pub mod BlameCodes
+-- What code, count and words tell a host that asks for several positions, from what `next_positions` promises
+pub mod BatchCodes
+-- What code and word tell a host of what a sheet lacks, from what `first_missing` promises; and with S-12 that its positions are just the answer sets
+pub mod AuditCodes

@@ -4,3 +4,5 @@ pub mod Steps
 pub mod Rows
 pub mod Sheets
 pub mod Blame
+pub mod Batches
+pub mod Audits

@@ -1,4 +1,6 @@
 // The functions that other languages call: a slice passes as a pointer and a length.
+mod audits;
+mod batches;
 mod blame;
 mod pair;
 mod readings;

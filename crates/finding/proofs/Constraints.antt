@@ -14,13 +14,25 @@ use Rattle.answer_sets.specs.Lent.{lent, Lent}
 use Rattle.answer_sets.proofs.Judged.{decides-answer-set}
 use Rattle.answer_sets.proofs.Lent.{answer-word}
 use Rattle.answer_sets.proofs.Support.{fewer-constraints}
-use Rattle.searching.specs.Witness.{Witnessed}
+use Rattle.searching.specs.Witness.{Witnessed, none}
 use Rattle.searching.specs.declared.witness.Witness.{Witness}
 use Rattle.searching.specs.declared.witness.Witness.the-variants.{Member, Nothing}
-use Rattle.searching.proofs.Witnesses.{witnessed-iff}
+use Rattle.searching.proofs.Witnesses.{witnessed-iff, witnessed-met}
 use Rattle.finding.specs.Whole.{Fitting}
-use Rattle.finding.proofs.Leasts.{met-as, none-as, nobody}
 use Rattle.finding.specs.Few.{Constraints, NoneSettled, OneSettled, Tried, drops, keeps, Going, done, tries, FewBlamed}
+
+-- ---- what was asked
+
+met-as : {Q : ℕ → Type 0} {w : Witness} {M : ℕ} → w ≡ Member M → Witnessed Q w → Q M
+met-as {M = M} e k = witnessed-met (record { member = M; is = e }) k
+
+none-as : {Q : ℕ → Type 0} {w : Witness} → w ≡ Nothing → Witnessed Q w → Witnessed Q Nothing
+none-as {Q} e k = subst (Witnessed Q) e k
+
+nobody : {Q : ℕ → Type 0} → Witnessed Q Nothing → (M : ℕ) → ¬ Q M
+nobody (none f) = f
+
+-- ---- fewer constraints
 
 module _ {rules : List ℕ} {facts : ℕ} (headed : ℕ) where
   -- said of words of constraints

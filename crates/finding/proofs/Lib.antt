@@ -1,8 +1,12 @@
 -- A whole program as one unit: what belongs to it are its answer sets
 pub mod Wholes
--- The least answer set above a position: which positions are like it above an atom, one atom less or more, and both loops
-pub mod Leasts
 -- Fewer constraints have no fewer answer sets, and so the greedy pass is right
 pub mod Constraints
+-- The least with a property: there is one answer, and the lowest number below a bound that passes a test is it
+pub mod Leasts
 -- A walk from the start to the end: the rising list of all is one, and each has all and nothing else
 pub mod Walks
+-- Words added rising behind a count: none, one, as many as there is room for, and the higher ones behind the lower ones
+pub mod AddedWords
+-- The tree over undecided atoms: what is known at a node, its two branches, and that all below the dropped one are below all below the other
+pub mod Trees

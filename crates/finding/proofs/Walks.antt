@@ -13,14 +13,17 @@ use Rattle.finding.specs.declared.least.From.{From}
 use Rattle.finding.specs.declared.least.From.the-variants.{Above}
 
 -- what is above one that is behind is behind
-behind-more : {from : From} {M N : ℕ} → Behind from M → M < N → Behind from N
-behind-more from-start l = from-start
-behind-more {M = M} {N = N} (above {p} k) l = above {M = N} (trans k l)
+pub behind-up : {from : From} {M N : ℕ} → M ≤ N → Behind from M → Behind from N
+behind-up l from-start = from-start
+behind-up {M = M} {N = N} l (above {p} k) = above (trans l k)
   where
-    trans : p < M → M < N → p < N
+    trans : M ≤ N → p < M → p < N
     trans x y = omega arith
 
-above-of : {M N : ℕ} → Behind (Above M) N → M < N
+pub behind-more : {from : From} {M N : ℕ} → Behind from M → M < N → Behind from N
+behind-more b l = behind-up (omega arith) b
+
+pub above-of : {M N : ℕ} → Behind (Above M) N → M < N
 above-of (above l) = l
 
 -- the rising list of all with Q is a walk

@@ -37,10 +37,10 @@ zero-at (suc n) zero = refl
 zero-at (suc n) (suc v) = zero-at n v
 
 module _ {rules desk : List ℕ} {which facts : ℕ} where
-  belongs-settled : {M : ℕ} → facts ⊆ M → Belongs rules [] noLists desk (wholeOf which facts) M → Settled rules which facts M
+  pub belongs-settled : {M : ℕ} → facts ⊆ M → Belongs rules [] noLists desk (wholeOf which facts) M → Settled rules which facts M
   belongs-settled {M} f b = record { word = b .word; answers = rw (facts-are f) at (b .answers) }
 
-  settled-belongs : {M : ℕ} → Settled rules which facts M → Belongs rules [] noLists desk (wholeOf which facts) M
+  pub settled-belongs : {M : ℕ} → Settled rules which facts M → Belongs rules [] noLists desk (wholeOf which facts) M
   settled-belongs {M} s = record {
     word = s .word;
     joined = joins-none [] noLists desk M;

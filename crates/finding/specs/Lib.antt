@@ -1,5 +1,5 @@
 pub mod Whole
 pub mod Least
-pub mod Exceeding
 pub mod Few
 pub mod Walk
+pub mod Gather

@@ -19,7 +19,7 @@ ghost use Rattle.searching.specs.Witness.{Witnessed};
 ghost use Rattle.finding.specs.Whole.{wholeOf, noLists, Fitting, Ready};
 
 // The unit of a program: its rules, its facts for input, and no predecessors.
-fn whole(which: u64, facts: u64) -> Unit
+pub fn whole(which: u64, facts: u64) -> Unit
     ensures { λ r. ⌜ r ≡ wholeOf which facts ⌝ }
 {
     Unit {

@@ -153,12 +153,12 @@ module _ {ps sheet : List ℕ} (laid : Laid ps sheet) where
   laid-is-sheet (inl over) = omega (arith, long, laid .few)
   laid-is-sheet (inr rest) = rest (omega (arith, long))
 
-  there : (place : ℕ) → place < length ps → positionAt sheet place ≡ getD ps place 0
-  there place l = ap (λ (s : List ℕ). positionAt s place) (laid .bytes-are) ∙ position-laid ps (laid .words) place l
+  pub laid-at : (place : ℕ) → place < length ps → positionAt sheet place ≡ getD ps place 0
+  laid-at place l = ap (λ (s : List ℕ). positionAt s place) (laid .bytes-are) ∙ position-laid ps (laid .words) place l
 
   module _ (p : Plan) (fits : Fitting p) where
     settles : (place : ℕ) → place < length ps → settled p (positionAt sheet place) ≡ true → Settles p (getD ps place 0)
-    settles place l t = decides-settled p (getD ps place 0) fits .yes (ap (settled p) (sym (there place l)) ∙ t)
+    settles place l t = decides-settled p (getD ps place 0) fits .yes (ap (settled p) (sym (laid-at place l)) ∙ t)
 
     -- "all are answer sets, or the place from 0 of the first that isn't"
     pub places-right : Right p ps (placesJudged p sheet)
@@ -172,7 +172,7 @@ module _ {ps sheet : List ℕ} (laid : Laid ps sheet) where
             (record {
               within = k;
               each-before = λ q m. settles q (omega arith) (before q m);
-              not-here = decides-settled p (getD ps place 0) fits .no (ap (settled p) (sym (there place k)) ∙ here);
+              not-here = decides-settled p (getD ps place 0) fits .no (ap (settled p) (sym (laid-at place k)) ∙ here);
             })
 
 -- ---- every sheet of whole positions, at most 256 of them, is laid down from some

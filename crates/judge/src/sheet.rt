@@ -13,7 +13,7 @@ ghost use Rattle.plan.specs.Record.{Fitting};
 ghost use Rattle.judge.specs.Sheets.{badBytes, placesJudged, SheetJudged, sheetCode};
 
 // How many positions a sheet may have.
-const MAX_POSITIONS: usize = 256;
+pub const MAX_POSITIONS: usize = 256;
 
 // All positions are settled, or not the one at this place from 0, the first of those; or the plan is refused; or the bytes are no sheet.
 pub enum SheetAnswer {
@@ -24,10 +24,10 @@ pub enum SheetAnswer {
 }
 
 // The number of the refusal, document 02, S-12; its spot is 0.
-const BAD_SHEET: u64 = 24;
+pub const BAD_SHEET: u64 = 24;
 
 // Whether so many bytes are over 256 positions, or not whole ones.
-fn is_bad_sheet(bytes: usize) -> bool
+pub fn is_bad_sheet(bytes: usize) -> bool
     ensures { λ r. ⌜ r ≡ badBytes bytes ⌝ }
 {
     if MAX_POSITIONS < bytes / WORD_BYTES {

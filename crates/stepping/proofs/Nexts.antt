@@ -5,7 +5,6 @@ use mathlib.Core.Logic.{inl, inr}
 use mathlib.Core.List.{List}
 use Prim.Native.Nat.{ℕ, suc, _≤_, _<_}
 use native.Mathlib.Omega.{arith}
-use native.Mathlib.Decide.{decLt}
 use lib.Dec.{ltb}
 use borrow.Author.Tests.{ltb-true, ltb-false, lt-ltb}
 use Rattle.atoms.specs.Word.{Has, _⊆_, below}
@@ -14,7 +13,6 @@ use Rattle.atoms.specs.Collected.{lowest}
 use Rattle.atoms.proofs.Tests.{decides, decided-true, not-both}
 use Rattle.atoms.proofs.Sets.{has-left, has-right, has-below, subset-le}
 use Rattle.atoms.proofs.Bounded.{union-has}
-use Rattle.atoms.proofs.Collected.{lowest-here, lowest-least}
 use Rattle.answer_sets.specs.Lent.{lent}
 use Rattle.plan.specs.Record.{Fitting}
 use Rattle.plan.specs.declared.record.Plan.{Plan}
@@ -33,6 +31,7 @@ use Rattle.searching.specs.declared.witness.Witness.the-variants.{Member, Nothi
 use Rattle.finding.specs.Least.{LeastOf, least, none, Behind, from-start, above}
 use Rattle.finding.specs.declared.least.From.{From}
 use Rattle.finding.specs.declared.least.From.the-variants.{Start, Above}
+use Rattle.finding.proofs.Leasts.{lowest-met, lowest-missed}
 use Rattle.stepping.specs.Followed.{Follows, position, none-left, mayBeUp, behind, settledBehind, nextIn, followed, Followed}
 use Rattle.stepping.specs.declared.Next.{Next}
 use Rattle.stepping.specs.declared.Next.the-variants.{Position, NoneLeft, Refused}
@@ -70,6 +69,9 @@ settled-within p M s = record { each = λ i h. go i (settled-headed p M i s h) }
         has-right (p .given) (unionIn (p .«rule_count») (below (p .«rule_count»)) heads)
         (union-has (p .«rule_count») (below (p .«rule_count»)) heads (t .0) i (t .1) (has-below (p .«rule_count») (t .0) (t .1)) (t .2))
 
+pub may-be-up : (p : Plan) (M : ℕ) → Settles p M → M < suc (mayBeUp p)
+may-be-up p M s = omega (arith, subset-le (settled-within p M s))
+
 behind-decided : (from : From) (M : ℕ) → Decides (Behind from M) (behind from M)
 behind-decided Start M = decides true (λ _. from-start) (λ _. refl)
 behind-decided (Above p) M = decides (ltb p M) (λ e. above (ltb-true p M e)) back
@@ -95,20 +97,10 @@ module _ (p : Plan) (fits : Fitting p) (from : From) where
       M : ℕ
       M = lowest top (settledBehind p from)
 
-      lower : (N : ℕ) → N < M → ¬ (Settles p N × Behind from N)
-      lower N l q = not-both (decided-true (settled-behind N) q) (lowest-least top (settledBehind p from) N l)
-
       go : (b : Bool) → ltb M top ≡ b → Follows p from (elim b [ true ↦ Position M | false ↦ NoneLeft ])
-      go true e =
-          let q = settled-behind M .yes (lowest-here top (settledBehind p from) (ltb-true M top e)) in
-          position (q .0) (q .1) (λ N s b. least-one N (decLt N M) (s, b))
-        where
-          least-one : (N : ℕ) → Dec (N < M) → Settles p N × Behind from N → M ≤ N
-          least-one N (yes l) q = absurd (lower N l q)
-          least-one N (no l) q = omega arith
-      go false e = none-left (λ N s b.
-          let within = subset-le (settled-within p N s) in
-          lower N (omega (arith, ltb-false M top e)) (s, b))
+      go true e = found-follows (lowest-met (settledBehind p from) top settled-behind (ltb-true M top e))
+      go false e =
+          none-follows (lowest-missed (settledBehind p from) top settled-behind (ltb-false M top e) (λ N q. may-be-up p N (q .0)))
 
 -- ---- for the bytes of a plan
 

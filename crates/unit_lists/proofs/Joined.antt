@@ -12,6 +12,7 @@ use Rattle.atoms.specs.Cuts.{CutOf, cutList}
 use Rattle.atoms.proofs.Tests.{decided-true}
 use Rattle.atoms.proofs.Sets.{has-dec, has-lt, lt-of-has, has-outside, outside-lacks, subset-le, cut-right, below-lt}
 use Rattle.atoms.proofs.Bounded.{some-at, some-intro, all-in-at, all-in-intro}
+use Rattle.atoms.proofs.Lists.{member-getD, index-of}
 use Rattle.atoms.proofs.Cuts.{cut-rising, cut-at, cut-has, cut-whole}
 use Rattle.answer_sets.specs.Lent.{lent, ruleAt}
 use Rattle.states.specs.State.{Completes}
@@ -31,7 +32,7 @@ use Rattle.demands.specs.Lists.{unitList}
 use Rattle.demands.proofs.Decided.{numbers-fit, unit-list-at, unit-list-has}
 use Rattle.demands.proofs.Enumerations.{unit-list-rising}
 use Rattle.unit_lists.specs.Work.{UnitTold, startWithin, ListStored, MembersStored, Stored, ListsThere}
-use Rattle.unit_lists.proofs.RisingLists.{member-getD, index-of, members-stored}
+use Rattle.unit_lists.proofs.RisingLists.{members-stored}
 
 -- ---- a stored list is searched word by word
 

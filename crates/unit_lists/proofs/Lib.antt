@@ -1,6 +1,6 @@
 -- The table and the counts while units are worked: what one unit more changes, and what stands there in the end
 pub mod WorkedUnits
--- Rising lists: members by index, lists within one another, and what a search has gathered where its members are known
+-- Rising lists: lists within one another, and what a search has gathered where its members are known
 pub mod RisingLists
 -- What the search looks for in the table is what document 01 lists: form A of the splitting theory, told from the stored lists
 pub mod Joined

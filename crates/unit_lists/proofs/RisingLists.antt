@@ -1,12 +1,12 @@
--- Rising lists: members by index, lists within one another, and what a search has gathered where its members are known.
+-- Rising lists: lists within one another, and what a search has gathered where its members are known.
 use mathlib.Core.Path.{_≡_, refl, sym, ap, _∙_}
 use mathlib.Core.Bool.{Bool}
 use mathlib.Core.Logic.{_⊎_, inl, inr}
 use mathlib.Core.List.{List, [], _∷_, _++_}
 use mathlib.Core.List.{List·Memᴰ, List·Memᴰ·head, List·Memᴰ·tail, List·Memᴰ·not-nil, List·Memᴰ·cases-cons}
-use Prim.Native.Nat.{ℕ, zero, suc, _*_, _≤_, _<_}
+use Prim.Native.Nat.{ℕ, _*_, _≤_, _<_}
 use native.Mathlib.Omega.{arith}
-use lib.ListN.{length, take, getD, set, replicate, take-append-drop, length-take, length-replicate}
+use lib.ListN.{length, take, set, replicate, take-append-drop, length-take, length-replicate}
 use lib.Seq.{paste}
 use Rattle.atoms.specs.Lists.{padded}
 use Rattle.atoms.specs.Rising.{Rising, rising-nil, rising-cons}
@@ -14,22 +14,6 @@ use Rattle.atoms.proofs.Rising.{above-at, rising-ext}
 use Rattle.plan.specs.Limits.{LIST_WORDS}
 use Rattle.searching.specs.Listing.{Ordered, Gathered, fits, over}
 use Rattle.unit_lists.specs.Work.{FoundFromNone, ListStored, MembersStored}
-
--- ---- members by index
-
-pub member-getD : (xs : List ℕ) (i : ℕ) → i < length xs → List·Memᴰ (getD xs i 0) xs
-member-getD [] i l = absurd (omega arith)
-member-getD (x ∷ xs) zero l = List·Memᴰ·head refl
-member-getD (x ∷ xs) (suc i) l = List·Memᴰ·tail (member-getD xs i (omega arith))
-
-pub index-of : (xs : List ℕ) (x : ℕ) → List·Memᴰ x xs → (i : ℕ) × (i < length xs) × (getD xs i 0 ≡ x)
-index-of [] x m = absurd (List·Memᴰ·not-nil m)
-index-of (y ∷ ys) x m = go (List·Memᴰ·cases-cons m) (index-of ys x)
-  where
-    go : (x ≡ y) ⊎ List·Memᴰ x ys → (List·Memᴰ x ys → (i : ℕ) × (i < length ys) × (getD ys i 0 ≡ x))
-        → (i : ℕ) × (i < length (y ∷ ys)) × (getD (y ∷ ys) i 0 ≡ x)
-    go (inl e) rest = (0, omega arith, sym e)
-    go (inr k) rest = let r = rest k in (suc (r .0), omega (arith, r .1), r .2)
 
 -- ---- rising lists of which one is within the other
 

@@ -1,0 +1,105 @@
+-- Inner: the least numbers with a property, one after the other in lent words, and the tree over undecided atoms that meets them rising.
+use mathlib.Core.Path.{_≡_}
+use mathlib.Core.Logic.{_⊎_}
+use mathlib.Core.Bool.{Bool}
+use mathlib.Core.List.{List, [], List·Memᴰ}
+use Prim.Native.Nat.{ℕ, _^_, _≤_, _<_}
+use lib.ListN.{length, getD}
+use Rattle.atoms.specs.Word.{ATOMS, _⊆_}
+use Rattle.states.specs.State.{Completes}
+use Rattle.states.specs.Narrowing.{Narrows, branchOf}
+use Rattle.states.specs.declared.state.State.{State}
+use Rattle.learning.specs.Reason.{Remembers}
+use Rattle.propagating.specs.Job.{Belongs}
+use Rattle.propagating.specs.Desk.{Prepared}
+use Rattle.searching.specs.declared.witness.Witness.{Witness}
+use Rattle.searching.specs.declared.witness.Witness.the-variants.{Member, Nothing}
+use Rattle.finding.specs.Whole.{wholeOf, noLists, Settled, Fitting}
+use Rattle.finding.specs.Least.{Behind}
+use Rattle.finding.specs.declared.least.From.{From}
+use Rattle.finding.specs.declared.least.From.the-variants.{Above}
+use Rattle.finding.specs.declared.gather.Branch.{Branch}
+
+-- ---- words
+
+-- M stands in one of the words from `count` to `r`
+pub record Stands (words : List ℕ) (count r M : ℕ) : Type 0 where
+  pub place : ℕ
+  pub from : count ≤ place
+  pub to : place < r
+  pub is : getD words place 0 ≡ M
+
+-- the words from `count` to `r` are the least with Q, rising: all of them, or as many as there is room for; the other words are as they were
+pub record Added (Q : ℕ → Type 0) (before : List ℕ) (count : ℕ) (after : List ℕ) (r : ℕ) : Type 0 where
+  pub long : length after ≡ length before
+  pub more : count ≤ r
+  pub room : r ≤ length before
+  pub each : (i : ℕ) → count ≤ i → i < r → Q (getD after i 0)
+  pub rises : (i j : ℕ) → count ≤ i → i < j → j < r → getD after i 0 < getD after j 0
+  pub all : (N : ℕ) → Q N → Stands after count r N ⊎ ((r ≡ length before) × ((i : ℕ) → count ≤ i → i < r → getD after i 0 < N))
+  pub others : (i : ℕ) → (i < count) ⊎ (r ≤ i) → getD after i 0 ≡ getD before i 0
+
+-- ---- what is sought
+
+-- behind the place, and not among the words that are passed over
+pub record Sought (from : From) (passed : List ℕ) (M : ℕ) : Type 0 where
+  pub behind : Behind from M
+  pub new : ¬ List·Memᴰ M passed
+
+-- an answer set that is sought, and completes the state
+pub record Due (rules : List ℕ) (which facts : ℕ) (from : From) (passed : List ℕ) (s : State) (M : ℕ) : Type 0 where
+  pub fits : Fitting rules which facts s M
+  pub sought : Sought from passed M
+
+-- it is this one, and sought
+pub record Offered (from : From) (passed : List ℕ) (m M : ℕ) : Type 0 where
+  pub is : M ≡ m
+  pub sought : Sought from passed M
+
+-- no completion of the state is behind the place
+pub record AllPassed (s : State) (from : From) : Type 0 where
+  pub none : (M : ℕ) → M < 2 ^ ATOMS → Completes s M → ¬ Behind from M
+
+-- ---- nodes
+
+-- M completes the state, and it is an answer set unless it is passed
+pub record Likely (rules : List ℕ) (which facts : ℕ) (from : From) (s : State) (M : ℕ) : Type 0 where
+  pub word : M < 2 ^ ATOMS
+  pub completes : Completes s M
+  pub settled : Behind from M → Settled rules which facts M
+
+-- such a position is known; or nothing is said
+pub data Hinted (rules : List ℕ) (which facts : ℕ) (from : From) (s : State) : Witness → Type 0 where
+  known : {M : ℕ} → Likely rules which facts from s M → Hinted rules which facts from s (Member M)
+  unknown : Hinted rules which facts from s Nothing
+
+-- such a position; or that no answer set that completes the state is behind the place
+pub data Looked (rules : List ℕ) (which facts : ℕ) (from : From) (s : State) : Witness → Type 0 where
+  seen : {M : ℕ} → Likely rules which facts from s M → Looked rules which facts from s (Member M)
+  unseen : ((M : ℕ) → Fitting rules which facts s M → ¬ Behind from M) → Looked rules which facts from s Nothing
+
+-- m, if it completes the state
+pub data Kept (m : ℕ) (s : State) : Witness → Type 0 where
+  kept : m < 2 ^ ATOMS → Completes s m → Kept m s (Member m)
+  left : Kept m s Nothing
+
+-- the place itself, if it completes the state
+pub data PlaceIn (s : State) (from : From) : Witness → Type 0 where
+  at-place : {p : ℕ} → p < 2 ^ ATOMS → from ≡ Above p → Completes s p → PlaceIn s from (Member p)
+  elsewhere : PlaceIn s from Nothing
+
+-- all is lent that questions ask, what is remembered holds of every answer set, and the facts are up
+pub record Standing (rules desk memory : List ℕ) (which facts : ℕ) (s : State) : Type 0 where
+  pub prepared : Prepared rules [] noLists desk (wholeOf which facts)
+  pub remembers : Remembers (Belongs rules [] noLists desk (wholeOf which facts)) memory
+  pub facts-up : facts ⊆ s .up
+
+-- a node: its state stands, and what is known of it is so
+pub record Node (rules desk memory : List ℕ) (which facts : ℕ) (from : From) (node : Branch) : Type 0 where
+  pub stands : Standing rules desk memory which facts (node .front .state)
+  pub hinted : Hinted rules which facts from (node .front .state) (node .known)
+
+-- the node of an atom in a phase
+pub record Descended (rules desk memory : List ℕ) (which facts : ℕ) (from : From) (s : State) (k : ℕ) (phase : Bool) (node : Branch) : Type 0 where
+  pub is-node : Node rules desk memory which facts from node
+  pub narrows : Narrows (Belongs rules [] noLists desk (wholeOf which facts)) (branchOf s k phase) (node .front .state)

@@ -1,0 +1,263 @@
+// The least answer sets of a program behind a place: a tree over the undecided atoms, the highest first and dropped before up, so that they are
+// met rising.
+use crate::ask::desk_of;
+use crate::ask::root_of;
+use crate::ask::whole;
+use crate::least::From;
+use crate::least::is_behind;
+use crate::least::put;
+use joining::filter::full_filter;
+use learning::store::empty_store;
+use plan::MAX_UNITS;
+use propagating::front::Front;
+use propagating::front::moved;
+use propagating::propagate::propagate;
+use searching::find::find;
+use searching::witness::Witness;
+use states::State;
+use states::decide;
+use states::undecided;
+ghost use Prim.Native.Nat.{_≤_, _<_};
+ghost use mathlib.Core.Path.{_≡_};
+ghost use mathlib.Core.Bool.{true};
+ghost use mathlib.Core.List.{[]};
+ghost use lib.ListN.{length};
+ghost use Rattle.atoms.specs.Word.{ATOMS};
+ghost use Rattle.answer_sets.specs.AnswerSet.{AnswerSet};
+ghost use Rattle.answer_sets.specs.Lent.{lent, Lent};
+ghost use Rattle.states.specs.Narrowing.{Narrows, branchOf};
+ghost use Rattle.learning.specs.Reason.{Remembers};
+ghost use Rattle.propagating.specs.Job.{Belongs};
+ghost use Rattle.searching.specs.Witness.{Witnessed};
+ghost use Rattle.finding.specs.Whole.{wholeOf, noLists, Fitting};
+ghost use Rattle.finding.specs.Gather.{Added, Sought, Due, AllPassed, Likely, Looked, Kept, PlaceIn, Standing, Node, Descended};
+
+// A node of the tree: where propagation stands, and a position that completes its state, if one is known: an answer set, or one that is passed.
+pub struct Branch {
+    pub front: Front,
+    pub known: Witness,
+}
+
+// Whether the greatest completion of the state is not behind the place.
+fn is_passed(s: State, from: From) -> bool
+    ensures { λ r. ⌜ (r ≡ true → AllPassed s from) ⌝ }
+{
+    !is_behind(from, atoms::outside(s.dropped))
+}
+
+// The position m, if it completes the state.
+fn kept(m: u64, s: State) -> Witness
+    ensures { λ r. ⌜ Kept m s r ⌝ }
+{
+    if !atoms::is_subset(s.up, m) {
+        return Witness::Nothing;
+    }
+    if !atoms::are_apart(s.dropped, m) {
+        return Witness::Nothing;
+    }
+    Witness::Member(m)
+}
+
+// The position itself, if it completes the state: no answer set need be looked for on the way to it.
+fn place_in(s: State, from: From) -> Witness
+    ensures { λ r. ⌜ PlaceIn s from r ⌝ }
+{
+    match from {
+        From::Start => Witness::Nothing,
+        From::Above(p) => kept(p, s),
+    }
+}
+
+// An answer set that completes the state of the front, or that none does.
+fn ask_here(
+    rules: &[u64],
+    desk: &[u64],
+    memory: &mut [u64],
+    which: u64,
+    facts: u64,
+    f: Front,
+) -> Witness
+    requires { ⌜ Standing (now rules) (now desk) (now memory) which facts (f .state) ⌝ }
+    ensures witnessed { λ r. ⌜ Witnessed (Fitting (now (rules .entry)) which facts (f .state)) r ⌝ }
+    ensures stands { λ _. ⌜ Standing (now (rules .entry)) (now (desk .entry)) (now (memory .exit)) which facts (f .state) ⌝ }
+{
+    let s = f.state;
+    if !atoms::are_apart(s.up, s.dropped) {
+        return Witness::Nothing;
+    }
+    let table = [0u64; 0];
+    let counts = [0usize; MAX_UNITS];
+    find(
+        rules,
+        &table,
+        &counts,
+        desk,
+        memory,
+        whole(which, facts),
+        f,
+        s,
+    )
+}
+
+// The position that is known of the node, or an answer set that completes its state; or that none there is behind the place.
+fn look(
+    rules: &[u64],
+    desk: &[u64],
+    memory: &mut [u64],
+    which: u64,
+    facts: u64,
+    node: Branch,
+    from: From,
+) -> Witness
+    requires { ⌜ Node (now rules) (now desk) (now memory) which facts from node ⌝ }
+    ensures looked { λ r. ⌜ Looked (now (rules .entry)) which facts from (node .front .state) r ⌝ }
+    ensures stands { λ _. ⌜ Standing (now (rules .entry)) (now (desk .entry)) (now (memory .exit)) which facts (node .front .state) ⌝ }
+{
+    let f = node.front;
+    if is_passed(f.state, from) {
+        return Witness::Nothing;
+    }
+    let known = node.known;
+    match known {
+        Witness::Member(m) => Witness::Member(m),
+        Witness::Nothing => ask_here(rules, desk, memory, which, facts, f),
+    }
+}
+
+// The front with the atom in the phase, after the steps that this wakes; they are not taken where all is passed.
+fn step_down(
+    rules: &[u64],
+    desk: &[u64],
+    memory: &mut [u64],
+    which: u64,
+    facts: u64,
+    f: Front,
+    k: usize,
+    phase: bool,
+    from: From,
+) -> Front
+    requires { ⌜ Standing (now rules) (now desk) (now memory) which facts (f .state) × (k < ATOMS) ⌝ }
+    ensures narrows { λ g. ⌜ Narrows (Belongs (now (rules .entry)) [] noLists (now (desk .entry)) (wholeOf which facts))
+        (branchOf (f .state) k phase) (g .state) ⌝ }
+    ensures remembers { λ _. ⌜ Remembers (Belongs (now (rules .entry)) [] noLists (now (desk .entry)) (wholeOf which facts)) (now (memory .exit)) ⌝ }
+{
+    let t = decide(f.state, k, phase);
+    if is_passed(t, from) {
+        let agenda = f.agenda;
+        return Front {
+            state: t,
+            agenda,
+            top: f.top,
+        };
+    }
+    let table = [0u64; 0];
+    let counts = [0usize; MAX_UNITS];
+    let mut filter = full_filter(&counts);
+    let g = moved(desk, f, t);
+    propagate(
+        rules,
+        &table,
+        &counts,
+        desk,
+        whole(which, facts),
+        memory,
+        &mut filter,
+        g,
+    )
+}
+
+// The node of the atom in the phase; the position m goes with it if it lies there.
+fn descend(
+    rules: &[u64],
+    desk: &[u64],
+    memory: &mut [u64],
+    which: u64,
+    facts: u64,
+    f: Front,
+    m: u64,
+    k: usize,
+    phase: bool,
+    from: From,
+) -> Branch
+    requires { ⌜ Standing (now rules) (now desk) (now memory) which facts (f .state) × Likely (now rules) which facts from (f .state) m × (k < ATOMS) ⌝ }
+    ensures { λ r. ⌜ Descended (now (rules .entry)) (now (desk .entry)) (now (memory .exit)) which facts from (f .state) k phase r ⌝ }
+{
+    let front = step_down(rules, desk, memory, which, facts, f, k, phase, from);
+    Branch {
+        front,
+        known: kept(m, front.state),
+    }
+}
+
+// Puts the least answer sets that are sought and complete the node's state into the words from `at` on, until none is left or the words are full:
+// the new count. All that lack the highest undecided atom are below all that have it.
+fn gather(
+    rules: &[u64],
+    desk: &[u64],
+    memory: &mut [u64],
+    which: u64,
+    facts: u64,
+    node: Branch,
+    from: From,
+    skip: &[u64],
+    out: &mut [u64],
+    at: usize,
+) -> usize
+    requires { ⌜ Node (now rules) (now desk) (now memory) which facts from node × (at ≤ length (now out)) ⌝ }
+    ensures added { λ r. ⌜ Added (Due (now (rules .entry)) which facts from (now (skip .entry)) (node .front .state)) (now (out .entry)) at
+        (now (out .exit)) r ⌝ }
+    ensures stands { λ _. ⌜ Standing (now (rules .entry)) (now (desk .entry)) (now (memory .exit)) which facts (node .front .state) ⌝ }
+{
+    if out.len() <= at {
+        return at;
+    }
+    let seen = look(rules, desk, memory, which, facts, node, from);
+    let Witness::Member(m) = seen else {
+        return at;
+    };
+    let f = node.front;
+    let s = f.state;
+    let free = undecided(s.up, s.dropped);
+    if free == 0 {
+        return put(out, at, from, skip, m);
+    }
+    let k = atoms::highest(free);
+    let low = descend(rules, desk, memory, which, facts, f, m, k, false, from);
+    let mid = gather(rules, desk, memory, which, facts, low, from, skip, out, at);
+    let up = descend(rules, desk, memory, which, facts, f, m, k, true, from);
+    gather(rules, desk, memory, which, facts, up, from, skip, out, mid)
+}
+
+// Fills the words with the least answer sets behind the place that are not passed over, rising: how many there are.
+pub fn gather_all(
+    rules: &[u64],
+    which: u64,
+    facts: u64,
+    from: From,
+    passed: &[u64],
+    out: &mut [u64],
+) -> usize
+    requires { ⌜ Lent (now rules) which ⌝ }
+    ensures { λ r. ⌜ Added (λ M. AnswerSet (lent (now (rules .entry))) which facts M × Sought from (now (passed .entry)) M) (now (out .entry)) 0
+        (now (out .exit)) r ⌝ }
+{
+    let desk = desk_of(rules, which, facts);
+    let mut memory = empty_store();
+    let front = root_of(rules, &desk, &mut memory, which, facts);
+    let root = Branch {
+        front,
+        known: place_in(front.state, from),
+    };
+    gather(
+        rules,
+        &desk,
+        &mut memory,
+        which,
+        facts,
+        root,
+        from,
+        passed,
+        out,
+        0,
+    )
+}
