@@ -6,7 +6,7 @@ use denote.Ref.{now}
 use borrow.Author.Needs.{needs}
 use borrow.Author.Tests.{not-true, not-false}
 use Rattle.answer_sets.specs.Memo.{Memo}
-use Rattle.judge.specs.Settled.{settled}
+use Rattle.plan_meaning.specs.Settled.{settled}
 use Rattle.judge.specs.Sheets.{positionAt}
 use Rattle.judge.proofs.Settled.{whole-lent}
 use Rattle.judge.proofs.JudgedSheets.{Passed, tested-at, passed-more, places-first, places-all}
