@@ -53,7 +53,7 @@ loop-again : tie.Need-loop-again Inv-loop μ-loop
 loop-again c =
     let judged = c .before .before .before in (
       passed-more (whole judged .before .before .args .t1) _ _ (turn judged .loop .inv .0) (sym (told judged) ∙ not-false _ (c .if1 .left)),
-      judged .judge-set .ensures .1,
+      judged .judge-set .ensures .1 .1,
     )
 
 returns-2 : tie.Need-returns-2 Inv-loop μ-loop
