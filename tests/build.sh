@@ -16,6 +16,30 @@ need_rustc() {
     exit 2
 }
 
+# have_crates: whether Debian's packages of the libraries that the tool uses are there.
+have_crates() {
+    local crate
+    for crate in clap clap_complete csv serde_json sha2; do
+        ls -d "/usr/share/cargo/registry/$crate-"[0-9]* >/dev/null 2>&1 || return 1
+    done
+}
+
+# Makes sure that cargo works and that the libraries that the tool uses can be had; on a Debian machine without them, root installs
+# them. Elsewhere cargo gets the same versions from crates.io.
+need_crates() {
+    [ -n "${RUSTC:-}" ] || need_rustc
+    ${CARGO:-cargo} --version >/dev/null 2>&1 && have_crates && return
+    if [ "$(id -u)" = 0 ] && command -v apt-get >/dev/null; then
+        local packages="librust-clap-dev librust-clap-complete-dev librust-csv-dev librust-serde-json-dev librust-sha2-dev"
+        ${CARGO:-cargo} --version >/dev/null 2>&1 || packages="$packages cargo"
+        # shellcheck disable=SC2086 # the packages are several words
+        { apt-get update && apt-get install -y --no-install-recommends $packages; } >&2 || true
+    fi
+    ${CARGO:-cargo} --version >/dev/null 2>&1 && return
+    echo "cargo is missing: install it, on Debian as root with: apt-get update && apt-get install -y cargo" >&2
+    exit 2
+}
+
 # Makes sure that there is a C compiler; on a Debian machine without one, root installs it.
 need_cc() {
     command -v cc >/dev/null && return

@@ -38,7 +38,7 @@ with_mistake() {
     cp -r tools/lucarne/src "$work/src"
     printf '%s\n' "$wrong" >"$work/src/$2"
     tried=$((tried + 1))
-    if ! output=$(LUCARNE_SOURCE=$work/src LUCARNE_OPT=0 tools/lucarne/build.sh "$work/lucarne" 2>&1); then
+    if ! output=$(LUCARNE_SOURCE=$work/src tools/lucarne/build.sh "$work/lucarne" 2>&1); then
         echo "$output" >&2
         echo "the copy cannot be built: $1" >&2
         exit 2
@@ -59,7 +59,7 @@ try_copy() {
     [ "$failed" = 0 ] || return 0
     build_tests "$work"
     try_drawn layout "$work" 300 1
-    build_page "$work" && try_drawn page "$work" text
+    build_test "$work" page && try_drawn page "$work" text
     [ "$failed" = 0 ] || return 0
     if is_there clingo "drawn sheets"; then
         try_drawn sheets "$work" 300 1
@@ -70,12 +70,12 @@ try_copy() {
     fi
 }
 
-with_mistake "an edge is dropped" layout.rs 'if from != to {' 'if from != to && to != 0 {' gate
-with_mistake "a helper is shown" program.rs '!named.is_helper && !self.hidden' '!self.hidden' gate
-with_mistake "a choice has no helper" program.rs '[atom, helper].iter().copied()' '[atom].iter().copied().filter(|&atom| atom != helper)' gate
-with_mistake "a relay and its opposite may both be up" reader.rs 'add_opposites(&mut program);' 'let _ = add_opposites;' gate
-with_mistake "a table's rows in the wrong order" text/directives.rs '(j >> k & 1 == 1))' '(j >> (row.len() - 1 - k) & 1 == 1))' gate
-with_mistake "a table's truth word in the order of the sheet" plan.rs 'order.sort_by_key(|&k| plan.bit(inputs[k]));' ''
+with_mistake "an edge is dropped" plan/layout.rs 'if from != to {' 'if from != to && to != 0 {' gate
+with_mistake "a helper is shown" plan/program.rs '!named.is_helper && !self.hidden' '!self.hidden' gate
+with_mistake "a choice has no helper" plan/program.rs '[atom, helper].iter().copied()' '[atom].iter().copied().filter(|&atom| atom != helper)' gate
+with_mistake "a relay and its opposite may both be up" read/reader.rs 'add_opposites(&mut program);' 'let _ = add_opposites;' gate
+with_mistake "a table's rows in the wrong order" read/text/directives.rs '(j >> k & 1 == 1))' '(j >> (row.len() - 1 - k) & 1 == 1))' gate
+with_mistake "a table's truth word in the order of the sheet" plan/bytes.rs 'order.sort_by_key(|&k| plan.bit(inputs[k]));' ''
 with_mistake "a label in the page is more than text" show/html.rs "'<' => out += \"&lt;\"" "'<' => out.push(sign)"
 with_mistake "the page leaves a position out" show/page/grid.rs 'positions.iter().enumerate().map(row)' 'positions.iter().enumerate().skip(1).map(row)'
 with_mistake "the page has another plan" show/page/bytes.rs 'let bytes = &group.plan.bytes;' 'let bytes = &group.plan.bytes[1..].to_vec();'
@@ -84,36 +84,36 @@ with_mistake "a question in the address is not asked" show/page/page.js 'const t
 with_mistake "a click on a relay asks nothing" show/page/page.js "addEventListener('click', () => turn" "addEventListener('dblclick', () => turn"
 with_mistake "the largest reading is that of hidden positions" show/page/page.js 'const values = shown.map' 'const values = rows.map'
 with_mistake "the headings are not printed anew" show/page/page.css '#grid thead{display:table-header-group}' '#grid thead{display:table-row-group}'
-with_mistake "facts that do not show are in the compiled plan" plan_file.rs 'group.shown_always()' 'program.always'
-with_mistake "helpers that no rule has are told" group.rs 'is_helper && used.contains(atom)' 'is_helper'
-with_mistake "an opposite that nothing drives is kept" simplify.rs 'while fold_undriven(aspif) {}' 'let _ = fold_undriven;'
-with_mistake "an empty standard input is listed" sources.rs 'if text.trim().is_empty() {' 'if text == "nothing" {'
-with_mistake "a key is both turned and released" reader.rs 'if *set.entry(atom).or_insert(setting) != setting {' 'if set.insert(atom, setting).is_none() && false {'
-with_mistake "a line of a ground program may go on" aspif.rs '    rest.end()?;' '    let _ = rest.end();'
+with_mistake "facts that do not show are in the compiled plan" plan/file.rs 'group.shown_always()' 'program.always'
+with_mistake "helpers that no rule has are told" plan/group.rs 'is_helper && used.contains(atom)' 'is_helper'
+with_mistake "an opposite that nothing drives is kept" read/simplify.rs 'while fold_undriven(aspif) {}' 'let _ = fold_undriven;'
+with_mistake "an empty standard input is listed" read/sources.rs 'if text.trim().is_empty() {' 'if text == "nothing" {'
+with_mistake "a key is both turned and released" read/reader.rs 'if *set.entry(atom).or_insert(setting) != setting {' 'if set.insert(atom, setting).is_none() && false {'
+with_mistake "a line of a ground program may go on" read/aspif.rs '    rest.end()?;' '    let _ = rest.end();'
 with_mistake "units of a picture stand on each other" show/graph.rs '/ 2.0 + GAP' '/ 4.0'
-with_mistake "a constraint is worked on its own sheet" layout.rs 'let place = self.best_place(&wants, self.own(rule));' 'let place = self.own(rule);'
-with_mistake "heads make no link" program.rs 'rule.head.iter().chain(&rule.pos)' 'rule.pos.iter()'
-with_mistake "a key's setting is ignored" text/ground.rs '"true" => Setting::Turned' '"true" => Setting::Released'
-with_mistake "a bare constraint is left out" reader.rs 'rule.pos.insert(up);' 'rule.neg.insert(up);'
-with_mistake "a unit that is too long is the end" group.rs 'Refusal { number: 15, spot }) if spot' 'Refusal { number: 15, spot }) if 99 + spot'
-with_mistake "just one of relays that others drive" reader.rs 'driven[atom.as_str()] > 1' 'driven[atom.as_str()] > 9'
-with_mistake "not in a sum is asked anew" translate.rs 'literal > 0 || !self.loops.hangs_on(-literal, heads)' 'literal > 0 || heads.is_empty() || true'
-with_mistake "a sum's bound is missed by one" sums.rs 'reached(j) >= bound' 'reached(j) > bound'
-with_mistake "a mark joins a condition" gringo.rs '"; "' '", "'
-with_mistake "a full output is no trouble" output.rs 'written.map_err(|error|' 'written.or(Ok(())).map_err(|error: io::Error|'
-with_mistake "the standard input is taken for ground in any case" aspif.rs 'text.starts_with("asp ")' '!text.is_empty()'
-with_mistake "a doubled line is passed over" audit.rs 'Some(_) if self.is_cut => repeats += 1' 'Some(_) if self.is_cut || true => repeats += 1' gate
-with_mistake "lists that differ are fine" audit.rs '        self.report.differences += 1;' '        self.report.differences += usize::from(line.starts_with("NOT"));'
-with_mistake "an empty cell is up" theirs/csv.rs '(UP.contains(&cell.text.as_str()), ' '(UP.contains(&cell.text.as_str()) || cell.text.is_empty(), '
-with_mistake "a short line is filled up" theirs/csv.rs 'row.cells.len() != head.cells.len()' 'row.cells.len() > head.cells.len()'
-with_mistake "of relays that hold each other up one is named" founded.rs 'up.difference(&least)' 'up.difference(&least.into_iter().take(1).collect())'
-with_mistake "the nearest position is any" audit.rs '(ours ^ position).count_ones()' '0 * (ours ^ position)'
-with_mistake "a dropped relay is not asked for" ask.rs 'question.dropped |= bit;' 'question.dropped |= bit & 0;' gate
-with_mistake "the last setting of keys is left out" keys.rs 'for setting in 0..settings {' 'for setting in 0..settings - 1 {'
-with_mistake "the low byte of a reading comes first" readings.rs 'u16::from_be_bytes' 'u16::from_le_bytes'
-with_mistake "rows of the wrong relays" by_relay.rs 'rows.get(bit)' 'rows.get(bit + 1)'
-with_mistake "a key of the command line is gone through too" keys.rs '.filter(|atom| !set(atom))' '.filter(|atom| !set(atom) || true)'
-with_mistake "a stream that nobody takes goes on" output.rs '.map_err(|error| cannot_write(path, &error))
+with_mistake "a constraint is worked on its own sheet" plan/layout.rs 'let place = self.best_place(&wants, self.own(rule));' 'let place = self.own(rule);'
+with_mistake "heads make no link" plan/program.rs 'rule.head.iter().chain(&rule.pos)' 'rule.pos.iter()'
+with_mistake "a key's setting is ignored" read/text/ground.rs '"true" => Setting::Turned' '"true" => Setting::Released'
+with_mistake "a bare constraint is left out" read/reader.rs 'rule.pos.insert(up);' 'rule.neg.insert(up);'
+with_mistake "a unit that is too long is the end" plan/group.rs 'Refusal { number: 15, spot }) if spot' 'Refusal { number: 15, spot }) if 99 + spot'
+with_mistake "just one of relays that others drive" read/reader.rs 'driven[atom.as_str()] > 1' 'driven[atom.as_str()] > 9'
+with_mistake "not in a sum is asked anew" read/translate.rs 'literal > 0 || !self.loops.hangs_on(-literal, heads)' 'literal > 0 || heads.is_empty() || true'
+with_mistake "a sum's bound is missed by one" read/sums.rs 'reached(j) >= bound' 'reached(j) > bound'
+with_mistake "a mark joins a condition" read/gringo.rs '"; "' '", "'
+with_mistake "a full output is no trouble" show/output.rs 'written.map_err(|error|' 'written.or(Ok(())).map_err(|error: io::Error|'
+with_mistake "the standard input is taken for ground in any case" read/aspif.rs 'text.starts_with("asp ")' '!text.is_empty()'
+with_mistake "a doubled line is passed over" commands/audit.rs 'Some(_) if self.is_cut => repeats += 1' 'Some(_) if self.is_cut || true => repeats += 1' gate
+with_mistake "lists that differ are fine" commands/audit.rs '        self.report.differences += 1;' '        self.report.differences += usize::from(line.starts_with("NOT"));'
+with_mistake "an empty cell is up" read/theirs/csv.rs '(UP.contains(&cell.text.as_str()), ' '(UP.contains(&cell.text.as_str()) || cell.text.is_empty(), '
+with_mistake "a short line is filled up" read/theirs/csv.rs 'row.cells.len() != head.cells.len()' 'row.cells.len() > head.cells.len()'
+with_mistake "of relays that hold each other up one is named" plan/founded.rs 'up.difference(&least)' 'up.difference(&least.into_iter().take(1).collect())'
+with_mistake "the nearest position is any" commands/audit.rs '(ours ^ position).count_ones()' '0 * (ours ^ position)'
+with_mistake "a dropped relay is not asked for" commands/ask.rs 'question.dropped |= bit;' 'question.dropped |= bit & 0;' gate
+with_mistake "the last setting of keys is left out" commands/keys.rs 'for setting in 0..settings {' 'for setting in 0..settings - 1 {'
+with_mistake "the low byte of a reading comes first" commands/readings.rs 'u16::from_be_bytes' 'u16::from_le_bytes'
+with_mistake "rows of the wrong relays" commands/rows.rs 'rows.get(bit)' 'rows.get(bit + 1)'
+with_mistake "a key of the command line is gone through too" commands/keys.rs '.filter(|atom| !set(atom))' '.filter(|atom| !set(atom) || true)'
+with_mistake "a stream that nobody takes goes on" show/output.rs '.map_err(|error| cannot_write(path, &error))
     }
 
     /// Nothing' '.or(Ok(())).map_err(|error: io::Error| cannot_write(path, &error))

@@ -1,5 +1,6 @@
 # The parts of the tests; read by run.sh and can_fail.sh, from the repository's root. Each counts in passed, failed and skipped.
 passed=0 failed=0 skipped=0
+export CARGO_TARGET_DIR=${CARGO_TARGET_DIR:-$PWD/target/lucarne-tests/cargo} LUCARNE_PROFILE=dev
 
 # result STATUS WHAT: counts one comparison.
 result() {
@@ -19,23 +20,24 @@ is_there() {
     return 1
 }
 
-# build_tests FOLDER: the drawn tests over the tool's library in this folder.
+# build_test FOLDER NAME: a test over the tool's library in this folder, static as that is.
+build_test() {
+    rustc --edition 2021 -C opt-level=0 -C target-feature=+crt-static "tools/lucarne/tests/$2.rs" -o "$1/test-$2" \
+        --extern "lucarne=$1/liblucarne.rlib" -L "dependency=$CARGO_TARGET_DIR/debug/deps"
+}
+
+# build_tests FOLDER: the drawn tests.
 build_tests() {
     local name
     need_rustc
     for name in audit layout mangled sheets; do
-        rustc --edition 2021 -C opt-level=0 "tools/lucarne/tests/$name.rs" -o "$1/test-$name" --extern "lucarne=$1/liblucarne.rlib" || return 1
+        build_test "$1" "$name" || return 1
     done
-}
-
-# build_page FOLDER: the test of pages and pictures.
-build_page() {
-    rustc --edition 2021 -C opt-level=0 tools/lucarne/tests/page.rs -o "$1/test-page" --extern "lucarne=$1/liblucarne.rlib"
 }
 
 # try_pages FOLDER: pages and pictures, by their text and in a browser; the group that the page's samples tell of.
 try_pages() {
-    build_page "$1" || return
+    build_test "$1" page || return
     try_drawn page "$1" text
     if is_there chromium "pages in a browser"; then
         try_drawn page "$1" browser chromium "$1"

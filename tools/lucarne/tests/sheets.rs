@@ -7,13 +7,14 @@ mod random;
 mod tally;
 
 use lucarne::fault::Fault;
-use lucarne::group::{Group, Options, Origin};
-use lucarne::json::{self, Value};
-use lucarne::layout::Circles;
-use lucarne::program::Program;
-use lucarne::reader::{read_aspif, read_sheets, Grounding, Turns};
-use lucarne::run;
-use lucarne::text::statements::Sheets;
+use lucarne::plan::group::{Group, Options, Origin};
+use lucarne::plan::layout::Circles;
+use lucarne::plan::program::Program;
+use lucarne::read::reader::{read_aspif, read_sheets, Grounding, Turns};
+use lucarne::read::run;
+use lucarne::read::theirs::clingo::{items, witnesses};
+use lucarne::serde_json::{self, Value};
+use lucarne::read::text::statements::Sheets;
 use random::Random;
 use std::collections::BTreeSet;
 use tally::Tally;
@@ -177,7 +178,7 @@ fn readers_agree(texts: &[String], own: &Group, tally: &mut Tally) {
 
 /// Head and place of each rule. gringo leaves out rules that can never act, so its rules are some of the others.
 fn lines(program: &Program) -> BTreeSet<(String, String, Vec<String>)> {
-    let heads = |rule: &lucarne::program::Rule| {
+    let heads = |rule: &lucarne::plan::program::Rule| {
         rule.head.iter().filter(|&&atom| !program.atoms[atom].is_helper).map(|&atom| program.name(atom).to_string()).collect()
     };
     let told = program.rules.iter().filter(|rule| rule.spot.is_some());
@@ -225,11 +226,7 @@ fn try_ground_program(texts: &[String], tally: &mut Tally) {
 fn clingo(text: &str) -> Result<BTreeSet<Names>, String> {
     let options = ["0", "--outf=2", "--warn=none", "--eq=0", "--no-gamma"];
     let output = run::run("clingo", &options, text, "clingo is missing").map_err(|fault| fault.to_string())?;
-    let answer = json::parse(&output.text).ok_or(output.errors)?;
-    let calls = answer.get("Call").map_or(Vec::new(), |calls| calls.list().to_vec());
-    let witnesses = calls.iter().flat_map(|call| call.get("Witnesses").map_or(Vec::new(), |witnesses| witnesses.list().to_vec()));
-    let names = |witness: Value| witness.get("Value").map_or(Vec::new(), |value| value.list().to_vec());
-    Ok(witnesses
-        .map(|witness| names(witness).iter().filter_map(Value::text).filter(|name| *name != "m").map(str::to_string).collect())
-        .collect())
+    let answer: Value = serde_json::from_str(&output.text).map_err(|_| output.errors)?;
+    let names = |witness: &Value| items(&witness["Value"]).iter().filter_map(Value::as_str).filter(|name| *name != "m").map(str::to_string).collect();
+    Ok(witnesses(&answer["Call"]).map(names).collect())
 }

@@ -7,12 +7,14 @@ pub mod graph;
 pub mod html;
 pub mod json;
 pub mod names;
+pub mod output;
 pub mod page;
+pub mod progress;
 pub mod svg;
 pub mod table;
 
-use crate::group::Group;
-use crate::library;
+use crate::plan::group::Group;
+use crate::plan::library;
 
 #[derive(Clone, Copy, Debug, PartialEq, Eq)]
 pub enum Form {

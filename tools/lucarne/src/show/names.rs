@@ -1,6 +1,6 @@
 //! A line for each position: the relays that are up, by label.
 
-use crate::group::Group;
+use crate::plan::group::Group;
 
 pub fn show(group: &Group) -> String {
     let mut out = format!("positions {}\n", group.listing.positions.len());

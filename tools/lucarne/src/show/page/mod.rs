@@ -12,8 +12,8 @@ pub use readings::Readings;
 use super::digest::{base64, sha256};
 use super::html::{counted, escaped, filled};
 use super::svg;
-use crate::group::Group;
-use crate::program::{Program, Setting};
+use crate::plan::group::Group;
+use crate::plan::program::{Program, Setting};
 
 const TEMPLATE: &str = include_str!("page.html");
 const STYLE: &str = include_str!("page.css");
