@@ -7,6 +7,7 @@ pub mod check;
 pub mod compile;
 pub mod each;
 pub mod explain;
+pub mod guard;
 pub mod keys;
 pub mod list;
 pub mod next;
@@ -38,6 +39,7 @@ fn work(asked: Asked) -> Result<i32, Fault> {
         Asked::Text(text) => return output::write(None, text.as_bytes()).map(|_| status::FINE),
         Asked::Work(args) => args,
     };
+    guard::check(&args)?;
     match args.command {
         Command::List => list::run(&args),
         Command::Compile => compile::run(&args),

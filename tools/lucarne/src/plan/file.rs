@@ -6,6 +6,8 @@ use crate::plan::bytes::{self, Plan, Record};
 use crate::plan::program::{Key, Program, Rule, Setting, Table};
 use crate::read::sources;
 use std::collections::{BTreeMap, BTreeSet};
+use std::fs::{self, File};
+use std::io::Read;
 use std::path::{Path, PathBuf};
 
 const FIRST_LINE: &str = "lucarne names 1";
@@ -13,6 +15,20 @@ const FIRST_LINE: &str = "lucarne names 1";
 /// X.names for X.plan.
 pub fn names_path(plan: &Path) -> PathBuf {
     plan.with_extension("names")
+}
+
+/// Refuses to write names over a file that is there and holds none.
+pub fn check_names(path: &Path) -> Result<(), Fault> {
+    let mut start = vec![0; FIRST_LINE.len()];
+    if fs::symlink_metadata(path).is_err() {
+        return Ok(());
+    }
+    let read = File::open(path).and_then(|mut file| file.read_exact(&mut start));
+    if read.is_ok() && start == FIRST_LINE.as_bytes() {
+        return Ok(());
+    }
+    let what = format!("{} is there, and holds no names of a plan: they would be written over it", path.display());
+    Err(Fault::new(what).hint("give the plan another name: its names go to a file of the same name that ends in .names"))
 }
 
 /// A sum over the bytes (FNV-1a), by which names are known to belong to a plan.

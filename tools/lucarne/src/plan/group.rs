@@ -10,8 +10,8 @@ use crate::plan::program::{Atom, Program};
 use crate::read::reader::{self, Grounding, Turns};
 use crate::read::sources::{self, Source, STANDARD_INPUT};
 use crate::read::text::statements::Sheets;
+use crate::show::beside;
 use crate::plan::words::Refused;
-use std::fs;
 use std::path::{Path, PathBuf};
 
 /// What the command line says about a group.
@@ -29,6 +29,11 @@ impl Options {
     pub fn title(&self) -> String {
         self.paths.iter().map(|path| path.to_string_lossy()).collect::<Vec<_>>().join(" ")
     }
+
+    /// Whether what would be a note is refused: circles, and files of a folder that are not taken.
+    fn is_strict(&self) -> bool {
+        self.circles == Circles::Refuse
+    }
 }
 
 /// Where a group comes from.
@@ -38,6 +43,13 @@ pub enum Origin {
     Ground(String),
     /// A plan of bytes, which is listed as it is.
     Bytes,
+}
+
+const NOTHING_DRIVEN: &str = "nothing is driven: no rule has a head, and no relay is up but by a key";
+
+/// Whether no rule has a head, and no fact was folded away.
+fn drives_nothing(program: &Program) -> bool {
+    program.always.is_empty() && program.rules.iter().all(|rule| rule.head.is_empty())
 }
 
 /// A group, laid out and written as bytes. Positions are words over the bits of the plan, cut to what shows, in the library's order.
@@ -66,7 +78,7 @@ impl Group {
     /// Reads and lays out a group, which may have more positions than a list takes.
     pub fn prepare(options: &Options) -> Result<Group, Fault> {
         let title = options.title();
-        match sources::load(&options.paths)? {
+        match sources::load(&options.paths, options.is_strict())? {
             Source::Sheets(sheets) => {
                 let program = reader::read_sheets(&sheets, options.grounding, &options.turns)?;
                 Group::of(title, program, Origin::Sheets(sheets), options)
@@ -84,6 +96,7 @@ impl Group {
         let layout = if options.one_unit { Layout::one_unit(&program) } else { Layout::of(&program, options.circles)? };
         limits::check_units(&layout)?;
         let mut notes = program.notes.clone();
+        notes.extend(Some(NOTHING_DRIVEN.to_string()).filter(|_| drives_nothing(&program)));
         notes.extend(layout.joins.iter().cloned());
         notes.extend(layout.moved.iter().filter(|moved| moved.closes_circle).map(|moved| layout.move_text(&program, moved)));
         let plan = Plan::of(&program, &layout)?;
@@ -187,7 +200,7 @@ fn refused(program: &Program, plan: &Plan, refusal: Refusal) -> Fault {
         );
         return Fault::new(what).hint("turn or release keys (--turn, --release), show fewer relays (#show), or split the group");
     }
-    let path = std::env::temp_dir().join("lucarne-refused.plan");
-    let kept = fs::write(&path, &plan.bytes).map_or(String::new(), |_| format!("; the plan is kept as {}", path.display()));
+    let kept = beside::keep(&std::env::temp_dir(), "lucarne-refused-", ".plan", &plan.bytes);
+    let kept = kept.map_or(String::new(), |path| format!("; the plan is kept as {}", path.display()));
     Fault::of_the_tool(format!("the library refuses the plan by {} at {}{}", refusal.number, refusal.spot, kept))
 }

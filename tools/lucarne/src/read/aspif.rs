@@ -51,6 +51,13 @@ pub struct Aspif {
     pub externals: Vec<(Literal, Setting)>,
 }
 
+impl Aspif {
+    /// Whether nothing is said at all, as where gringo stopped before it wrote a rule.
+    pub fn is_empty(&self) -> bool {
+        self.rules.is_empty() && self.externals.is_empty() && self.names.is_empty() && self.always.is_empty()
+    }
+}
+
 /// Whether a text is in this format.
 pub fn is_aspif(text: &str) -> bool {
     text.starts_with("asp ")

@@ -1,6 +1,7 @@
 //! From what the command line names to a program: sheets, ground programs, and lists from elsewhere.
 
 pub mod aspif;
+pub mod folder;
 pub mod gringo;
 pub mod lookup;
 pub mod reader;

@@ -69,6 +69,9 @@ fn given(sheets: &Sheets, turns: &Turns) -> Vec<String> {
 /// A program in the ground format of gringo, as one unit.
 pub fn read_aspif(file: &str, text: &str, turns: &Turns) -> Result<Program, Fault> {
     let mut aspif = aspif::read(file, text)?;
+    if aspif.is_empty() {
+        return Err(Fault::new("the ground program is empty").hint("did gringo stop with an error?"));
+    }
     limits::ground_rules(&aspif)?;
     simplify(&mut aspif);
     let mut program = Program::new(vec!["input".to_string()]);

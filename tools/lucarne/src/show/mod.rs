@@ -1,5 +1,6 @@
 //! A group's list in the forms that are asked for. The order of positions is the library's in all of them.
 
+pub mod beside;
 pub mod csv;
 pub mod digest;
 pub mod dot;
