@@ -16,11 +16,23 @@ const MAX_GROUND_RULES: usize = 1000;
 
 /// A ground program that is far too large is refused before it is worked on.
 pub fn ground_rules(aspif: &Aspif) -> Result<(), Fault> {
-    if aspif.rules.len() <= MAX_GROUND_RULES {
+    written_rules(aspif.rules.len())
+}
+
+pub fn written_rules(count: usize) -> Result<(), Fault> {
+    if count <= MAX_GROUND_RULES {
         return Ok(());
     }
-    Err(Fault::new(format!("written out, the sheets have {} rules; a plan holds {}", aspif.rules.len(), MAX_RULES))
+    Err(Fault::new(format!("written out, the sheets have {} rules; a plan holds {}", count, MAX_RULES))
         .hint("split the group, or narrow the ranges of variables"))
+}
+
+/// The same for tables: some may be asked by nobody, but not so many.
+pub fn written_tables(count: usize) -> Result<(), Fault> {
+    if count <= MAX_GROUND_RULES {
+        return Ok(());
+    }
+    Err(Fault::new(format!("the sheets have {} contact tables; a plan holds {}", count, MAX_TABLES)).hint("split the group"))
 }
 
 /// Rules, atoms and tables of a program against the most that a plan holds.
@@ -38,7 +50,7 @@ fn check_rules(program: &Program) -> Result<(), Fault> {
     Err(at(&program.rules[MAX_RULES], what).hint("split the group; a choice takes a rule for each relay, and #external keys take none"))
 }
 
-fn check_atoms(program: &Program) -> Result<(), Fault> {
+pub fn check_atoms(program: &Program) -> Result<(), Fault> {
     let atoms = program.used_atoms();
     if atoms.len() <= MAX_ATOMS {
         return Ok(());

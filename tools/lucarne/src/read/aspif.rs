@@ -2,7 +2,7 @@
 
 use crate::fault::{Fault, Spot};
 use crate::plan::program::Setting;
-use std::collections::{BTreeMap, BTreeSet};
+use std::collections::{BTreeMap, BTreeSet, HashSet};
 use std::sync::Arc;
 
 /// An atom's number, negative where `not` stands before it.
@@ -49,6 +49,8 @@ pub struct Aspif {
     pub aliases: Vec<(String, Literal)>,
     pub always: Vec<String>,
     pub externals: Vec<(Literal, Setting)>,
+    /// All names that are shown, to find one that is shown twice.
+    shown: HashSet<String>,
 }
 
 impl Aspif {
@@ -192,7 +194,7 @@ fn output(aspif: &mut Aspif, line: &str, spot: &Spot) -> Result<(), Fault> {
     let mut rest = Numbers { words: behind.split_ascii_whitespace(), spot, line };
     let condition = rest.many()?;
     rest.end()?;
-    if aspif.always.contains(&name) || aspif.names.values().any(|known| *known == name) {
+    if !aspif.shown.insert(name.clone()) {
         return Err(Fault::at(spot, format!("{} is shown a second time; only relays by name can be shown", name))
             .hint("write the name and the number of its arguments: #show lock/1."));
     }

@@ -38,6 +38,7 @@ pub fn read_sheets(sheets: &Sheets, grounding: Grounding, turns: &Turns) -> Resu
     let read = read_ground(sheets, &program)?;
     let is_own = match (read, grounding) {
         (Ok(rules), Grounding::Auto | Grounding::Never) => {
+            limits::written_rules(rules.iter().map(|(_, ground)| rules_of(ground)).sum())?;
             add_ground(&mut program, rules);
             true
         }
@@ -53,6 +54,7 @@ pub fn read_sheets(sheets: &Sheets, grounding: Grounding, turns: &Turns) -> Resu
     }
     finish(&mut program, sheets)?;
     if is_own {
+        limits::check_atoms(&program)?; // so that no more are told of than a plan holds
         note_undriven(&mut program); // gringo tells it of what it reads
     }
     Ok(program)
@@ -95,6 +97,7 @@ pub fn read_aspif(file: &str, text: &str, turns: &Turns) -> Result<Program, Faul
 }
 
 fn add_tables(program: &mut Program, sheets: &Sheets) -> Result<(), Fault> {
+    limits::written_tables(sheets.tables.len())?;
     for table in &sheets.tables {
         let is_table = |name: &str| sheets.tables.iter().any(|other| other.name == name);
         if let Some((input, spot)) = table.inputs.iter().find(|(input, _)| is_table(input)) {
@@ -174,6 +177,15 @@ fn shared_choice(read: &Read) -> Option<Fault> {
 fn atoms_of(head: &Head) -> &[String] {
     match head {
         Head::AnyOf(atoms) | Head::Choice(atoms) | Head::JustOne(atoms) => atoms,
+    }
+}
+
+/// How many rules a statement becomes: a choice one for each relay.
+fn rules_of(ground: &Ground) -> usize {
+    match ground {
+        Ground::Rule(GroundRule { head: Head::Choice(atoms), .. }) => atoms.len(),
+        Ground::Rule(_) => 1,
+        Ground::External(..) => 0,
     }
 }
 

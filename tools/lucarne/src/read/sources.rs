@@ -20,7 +20,9 @@ pub enum Source {
 /// The name under which the standard input stands in messages.
 pub const STANDARD_INPUT: &str = "-";
 /// A plan has 64 rules and a list 256 positions: a file of more bytes is a slip, and would only take memory.
-const MOST_BYTES: u64 = 4 << 20;
+const MOST_BYTES: u64 = 1 << 20;
+/// Nothing that people write is nested deeper, and programs that read it in turn would run out of stack.
+const MOST_NESTED: usize = 100;
 const WHAT_TO_NAME: &str = "name a folder of sheets, sheets (*.lp), a plan (*.plan), or - for the standard input";
 
 /// What the paths name. Where the reading is strict, a folder holds nothing but sheets.
@@ -71,8 +73,26 @@ fn sheets(texts: Vec<(String, String)>, notes: Vec<String>) -> Result<Source, Fa
         let note = without_rules(path, text, &sheets.statements[before..]);
         sheets.notes.extend(note);
     }
+    faults.extend(sheets.statements.iter().filter_map(too_deep));
     Fault::all(faults)?;
     Ok(Source::Sheets(sheets))
+}
+
+/// The bracket of a statement that opens one level too many.
+fn too_deep(statement: &Statement) -> Option<Fault> {
+    let mut depth = 0usize;
+    for token in &statement.tokens {
+        match token.text.as_str() {
+            "(" | "[" | "{" => depth += 1,
+            ")" | "]" | "}" => depth = depth.saturating_sub(1),
+            _ => {}
+        }
+        if depth > MOST_NESTED {
+            let what = format!("more than {} brackets are open here", MOST_NESTED);
+            return Some(Fault::at(&token.spot, what).text(statement.text()).hint("write the term with fewer brackets within each other"));
+        }
+    }
+    None
 }
 
 /// What to say of a sheet that drives nothing and forbids nothing: was it saved?

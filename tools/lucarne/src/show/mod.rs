@@ -29,6 +29,9 @@ pub enum Form {
     Html,
 }
 
+/// How full every list is, for those who read one.
+pub const FULL: &str = "every settled position of the plan, proved to leave none out";
+
 /// Each form with its name on the command line.
 pub const FORMS: [(&str, Form); 8] = [
     ("names", Form::Names),

@@ -4,6 +4,7 @@ use super::statements::Statement;
 use super::tokens::{tokens, Kind, Token};
 use crate::fault::{Fault, Spot};
 use crate::plan::program::Setting;
+use std::collections::HashSet;
 
 /// Why a statement was not read: it may be gringo's, or it is wrong in any case.
 pub enum Stop {
@@ -379,11 +380,6 @@ fn is_decimal(number: &str) -> bool {
 }
 
 fn unique(atoms: Vec<String>) -> Vec<String> {
-    let mut found: Vec<String> = Vec::new();
-    for atom in atoms {
-        if !found.contains(&atom) {
-            found.push(atom);
-        }
-    }
-    found
+    let mut found = HashSet::new();
+    atoms.into_iter().filter(|atom| found.insert(atom.clone())).collect()
 }

@@ -4,7 +4,7 @@ use super::directives::{self, Directive, Label, WrittenTable};
 use super::tokens::{tokens, Kind, Token};
 use crate::fault::{Fault, Spot};
 use crate::plan::program::Shows;
-use std::collections::BTreeSet;
+use std::collections::{BTreeSet, HashMap};
 use std::path::Path;
 use std::sync::Arc;
 
@@ -46,6 +46,8 @@ pub struct Sheets {
     pub show_spots: Vec<((String, usize), Spot)>,
     pub notes: Vec<String>,
     files: Vec<String>,
+    /// The numbers of sheets by name.
+    numbers: HashMap<String, usize>,
 }
 
 impl Sheets {
@@ -103,10 +105,11 @@ impl Sheets {
     }
 
     fn number(&mut self, sheet: &str) -> usize {
-        if let Some(number) = self.names.iter().position(|name| name == sheet) {
+        if let Some(&number) = self.numbers.get(sheet) {
             return number;
         }
         self.names.push(sheet.to_string());
+        self.numbers.insert(sheet.to_string(), self.names.len() - 1);
         self.names.len() - 1
     }
 }
@@ -120,22 +123,26 @@ enum Piece {
 fn pieces(tokens: Vec<Token>, faults: &mut Vec<Fault>) -> Vec<Piece> {
     let mut found = Vec::new();
     let mut open: Vec<Token> = Vec::new();
+    let mut has_dot = false; // whether a full stop is among the open tokens
     let mut rest = tokens.into_iter().peekable();
     while let Some(token) = rest.next() {
         if token.kind == Kind::Comment {
             if !open.is_empty() && directives::is_directive(&token) {
                 faults.push(not_ended(&open, &format!("before the directive {}", token.text)));
                 open.clear();
+                has_dot = false;
             }
             if open.is_empty() {
                 found.push(Piece::Comment(token));
             }
             continue;
         }
-        let ends = token.kind == Kind::Dot || token.is("]") && open.iter().any(|before| before.kind == Kind::Dot);
+        let ends = token.kind == Kind::Dot || token.is("]") && has_dot;
+        has_dot |= token.kind == Kind::Dot;
         open.push(token);
         if ends && !rest.peek().map_or(false, |next| next.is("[")) {
             found.push(Piece::Statement(std::mem::take(&mut open)));
+            has_dot = false;
         }
     }
     if !open.is_empty() {
