@@ -37,9 +37,13 @@ pub fn written_tables(count: usize) -> Result<(), Fault> {
 
 /// Rules, atoms and tables of a program against the most that a plan holds.
 pub fn check(program: &Program) -> Result<(), Fault> {
-    check_rules(program)?;
-    check_atoms(program)?;
+    check_size(program)?;
     check_tables(program)
+}
+
+pub fn check_size(program: &Program) -> Result<(), Fault> {
+    check_rules(program)?;
+    check_atoms(program)
 }
 
 fn check_rules(program: &Program) -> Result<(), Fault> {
@@ -50,7 +54,7 @@ fn check_rules(program: &Program) -> Result<(), Fault> {
     Err(at(&program.rules[MAX_RULES], what).hint("split the group; a choice takes a rule for each relay, and #external keys take none"))
 }
 
-pub fn check_atoms(program: &Program) -> Result<(), Fault> {
+fn check_atoms(program: &Program) -> Result<(), Fault> {
     let atoms = program.used_atoms();
     if atoms.len() <= MAX_ATOMS {
         return Ok(());

@@ -54,7 +54,7 @@ pub fn read_sheets(sheets: &Sheets, grounding: Grounding, turns: &Turns) -> Resu
     }
     finish(&mut program, sheets)?;
     if is_own {
-        limits::check_atoms(&program)?; // so that no more are told of than a plan holds
+        limits::check_size(&program)?; // so that no more are told of than a plan holds
         note_undriven(&mut program); // gringo tells it of what it reads
     }
     Ok(program)
