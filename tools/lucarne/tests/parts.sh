@@ -1,5 +1,5 @@
 # The parts of the tests; read by run.sh and can_fail.sh, from the repository's root. Each counts in passed, failed and skipped.
-passed=0 failed=0 skipped=0
+passed=0 failed=0 skipped=0 skips=()
 export CARGO_TARGET_DIR=${CARGO_TARGET_DIR:-$PWD/target/lucarne-tests/cargo} LUCARNE_PROFILE=dev
 
 # result STATUS WHAT: counts one comparison.
@@ -15,9 +15,18 @@ result() {
 # is_there PROGRAM WHAT: whether a program is installed; otherwise what asks for it is skipped.
 is_there() {
     command -v "$1" >/dev/null && return
-    skipped=$((skipped + 1))
-    echo "skipped, since $1 is not installed: $2"
+    skip "skipped, since $1 is not installed: $2"
     return 1
+}
+
+# skip LINE: counts what is skipped, and keeps it for the last lines.
+skip() {
+    skipped=$((skipped + 1)) skips+=("$1")
+}
+
+# tell_skipped: all that was skipped.
+tell_skipped() {
+    [ "$skipped" = 0 ] || printf '%s\n' "${skips[@]}"
 }
 
 # build_test FOLDER NAME: a test over the tool's library in this folder, static as that is.
@@ -80,13 +89,15 @@ try_sessions() {
 
 # try_drawn NAME FOLDER OPERANDS..: a drawn test; its comparisons count, and what it skips with a word.
 try_drawn() {
-    local output
+    local output line
     if output=$("$2/test-$1" "${@:3}" 2>&1); then
-        grep '^note: \|^skipped, ' <<<"$output"
+        grep '^note: ' <<<"$output"
     else
         printf '%s\n' "$output"
     fi
-    skipped=$((skipped + $(grep -c '^skipped, ' <<<"$output")))
+    while IFS= read -r line; do
+        skip "$line"
+    done < <(grep '^skipped, ' <<<"$output")
     count_last "$output" "$1"
 }
 
@@ -126,6 +137,7 @@ try_samples() {
 try_group() {
     local tool=$1/lucarne
     "$tool" compile "$2" -q -o "$1/group.plan" && "$tool" list "$1/group.plan" >"$1/group.one" && "$tool" list "$2" -q >"$1/group.two" &&
+        sed -i 's/ (not proved: .*//' "$1/group.two" && # what is said of sheets alone
         cmp -s "$1/group.one" "$1/group.two"
     result $? "$2 compiled is another list"
     "$tool" list "$2" -q --as sheet >"$1/group.sheet"

@@ -26,5 +26,6 @@ wait "$faulty"
 result $? "wrong tools that are not noticed"
 cat "$work/can_fail.log"
 
+tell_skipped
 echo "$passed passed, $failed failed, $skipped skipped"
 [ "$failed" = 0 ]
