@@ -58,6 +58,7 @@ try_copy() {
     try_sessions "$work" ""
     [ "$failed" = 0 ] || return 0
     build_tests "$work"
+    try_drawn files "$work" "$work/files"
     try_drawn layout "$work" 300 1
     build_test "$work" page && try_drawn page "$work" text
     [ "$failed" = 0 ] || return 0
@@ -113,13 +114,25 @@ with_mistake "the last setting of keys is left out" commands/keys.rs 'for settin
 with_mistake "the low byte of a reading comes first" commands/readings.rs 'u16::from_be_bytes' 'u16::from_le_bytes'
 with_mistake "rows of the wrong relays" commands/rows.rs 'rows.get(bit)' 'rows.get(bit + 1)'
 with_mistake "a key of the command line is gone through too" commands/keys.rs '.filter(|atom| !set(atom))' '.filter(|atom| !set(atom) || true)'
-with_mistake "a stream that nobody takes goes on" show/output.rs '.map_err(|error| cannot_write(path, &error))
-    }
-
-    /// Nothing' '.or(Ok(())).map_err(|error: io::Error| cannot_write(path, &error))
-    }
-
-    /// Nothing'
+with_mistake "what is kept back is no trouble" show/output.rs 'ended.map_err(|error|' 'ended.or(Ok(())).map_err(|error: io::Error|'
+with_mistake "an output that is read is written over" commands/guard.rs 'inputs.iter().find(|input| is_same' 'inputs.iter().find(|input| false && is_same' gate
+with_mistake "a file is known by its name alone" commands/guard.rs 'known(one).map_or(false, |file| known(other) == Some(file))' 'known(one).is_some() && one == other'
+with_mistake "the sheets of a folder are written over" commands/guard.rs 'Ok(folder) => inputs.extend(folder.sheets)' 'Ok(_) => {}'
+with_mistake "names that are not ours are written over" plan/file.rs 'read.is_ok() && start' 'read.is_ok() || start'
+with_mistake "a full disk takes the old file" show/beside.rs 'fresh(folder, USUAL, names(".lucarne-", ".part"))?' '(File::create(&place)?, place.clone())'
+with_mistake "a new file forgets who may read it" show/beside.rs 'file.set_permissions(old.permissions())' 'Ok(())'
+with_mistake "a kept plan goes where others put a file" show/beside.rs 'create_new(true)' 'create(true).truncate(true)'
+with_mistake "what a folder does not take is not told" read/folder.rs 'if !self.left.is_empty() {' 'if self.left.len() > 99 {' gate
+with_mistake "hidden sheets are passed over" read/folder.rs '} else if !ends_in(&entry, &OTHERS) {' '} else if !ends_in(&entry, &OTHERS) && !is_hidden(&entry) {'
+with_mistake "strict reading takes a folder as it is" read/sources.rs 'filter(|_| is_strict)' 'filter(|_| is_strict && paths.is_empty())'
+with_mistake "an empty sheet is not told" read/sources.rs 'if statements.iter().any(is_rule) {' 'if statements.is_empty() || statements.iter().any(is_rule) {'
+with_mistake "a group that drives nothing is not told" plan/group.rs 'filter(|_| drives_nothing(&program))' 'filter(|_| drives_nothing(&program) && false)'
+with_mistake "an empty ground program is listed" read/reader.rs 'if aspif.is_empty() {' 'if aspif.is_empty() && text.is_empty() {'
+with_mistake "a file is cut where it is too long" read/sources.rs 'if bytes.len() as u64 > MOST_BYTES {' 'if bytes.len() as u64 > 2 * MOST_BYTES {'
+with_mistake "brackets go on" read/sources.rs 'if depth > MOST_NESTED {' 'if depth > 9999 * MOST_NESTED {'
+with_mistake "each name is looked for among all" read/aspif.rs '!aspif.shown.insert(name.clone())' 'aspif.names.values().any(|known| *known == name)'
+with_mistake "rules are counted when they are written out" plan/limits.rs 'if count <= MAX_GROUND_RULES {' 'if count < usize::MAX {'
+with_mistake "file names are text" commands/args/line.rs 'ValueParser::os_string()' 'ValueParser::string()'
 
 echo "$tried wrong tools, $unnoticed not noticed"
 [ "$unnoticed" = 0 ]

@@ -39,7 +39,7 @@ build_test() {
 build_tests() {
     local name
     need_rustc
-    for name in audit layout mangled sheets; do
+    for name in audit files layout mangled sheets; do
         build_test "$1" "$name" || return 1
     done
 }
@@ -166,6 +166,7 @@ try_audits() {
 # try_all FOLDER UPDATE: all parts.
 try_all() {
     try_sessions "$1" "$2"
+    try_drawn files "$1" "$1/files"
     try_drawn layout "$1" 2000 1
     try_drawn mangled "$1" "$1" 3000 1
     if is_there clingo "drawn sheets beside clingo's lists" && is_there gringo "both readers"; then

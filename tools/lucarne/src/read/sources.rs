@@ -137,7 +137,8 @@ pub fn read_bytes(path: &Path) -> Result<Vec<u8>, Fault> {
     };
     read.map_err(|error| Fault::new(format!("{} cannot be read: {}", path.display(), error)).hint(WHAT_TO_NAME))?;
     if bytes.len() as u64 > MOST_BYTES {
-        let what = format!("{} has more than {} bytes, and so much is not read", path.display(), MOST_BYTES);
+        let name = if path.as_os_str() == STANDARD_INPUT { "the standard input".into() } else { path.to_string_lossy() };
+        let what = format!("{} has more than {} bytes, and so much is not read", name, MOST_BYTES);
         return Err(Fault::new(what).hint("a plan holds 64 rules and a list 256 positions: is it another file?"));
     }
     Ok(bytes)
