@@ -89,7 +89,8 @@ with_mistake "facts that do not show are in the compiled plan" plan/file.rs 'gro
 with_mistake "helpers that no rule has are told" plan/group.rs 'is_helper && used.contains(atom)' 'is_helper'
 with_mistake "an opposite that nothing drives is kept" read/simplify.rs 'while fold_undriven(aspif) {}' 'let _ = fold_undriven;'
 with_mistake "an empty standard input is listed" read/sources.rs 'if text.trim().is_empty() {' 'if text == "nothing" {'
-with_mistake "a key is both turned and released" read/reader.rs 'if *set.entry(atom).or_insert(setting) != setting {' 'if set.insert(atom, setting).is_none() && false {'
+with_mistake "a key is both turned and released" read/reader.rs \
+    'if *set.entry(atom).or_insert(setting) != setting {' 'if set.insert(atom, setting).is_none() && false {'
 with_mistake "a line of a ground program may go on" read/aspif.rs '    rest.end()?;' '    let _ = rest.end();'
 with_mistake "units of a picture stand on each other" show/graph.rs '/ 2.0 + GAP' '/ 4.0'
 with_mistake "a constraint is worked on its own sheet" plan/layout.rs 'let place = self.best_place(&wants, self.own(rule));' 'let place = self.own(rule);'
@@ -104,7 +105,8 @@ with_mistake "a mark joins a condition" read/gringo.rs '"; "' '", "'
 with_mistake "a full output is no trouble" show/output.rs 'written.map_err(|error|' 'written.or(Ok(())).map_err(|error: io::Error|'
 with_mistake "the standard input is taken for ground in any case" read/aspif.rs 'text.starts_with("asp ")' '!text.is_empty()'
 with_mistake "a doubled line is passed over" commands/audit.rs 'Some(_) if self.is_cut => repeats += 1' 'Some(_) if self.is_cut || true => repeats += 1' gate
-with_mistake "lists that differ are fine" commands/audit.rs '        self.report.differences += 1;' '        self.report.differences += usize::from(line.starts_with("NOT"));'
+with_mistake "lists that differ are fine" commands/audit.rs \
+    '        self.report.differences += 1;' '        self.report.differences += usize::from(line.starts_with("NOT"));'
 with_mistake "an empty cell is up" read/theirs/csv.rs '(UP.contains(&cell.text.as_str()), ' '(UP.contains(&cell.text.as_str()) || cell.text.is_empty(), '
 with_mistake "a short line is filled up" read/theirs/csv.rs 'row.cells.len() != head.cells.len()' 'row.cells.len() > head.cells.len()'
 with_mistake "of relays that hold each other up one is named" plan/founded.rs 'up.difference(&least)' 'up.difference(&least.into_iter().take(1).collect())'
@@ -116,14 +118,16 @@ with_mistake "rows of the wrong relays" commands/rows.rs 'rows.get(bit)' 'rows.g
 with_mistake "a key of the command line is gone through too" commands/keys.rs '.filter(|atom| !set(atom))' '.filter(|atom| !set(atom) || true)'
 with_mistake "what is kept back is no trouble" show/output.rs 'ended.map_err(|error|' 'ended.or(Ok(())).map_err(|error: io::Error|'
 with_mistake "an output that is read is written over" commands/guard.rs 'inputs.iter().find(|input| is_same' 'inputs.iter().find(|input| false && is_same' gate
-with_mistake "a file is known by its name alone" commands/guard.rs 'known(one).map_or(false, |file| known(other) == Some(file))' 'known(one).is_some() && one == other'
+with_mistake "a file is known by its name alone" commands/guard.rs \
+    'known(one).map_or(false, |file| known(other) == Some(file))' 'known(one).is_some() && one == other'
 with_mistake "the sheets of a folder are written over" commands/guard.rs 'Ok(folder) => inputs.extend(folder.sheets)' 'Ok(_) => {}'
 with_mistake "names that are not ours are written over" plan/file.rs 'read.is_ok() && start' 'read.is_ok() || start'
 with_mistake "a full disk takes the old file" show/beside.rs 'fresh(folder, USUAL, names(".lucarne-", ".part"))?' '(File::create(&place)?, place.clone())'
 with_mistake "a new file forgets who may read it" show/beside.rs 'file.set_permissions(old.permissions())' 'Ok(())'
 with_mistake "a kept plan goes where others put a file" show/beside.rs 'create_new(true)' 'create(true).truncate(true)'
 with_mistake "what a folder does not take is not told" read/folder.rs 'if !self.left.is_empty() {' 'if self.left.len() > 99 {' gate
-with_mistake "hidden sheets are passed over" read/folder.rs '} else if !ends_in(&entry, &OTHERS) {' '} else if !ends_in(&entry, &OTHERS) && !is_hidden(&entry) {'
+with_mistake "hidden sheets are passed over" read/folder.rs \
+    '} else if !ends_in(&entry, &OTHERS) {' '} else if !ends_in(&entry, &OTHERS) && !is_hidden(&entry) {'
 with_mistake "strict reading takes a folder as it is" read/sources.rs 'filter(|_| is_strict)' 'filter(|_| is_strict && paths.is_empty())'
 with_mistake "an empty sheet is not told" read/sources.rs 'if statements.iter().any(is_rule) {' 'if statements.is_empty() || statements.iter().any(is_rule) {'
 with_mistake "a group that drives nothing is not told" plan/group.rs 'filter(|_| drives_nothing(&program))' 'filter(|_| drives_nothing(&program) && false)'

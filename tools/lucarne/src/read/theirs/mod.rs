@@ -12,6 +12,9 @@ use crate::read::sources;
 use std::path::Path;
 use std::sync::Arc;
 
+/// So many faults of a list are told: one that has more is another group's.
+const MOST_FAULTS: usize = 100;
+
 /// One position of theirs.
 #[derive(Clone, Debug)]
 pub struct Line {
@@ -98,6 +101,7 @@ impl<'a> List<'a> {
         for &(column, name) in names {
             match self.called(line, column, name) {
                 Ok(called) => up |= self.bit(called),
+                Err(_) if faults.len() >= MOST_FAULTS => break,
                 Err(fault) if faults.iter().any(|other| other.what == fault.what) => {}
                 Err(fault) => faults.push(fault),
             }
