@@ -26,7 +26,7 @@ CARGO_TARGET_DIR=$(realpath -m "${CARGO_TARGET_DIR:-target/lucarne/cargo}")
 export EXPORTS_DIR CARGO_TARGET_DIR
 
 # The package is built in a copy: Debian's libraries have sums of their own, which cargo writes down beside the versions.
-package=$(dirname "$output")/package
+package=$(dirname "$output")/copy
 rm -rf "$package" && mkdir -p "$package"
 cp "$here/Cargo.toml" "$here/Cargo.lock" "$here/build.rs" "$package/"
 cp -r "$here/.cargo" "$package/.cargo"
