@@ -16,10 +16,12 @@ const MAX_GROUND_RULES: usize = 1000;
 
 /// A ground program that is far too large is refused before it is worked on.
 pub fn ground_rules(aspif: &Aspif) -> Result<(), Fault> {
-    if aspif.rules.len() <= MAX_GROUND_RULES {
+    // Facts stand outside the plan.
+    let rules = aspif.rules.iter().filter(|rule| !rule.is_fact()).count();
+    if rules <= MAX_GROUND_RULES {
         return Ok(());
     }
-    Err(Fault::new(format!("written out, the sheets have {} rules; a plan holds {}", aspif.rules.len(), MAX_RULES))
+    Err(Fault::new(format!("written out, the sheets have {} rules; a plan holds {}", rules, MAX_RULES))
         .hint("split the group, or narrow the ranges of variables"))
 }
 

@@ -13,6 +13,8 @@ pub struct Origin {
     pub sheet: Option<usize>,
     pub spot: Option<Spot>,
     pub text: String,
+    /// Whether it stands on a line that was not found.
+    pub line_unknown: bool,
 }
 
 /// Where rules come from: statements of sheets, or lines of a ground program.
@@ -92,7 +94,7 @@ impl<'a> Translator<'a> {
             return Ok(());
         }
         let origin = self.origin(raw);
-        let mut rule = Rule { sheet: origin.sheet, spot: origin.spot, text: origin.text, ..Rule::default() };
+        let mut rule = Rule { sheet: origin.sheet, spot: origin.spot, text: origin.text, line_unknown: origin.line_unknown, ..Rule::default() };
         if !self.body(raw, &mut rule)? {
             return Ok(());
         }
@@ -109,15 +111,26 @@ impl<'a> Translator<'a> {
         Ok(())
     }
 
-    /// Where a rule comes from. One that names no statement was added by gringo, or has no sheet at all.
+    /// Where a rule comes from. One that names no statement was added by gringo, or its line is not known.
     fn origin(&self, raw: &RawRule) -> Origin {
         match (&self.origins, raw.statement) {
             (Origins::Statements(statements), Some(number)) => statements[number].clone(),
-            (Origins::Statements(_), None) => Origin { text: self.written(raw), ..Origin::default() },
+            (Origins::Statements(_), None) => {
+                Origin { text: self.written(raw), line_unknown: !self.is_opposite(raw), ..Origin::default() }
+            }
             (Origins::Lines(file), _) => {
                 let spot = Spot { file: Arc::from(*file), line: raw.line, column: 1 };
-                Origin { sheet: Some(0), spot: Some(spot), text: self.written(raw) }
+                Origin { sheet: Some(0), spot: Some(spot), text: self.written(raw), line_unknown: false }
             }
+        }
+    }
+
+    /// `:- a, -a.`, which gringo adds for each relay that has an opposite.
+    fn is_opposite(&self, raw: &RawRule) -> bool {
+        let name = |literal: &Literal| self.names.get(literal).map_or("", String::as_str);
+        match raw.body.literals.as_slice() {
+            [one, other] => raw.heads.is_empty() && (name(other) == format!("-{}", name(one)) || name(one) == format!("-{}", name(other))),
+            _ => false,
         }
     }
 
@@ -265,5 +278,6 @@ impl<'a> Translator<'a> {
 
 /// An empty rule that stands where this one does.
 fn origin_of(rule: &Rule) -> Rule {
-    Rule { sheet: rule.sheet, spot: rule.spot.clone(), text: rule.text.clone(), ..Rule::default() }
+    let (spot, text) = (rule.spot.clone(), rule.text.clone());
+    Rule { sheet: rule.sheet, spot, text, line_unknown: rule.line_unknown, ..Rule::default() }
 }
