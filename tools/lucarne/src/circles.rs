@@ -4,11 +4,21 @@ use std::collections::{BTreeMap, BTreeSet, VecDeque};
 
 /// The nodes of a shortest circle, each with an edge to the next and the last with one to the first; none if there is no circle.
 pub fn shortest(edges: impl Iterator<Item = (usize, usize)>) -> Option<Vec<usize>> {
+    let out = ways_out(edges);
+    out.keys().filter_map(|&start| back_to(&out, start)).min_by_key(Vec::len)
+}
+
+/// The same, of the circles through this node, which comes first.
+pub fn through(edges: impl Iterator<Item = (usize, usize)>, node: usize) -> Option<Vec<usize>> {
+    back_to(&ways_out(edges), node)
+}
+
+fn ways_out(edges: impl Iterator<Item = (usize, usize)>) -> BTreeMap<usize, BTreeSet<usize>> {
     let mut out: BTreeMap<usize, BTreeSet<usize>> = BTreeMap::new();
     for (from, to) in edges {
         out.entry(from).or_default().insert(to);
     }
-    out.keys().filter_map(|&start| back_to(&out, start)).min_by_key(Vec::len)
+    out
 }
 
 /// A shortest way from a node back to it.

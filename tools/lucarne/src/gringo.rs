@@ -15,6 +15,9 @@ use crate::text::tokens::Token;
 use crate::translate::{translate, Origin, Origins};
 use std::collections::BTreeSet;
 
+/// gringo is ended when it has written so much: a plan holds 64 rules, and some rules have instances without end.
+const MOST_BYTES: u64 = 16 << 20;
+
 /// Puts the rules of all statements into the program, written out by gringo. It must not fold away tables, nor what is given outside rules.
 pub fn ground(program: &mut Program, sheets: &Sheets, given: &[String]) -> Result<(), Fault> {
     let kept = program.tables.iter().map(|table| &table.name).chain(given);
@@ -44,7 +47,12 @@ fn origin(statement: &Statement) -> Origin {
 
 fn call(sheets: &Sheets, text: &str) -> Result<Output, Fault> {
     let missing = "the sheets have variables, sums or conditions, and gringo, which writes them out, is not there";
-    let output = run::run("gringo", &["--output=intermediate", "--warn=no-atom-undefined"], text, missing)?;
+    let options = ["--output=intermediate", "--warn=no-atom-undefined"];
+    let output = run::run_at_most("gringo", &options, text, missing, MOST_BYTES)?;
+    if output.is_cut {
+        return Err(Fault::new(format!("gringo writes more than {} MB for the sheets: does a rule go on without end?", MOST_BYTES >> 20))
+            .hint("give what a rule counts an end: time(T+1) :- time(T), T < 10."));
+    }
     if output.is_fine {
         return Ok(output);
     }
@@ -118,10 +126,20 @@ fn undriven(program: &Program, aspif: &Aspif, sheets: &Sheets, shapes: &[Shape])
         if is_driven(place) || defined.contains(&name) || !told.insert(&place.text) {
             continue;
         }
-        let hint = near::hint(&place.text, names.iter().map(|name| name.as_str()), "a key is written #external NAME.");
+        let hint = near_name(place, &names);
         notes.push(format!("{}: nothing drives {}: it is dropped in every position ({})", place.spot, place.text, hint));
     }
     notes
+}
+
+/// The relay that may be meant; of one with variables its name alone.
+fn near_name(place: &Place, names: &[&String]) -> String {
+    let otherwise = "a key is written #external NAME.";
+    if place.term.is_ground() {
+        return near::hint(&place.text, names.iter().map(|name| name.as_str()), otherwise);
+    }
+    let heads: Vec<String> = names.iter().map(|name| signature(name).0).collect();
+    near::hint(place.term.name(), heads.iter().map(String::as_str), otherwise)
 }
 
 /// What `#defined` names: it may well have no rule.

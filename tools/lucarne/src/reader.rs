@@ -3,13 +3,16 @@
 use crate::aspif;
 use crate::fault::{Fault, Spot};
 use crate::gringo;
+use crate::held;
 use crate::limits;
 use crate::near;
 use crate::program::{signature, Atom, Key, Program, Rule, Setting, Table};
 use crate::simplify::simplify;
 use crate::text::ground::{self, Ground, GroundRule, Head, Stop};
+use crate::text::shapes::constants;
 use crate::text::statements::{Sheets, Statement};
 use crate::text::tokens::Kind;
+use crate::text::traps;
 use crate::translate::{translate, Origins};
 use std::collections::{BTreeMap, BTreeSet};
 use std::sync::Arc;
@@ -34,6 +37,7 @@ pub fn read_sheets(sheets: &Sheets, grounding: Grounding, turns: &Turns) -> Resu
     let mut program = Program::new(sheets.names.clone());
     program.shows = sheets.shows.clone();
     program.notes = sheets.notes.clone();
+    program.notes.extend(traps::semicolons(sheets));
     add_tables(&mut program, sheets)?;
     let read = read_ground(sheets, &program)?;
     let is_own = match (read, grounding) {
@@ -52,9 +56,8 @@ pub fn read_sheets(sheets: &Sheets, grounding: Grounding, turns: &Turns) -> Resu
         add_opposites(&mut program); // gringo adds them itself
     }
     finish(&mut program, sheets)?;
-    if is_own {
-        note_undriven(&mut program); // gringo tells it of what it reads
-    }
+    note_undriven(&mut program);
+    held::note(&mut program);
     Ok(program)
 }
 
@@ -88,6 +91,8 @@ pub fn read_aspif(file: &str, text: &str, turns: &Turns) -> Result<Program, Faul
     turn_keys(&mut program, turns)?;
     settle_keys(&mut program)?;
     hold_bare_constraints(&mut program);
+    note_undriven(&mut program);
+    held::note(&mut program);
     Ok(program)
 }
 
@@ -115,7 +120,12 @@ type Read<'a> = Vec<(&'a Statement, Ground)>;
 fn read_ground<'a>(sheets: &'a Sheets, program: &Program) -> Result<Result<Read<'a>, Fault>, Fault> {
     let is_table = |name: &str| program.tables.iter().any(|table| table.name == name);
     let (mut read, mut larger, mut faults) = (Vec::new(), None, Vec::new());
+    let constants = constants(&sheets.statements);
     for statement in &sheets.statements {
+        if let Some(fault) = traps::misread(statement, &constants) {
+            faults.push(fault);
+            continue;
+        }
         match ground::read(statement, &is_table) {
             Ok(ground) => read.push((statement, ground)),
             Err(Stop::Wrong(fault)) => faults.push(fault),
@@ -217,7 +227,7 @@ fn note_undriven(program: &mut Program) {
     let driven: BTreeSet<Atom> =
         program.rules.iter().flat_map(|rule| rule.head.iter().copied()).chain(program.keys.keys().copied()).collect();
     let mut notes = Vec::new();
-    for atom in program.used_atoms().into_iter().filter(|atom| !driven.contains(atom)) {
+    for atom in program.used_atoms().into_iter().filter(|&atom| !driven.contains(&atom) && !program.atoms[atom].is_helper) {
         let reader = program.rules.iter().find(|rule| program.looks_at(rule).contains(&atom));
         let known = driven.iter().map(|&other| program.name(other)).filter(|name| !name.starts_with('~'));
         let hint = near::hint(program.name(atom), known, "a key is written #external NAME.");

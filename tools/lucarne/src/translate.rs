@@ -146,7 +146,8 @@ impl<'a> Translator<'a> {
         let heads: Vec<String> = raw.heads.iter().map(|&head| name(head)).collect();
         let heads = if raw.is_choice { format!("{{{}}}", heads.join("; ")) } else { heads.join(" ; ") };
         let body: Vec<String> = raw.body.literals.iter().map(|&literal| sign(literal)).chain(sums).collect();
-        format!("{}{}{}.", heads, if body.is_empty() { "" } else { " :- " }, body.join(", ")).trim_start().to_string()
+        let arrow = if body.is_empty() && !raw.heads.is_empty() { "" } else { " :- " };
+        format!("{}{}{}.", heads, arrow, body.join(", ")).trim_start().to_string()
     }
 
     /// The atom of the program; a nameless one becomes a helper.

@@ -6,3 +6,4 @@ pub mod shapes;
 pub mod statements;
 pub mod terms;
 pub mod tokens;
+pub mod traps;
