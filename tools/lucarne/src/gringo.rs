@@ -18,8 +18,15 @@ use std::collections::BTreeSet;
 /// gringo is ended when it has written so much: a plan holds 64 rules, and some rules have instances without end.
 const MOST_BYTES: u64 = 16 << 20;
 
+/// Whether the line of each rule is looked for. The list does not hang on it.
+#[derive(Clone, Copy, Debug, PartialEq, Eq)]
+pub enum Lines {
+    Find,
+    Leave,
+}
+
 /// Puts the rules of all statements into the program, written out by gringo. It must not fold away tables, nor what is given outside rules.
-pub fn ground(program: &mut Program, sheets: &Sheets, given: &[String]) -> Result<(), Fault> {
+pub fn ground(program: &mut Program, sheets: &Sheets, given: &[String], lines: Lines) -> Result<(), Fault> {
     let kept = program.tables.iter().map(|table| &table.name).chain(given);
     let externals: String = kept.map(|name| format!("#external {}.\n", name)).collect();
     let plain: String = sheets.statements.iter().map(|statement| statement.text() + "\n").collect();
@@ -32,12 +39,14 @@ pub fn ground(program: &mut Program, sheets: &Sheets, given: &[String]) -> Resul
     let keys = keys(program, &aspif, sheets, &shapes)?;
     program.notes.extend(undriven(program, &aspif, sheets, &shapes));
     simplify(&mut aspif);
-    origins::find(&mut aspif, &shapes);
+    if lines == Lines::Find {
+        origins::find(&mut aspif, &shapes);
+    }
     let origins: Vec<Origin> = sheets.statements.iter().map(origin).collect();
     translate(program, &aspif, Origins::Statements(&origins))?;
     program.always.append(&mut aspif.always);
     keys.into_iter().for_each(|(name, key)| program.add_key(&name, key));
-    house_unknown(program);
+    house_unknown(program, sheets, &shapes);
     Ok(())
 }
 
@@ -181,25 +190,34 @@ fn keys(program: &Program, aspif: &Aspif, sheets: &Sheets, shapes: &[Shape]) -> 
 }
 
 /// A rule whose line is not known goes to the unit of what it drives, or of what looks at that.
-fn house_unknown(program: &mut Program) {
+fn house_unknown(program: &mut Program, sheets: &Sheets, shapes: &[Shape]) {
     let unknown: Vec<usize> = (0..program.rules.len()).filter(|&rule| program.rules[rule].line_unknown).collect();
     if unknown.is_empty() {
         return;
     }
-    for _ in 0..unknown.len() {
-        for &rule in unknown.iter() {
-            let sheet = program.rules[rule].sheet.or_else(|| home(program, &program.rules[rule]));
-            program.rules[rule].sheet = sheet;
-        }
+    // Twice, and back: a helper's rule may stand before the one that looks at it.
+    for number in unknown.iter().copied().chain(unknown.iter().rev().copied()) {
+        let rule = &program.rules[number];
+        let sheet = rule.sheet.or_else(|| home(program, rule)).or_else(|| written_home(program, rule, sheets, shapes));
+        program.rules[number].sheet = sheet;
     }
     let texts: BTreeSet<&str> = unknown.iter().map(|&rule| program.rules[rule].text.as_str()).collect();
     let told = texts.into_iter().collect::<Vec<_>>().join(" ");
     program.notes.push(format!("on which line these rules stand is not known; they are worked in the unit of what they drive: {}", told));
 }
 
+/// The sheet of a rule that drives the same, or that looks at it.
 fn home(program: &Program, rule: &Rule) -> Option<usize> {
     let with_sheet = || program.rules.iter().filter(|other| other.sheet.is_some());
     let shares = |other: &&Rule| !other.head.is_disjoint(&rule.head);
-    let looks = |other: &&Rule| rule.head.iter().any(|atom: &Atom| other.pos.contains(atom) || other.neg.contains(atom));
+    let looks = |other: &&Rule| rule.head.iter().any(|atom: &Atom| program.looks_at(other).contains(atom));
     with_sheet().find(shares).or_else(|| with_sheet().find(looks)).and_then(|other| other.sheet)
+}
+
+/// The sheet of a statement that drives the same.
+fn written_home(program: &Program, rule: &Rule, sheets: &Sheets, shapes: &[Shape]) -> Option<usize> {
+    let heads: Vec<Term> = rule.head.iter().map(|&atom| origins::ground_term(program.name(atom))).collect();
+    let drives = |shape: &Shape| shape.driven().any(|place| heads.iter().any(|head| place.term.fits(head, &mut Vec::new())));
+    let number = shapes.iter().position(|shape| !shape.is_external && drives(shape))?;
+    Some(sheets.statements[number].sheet)
 }

@@ -93,26 +93,26 @@ fn told(program: &Program, circles: &[Circle]) -> String {
     let mut lines: Vec<&str> = circle.iter().map(|&(_, rule)| program.rules[rule].text.as_str()).collect();
     lines.dedup();
     let others: Vec<String> = circles[1..].iter().map(|circle| names(circle).join(" and ")).collect();
-    let likewise = if others.is_empty() { String::new() } else { format!("; so for {}", others.join(", ")) };
-    let what = match own.as_slice() {
-        [one] => format!("{} is held up here only by itself", one),
-        _ => format!("{} hold each other up here", own.join(" and ")),
+    let likewise = if others.is_empty() { String::new() } else { format!(" (so for {})", others.join(", ")) };
+    let (what, them) = match own.as_slice() {
+        [one] => (format!("{} is held up here only by itself", one), "it"),
+        _ => (format!("{} hold each other up here", own.join(" and ")), "them"),
     };
-    let left_out = "positions in which nothing else holds that up are not settled, and not listed";
-    format!("{}: {} ({}): {}{}; {}", place, what, lines.join(" "), left_out, likewise, advice(program, circle))
+    let left_out = format!("a position in which nothing else drives {} is not settled, and is left out{}", them, likewise);
+    format!("{}: {} ({}): {}; to have {} found held, write: {}", place, what, lines.join(" "), left_out, them, choice(program, circle))
 }
 
 /// How to write a relay that may be found held.
-fn advice(program: &Program, circle: &Circle) -> String {
+fn choice(program: &Program, circle: &Circle) -> String {
     let rest = rest(program, circle);
-    let is_written = !rest.pos.iter().chain(&rest.neg).any(|&atom| program.atoms[atom].is_helper)
-        && rest.uses.iter().all(|&(table, _)| program.tables[table].is_written);
-    let body = program.written(&rest);
+    let is_written = |rule: &Rule| {
+        let is_table = |&(table, _): &(usize, bool)| program.tables[table].is_written && rest.uses.iter().any(|use_| use_.0 == table);
+        rule.uses.iter().all(is_table) && rule.pos.iter().chain(&rule.neg).all(|&atom| !program.atoms[atom].is_helper)
+    };
     let name = program.name(circle[0].0);
-    let choice = match body.as_str() {
-        _ if !is_written => format!("{{ {} }} with the rest of the body", name),
+    match program.written(&rest).as_str() {
+        _ if !circle.iter().all(|&(_, rule)| is_written(&program.rules[rule])) => format!("{{ {} }} with the rest of the body", name),
         "." => format!("{{ {} }}.", name),
         body => format!("{{ {} }} {}", name, body),
-    };
-    format!("a relay that may be found held is written so: {}", choice)
+    }
 }

@@ -38,6 +38,9 @@ pub fn find(aspif: &mut Aspif, shapes: &[Shape]) {
             let of = if common.is_empty() { own } else { &common };
             found[rule] = of.get((*before).min(of.len().saturating_sub(1))).copied();
         }
+        // gringo may share a nameless atom between statements: what fits none of them goes with the first.
+        let first = cluster.iter().find_map(|&rule| found[rule]);
+        cluster.iter().for_each(|&rule| found[rule] = found[rule].or(first));
         *before += 1;
     }
     aspif.rules.iter_mut().zip(found).for_each(|(rule, statement)| rule.statement = statement);
@@ -216,6 +219,11 @@ impl<'a> Search<'a> {
     /// Each literal of the statement is a literal of the rule, or one that gringo leaves out. Bit k of `covered` is for the rule's k-th literal.
     fn body(&mut self, number: usize, covered: u64) -> bool {
         let (shape, rule, known) = (self.shape, self.rule, self.known);
+        let missing = rule.body.len() - covered.count_ones() as usize;
+        let is_short = !shape.is_complex && missing > shape.body.len() - number;
+        if is_short || !shape.comparisons.iter().all(|comparison| may_hold(comparison, &self.values)) {
+            return false;
+        }
         let place = match shape.body.get(number) {
             None => return self.rest(covered),
             Some(place) => place,
@@ -231,17 +239,17 @@ impl<'a> Search<'a> {
         !instance.is_ground() || !self.known.open.contains(&instance) && !self.known.facts_like(&instance).contains(&instance)
     }
 
-    /// What is left of the rule stands within sums and conditions, comparisons hold, and no head of a plain statement is missing.
+    /// What is left of the rule stands within sums and conditions, and no head of a plain statement is missing.
     fn rest(&mut self, covered: u64) -> bool {
         let (shape, rule) = (self.shape, self.rule);
         let literals = rule.body.iter().enumerate().filter(|(k, _)| covered >> k & 1 == 0).map(|(_, &(_, term))| term);
         let in_sums = |search: &mut Search<'a>, term: &'a Term| shape.inner.iter().chain(shape.driven()).any(|place| search.fits(place, term));
+        // Of a choice gringo leaves out what is up in any case.
         let is_there = |place: &Place| {
             let head = place.term.with(&self.values);
-            !head.is_ground() || rule.heads.contains(&&head)
+            !head.is_ground() || rule.heads.contains(&&head) || rule.is_choice && self.known.facts_like(&head).contains(&head)
         };
         (shape.is_complex || shape.heads.iter().all(is_there))
-            && shape.comparisons.iter().all(|comparison| may_hold(comparison, &self.values))
             && literals.chain(rule.summed.iter().copied()).all(|term| in_sums(self, term))
     }
 }

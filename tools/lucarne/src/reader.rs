@@ -2,7 +2,7 @@
 
 use crate::aspif;
 use crate::fault::{Fault, Spot};
-use crate::gringo;
+use crate::gringo::{self, Lines};
 use crate::held;
 use crate::limits;
 use crate::near;
@@ -17,12 +17,13 @@ use crate::translate::{translate, Origins};
 use std::collections::{BTreeMap, BTreeSet};
 use std::sync::Arc;
 
-/// Who reads the sheets: the ground reader where it can, gringo in any case, or never gringo.
+/// Who reads the sheets: the ground reader where it can, gringo in any case, or never gringo. `Lineless` is for tests: gringo, and no rule has a line.
 #[derive(Clone, Copy, Debug, PartialEq, Eq)]
 pub enum Grounding {
     Auto,
     Always,
     Never,
+    Lineless,
 }
 
 /// Keys that are set on the command line, by name or label, against what the sheets say.
@@ -47,7 +48,8 @@ pub fn read_sheets(sheets: &Sheets, grounding: Grounding, turns: &Turns) -> Resu
         }
         (Err(fault), Grounding::Never) => return Err(fault),
         _ => {
-            gringo::ground(&mut program, sheets, &given(sheets, turns))?;
+            let lines = if grounding == Grounding::Lineless { Lines::Leave } else { Lines::Find };
+            gringo::ground(&mut program, sheets, &given(sheets, turns), lines)?;
             false
         }
     };

@@ -153,8 +153,11 @@ fn just_one(aspif: &mut Aspif) {
 /// The two rules by which gringo says "just one" of a choice: `x :- 1 <= sum, not 2 <= sum.` and `:- B, not x.`
 fn bounds_of(aspif: &Aspif, number: usize) -> Option<(usize, usize)> {
     let rule = &aspif.rules[number];
+    if !rule.is_choice || rule.heads.len() < 2 {
+        return None;
+    }
     let places = places(&aspif.rules);
-    if !rule.is_choice || rule.heads.len() < 2 || rule.heads.iter().any(|head| places.heads[head].len() > 1) {
+    if rule.heads.iter().any(|head| places.heads[head].len() > 1) {
         return None;
     }
     let sums = |bound, wanted| (Sum { bound, parts: rule.heads.iter().map(|&head| (head, 1)).collect() }, wanted);

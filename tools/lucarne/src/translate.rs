@@ -26,8 +26,8 @@ pub enum Origins<'a> {
 /// Puts all rules into the program.
 pub fn translate(program: &mut Program, aspif: &Aspif, origins: Origins) -> Result<(), Fault> {
     let tables = program.tables.iter().enumerate().map(|(number, table)| (table.name.clone(), number)).collect();
-    let mut translator =
-        Translator { program, names: &aspif.names, origins, tables, atoms: BTreeMap::new(), homes: homes(aspif), loops: Loops::of(aspif) };
+    let (names, always, homes, loops) = (&aspif.names, &aspif.always, homes(aspif), Loops::of(aspif));
+    let mut translator = Translator { program, names, always, origins, tables, atoms: BTreeMap::new(), homes, loops };
     let mut rules: Vec<&RawRule> = aspif.rules.iter().collect();
     rules.sort_by_key(|rule| rule.statement.unwrap_or(usize::MAX));
     rules.into_iter().try_for_each(|rule| translator.rule(rule))?;
@@ -81,6 +81,7 @@ impl Loops {
 struct Translator<'a> {
     program: &'a mut Program,
     names: &'a BTreeMap<Literal, String>,
+    always: &'a [String],
     origins: Origins<'a>,
     tables: BTreeMap<String, usize>,
     atoms: BTreeMap<Literal, Atom>,
@@ -125,13 +126,19 @@ impl<'a> Translator<'a> {
         }
     }
 
-    /// `:- a, -a.`, which gringo adds for each relay that has an opposite.
+    /// `:- a, -a.`, which gringo adds for each relay that has an opposite; facts are left out of it.
     fn is_opposite(&self, raw: &RawRule) -> bool {
         let name = |literal: &Literal| self.names.get(literal).map_or("", String::as_str);
-        match raw.body.literals.as_slice() {
-            [one, other] => raw.heads.is_empty() && (name(other) == format!("-{}", name(one)) || name(one) == format!("-{}", name(other))),
-            _ => false,
-        }
+        let is_fact = |name: &str| self.always.iter().any(|fact| fact == name);
+        let is_pair = |one: &str, other: &str| opposite(one) == other;
+        raw.heads.is_empty()
+            && raw.body.sums.is_empty()
+            && match raw.body.literals.as_slice() {
+                [] => self.always.iter().any(|fact| is_fact(&opposite(fact))),
+                [one] => is_fact(&opposite(name(one))),
+                [one, other] => is_pair(name(one), name(other)),
+                _ => false,
+            }
     }
 
     /// A rule as text by its names, for rules that no statement has.
@@ -275,6 +282,11 @@ impl<'a> Translator<'a> {
             ..Rule::default()
         });
     }
+}
+
+/// The name of the relay that is never up together with this one.
+fn opposite(name: &str) -> String {
+    name.strip_prefix('-').map_or_else(|| format!("-{}", name), str::to_string)
 }
 
 /// An empty rule that stands where this one does.

@@ -290,6 +290,9 @@ impl<'a> Reader<'a> {
         if matches!(self.peek().kind, Kind::Dot | Kind::If) {
             return Err(not_closed(self.peek()));
         }
+        if self.peek().is(";") {
+            return Err(large(self.peek())); // a pool
+        }
         if !self.takes(")") {
             return Err(self.unexpected(&[",", ")"]));
         }

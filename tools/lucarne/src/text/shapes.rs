@@ -90,6 +90,7 @@ impl<'a> Builder<'a> {
         }
         self.shape.has_complex_head = self.shape.is_complex;
         elements(body).into_iter().for_each(|part| self.element(part));
+        self.shape.is_complex |= body.iter().any(|token| token.is("_")); // gringo has an atom for what is left of p(_,X)
     }
 
     /// `#external k(X) : d(X).`

@@ -28,14 +28,19 @@ fn comparison(tokens: &[Token], place: usize, constants: &BTreeSet<String>) -> O
     if names == 0 || !is_fixed(left) || !is_fixed(right) {
         return None;
     }
-    let sides = (written(left), written(&right[sign_of(right)..]));
     let is_arrow = token.is("<") && sign_of(right) == 1 && !right[0].gap;
     let what = if is_arrow {
         "\"<-\" is read as a comparison, \"less than minus\", and not as \"if\"".to_string()
     } else {
-        format!("\"{}\" compares two names, and says nothing of relays that are up", token.text)
+        format!("\"{}\" compares names, and says nothing of relays that are up", token.text)
     };
-    Some(Fault::at(&token.spot, what).hint(format!("to drive {0} where {1} is up, write: {0} :- {1}.", sides.0, sides.1)))
+    let is_head = names == 2 && place == left.len();
+    let hint = if is_head {
+        format!("to drive {0} where {1} is up, write: {0} :- {1}.", written(left), written(&right[sign_of(right)..]))
+    } else {
+        "a relay that is up is named, and one that is dropped has not before it: a :- b, not c.".to_string()
+    };
+    Some(Fault::at(&token.spot, what).hint(hint))
 }
 
 /// Whether a relay's name stands here: no variable, number or constant of `#const`.
