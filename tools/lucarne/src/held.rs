@@ -96,7 +96,8 @@ fn told(program: &Program, circles: &[Circle]) -> String {
     let likewise = if others.is_empty() { String::new() } else { format!(" (so for {})", others.join(", ")) };
     let (what, them) = match own.as_slice() {
         [one] => (format!("{} is held up here only by itself", one), "it"),
-        _ => (format!("{} hold each other up here", own.join(" and ")), "them"),
+        [first @ .., last] => (format!("{} and {} hold each other up here", first.join(", "), last), "them"),
+        [] => (String::new(), ""), // a circle starts at a relay
     };
     let left_out = format!("a position in which nothing else drives {} is not settled, and is left out{}", them, likewise);
     format!("{}: {} ({}): {}; to have {} found held, write: {}", place, what, lines.join(" "), left_out, them, choice(program, circle))
