@@ -166,7 +166,8 @@ fn defined(statements: &[Statement]) -> BTreeSet<(String, usize)> {
 /// Externals are keys, each with the statement that names it. One that a fact drives is refused, as one that a rule drives.
 fn keys(program: &Program, aspif: &Aspif, sheets: &Sheets, shapes: &[Shape]) -> Result<Vec<(String, Key)>, Fault> {
     let naming = |term: &Term| {
-        let shape = shapes.iter().position(|shape| shape.is_external && shape.heads.iter().any(|head| head.term.fits(term, &mut Vec::new())));
+        let shape =
+            shapes.iter().position(|shape| shape.is_external && shape.heads.iter().any(|head| head.term.fits(term, &mut Vec::new())));
         shape.map(|number| &sheets.statements[number])
     };
     let mut keys = Vec::new();

@@ -170,7 +170,8 @@ impl<'a> Finder<'a> {
         // Of a choice with bounds `simplify` may have made a disjunction; all others stay choices.
         let is_choice = rule.is_choice || rule.has_nameless || shape.is_complex && rule.heads.len() != 1;
         let is_other = is_wider && !shape.is_complex || rule.is_choice && !shape.is_choice || shape.is_choice && !is_choice;
-        let is_rule = !shape.is_external && (shape.driven().next().is_some() || shape.looked_at().next().is_some() || !shape.comparisons.is_empty());
+        let is_rule =
+            !shape.is_external && (shape.driven().next().is_some() || shape.looked_at().next().is_some() || !shape.comparisons.is_empty());
         if is_other || has_other_head || !is_rule || rule.body.len() > MOST_LITERALS {
             return false;
         }
@@ -230,7 +231,8 @@ impl<'a> Search<'a> {
         };
         let mut literals = rule.body.iter().enumerate().filter(|(_, (is_up, _))| *is_up == place.is_up);
         literals.any(|(k, (_, ground))| self.with(place, ground, |search| search.body(number + 1, covered | 1 << k)))
-            || place.is_up && known.facts_like(&place.term).iter().any(|fact| self.with(place, fact, |search| search.body(number + 1, covered)))
+            || place.is_up
+                && known.facts_like(&place.term).iter().any(|fact| self.with(place, fact, |search| search.body(number + 1, covered)))
             || (rule.has_nameless || !place.is_up && self.is_never_up(place)) && self.body(number + 1, covered)
     }
 
@@ -243,7 +245,8 @@ impl<'a> Search<'a> {
     fn rest(&mut self, covered: u64) -> bool {
         let (shape, rule) = (self.shape, self.rule);
         let literals = rule.body.iter().enumerate().filter(|(k, _)| covered >> k & 1 == 0).map(|(_, &(_, term))| term);
-        let in_sums = |search: &mut Search<'a>, term: &'a Term| shape.inner.iter().chain(shape.driven()).any(|place| search.fits(place, term));
+        let in_sums =
+            |search: &mut Search<'a>, term: &'a Term| shape.inner.iter().chain(shape.driven()).any(|place| search.fits(place, term));
         // Of a choice gringo leaves out what is up in any case.
         let is_there = |place: &Place| {
             let head = place.term.with(&self.values);

@@ -95,7 +95,8 @@ impl<'a> Translator<'a> {
             return Ok(());
         }
         let origin = self.origin(raw);
-        let mut rule = Rule { sheet: origin.sheet, spot: origin.spot, text: origin.text, line_unknown: origin.line_unknown, ..Rule::default() };
+        let mut rule =
+            Rule { sheet: origin.sheet, spot: origin.spot, text: origin.text, line_unknown: origin.line_unknown, ..Rule::default() };
         if !self.body(raw, &mut rule)? {
             return Ok(());
         }
@@ -116,9 +117,7 @@ impl<'a> Translator<'a> {
     fn origin(&self, raw: &RawRule) -> Origin {
         match (&self.origins, raw.statement) {
             (Origins::Statements(statements), Some(number)) => statements[number].clone(),
-            (Origins::Statements(_), None) => {
-                Origin { text: self.written(raw), line_unknown: !self.is_opposite(raw), ..Origin::default() }
-            }
+            (Origins::Statements(_), None) => Origin { text: self.written(raw), line_unknown: !self.is_opposite(raw), ..Origin::default() },
             (Origins::Lines(file), _) => {
                 let spot = Spot { file: Arc::from(*file), line: raw.line, column: 1 };
                 Origin { sheet: Some(0), spot: Some(spot), text: self.written(raw), line_unknown: false }

@@ -281,9 +281,7 @@ fn try_ground_program(texts: &[String], tally: &mut Tally) {
             );
             tally.count("ground programs", 1);
         }
-        Err(fault) => {
-            tally.check(is_too_large(&fault) || all.contains(SHOW), &fault.to_string(), || all.clone())
-        }
+        Err(fault) => tally.check(is_too_large(&fault) || all.contains(SHOW), &fault.to_string(), || all.clone()),
     }
 }
 

@@ -112,7 +112,9 @@ fn single(sign: &str, token: &Token, constants: &BTreeSet<String>) -> Term {
     match token.kind {
         Kind::Variable if sign.is_empty() => Term::Variable(token.text.clone()),
         Kind::Name if !constants.contains(&token.text) => Term::Plain(format!("{}{}", sign, token.text)),
-        Kind::Number if is_decimal && token.text.bytes().all(|digit| digit.is_ascii_digit()) => Term::Plain(format!("{}{}", sign, token.text)),
+        Kind::Number if is_decimal && token.text.bytes().all(|digit| digit.is_ascii_digit()) => {
+            Term::Plain(format!("{}{}", sign, token.text))
+        }
         Kind::Quoted | Kind::Hash if sign.is_empty() => Term::Plain(token.text.clone()),
         _ => Term::Any,
     }
