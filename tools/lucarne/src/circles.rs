@@ -8,12 +8,8 @@ pub fn shortest(edges: impl Iterator<Item = (usize, usize)>) -> Option<Vec<usize
     out.keys().filter_map(|&start| back_to(&out, start)).min_by_key(Vec::len)
 }
 
-/// The same, of the circles through this node, which comes first.
-pub fn through(edges: impl Iterator<Item = (usize, usize)>, node: usize) -> Option<Vec<usize>> {
-    back_to(&ways_out(edges), node)
-}
-
-fn ways_out(edges: impl Iterator<Item = (usize, usize)>) -> BTreeMap<usize, BTreeSet<usize>> {
+/// Where edges lead from each node.
+pub fn ways_out(edges: impl Iterator<Item = (usize, usize)>) -> BTreeMap<usize, BTreeSet<usize>> {
     let mut out: BTreeMap<usize, BTreeSet<usize>> = BTreeMap::new();
     for (from, to) in edges {
         out.entry(from).or_default().insert(to);
@@ -21,8 +17,8 @@ fn ways_out(edges: impl Iterator<Item = (usize, usize)>) -> BTreeMap<usize, BTre
     out
 }
 
-/// A shortest way from a node back to it.
-fn back_to(out: &BTreeMap<usize, BTreeSet<usize>>, start: usize) -> Option<Vec<usize>> {
+/// The nodes of a shortest way from a node back to it, which comes first.
+pub fn back_to(out: &BTreeMap<usize, BTreeSet<usize>>, start: usize) -> Option<Vec<usize>> {
     let (mut came_from, mut open) = (BTreeMap::new(), VecDeque::from(vec![start]));
     while let Some(node) = open.pop_front() {
         for &next in out.get(&node).into_iter().flatten() {

@@ -35,9 +35,10 @@ fn circles_of(program: &Program) -> Vec<Circle> {
             holders.entry((head, atom)).or_insert(number);
         }
     }
+    let out = circles::ways_out(holders.keys().copied());
     let (mut found, mut seen) = (Vec::new(), BTreeSet::new());
     for atom in (0..program.atoms.len()).filter(|&atom| !program.atoms[atom].is_helper) {
-        if let Some(nodes) = circles::through(holders.keys().copied(), atom) {
+        if let Some(nodes) = circles::back_to(&out, atom) {
             let next = |place: usize| nodes[(place + 1) % nodes.len()];
             let circle: Circle = nodes.iter().enumerate().map(|(place, &node)| (node, holders[&(node, next(place))])).collect();
             if seen.insert(relays(program, &circle)) {
