@@ -122,12 +122,12 @@ fn told_by_gringo(errors: &str, sheets: &Sheets) -> Vec<String> {
 fn undriven(program: &Program, aspif: &Aspif, sheets: &Sheets, shapes: &[Shape]) -> Vec<String> {
     let outside = program.tables.iter().map(|table| &table.name).chain(sheets.given.iter().map(|(name, _)| name));
     let names: Vec<&String> = aspif.names.values().chain(&aspif.always).chain(outside).collect();
-    let known: BTreeSet<Term> = names.iter().map(|name| origins::ground_term(name)).collect();
+    let known: BTreeSet<&str> = names.iter().map(|name| name.as_str()).collect();
     let defined = defined(&sheets.statements);
     let is_driven = |place: &Place| {
         let mut heads = shapes.iter().flat_map(Shape::driven).filter(|head| head.term.may_meet(&place.term));
         // One that is written out must be there itself: a rule for others of its kind does not drive it.
-        known.contains(&place.term) || heads.any(|head| !place.term.is_ground() || head.term == place.term)
+        known.contains(place.term.text().as_str()) || heads.any(|head| !place.term.is_ground() || head.term == place.term)
     };
     let (mut notes, mut told) = (Vec::new(), BTreeSet::new());
     for place in shapes.iter().flat_map(Shape::looked_at) {

@@ -3,7 +3,6 @@
 //! the same.
 
 use crate::aspif::{Aspif, Literal, RawRule};
-use crate::program::signature;
 use crate::text::shapes::{Comparison, Place, Shape};
 use crate::text::terms::{term, Term, Values};
 use crate::text::tokens::tokens;
@@ -22,7 +21,7 @@ pub fn ground_term(name: &str) -> Term {
 
 /// Writes to each rule its statement, where one is found. Rules that share a nameless atom come from one statement.
 pub fn find(aspif: &mut Aspif, shapes: &[Shape]) {
-    let known = Known::of(aspif);
+    let known = Known::of(aspif, shapes);
     let finder = Finder { shapes, by_head: by_head(shapes), known: &known };
     let rules: Vec<Named> = aspif.rules.iter().map(|rule| known.named(rule)).collect();
     let fitting: Vec<Option<Vec<usize>>> = rules.iter().map(|rule| finder.fitting(rule)).collect();
@@ -102,11 +101,17 @@ struct Known {
 }
 
 impl Known {
-    fn of(aspif: &Aspif) -> Known {
+    /// Of the facts those are read that a search may ask for; there may be many others.
+    fn of(aspif: &Aspif, shapes: &[Shape]) -> Known {
         let terms: BTreeMap<Literal, Term> = aspif.names.iter().map(|(&atom, name)| (atom, ground_term(name))).collect();
+        let chosen = shapes.iter().filter(|shape| shape.is_choice).flat_map(|shape| &shape.heads);
+        let asked: BTreeSet<&str> = shapes.iter().flat_map(|shape| &shape.body).chain(chosen).map(|place| place.term.name()).collect();
         let mut facts: HashMap<String, Vec<Term>> = HashMap::new();
         for name in &aspif.always {
-            facts.entry(signature(name).0).or_default().push(ground_term(name));
+            let predicate = &name[..name.find('(').unwrap_or(name.len())];
+            if asked.contains(predicate) {
+                facts.entry(predicate.to_string()).or_default().push(ground_term(name));
+            }
         }
         Known { open: terms.values().cloned().collect(), terms, facts }
     }

@@ -40,6 +40,18 @@ impl Term {
         }
     }
 
+    /// A ground term as gringo prints it.
+    pub fn text(&self) -> String {
+        match self {
+            Term::Call(name, terms) => {
+                let inner: Vec<String> = terms.iter().map(Term::text).collect();
+                let comma = if name.is_empty() && terms.len() == 1 { "," } else { "" };
+                format!("{}({}{})", name, inner.join(","), comma)
+            }
+            _ => self.name().to_string(),
+        }
+    }
+
     /// Whether a ground term is an instance of this one, with these values; new ones are put to them.
     pub fn fits<'a>(&'a self, ground: &'a Term, values: &mut Values<'a>) -> bool {
         match (self, ground) {
