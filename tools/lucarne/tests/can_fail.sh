@@ -120,7 +120,7 @@ with_mistake "the way to write a held relay leaves out its body" held.rs 'rest.n
 with_mistake "an arrow is a comparison" reader.rs 'traps::misread(statement, &constants)' 'traps::misread(statement, &constants).filter(|_| false)' gate
 with_mistake "a number is compared with a relay" text/traps.rs 'if names == 0 ||' 'if names < 2 ||'
 with_mistake "; in a body is told at every rule" text/traps.rs 'told.insert(statement.sheet)' 'told.insert(statement.sheet) || true'
-with_mistake "what nothing drives is not told of gringo's sheets" gringo.rs 'program.notes.extend(undriven(' 'drop((undriven('
+with_mistake "what nothing drives is not told of gringo's sheets" gringo.rs 'program.notes.extend(undriven(' 'drop(undriven('
 with_mistake "what nothing drives is not told of a ground program" reader.rs 'hold_bare_constraints(&mut program);
     note_undriven(&mut program);' 'hold_bare_constraints(&mut program);'
 with_mistake "a relay is driven where others of its kind are" gringo.rs '!place.term.is_ground() || head.term == place.term' 'head.term.may_meet(&place.term)'
