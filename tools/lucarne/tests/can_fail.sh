@@ -101,7 +101,34 @@ with_mistake "a unit that is too long is the end" plan/group.rs 'Refusal { numbe
 with_mistake "just one of relays that others drive" read/reader.rs 'driven[atom.as_str()] > 1' 'driven[atom.as_str()] > 9'
 with_mistake "not in a sum is asked anew" read/translate.rs 'literal > 0 || !self.loops.hangs_on(-literal, heads)' 'literal > 0 || heads.is_empty() || true'
 with_mistake "a sum's bound is missed by one" read/sums.rs 'reached(j) >= bound' 'reached(j) > bound'
-with_mistake "a mark joins a condition" read/gringo.rs '"; "' '", "'
+with_mistake "a sheet that gringo reads is marked" read/gringo.rs 'statement.text() + "\n"' 'if statement.tokens[0].text.starts_with("#") {
+        statement.text() + "\n"
+    } else {
+        let join = if statement.text().contains(":-") { "; " } else { " :- " };
+        format!("{}{}__at.\n#external __at. [true]\n", statement.text().trim_end_matches('"'"'.'"'"'), join)
+    }'
+with_mistake "a rule without a line is left out" read/gringo.rs 'house_unknown(program, sheets, &shapes);' 'program.rules.retain(|rule| !rule.line_unknown);'
+with_mistake "a rule without a line has no unit" read/gringo.rs 'house_unknown(program, sheets, &shapes);' 'let _ = house_unknown;'
+with_mistake "a rule stands on any line that drives the same" read/origins.rs 'self.fits(number, rule)).collect()' 'self.fits(number, rule) || true).collect()'
+with_mistake "rules alike stand on one line" read/origins.rs '*before += 1;' ''
+with_mistake "a missing literal fits in any case" read/origins.rs '(rule.has_nameless ||' '(rule.has_nameless || true ||'
+with_mistake "facts are counted as rules" plan/limits.rs '!rule.is_fact()' '!rule.is_fact() || true'
+with_mistake "a pool is no list" read/text/ground.rs 'return Err(large(self.peek())); // a pool' ''
+with_mistake "a key that is a fact is listed" read/gringo.rs 'if shapes.iter().any(|shape| shape.is_external) {' 'if shapes.is_empty() {'
+with_mistake "a relay that holds itself is not told" read/reader.rs 'held::note(&mut program);' '' gate
+with_mistake "a circle of relays is not told" plan/held.rs \
+    'if seen.insert(relays(program, &circle)) {' 'if circle.len() == 1 && seen.insert(relays(program, &circle)) {'
+with_mistake "a relay that is chosen is told as held" plan/held.rs \
+    '.filter(|circle| leaves_out(program, circle))' '.filter(|circle| leaves_out(program, circle) || true)'
+with_mistake "the way to write a held relay leaves out its body" plan/held.rs 'rest.neg.extend(&rule.neg);' ''
+with_mistake "an arrow is a comparison" read/reader.rs 'traps::misread(statement, &constants)' 'traps::misread(statement, &constants).filter(|_| false)' gate
+with_mistake "a number is compared with a relay" read/text/traps.rs 'if names == 0 ||' 'if names < 2 ||'
+with_mistake "; in a body is told at every rule" read/text/traps.rs 'told.insert(statement.sheet)' 'told.insert(statement.sheet) || true'
+with_mistake "what nothing drives is not told of gringo's sheets" read/gringo.rs 'program.notes.extend(undriven(' 'drop(undriven('
+with_mistake "what nothing drives is not told of a ground program" read/reader.rs 'limits::check_size(&program)?;
+    note_undriven(&mut program);' 'limits::check_size(&program)?;'
+with_mistake "a relay is driven where others of its kind are" read/gringo.rs \
+    '!place.term.is_ground() || head.term == place.term' 'head.term.may_meet(&place.term)'
 with_mistake "a full output is no trouble" show/output.rs 'written.map_err(|error|' 'written.or(Ok(())).map_err(|error: io::Error|'
 with_mistake "the standard input is taken for ground in any case" read/aspif.rs 'text.starts_with("asp ")' '!text.is_empty()'
 with_mistake "a doubled line is passed over" commands/audit.rs 'Some(_) if self.is_cut => repeats += 1' 'Some(_) if self.is_cut || true => repeats += 1' gate

@@ -16,7 +16,9 @@ const MAX_GROUND_RULES: usize = 1000;
 
 /// A ground program that is far too large is refused before it is worked on.
 pub fn ground_rules(aspif: &Aspif) -> Result<(), Fault> {
-    written_rules(aspif.rules.len())
+    // Facts stand outside the plan, and a choice takes a rule for each relay.
+    let rules = aspif.rules.iter().filter(|rule| !rule.is_fact());
+    written_rules(rules.map(|rule| if rule.is_choice { rule.heads.len() } else { 1 }).sum())
 }
 
 pub fn written_rules(count: usize) -> Result<(), Fault> {

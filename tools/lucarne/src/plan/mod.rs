@@ -5,6 +5,7 @@ pub mod circles;
 pub mod file;
 pub mod founded;
 pub mod group;
+pub mod held;
 pub mod layout;
 pub mod library;
 pub mod limits;

@@ -19,6 +19,8 @@ pub struct Rule {
     pub sheet: Option<usize>,
     pub spot: Option<Spot>,
     pub text: String,
+    /// Whether it stands on a line that was not found: gringo does not tell.
+    pub line_unknown: bool,
     pub head: BTreeSet<Atom>,
     pub pos: BTreeSet<Atom>,
     pub neg: BTreeSet<Atom>,
@@ -34,6 +36,7 @@ impl Rule {
         match (&self.spot, self.number) {
             (Some(spot), _) => spot.line(),
             (None, Some(number)) => format!("rule {}", number),
+            (None, None) if self.line_unknown => "(line not known)".to_string(),
             (None, None) => "(added)".to_string(),
         }
     }

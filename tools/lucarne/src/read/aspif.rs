@@ -34,6 +34,10 @@ pub struct RawRule {
 }
 
 impl RawRule {
+    pub fn is_fact(&self) -> bool {
+        !self.is_choice && self.heads.len() == 1 && self.body.is_empty()
+    }
+
     /// The atoms of head and body.
     pub fn atoms(&self) -> BTreeSet<Literal> {
         let summed = self.body.sums.iter().flat_map(|(sum, _)| sum.parts.iter().map(|(literal, _)| literal));

@@ -1,49 +1,62 @@
-//! Grounding by gringo. Each statement gets an external atom of its own in its body, so that every ground rule tells its sheet and line.
+//! Grounding by gringo, of the sheets as they are written. Which line a ground rule comes from is found beside that (`origins`).
 
-use crate::read::aspif::{self, Aspif, Literal};
+use crate::read::aspif::{self, Aspif};
 use crate::fault::Fault;
 use crate::plan::limits;
-use crate::plan::program::{signature, Key, Program};
+use crate::near;
+use crate::read::origins;
+use crate::plan::program::{signature, Atom, Key, Program, Rule};
 use crate::read::run::{self, Output};
 use crate::read::simplify::simplify;
+use crate::read::text::shapes::{constants, Place, Shape};
 use crate::read::text::statements::{Sheets, Statement};
-use crate::read::text::tokens::{tokens, Kind, Token};
-use crate::read::translate::{translate, Origin, Origins};
-use std::collections::{BTreeMap, BTreeSet};
-use std::sync::Arc;
+use crate::read::text::terms::Term;
+use crate::read::text::tokens::Token;
+use crate::read::translate::{translate, Origins};
+use std::collections::BTreeSet;
+
+/// gringo is ended when it has written so much: a plan holds 64 rules, and some rules have instances without end.
+const MOST_BYTES: u64 = 16 << 20;
+
+/// Whether the line of each rule is looked for. The list does not hang on it.
+#[derive(Clone, Copy, Debug, PartialEq, Eq)]
+pub enum Lines {
+    Find,
+    Leave,
+}
 
 /// Puts the rules of all statements into the program, written out by gringo. It must not fold away tables, nor what is given outside rules.
-pub fn ground(program: &mut Program, sheets: &Sheets, given: &[String]) -> Result<(), Fault> {
+pub fn ground(program: &mut Program, sheets: &Sheets, given: &[String], lines: Lines) -> Result<(), Fault> {
     let kept = program.tables.iter().map(|table| &table.name).chain(given);
     let externals: String = kept.map(|name| format!("#external {}.\n", name)).collect();
     let plain: String = sheets.statements.iter().map(|statement| statement.text() + "\n").collect();
-    let written = call(sheets, &["--text"], &(plain + &externals))?;
+    let written = call(sheets, &(plain + &externals))?;
     program.notes.extend(told_by_gringo(&written.errors, sheets));
-    let facts = fact_names(&written.text);
-    let mark = mark_name(sheets);
-    let marked: String = sheets.statements.iter().enumerate().map(|(number, statement)| marked(statement, number, &mark, &facts)).collect();
-    let marks = format!("#external {}(0..{}).\n", mark, sheets.statements.len());
-    let ground = call(sheets, &["--output=intermediate", "--warn=none"], &(marked + &marks + &externals))?;
-    let mut aspif = aspif::read("gringo's output", &ground.text)?;
-    take_marks(&mut aspif, &mark);
-    home_of_unmarked(&mut aspif, sheets);
+    let mut aspif = aspif::read("gringo's output", &written.text)?;
     limits::ground_rules(&aspif)?;
-    spread_homes(&mut aspif);
+    let names = constants(&sheets.statements);
+    let shapes: Vec<Shape> = sheets.statements.iter().map(|statement| Shape::of(statement, &names)).collect();
+    let keys = keys(program, &aspif, sheets, &shapes)?;
+    program.notes.extend(undriven(program, &aspif, sheets, &shapes));
     simplify(&mut aspif);
-    let origins: Vec<Origin> = sheets.statements.iter().map(origin).collect();
-    translate(program, &aspif, Origins::Statements(&origins))?;
+    if lines == Lines::Find {
+        origins::find(&mut aspif, &shapes);
+    }
+    translate(program, &aspif, Origins::Statements(&sheets.statements))?;
     program.always.append(&mut aspif.always);
-    keys(program, &aspif, sheets);
+    keys.into_iter().for_each(|(name, key)| program.add_key(&name, key));
+    house_unknown(program, sheets, &shapes);
     Ok(())
 }
 
-fn origin(statement: &Statement) -> Origin {
-    Origin { sheet: Some(statement.sheet), spot: Some(statement.spot().clone()), text: statement.text() }
-}
-
-fn call(sheets: &Sheets, options: &[&str], text: &str) -> Result<Output, Fault> {
+fn call(sheets: &Sheets, text: &str) -> Result<Output, Fault> {
     let missing = "the sheets have variables, sums or conditions, and gringo, which writes them out, is not there";
-    let output = run::run("gringo", options, text, missing)?;
+    let options = ["--output=intermediate", "--warn=no-atom-undefined"];
+    let output = run::run_at_most("gringo", &options, text, missing, MOST_BYTES)?;
+    if output.is_cut {
+        return Err(Fault::new(format!("gringo writes more than {} MB for the sheets: does a rule go on without end?", MOST_BYTES >> 20))
+            .hint("give what a rule counts an end: time(T+1) :- time(T), T < 10."));
+    }
     if output.is_fine {
         return Ok(output);
     }
@@ -88,160 +101,119 @@ fn token_at(statement: &Statement, column: usize) -> &Token {
     &statement.tokens[0]
 }
 
-/// What gringo tells beside its output: atoms in no head, which are dropped in every position, and instances that it left out.
+/// What gringo tells beside its output: instances that it left out.
 fn told_by_gringo(errors: &str, sheets: &Sheets) -> Vec<String> {
     let lines: Vec<&str> = errors.lines().chain(Some("")).collect();
     let told = lines.windows(2).filter_map(|pair| {
         let (line, column) = place(pair[0])?;
         let (_, what) = pair[0].split_once(": info: ").or_else(|| pair[0].split_once(": warning: "))?;
         let spot = sheets.statements.get(line - 1).map_or(String::new(), |statement| format!("{}: ", token_at(statement, column).spot));
-        if what.starts_with("atom does not occur in any rule head") {
-            return Some(format!("{}nothing drives {}: it is dropped in every position", spot, pair[1].trim()));
-        }
         Some(format!("{}gringo says: {} {}", spot, what, pair[1].trim()))
     });
     told.collect()
 }
 
-/// The predicates that are facts alone in a plain grounding. They stay unmarked, so that gringo folds them away.
-fn fact_names(text: &str) -> BTreeSet<(String, usize)> {
-    let (mut facts, mut open) = (BTreeSet::new(), BTreeSet::new());
-    let file: Arc<str> = Arc::from("gringo");
-    for line in text.lines() {
-        let tokens = tokens(&file, line).unwrap_or_default();
-        match single_head(&tokens) {
-            Some((name, rest)) if tokens[rest].kind == Kind::Dot => drop(facts.insert(name)),
-            _ => open.extend(head_names(&tokens)),
-        }
-    }
-    facts.difference(&open).cloned().collect()
-}
-
-/// Name and number of arguments of the atom that starts at a token, and the place of the token behind it.
-fn atom_at(tokens: &[Token], at: usize) -> Option<((String, usize), usize)> {
-    let sign = usize::from(tokens.get(at)?.is("-"));
-    let name = tokens.get(at + sign).filter(|token| token.kind == Kind::Name && !token.is("not"))?;
-    let (mut text, mut end, mut depth) = (format!("{}{}", if sign == 1 { "-" } else { "" }, name.text), at + sign + 1, 0);
-    while let Some(token) = tokens.get(end).filter(|token| depth > 0 || token.is("(")) {
-        depth += i32::from(token.is("(")) - i32::from(token.is(")"));
-        text += &token.text;
-        end += 1;
-        if depth == 0 {
-            break;
-        }
-    }
-    Some((signature(&text), end))
-}
-
-/// Name of a head that is one atom, and the place of the token behind it.
-fn single_head(tokens: &[Token]) -> Option<((String, usize), usize)> {
-    atom_at(tokens, 0).filter(|&(_, end)| tokens.get(end).map_or(false, |token| token.kind == Kind::Dot || token.is(":-")))
-}
-
-/// All names in a head, those of conditions among them.
-fn head_names(tokens: &[Token]) -> Vec<(String, usize)> {
-    let head = &tokens[..tokens.iter().position(|token| token.kind == Kind::If).unwrap_or(tokens.len())];
-    let (mut found, mut at) = (Vec::new(), 0);
-    while at < head.len() {
-        match atom_at(head, at) {
-            Some((name, end)) => {
-                found.push(name);
-                at = end;
-            }
-            None => at += 1,
-        }
-    }
-    found
-}
-
-/// A name for marks that no sheet has.
-fn mark_name(sheets: &Sheets) -> String {
-    let mut mark = "__at".to_string();
-    while sheets.statements.iter().any(|statement| statement.tokens.iter().any(|token| token.text == mark)) {
-        mark.insert(0, '_');
-    }
-    mark
-}
-
-/// The statement with its mark. A semicolon stands before it, since a comma would join a condition.
-fn marked(statement: &Statement, number: usize, mark: &str, facts: &BTreeSet<(String, usize)>) -> String {
-    let tokens = &statement.tokens;
-    let text = statement.text();
-    let is_fact = single_head(tokens).map_or(false, |(name, _)| facts.contains(&name));
-    if tokens[0].kind == Kind::Hash || is_fact {
-        return text + "\n";
-    }
-    let has_if = tokens.iter().any(|token| token.kind == Kind::If);
-    let ends_in_if = tokens.len() > 1 && tokens[tokens.len() - 2].kind == Kind::If;
-    let join = if ends_in_if {
-        " "
-    } else if has_if {
-        "; "
-    } else {
-        " :- "
+/// Relays that bodies name and nothing drives. gringo leaves them out without a trace.
+fn undriven(program: &Program, aspif: &Aspif, sheets: &Sheets, shapes: &[Shape]) -> Vec<String> {
+    let outside = program.tables.iter().map(|table| &table.name).chain(sheets.given.iter().map(|(name, _)| name));
+    let names: Vec<&String> = aspif.names.values().chain(&aspif.always).chain(outside).collect();
+    let known: BTreeSet<&str> = names.iter().map(|name| name.as_str()).collect();
+    let defined = defined(&sheets.statements);
+    let is_driven = |place: &Place| {
+        let mut heads = shapes.iter().flat_map(Shape::driven).filter(|head| head.term.may_meet(&place.term));
+        // One that is written out must be there itself: a rule for others of its kind does not drive it.
+        known.contains(place.term.text().as_str()) || heads.any(|head| !place.term.is_ground() || head.term == place.term)
     };
-    format!("{}{}{}({}).\n", text.trim_end_matches('.'), join, mark, number)
-}
-
-/// Takes the marks out of all bodies and writes the statements to the rules.
-fn take_marks(aspif: &mut Aspif, mark: &str) {
-    let prefix = format!("{}(", mark);
-    let number =
-        |name: &String| name.strip_prefix(&prefix).and_then(|rest| rest.strip_suffix(')')).and_then(|number| number.parse::<usize>().ok());
-    let marks: BTreeMap<Literal, usize> = aspif.names.iter().filter_map(|(&atom, name)| Some((atom, number(name)?))).collect();
-    aspif.names.retain(|atom, _| !marks.contains_key(atom));
-    aspif.externals.retain(|(atom, _)| !marks.contains_key(atom));
-    for rule in &mut aspif.rules {
-        rule.statement = rule.body.literals.iter().find_map(|literal| marks.get(literal).copied());
-        rule.body.literals.retain(|literal| !marks.contains_key(literal));
-    }
-}
-
-/// A rule of a predicate that was left unmarked, and was not folded after all, belongs to the first statement that drives it.
-fn home_of_unmarked(aspif: &mut Aspif, sheets: &Sheets) {
-    let names = &aspif.names;
-    for rule in aspif.rules.iter_mut().filter(|rule| rule.statement.is_none() && rule.heads.len() == 1 && !rule.body.literals.is_empty()) {
-        if let Some(name) = names.get(&rule.heads[0]).map(|name| signature(name)) {
-            rule.statement =
-                sheets.statements.iter().position(|statement| single_head(&statement.tokens).map_or(false, |(head, _)| head == name));
+    let (mut notes, mut told) = (Vec::new(), BTreeSet::new());
+    for place in shapes.iter().flat_map(Shape::looked_at) {
+        let name = signature(&place.text);
+        if is_driven(place) || defined.contains(&name) || !told.insert(&place.text) {
+            continue;
         }
+        let hint = near_name(place, &names);
+        notes.push(format!("{}: nothing drives {}: it is dropped in every position ({})", place.spot, place.text, hint));
     }
+    notes
 }
 
-/// A rule over nameless atoms belongs where these are used or made.
-fn spread_homes(aspif: &mut Aspif) {
-    let mut homes: BTreeMap<Literal, usize> = BTreeMap::new();
-    let names = &aspif.names;
-    let mut changed = true;
-    while changed {
-        changed = false;
-        for rule in &mut aspif.rules {
-            let nameless: Vec<Literal> = rule.atoms().into_iter().filter(|atom| !names.contains_key(atom)).collect();
-            let home = rule.statement.or_else(|| nameless.iter().find_map(|atom| homes.get(atom).copied()));
-            if let Some(home) = home {
-                changed |= rule.statement.is_none() || nameless.iter().any(|atom| !homes.contains_key(atom));
-                rule.statement = Some(home);
-                for atom in nameless {
-                    homes.entry(atom).or_insert(home);
-                }
-            }
-        }
+/// The relay that may be meant; of one with variables its name alone.
+fn near_name(place: &Place, names: &[&String]) -> String {
+    let otherwise = "a key is written #external NAME.";
+    if place.term.is_ground() {
+        return near::hint(&place.text, names.iter().map(|name| name.as_str()), otherwise);
     }
+    let heads: Vec<String> = names.iter().map(|name| signature(name).0).collect();
+    near::hint(place.term.name(), heads.iter().map(String::as_str), otherwise)
 }
 
-/// Externals are keys, each with the statement that names it.
-fn keys(program: &mut Program, aspif: &Aspif, sheets: &Sheets) {
+/// What `#defined` names: it may well have no rule.
+fn defined(statements: &[Statement]) -> BTreeSet<(String, usize)> {
+    let statements = statements.iter().filter(|statement| statement.tokens[0].is("#defined"));
+    statements
+        .filter_map(|statement| {
+            let text: String = statement.tokens[1..].iter().map(|token| token.text.as_str()).collect();
+            let (name, number) = text.trim_end_matches('.').split_once('/')?;
+            Some((name.to_string(), number.parse().ok()?))
+        })
+        .collect()
+}
+
+/// Externals are keys, each with the statement that names it. One that a fact drives is refused, as one that a rule drives.
+fn keys(program: &Program, aspif: &Aspif, sheets: &Sheets, shapes: &[Shape]) -> Result<Vec<(String, Key)>, Fault> {
+    let naming = |term: &Term| {
+        let shape =
+            shapes.iter().position(|shape| shape.is_external && shape.heads.iter().any(|head| head.term.fits(term, &mut Vec::new())));
+        shape.map(|number| &sheets.statements[number])
+    };
+    let mut keys = Vec::new();
     for (atom, setting) in &aspif.externals {
         let name = match aspif.names.get(atom) {
             Some(name) if !program.tables.iter().any(|table| table.name == *name) => name,
             _ => continue,
         };
-        let (predicate, _) = signature(name);
-        let names_it = |statement: &&Statement| {
-            statement.tokens[0].is("#external") && statement.tokens.iter().any(|token| token.text == predicate.trim_start_matches('-'))
-        };
-        let statement = sheets.statements.iter().find(names_it);
+        let statement = naming(&origins::ground_term(name));
         let (sheet, spot) = (statement.map(|statement| statement.sheet), statement.map(|statement| statement.spot().clone()));
-        program.add_key(name, Key { setting: *setting, sheet, spot });
+        keys.push((name.clone(), Key { setting: *setting, sheet, spot }));
     }
+    if shapes.iter().any(|shape| shape.is_external) {
+        if let Some((name, statement)) = aspif.always.iter().find_map(|name| Some((name, naming(&origins::ground_term(name))?))) {
+            return Err(Fault::at(statement.spot(), format!("the key {} is a fact of the sheets", name))
+                .text(statement.text())
+                .hint("a relay is either given before the run or driven by rules"));
+        }
+    }
+    Ok(keys)
+}
+
+/// A rule whose line is not known goes to the unit of what it drives, or of what looks at that.
+fn house_unknown(program: &mut Program, sheets: &Sheets, shapes: &[Shape]) {
+    let unknown: Vec<usize> = (0..program.rules.len()).filter(|&rule| program.rules[rule].line_unknown).collect();
+    if unknown.is_empty() {
+        return;
+    }
+    // Twice, and back: a helper's rule may stand before the one that looks at it.
+    for number in unknown.iter().copied().chain(unknown.iter().rev().copied()) {
+        let rule = &program.rules[number];
+        let sheet = rule.sheet.or_else(|| home(program, rule)).or_else(|| written_home(program, rule, sheets, shapes));
+        program.rules[number].sheet = sheet;
+    }
+    let texts: BTreeSet<&str> = unknown.iter().map(|&rule| program.rules[rule].text.as_str()).collect();
+    let told = texts.into_iter().collect::<Vec<_>>().join(" ");
+    program.notes.push(format!("on which line these rules stand is not known; they are worked in the unit of what they drive: {}", told));
+}
+
+/// The sheet of a rule that drives the same, or that looks at it.
+fn home(program: &Program, rule: &Rule) -> Option<usize> {
+    let with_sheet = || program.rules.iter().filter(|other| other.sheet.is_some());
+    let shares = |other: &&Rule| !other.head.is_disjoint(&rule.head);
+    let looks = |other: &&Rule| rule.head.iter().any(|atom: &Atom| program.looks_at(other).contains(atom));
+    with_sheet().find(shares).or_else(|| with_sheet().find(looks)).and_then(|other| other.sheet)
+}
+
+/// The sheet of a statement that drives the same.
+fn written_home(program: &Program, rule: &Rule, sheets: &Sheets, shapes: &[Shape]) -> Option<usize> {
+    let heads: Vec<Term> = rule.head.iter().map(|&atom| origins::ground_term(program.name(atom))).collect();
+    let drives = |shape: &Shape| shape.driven().any(|place| heads.iter().any(|head| place.term.fits(head, &mut Vec::new())));
+    let number = shapes.iter().position(|shape| !shape.is_external && drives(shape))?;
+    Some(sheets.statements[number].sheet)
 }

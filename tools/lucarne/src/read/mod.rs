@@ -4,6 +4,7 @@ pub mod aspif;
 pub mod folder;
 pub mod gringo;
 pub mod lookup;
+pub mod origins;
 pub mod reader;
 pub mod run;
 pub mod simplify;

@@ -2,24 +2,28 @@
 
 use crate::read::aspif;
 use crate::fault::{Fault, Spot};
-use crate::read::gringo;
+use crate::read::gringo::{self, Lines};
+use crate::plan::held;
 use crate::plan::limits;
 use crate::near;
 use crate::plan::program::{signature, Atom, Key, Program, Rule, Setting, Table};
 use crate::read::simplify::simplify;
 use crate::read::text::ground::{self, Ground, GroundRule, Head, Stop};
+use crate::read::text::shapes::constants;
 use crate::read::text::statements::{Sheets, Statement};
 use crate::read::text::tokens::Kind;
+use crate::read::text::traps;
 use crate::read::translate::{translate, Origins};
 use std::collections::{BTreeMap, BTreeSet};
 use std::sync::Arc;
 
-/// Who reads the sheets: the ground reader where it can, gringo in any case, or never gringo.
+/// Who reads the sheets: the ground reader where it can, gringo in any case, or never gringo. `Lineless` is for tests: gringo, and no rule has a line.
 #[derive(Clone, Copy, Debug, PartialEq, Eq)]
 pub enum Grounding {
     Auto,
     Always,
     Never,
+    Lineless,
 }
 
 /// Keys that are set on the command line, by name or label, against what the sheets say.
@@ -34,6 +38,7 @@ pub fn read_sheets(sheets: &Sheets, grounding: Grounding, turns: &Turns) -> Resu
     let mut program = Program::new(sheets.names.clone());
     program.shows = sheets.shows.clone();
     program.notes = sheets.notes.clone();
+    program.notes.extend(traps::semicolons(sheets));
     add_tables(&mut program, sheets)?;
     let read = read_ground(sheets, &program)?;
     let is_own = match (read, grounding) {
@@ -44,7 +49,8 @@ pub fn read_sheets(sheets: &Sheets, grounding: Grounding, turns: &Turns) -> Resu
         }
         (Err(fault), Grounding::Never) => return Err(fault),
         _ => {
-            gringo::ground(&mut program, sheets, &given(sheets, turns))?;
+            let lines = if grounding == Grounding::Lineless { Lines::Leave } else { Lines::Find };
+            gringo::ground(&mut program, sheets, &given(sheets, turns), lines)?;
             false
         }
     };
@@ -53,10 +59,9 @@ pub fn read_sheets(sheets: &Sheets, grounding: Grounding, turns: &Turns) -> Resu
         add_opposites(&mut program); // gringo adds them itself
     }
     finish(&mut program, sheets)?;
-    if is_own {
-        limits::check_size(&program)?; // so that no more are told of than a plan holds
-        note_undriven(&mut program); // gringo tells it of what it reads
-    }
+    limits::check_size(&program)?; // so that no more are told of than a plan holds
+    note_undriven(&mut program);
+    held::note(&mut program);
     Ok(program)
 }
 
@@ -93,6 +98,9 @@ pub fn read_aspif(file: &str, text: &str, turns: &Turns) -> Result<Program, Faul
     turn_keys(&mut program, turns)?;
     settle_keys(&mut program)?;
     hold_bare_constraints(&mut program);
+    limits::check_size(&program)?;
+    note_undriven(&mut program);
+    held::note(&mut program);
     Ok(program)
 }
 
@@ -119,9 +127,24 @@ type Read<'a> = Vec<(&'a Statement, Ground)>;
 
 /// All statements by the ground reader, or the first that asks for gringo. What is wrong in any case is told at once, all of it.
 fn read_ground<'a>(sheets: &'a Sheets, program: &Program) -> Result<Result<Read<'a>, Fault>, Fault> {
+    let is_larger = |statement: &Statement| statement.tokens.iter().any(|token| matches!(token.kind, Kind::Variable | Kind::Range));
+    // Where gringo reads the sheets, nothing is wrong in a fact but that it drives a table.
+    let passes_facts = program.tables.is_empty() && sheets.statements.iter().any(is_larger);
+    match read_statements(sheets, program, passes_facts)? {
+        Ok(_) if passes_facts => read_statements(sheets, program, false),
+        read => Ok(read),
+    }
+}
+
+fn read_statements<'a>(sheets: &'a Sheets, program: &Program, passes_facts: bool) -> Result<Result<Read<'a>, Fault>, Fault> {
     let is_table = |name: &str| program.tables.iter().any(|table| table.name == name);
     let (mut read, mut larger, mut faults) = (Vec::new(), None, Vec::new());
-    for statement in &sheets.statements {
+    let constants = constants(&sheets.statements);
+    for statement in sheets.statements.iter().filter(|statement| !(passes_facts && statement.is_plain_fact())) {
+        if let Some(fault) = traps::misread(statement, &constants) {
+            faults.push(fault);
+            continue;
+        }
         match ground::read(statement, &is_table) {
             Ok(ground) => read.push((statement, ground)),
             Err(Stop::Wrong(fault)) => faults.push(fault),
@@ -232,7 +255,7 @@ fn note_undriven(program: &mut Program) {
     let driven: BTreeSet<Atom> =
         program.rules.iter().flat_map(|rule| rule.head.iter().copied()).chain(program.keys.keys().copied()).collect();
     let mut notes = Vec::new();
-    for atom in program.used_atoms().into_iter().filter(|atom| !driven.contains(atom)) {
+    for atom in program.used_atoms().into_iter().filter(|&atom| !driven.contains(&atom) && !program.atoms[atom].is_helper) {
         let reader = program.rules.iter().find(|rule| program.looks_at(rule).contains(&atom));
         let known = driven.iter().map(|&other| program.name(other)).filter(|name| !name.starts_with('~'));
         let hint = near::hint(program.name(atom), known, "a key is written #external NAME.");

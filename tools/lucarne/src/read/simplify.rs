@@ -8,7 +8,7 @@ use crate::read::aspif::{Aspif, Body, Literal, RawRule, Sum};
 use std::collections::{BTreeMap, BTreeSet};
 
 impl Body {
-    fn is_empty(&self) -> bool {
+    pub fn is_empty(&self) -> bool {
         self.literals.is_empty() && self.sums.is_empty()
     }
 
@@ -27,7 +27,7 @@ impl Body {
     }
 }
 
-/// Folds facts that belong to no statement and atoms that nothing drives, then writes out definitions until nothing changes.
+/// Folds facts and atoms that nothing drives, then writes out definitions until nothing changes.
 pub fn simplify(aspif: &mut Aspif) {
     fold_facts(aspif);
     while fold_undriven(aspif) {}
@@ -38,8 +38,7 @@ pub fn simplify(aspif: &mut Aspif) {
 
 /// gringo folds most facts itself, but leaves some in bodies, such as that of `:- a, -a`.
 fn fold_facts(aspif: &mut Aspif) {
-    let is_fact = |rule: &RawRule| !rule.is_choice && rule.heads.len() == 1 && rule.body.is_empty() && rule.statement.is_none();
-    let facts: BTreeSet<Literal> = aspif.rules.iter().filter(|rule| is_fact(rule)).map(|rule| rule.heads[0]).collect();
+    let facts: BTreeSet<Literal> = aspif.rules.iter().filter(|rule| rule.is_fact()).map(|rule| rule.heads[0]).collect();
     let named = facts.iter().filter_map(|fact| aspif.names.remove(fact));
     let named: Vec<String> = named.collect();
     aspif.always.extend(named);
@@ -154,8 +153,11 @@ fn just_one(aspif: &mut Aspif) {
 /// The two rules by which gringo says "just one" of a choice: `x :- 1 <= sum, not 2 <= sum.` and `:- B, not x.`
 fn bounds_of(aspif: &Aspif, number: usize) -> Option<(usize, usize)> {
     let rule = &aspif.rules[number];
+    if !rule.is_choice || rule.heads.len() < 2 {
+        return None;
+    }
     let places = places(&aspif.rules);
-    if !rule.is_choice || rule.heads.len() < 2 || rule.heads.iter().any(|head| places.heads[head].len() > 1) {
+    if rule.heads.iter().any(|head| places.heads[head].len() > 1) {
         return None;
     }
     let sums = |bound, wanted| (Sum { bound, parts: rule.heads.iter().map(|&head| (head, 1)).collect() }, wanted);

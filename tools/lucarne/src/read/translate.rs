@@ -4,6 +4,7 @@ use crate::read::aspif::{Aspif, Body, Literal, RawRule, Sum};
 use crate::fault::{Fault, Spot};
 use crate::plan::program::{Atom, Program, Rule, Table};
 use crate::read::sums;
+use crate::read::text::statements::Statement;
 use std::collections::{BTreeMap, BTreeSet};
 use std::sync::Arc;
 
@@ -13,19 +14,27 @@ pub struct Origin {
     pub sheet: Option<usize>,
     pub spot: Option<Spot>,
     pub text: String,
+    /// Whether it stands on a line that was not found.
+    pub line_unknown: bool,
+}
+
+impl Origin {
+    fn of(statement: &Statement) -> Origin {
+        Origin { sheet: Some(statement.sheet), spot: Some(statement.spot().clone()), text: statement.text(), line_unknown: false }
+    }
 }
 
 /// Where rules come from: statements of sheets, or lines of a ground program.
 pub enum Origins<'a> {
-    Statements(&'a [Origin]),
+    Statements(&'a [Statement]),
     Lines(&'a str),
 }
 
 /// Puts all rules into the program.
 pub fn translate(program: &mut Program, aspif: &Aspif, origins: Origins) -> Result<(), Fault> {
     let tables = program.tables.iter().enumerate().map(|(number, table)| (table.name.clone(), number)).collect();
-    let mut translator =
-        Translator { program, names: &aspif.names, origins, tables, atoms: BTreeMap::new(), homes: homes(aspif), loops: Loops::of(aspif) };
+    let (names, always, homes, loops) = (&aspif.names, &aspif.always, homes(aspif), Loops::of(aspif));
+    let mut translator = Translator { program, names, always, origins, tables, atoms: BTreeMap::new(), homes, loops };
     let mut rules: Vec<&RawRule> = aspif.rules.iter().collect();
     rules.sort_by_key(|rule| rule.statement.unwrap_or(usize::MAX));
     rules.into_iter().try_for_each(|rule| translator.rule(rule))?;
@@ -79,6 +88,7 @@ impl Loops {
 struct Translator<'a> {
     program: &'a mut Program,
     names: &'a BTreeMap<Literal, String>,
+    always: &'a [String],
     origins: Origins<'a>,
     tables: BTreeMap<String, usize>,
     atoms: BTreeMap<Literal, Atom>,
@@ -92,7 +102,8 @@ impl<'a> Translator<'a> {
             return Ok(());
         }
         let origin = self.origin(raw);
-        let mut rule = Rule { sheet: origin.sheet, spot: origin.spot, text: origin.text, ..Rule::default() };
+        let mut rule =
+            Rule { sheet: origin.sheet, spot: origin.spot, text: origin.text, line_unknown: origin.line_unknown, ..Rule::default() };
         if !self.body(raw, &mut rule)? {
             return Ok(());
         }
@@ -109,16 +120,31 @@ impl<'a> Translator<'a> {
         Ok(())
     }
 
-    /// Where a rule comes from. One that names no statement was added by gringo, or has no sheet at all.
+    /// Where a rule comes from. One that names no statement was added by gringo, or its line is not known.
     fn origin(&self, raw: &RawRule) -> Origin {
         match (&self.origins, raw.statement) {
-            (Origins::Statements(statements), Some(number)) => statements[number].clone(),
-            (Origins::Statements(_), None) => Origin { text: self.written(raw), ..Origin::default() },
+            (Origins::Statements(statements), Some(number)) => Origin::of(&statements[number]),
+            (Origins::Statements(_), None) => Origin { text: self.written(raw), line_unknown: !self.is_opposite(raw), ..Origin::default() },
             (Origins::Lines(file), _) => {
                 let spot = Spot { file: Arc::from(*file), line: raw.line, column: 1 };
-                Origin { sheet: Some(0), spot: Some(spot), text: self.written(raw) }
+                Origin { sheet: Some(0), spot: Some(spot), text: self.written(raw), line_unknown: false }
             }
         }
+    }
+
+    /// `:- a, -a.`, which gringo adds for each relay that has an opposite; facts are left out of it.
+    fn is_opposite(&self, raw: &RawRule) -> bool {
+        let name = |literal: &Literal| self.names.get(literal).map_or("", String::as_str);
+        let is_fact = |name: &str| self.always.iter().any(|fact| fact == name);
+        let is_pair = |one: &str, other: &str| opposite(one) == other;
+        raw.heads.is_empty()
+            && raw.body.sums.is_empty()
+            && match raw.body.literals.as_slice() {
+                [] => self.always.iter().any(|fact| is_fact(&opposite(fact))),
+                [one] => is_fact(&opposite(name(one))),
+                [one, other] => is_pair(name(one), name(other)),
+                _ => false,
+            }
     }
 
     /// A rule as text by its names, for rules that no statement has.
@@ -133,7 +159,8 @@ impl<'a> Translator<'a> {
         let heads: Vec<String> = raw.heads.iter().map(|&head| name(head)).collect();
         let heads = if raw.is_choice { format!("{{{}}}", heads.join("; ")) } else { heads.join(" ; ") };
         let body: Vec<String> = raw.body.literals.iter().map(|&literal| sign(literal)).chain(sums).collect();
-        format!("{}{}{}.", heads, if body.is_empty() { "" } else { " :- " }, body.join(", ")).trim_start().to_string()
+        let arrow = if body.is_empty() && !raw.heads.is_empty() { "" } else { " :- " };
+        format!("{}{}{}.", heads, arrow, body.join(", ")).trim_start().to_string()
     }
 
     /// The atom of the program; a nameless one becomes a helper.
@@ -158,8 +185,7 @@ impl<'a> Translator<'a> {
             Origins::Statements(statements) => self.homes.get(&number).map(|&home| &statements[home]),
             Origins::Lines(_) => None,
         };
-        let spot = statement.and_then(|statement| statement.spot.as_ref());
-        spot.map_or(format!("x{}", number), |spot| format!("line{}", spot.line))
+        statement.map_or(format!("x{}", number), |statement| format!("line{}", statement.spot().line))
     }
 
     /// Fills in the body; false if it can never hold, so that the rule is left out.
@@ -263,7 +289,13 @@ impl<'a> Translator<'a> {
     }
 }
 
+/// The name of the relay that is never up together with this one.
+fn opposite(name: &str) -> String {
+    name.strip_prefix('-').map_or_else(|| format!("-{}", name), str::to_string)
+}
+
 /// An empty rule that stands where this one does.
 fn origin_of(rule: &Rule) -> Rule {
-    Rule { sheet: rule.sheet, spot: rule.spot.clone(), text: rule.text.clone(), ..Rule::default() }
+    let (spot, text) = (rule.spot.clone(), rule.text.clone());
+    Rule { sheet: rule.sheet, spot, text, line_unknown: rule.line_unknown, ..Rule::default() }
 }

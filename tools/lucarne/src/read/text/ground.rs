@@ -291,6 +291,9 @@ impl<'a> Reader<'a> {
         if matches!(self.peek().kind, Kind::Dot | Kind::If) {
             return Err(not_closed(self.peek()));
         }
+        if self.peek().is(";") {
+            return Err(large(self.peek())); // a pool
+        }
         if !self.takes(")") {
             return Err(self.unexpected(&[",", ")"]));
         }
@@ -345,6 +348,9 @@ impl<'a> Reader<'a> {
                 "a head lists its relays by ; and one of them is up; for relays that are driven together write a rule for each".to_string()
             }
             ":-" => "a rule has one :- ; is the full stop of the rule before it missing?".to_string(),
+            "-" if self.ahead(1).is(">") && !self.ahead(1).gap => {
+                "write :- for \"if\", and what is driven before it: tr1 :- tr2, not tr3.".to_string()
+            }
             "." if self.tokens[..self.at].iter().any(|token| token.is("{")) => "is a bracket not closed?".to_string(),
             _ if before.spot.line < token.spot.line => {
                 format!("is the full stop behind \"{}\" in line {} missing?", before.text, before.spot.line)

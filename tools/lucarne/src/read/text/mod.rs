@@ -2,5 +2,8 @@
 
 pub mod directives;
 pub mod ground;
+pub mod shapes;
 pub mod statements;
+pub mod terms;
 pub mod tokens;
+pub mod traps;

@@ -22,15 +22,39 @@ impl Statement {
 
     /// The source's own text on one line, without comments.
     pub fn text(&self) -> String {
-        let mut text = String::new();
-        for (place, token) in self.tokens.iter().enumerate() {
-            if place > 0 && token.gap {
-                text.push(' ');
-            }
-            text += &token.text;
-        }
-        text
+        written(&self.tokens)
     }
+
+    /// Whether it is a fact with nothing but names and numbers in it. Of these there may be many, and they are passed over where that is sure.
+    pub fn is_plain_fact(&self) -> bool {
+        let is_name = |token: &Token| token.kind == Kind::Name && !token.is("not");
+        let is_number = |token: &Token| token.kind == Kind::Number && token.text.bytes().all(|digit| digit.is_ascii_digit());
+        let is_decimal = |token: &Token| is_number(token) && (token.text == "0" || !token.text.starts_with('0'));
+        match self.tokens.as_slice() {
+            [name, end] => is_name(name) && end.kind == Kind::Dot,
+            [name, open, inner @ .., close, end] => {
+                let is_there = |(place, token): (usize, &Token)| match place % 2 {
+                    0 => is_name(token) || is_decimal(token),
+                    _ => token.is(","),
+                };
+                let is_list = inner.len() % 2 == 1 && inner.iter().enumerate().all(is_there);
+                is_name(name) && open.is("(") && close.is(")") && end.kind == Kind::Dot && is_list
+            }
+            _ => false,
+        }
+    }
+}
+
+/// Tokens as they are written, on one line.
+pub fn written(tokens: &[Token]) -> String {
+    let mut text = String::new();
+    for (place, token) in tokens.iter().enumerate() {
+        if place > 0 && token.gap {
+            text.push(' ');
+        }
+        text += &token.text;
+    }
+    text
 }
 
 /// All sheets of a group.
@@ -152,7 +176,7 @@ fn pieces(tokens: Vec<Token>, faults: &mut Vec<Fault>) -> Vec<Piece> {
 }
 
 fn not_ended(open: &[Token], before: &str) -> Fault {
-    let text = Statement { sheet: 0, tokens: open.to_vec() }.text();
+    let text = written(open);
     let last = &open[open.len() - 1];
     let what = format!("this statement has no full stop {}", before);
     Fault::at(&open[0].spot, what)

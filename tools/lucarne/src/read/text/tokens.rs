@@ -135,6 +135,9 @@ impl<'a> Scanner<'a> {
                 .hint("labels stand in plain double ones: %name tr1 \"101 TR\""),
             sign if sign.is_alphabetic() => Fault::at(spot, format!("the letter {} has no place in a name", sign))
                 .hint("names are written in plain letters, figures and _; the label may have any: %name tr1 \"101 TR\""),
+            sign if "\u{2190}\u{2192}\u{21d0}\u{21d2}\u{27f5}\u{27f6}\u{27f8}\u{27f9}".contains(sign) => {
+                Fault::at(spot, format!("the arrow {} has no place here", sign)).hint("write :- for \"if\": tr1 :- tr2, not tr3.")
+            }
             sign => Fault::at(spot, format!("the character {} has no place here", sign.escape_debug())).hint("comments start with %"),
         }
     }
