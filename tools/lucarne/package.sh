@@ -10,8 +10,10 @@ root=target/lucarne/package
 tools/lucarne/build.sh target/lucarne/lucarne
 
 rm -rf "$root"
-install -d "$root/DEBIAN" "$root/usr/bin" "$root/usr/share/doc/lucarne/examples" "$folder"
+completions=$root/usr/share/bash-completion/completions
+install -d "$root/DEBIAN" "$completions" "$root/usr/bin" "$root/usr/share/doc/lucarne/examples" "$folder"
 install -m 755 target/lucarne/lucarne "$root/usr/bin/lucarne"
+"$root/usr/bin/lucarne" completions bash >"$completions/lucarne"
 install -m 644 README.md "$root/usr/share/doc/lucarne/README.md"
 for group in north yard found story; do
     install -d "$root/usr/share/doc/lucarne/examples/$group"

@@ -1,5 +1,6 @@
 //! What is wrong with the input or with the tool's surroundings: where it stands, what it is, the text there, and what to do.
 
+use std::borrow::Cow;
 use std::fmt;
 use std::sync::Arc;
 
@@ -69,7 +70,7 @@ impl Fault {
 
     /// With the rule's own text below.
     pub fn text(mut self, text: impl Into<String>) -> Fault {
-        self.text = text.into();
+        self.text = cut(&text.into(), MOST_TEXT).into_owned();
         self
     }
 
@@ -95,11 +96,23 @@ impl Fault {
     }
 }
 
+/// So much of a rule is enough to find it, and so much of a sentence to understand it.
+const MOST_TEXT: usize = 400;
+const MOST_TOLD: usize = 4000;
+
+/// At most so many characters of a text.
+fn cut(text: &str, most: usize) -> Cow<'_, str> {
+    match text.char_indices().nth(most) {
+        Some((end, _)) => Cow::Owned(format!("{} ..", &text[..end])),
+        None => Cow::Borrowed(text),
+    }
+}
+
 impl fmt::Display for Fault {
     fn fmt(&self, out: &mut fmt::Formatter) -> fmt::Result {
         match &self.spot {
-            Some(spot) => write!(out, "{}: {}", spot, self.what)?,
-            None => write!(out, "{}", self.what)?,
+            Some(spot) => write!(out, "{}: {}", spot, cut(&self.what, MOST_TOLD))?,
+            None => write!(out, "{}", cut(&self.what, MOST_TOLD))?,
         }
         if !self.text.is_empty() {
             write!(out, "\n    {}", self.text)?;

@@ -13,11 +13,11 @@ mod reasons;
 mod tally;
 
 use forms::{Form, FORMS};
-use lucarne::audit;
-use lucarne::group::{Group, Options};
-use lucarne::layout::Circles;
-use lucarne::reader::{Grounding, Turns};
-use lucarne::theirs;
+use lucarne::commands::audit;
+use lucarne::plan::group::{Group, Options};
+use lucarne::plan::layout::Circles;
+use lucarne::read::reader::{Grounding, Turns};
+use lucarne::read::theirs;
 use random::Random;
 use tally::Tally;
 
@@ -56,7 +56,7 @@ fn main() {
 }
 
 pub fn options(path: &str) -> Options {
-    Options { paths: vec![path.to_string()], grounding: Grounding::Auto, circles: Circles::Join, one_unit: false, turns: Turns::default() }
+    Options { paths: vec![path.into()], grounding: Grounding::Auto, circles: Circles::Join, one_unit: false, turns: Turns::default() }
 }
 
 fn try_form(path: &str, form: &Form, random: &mut Random, tally: &mut Tally) {

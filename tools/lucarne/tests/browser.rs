@@ -1,6 +1,6 @@
 //! Chromium without a window, led over a pipe by its own protocol: messages of JSON that end in a zero byte.
 
-use lucarne::json::{self, quoted, Value};
+use lucarne::serde_json::{self, json, Value};
 use std::fmt;
 use std::fs;
 use std::io::{BufRead, BufReader, Write};
@@ -69,8 +69,8 @@ impl Browser {
     /// Sends a command; its answer is not waited for, but a fault in it is noticed.
     pub fn post(&mut self, method: &str, params: &str) -> Result<(), Lost> {
         self.last += 1;
-        let session = if self.session.is_empty() { String::new() } else { format!(",\"sessionId\":{}", quoted(&self.session)) };
-        let message = format!("{{\"id\":{},\"method\":{},\"params\":{}{}}}\0", self.last, quoted(method), params, session);
+        let session = if self.session.is_empty() { String::new() } else { format!(",\"sessionId\":{}", json!(self.session)) };
+        let message = format!("{{\"id\":{},\"method\":{},\"params\":{}{}}}\0", self.last, json!(method), params, session);
         let written = self.input.write_all(message.as_bytes());
         written.map_err(|_| self.lost(&format!("listens no more: {}", method)))
     }
@@ -87,7 +87,7 @@ impl Browser {
         self.post(method, params)?;
         loop {
             let message = self.take(method)?;
-            if message.get("id") == Some(&Value::Number(self.last as f64)) {
+            if message.get("id") == Some(&json!(self.last)) {
                 return Ok(message);
             }
             self.refuse_fault(&message, method)?;
@@ -95,7 +95,7 @@ impl Browser {
     }
 
     fn refuse_fault(&self, message: &Value, awaited: &str) -> Result<(), Lost> {
-        let fault = message.get("error").and_then(|error| error.get("message")).and_then(Value::text);
+        let fault = message.get("error").and_then(|error| error.get("message")).and_then(Value::as_str);
         fault.map_or(Ok(()), |fault| Err(self.lost(&format!("refuses a command: {}: {}", awaited, fault))))
     }
 
@@ -127,9 +127,9 @@ impl Browser {
     /// A tab for all pages.
     fn open_tab(&mut self) -> Result<(), Lost> {
         let target = self.send("Target.createTarget", "{\"url\":\"about:blank\"}")?;
-        let target = target.get("targetId").and_then(Value::text).unwrap_or_default();
-        let session = self.send("Target.attachToTarget", &format!("{{\"targetId\":{},\"flatten\":true}}", quoted(target)))?;
-        self.session = session.get("sessionId").and_then(Value::text).unwrap_or_default().to_string();
+        let target = target.get("targetId").and_then(Value::as_str).unwrap_or_default();
+        let session = self.send("Target.attachToTarget", &format!("{{\"targetId\":{},\"flatten\":true}}", json!(target)))?;
+        self.session = session.get("sessionId").and_then(Value::as_str).unwrap_or_default().to_string();
         // Each is waited for: the first page goes to another process, and what is not enabled by then may come too late for the page's own news.
         for domain in ["Inspector", "Page", "Runtime", "Network", "Log"] {
             self.send(&format!("{}.enable", domain), "{}")?;
@@ -143,8 +143,8 @@ impl Browser {
         self.opened += 1;
         let url = format!("{}?{}{}", url, self.opened, question);
         self.events.clear();
-        let answer = self.send("Page.navigate", &format!("{{\"url\":{}}}", quoted(&url)))?;
-        if let Some(fault) = answer.get("errorText").and_then(Value::text) {
+        let answer = self.send("Page.navigate", &format!("{{\"url\":{}}}", json!(url)))?;
+        if let Some(fault) = answer.get("errorText").and_then(Value::as_str) {
             return Err(self.lost(&format!("does not open {}: {}", url, fault)));
         }
         let start = Instant::now();
@@ -163,29 +163,29 @@ impl Browser {
     /// Whether the page that was opened last is loaded. The page itself is asked, since news of it may be missed; in between there is nobody to ask.
     fn is_there(&mut self) -> Result<bool, Lost> {
         let script = format!("location.search === '?{}' && document.readyState === 'complete'", self.opened);
-        let answer = self.answer("Runtime.evaluate", &format!("{{\"expression\":{}}}", quoted(&script)))?;
+        let answer = self.answer("Runtime.evaluate", &format!("{{\"expression\":{}}}", json!(script)))?;
         let value = answer.get("result").and_then(|answer| answer.get("result")).and_then(|result| result.get("value"));
         Ok(value == Some(&Value::Bool(true)))
     }
 
     fn has_event(&self, method: &str) -> bool {
-        self.events.iter().any(|event| event.get("method").and_then(Value::text) == Some(method))
+        self.events.iter().any(|event| event.get("method").and_then(Value::as_str) == Some(method))
     }
 
     /// The parameters of the events of this kind.
     pub fn events_of(&self, method: &str) -> Vec<Value> {
-        let fitting = self.events.iter().filter(|event| event.get("method").and_then(Value::text) == Some(method));
+        let fitting = self.events.iter().filter(|event| event.get("method").and_then(Value::as_str) == Some(method));
         fitting.map(|event| event.get("params").cloned().unwrap_or(Value::Null)).collect()
     }
 
     /// What an expression of JavaScript gives, by way of JSON. Events that wait come first.
     pub fn evaluate(&mut self, expression: &str) -> Result<Value, Lost> {
         let script = format!("new Promise((done) => setTimeout(done, 5)).then(() => JSON.stringify({}))", expression);
-        let params = format!("{{\"expression\":{},\"awaitPromise\":true,\"returnByValue\":true}}", quoted(&script));
+        let params = format!("{{\"expression\":{},\"awaitPromise\":true,\"returnByValue\":true}}", json!(script));
         let answer = self.send("Runtime.evaluate", &params)?;
         assert!(answer.get("exceptionDetails").is_none(), "{} fails: {:?}", expression, answer);
-        let text = answer.get("result").and_then(|result| result.get("value")).and_then(Value::text).unwrap_or("null").to_string();
-        Ok(json::parse(&text).expect("JSON"))
+        let text = answer.get("result").and_then(|result| result.get("value")).and_then(Value::as_str).unwrap_or("null").to_string();
+        Ok(serde_json::from_str(&text).expect("JSON"))
     }
 
     /// A click at this place of the window. It is done when the answer comes.
@@ -197,8 +197,8 @@ impl Browser {
 
     /// A key, by its name and number, with the text that it writes.
     pub fn press(&mut self, key: &str, number: u32, text: &str) -> Result<(), Lost> {
-        let key = format!("\"key\":{},\"windowsVirtualKeyCode\":{}", quoted(key), number);
-        let text = if text.is_empty() { String::new() } else { format!(",\"text\":{}", quoted(text)) };
+        let key = format!("\"key\":{},\"windowsVirtualKeyCode\":{}", json!(key), number);
+        let text = if text.is_empty() { String::new() } else { format!(",\"text\":{}", json!(text)) };
         self.post("Input.dispatchKeyEvent", &format!("{{\"type\":\"keyDown\",{}{}}}", key, text))?;
         self.send("Input.dispatchKeyEvent", &format!("{{\"type\":\"keyUp\",{}}}", key)).map(drop)
     }
@@ -215,7 +215,7 @@ fn messages_of(child: &mut Child) -> Receiver<Value> {
     let output = BufReader::new(child.stdout.take().expect("a pipe"));
     thread::spawn(move || {
         for message in output.split(0).map_while(Result::ok) {
-            let value = json::parse(&String::from_utf8_lossy(&message));
+            let value = serde_json::from_slice(&message);
             if value.map_or(true, |value| sender.send(value).is_err()) {
                 break;
             }

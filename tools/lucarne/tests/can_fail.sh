@@ -38,7 +38,7 @@ with_mistake() {
     cp -r tools/lucarne/src "$work/src"
     printf '%s\n' "$wrong" >"$work/src/$2"
     tried=$((tried + 1))
-    if ! output=$(LUCARNE_SOURCE=$work/src LUCARNE_OPT=0 tools/lucarne/build.sh "$work/lucarne" 2>&1); then
+    if ! output=$(LUCARNE_SOURCE=$work/src tools/lucarne/build.sh "$work/lucarne" 2>&1); then
         echo "$output" >&2
         echo "the copy cannot be built: $1" >&2
         exit 2
@@ -58,8 +58,9 @@ try_copy() {
     try_sessions "$work" ""
     [ "$failed" = 0 ] || return 0
     build_tests "$work"
+    try_drawn files "$work" "$work/files"
     try_drawn layout "$work" 300 1
-    build_page "$work" && try_drawn page "$work" text
+    build_test "$work" page && try_drawn page "$work" text
     [ "$failed" = 0 ] || return 0
     if is_there clingo "drawn sheets"; then
         try_drawn sheets "$work" 300 1
@@ -70,12 +71,12 @@ try_copy() {
     fi
 }
 
-with_mistake "an edge is dropped" layout.rs 'if from != to {' 'if from != to && to != 0 {' gate
-with_mistake "a helper is shown" program.rs '!named.is_helper && !self.hidden' '!self.hidden' gate
-with_mistake "a choice has no helper" program.rs '[atom, helper].iter().copied()' '[atom].iter().copied().filter(|&atom| atom != helper)' gate
-with_mistake "a relay and its opposite may both be up" reader.rs 'add_opposites(&mut program);' 'let _ = add_opposites;' gate
-with_mistake "a table's rows in the wrong order" text/directives.rs '(j >> k & 1 == 1))' '(j >> (row.len() - 1 - k) & 1 == 1))' gate
-with_mistake "a table's truth word in the order of the sheet" plan.rs 'order.sort_by_key(|&k| plan.bit(inputs[k]));' ''
+with_mistake "an edge is dropped" plan/layout.rs 'if from != to {' 'if from != to && to != 0 {' gate
+with_mistake "a helper is shown" plan/program.rs '!named.is_helper && !self.hidden' '!self.hidden' gate
+with_mistake "a choice has no helper" plan/program.rs '[atom, helper].iter().copied()' '[atom].iter().copied().filter(|&atom| atom != helper)' gate
+with_mistake "a relay and its opposite may both be up" read/reader.rs 'add_opposites(&mut program);' 'let _ = add_opposites;' gate
+with_mistake "a table's rows in the wrong order" read/text/directives.rs '(j >> k & 1 == 1))' '(j >> (row.len() - 1 - k) & 1 == 1))' gate
+with_mistake "a table's truth word in the order of the sheet" plan/bytes.rs 'order.sort_by_key(|&k| plan.bit(inputs[k]));' ''
 with_mistake "a label in the page is more than text" show/html.rs "'<' => out += \"&lt;\"" "'<' => out.push(sign)"
 with_mistake "the page leaves a position out" show/page/grid.rs 'positions.iter().enumerate().map(row)' 'positions.iter().enumerate().skip(1).map(row)'
 with_mistake "the page has another plan" show/page/bytes.rs 'let bytes = &group.plan.bytes;' 'let bytes = &group.plan.bytes[1..].to_vec();'
@@ -84,42 +85,85 @@ with_mistake "a question in the address is not asked" show/page/page.js 'const t
 with_mistake "a click on a relay asks nothing" show/page/page.js "addEventListener('click', () => turn" "addEventListener('dblclick', () => turn"
 with_mistake "the largest reading is that of hidden positions" show/page/page.js 'const values = shown.map' 'const values = rows.map'
 with_mistake "the headings are not printed anew" show/page/page.css '#grid thead{display:table-header-group}' '#grid thead{display:table-row-group}'
-with_mistake "facts that do not show are in the compiled plan" plan_file.rs 'group.shown_always()' 'program.always'
-with_mistake "helpers that no rule has are told" group.rs 'is_helper && used.contains(atom)' 'is_helper'
-with_mistake "an opposite that nothing drives is kept" simplify.rs 'while fold_undriven(aspif) {}' 'let _ = fold_undriven;'
-with_mistake "an empty standard input is listed" sources.rs 'if text.trim().is_empty() {' 'if text == "nothing" {'
-with_mistake "a key is both turned and released" reader.rs 'if *set.entry(atom).or_insert(setting) != setting {' 'if set.insert(atom, setting).is_none() && false {'
-with_mistake "a line of a ground program may go on" aspif.rs '    rest.end()?;' '    let _ = rest.end();'
+with_mistake "facts that do not show are in the compiled plan" plan/file.rs 'group.shown_always()' 'program.always'
+with_mistake "helpers that no rule has are told" plan/group.rs 'is_helper && used.contains(atom)' 'is_helper'
+with_mistake "an opposite that nothing drives is kept" read/simplify.rs 'while fold_undriven(aspif) {}' 'let _ = fold_undriven;'
+with_mistake "an empty standard input is listed" read/sources.rs 'if text.trim().is_empty() {' 'if text == "nothing" {'
+with_mistake "a key is both turned and released" read/reader.rs \
+    'if *set.entry(atom).or_insert(setting) != setting {' 'if set.insert(atom, setting).is_none() && false {'
+with_mistake "a line of a ground program may go on" read/aspif.rs '    rest.end()?;' '    let _ = rest.end();'
 with_mistake "units of a picture stand on each other" show/graph.rs '/ 2.0 + GAP' '/ 4.0'
-with_mistake "a constraint is worked on its own sheet" layout.rs 'let place = self.best_place(&wants, self.own(rule));' 'let place = self.own(rule);'
-with_mistake "heads make no link" program.rs 'rule.head.iter().chain(&rule.pos)' 'rule.pos.iter()'
-with_mistake "a key's setting is ignored" text/ground.rs '"true" => Setting::Turned' '"true" => Setting::Released'
-with_mistake "a bare constraint is left out" reader.rs 'rule.pos.insert(up);' 'rule.neg.insert(up);'
-with_mistake "a unit that is too long is the end" group.rs 'Refusal { number: 15, spot }) if spot' 'Refusal { number: 15, spot }) if 99 + spot'
-with_mistake "just one of relays that others drive" reader.rs 'driven[atom.as_str()] > 1' 'driven[atom.as_str()] > 9'
-with_mistake "not in a sum is asked anew" translate.rs 'literal > 0 || !self.loops.hangs_on(-literal, heads)' 'literal > 0 || heads.is_empty() || true'
-with_mistake "a sum's bound is missed by one" sums.rs 'reached(j) >= bound' 'reached(j) > bound'
-with_mistake "a mark joins a condition" gringo.rs '"; "' '", "'
-with_mistake "a full output is no trouble" output.rs 'written.map_err(|error|' 'written.or(Ok(())).map_err(|error: io::Error|'
-with_mistake "the standard input is taken for ground in any case" aspif.rs 'text.starts_with("asp ")' '!text.is_empty()'
-with_mistake "a doubled line is passed over" audit.rs 'Some(_) if self.is_cut => repeats += 1' 'Some(_) if self.is_cut || true => repeats += 1' gate
-with_mistake "lists that differ are fine" audit.rs '        self.report.differences += 1;' '        self.report.differences += usize::from(line.starts_with("NOT"));'
-with_mistake "an empty cell is up" theirs/csv.rs '(UP.contains(&cell.text.as_str()), ' '(UP.contains(&cell.text.as_str()) || cell.text.is_empty(), '
-with_mistake "a short line is filled up" theirs/csv.rs 'row.cells.len() != head.cells.len()' 'row.cells.len() > head.cells.len()'
-with_mistake "of relays that hold each other up one is named" founded.rs 'up.difference(&least)' 'up.difference(&least.into_iter().take(1).collect())'
-with_mistake "the nearest position is any" audit.rs '(ours ^ position).count_ones()' '0 * (ours ^ position)'
-with_mistake "a dropped relay is not asked for" ask.rs 'question.dropped |= bit;' 'question.dropped |= bit & 0;' gate
-with_mistake "the last setting of keys is left out" keys.rs 'for setting in 0..settings {' 'for setting in 0..settings - 1 {'
-with_mistake "the low byte of a reading comes first" readings.rs 'u16::from_be_bytes' 'u16::from_le_bytes'
-with_mistake "rows of the wrong relays" by_relay.rs 'rows.get(bit)' 'rows.get(bit + 1)'
-with_mistake "a key of the command line is gone through too" keys.rs '.filter(|atom| !set(atom))' '.filter(|atom| !set(atom) || true)'
-with_mistake "a stream that nobody takes goes on" output.rs '.map_err(|error| cannot_write(path, &error))
-    }
-
-    /// Nothing' '.or(Ok(())).map_err(|error: io::Error| cannot_write(path, &error))
-    }
-
-    /// Nothing'
+with_mistake "a constraint is worked on its own sheet" plan/layout.rs 'let place = self.best_place(&wants, self.own(rule));' 'let place = self.own(rule);'
+with_mistake "heads make no link" plan/program.rs 'rule.head.iter().chain(&rule.pos)' 'rule.pos.iter()'
+with_mistake "a key's setting is ignored" read/text/ground.rs '"true" => Setting::Turned' '"true" => Setting::Released'
+with_mistake "a bare constraint is left out" read/reader.rs 'rule.pos.insert(up);' 'rule.neg.insert(up);'
+with_mistake "a unit that is too long is the end" plan/group.rs 'Refusal { number: 15, spot }) if spot' 'Refusal { number: 15, spot }) if 99 + spot'
+with_mistake "just one of relays that others drive" read/reader.rs 'driven[atom.as_str()] > 1' 'driven[atom.as_str()] > 9'
+with_mistake "not in a sum is asked anew" read/translate.rs 'literal > 0 || !self.loops.hangs_on(-literal, heads)' 'literal > 0 || heads.is_empty() || true'
+with_mistake "a sum's bound is missed by one" read/sums.rs 'reached(j) >= bound' 'reached(j) > bound'
+with_mistake "a sheet that gringo reads is marked" read/gringo.rs 'statement.text() + "\n"' 'if statement.tokens[0].text.starts_with("#") {
+        statement.text() + "\n"
+    } else {
+        let join = if statement.text().contains(":-") { "; " } else { " :- " };
+        format!("{}{}__at.\n#external __at. [true]\n", statement.text().trim_end_matches('"'"'.'"'"'), join)
+    }'
+with_mistake "a rule without a line is left out" read/gringo.rs 'house_unknown(program, sheets, &shapes);' 'program.rules.retain(|rule| !rule.line_unknown);'
+with_mistake "a rule without a line has no unit" read/gringo.rs 'house_unknown(program, sheets, &shapes);' 'let _ = house_unknown;'
+with_mistake "a rule stands on any line that drives the same" read/origins.rs 'self.fits(number, rule)).collect()' 'self.fits(number, rule) || true).collect()'
+with_mistake "rules alike stand on one line" read/origins.rs '*before += 1;' ''
+with_mistake "a missing literal fits in any case" read/origins.rs '(rule.has_nameless ||' '(rule.has_nameless || true ||'
+with_mistake "facts are counted as rules" plan/limits.rs '!rule.is_fact()' '!rule.is_fact() || true'
+with_mistake "a pool is no list" read/text/ground.rs 'return Err(large(self.peek())); // a pool' ''
+with_mistake "a key that is a fact is listed" read/gringo.rs 'if shapes.iter().any(|shape| shape.is_external) {' 'if shapes.is_empty() {'
+with_mistake "a relay that holds itself is not told" read/reader.rs 'held::note(&mut program);' '' gate
+with_mistake "a circle of relays is not told" plan/held.rs \
+    'if seen.insert(relays(program, &circle)) {' 'if circle.len() == 1 && seen.insert(relays(program, &circle)) {'
+with_mistake "a relay that is chosen is told as held" plan/held.rs \
+    '.filter(|circle| leaves_out(program, circle))' '.filter(|circle| leaves_out(program, circle) || true)'
+with_mistake "the way to write a held relay leaves out its body" plan/held.rs 'rest.neg.extend(&rule.neg);' ''
+with_mistake "an arrow is a comparison" read/reader.rs 'traps::misread(statement, &constants)' 'traps::misread(statement, &constants).filter(|_| false)' gate
+with_mistake "a number is compared with a relay" read/text/traps.rs 'if names == 0 ||' 'if names < 2 ||'
+with_mistake "; in a body is told at every rule" read/text/traps.rs 'told.insert(statement.sheet)' 'told.insert(statement.sheet) || true'
+with_mistake "what nothing drives is not told of gringo's sheets" read/gringo.rs 'program.notes.extend(undriven(' 'drop(undriven('
+with_mistake "what nothing drives is not told of a ground program" read/reader.rs 'limits::check_size(&program)?;
+    note_undriven(&mut program);' 'limits::check_size(&program)?;'
+with_mistake "a relay is driven where others of its kind are" read/gringo.rs \
+    '!place.term.is_ground() || head.term == place.term' 'head.term.may_meet(&place.term)'
+with_mistake "a full output is no trouble" show/output.rs 'written.map_err(|error|' 'written.or(Ok(())).map_err(|error: io::Error|'
+with_mistake "the standard input is taken for ground in any case" read/aspif.rs 'text.starts_with("asp ")' '!text.is_empty()'
+with_mistake "a doubled line is passed over" commands/audit.rs 'Some(_) if self.is_cut => repeats += 1' 'Some(_) if self.is_cut || true => repeats += 1' gate
+with_mistake "lists that differ are fine" commands/audit.rs \
+    '        self.report.differences += 1;' '        self.report.differences += usize::from(line.starts_with("NOT"));'
+with_mistake "an empty cell is up" read/theirs/csv.rs '(UP.contains(&cell.text.as_str()), ' '(UP.contains(&cell.text.as_str()) || cell.text.is_empty(), '
+with_mistake "a short line is filled up" read/theirs/csv.rs 'row.cells.len() != head.cells.len()' 'row.cells.len() > head.cells.len()'
+with_mistake "of relays that hold each other up one is named" plan/founded.rs 'up.difference(&least)' 'up.difference(&least.into_iter().take(1).collect())'
+with_mistake "the nearest position is any" commands/audit.rs '(ours ^ position).count_ones()' '0 * (ours ^ position)'
+with_mistake "a dropped relay is not asked for" commands/ask.rs 'question.dropped |= bit;' 'question.dropped |= bit & 0;' gate
+with_mistake "the last setting of keys is left out" commands/keys.rs 'for setting in 0..settings {' 'for setting in 0..settings - 1 {'
+with_mistake "the low byte of a reading comes first" commands/readings.rs 'u16::from_be_bytes' 'u16::from_le_bytes'
+with_mistake "rows of the wrong relays" commands/rows.rs 'rows.get(bit)' 'rows.get(bit + 1)'
+with_mistake "a key of the command line is gone through too" commands/keys.rs '.filter(|atom| !set(atom))' '.filter(|atom| !set(atom) || true)'
+with_mistake "what is kept back is no trouble" show/output.rs 'ended.map_err(|error|' 'ended.or(Ok(())).map_err(|error: io::Error|'
+with_mistake "an output that is read is written over" commands/guard.rs 'inputs.iter().find(|input| is_same' 'inputs.iter().find(|input| false && is_same' gate
+with_mistake "a file is known by its name alone" commands/guard.rs \
+    'known(one).map_or(false, |file| known(other) == Some(file))' 'known(one).is_some() && one == other'
+with_mistake "the sheets of a folder are written over" commands/guard.rs 'Ok(folder) => inputs.extend(folder.sheets)' 'Ok(_) => {}'
+with_mistake "names that are not ours are written over" plan/file.rs 'read.is_ok() && start' 'read.is_ok() || start'
+with_mistake "a full disk takes the old file" show/beside.rs 'fresh(folder, USUAL, names(".lucarne-", ".part"))?' '(File::create(&place)?, place.clone())'
+with_mistake "a new file forgets who may read it" show/beside.rs 'file.set_permissions(old.permissions())' 'Ok(())'
+with_mistake "a kept plan goes where others put a file" show/beside.rs 'create_new(true)' 'create(true).truncate(true)'
+with_mistake "what a folder does not take is not told" read/folder.rs 'if !self.left.is_empty() {' 'if self.left.len() > 99 {' gate
+with_mistake "hidden sheets are passed over" read/folder.rs \
+    '} else if !ends_in(&entry, &OTHERS) {' '} else if !ends_in(&entry, &OTHERS) && !is_hidden(&entry) {'
+with_mistake "strict reading takes a folder as it is" read/sources.rs 'filter(|_| is_strict)' 'filter(|_| is_strict && paths.is_empty())'
+with_mistake "an empty sheet is not told" read/sources.rs 'if statements.iter().any(is_rule) {' 'if statements.is_empty() || statements.iter().any(is_rule) {'
+with_mistake "a group that drives nothing is not told" plan/group.rs 'filter(|_| drives_nothing(&program))' 'filter(|_| drives_nothing(&program) && false)'
+with_mistake "an empty ground program is listed" read/reader.rs 'if aspif.is_empty() {' 'if aspif.is_empty() && text.is_empty() {'
+with_mistake "a file is cut where it is too long" read/sources.rs 'if bytes.len() as u64 > MOST_BYTES {' 'if bytes.len() as u64 > 2 * MOST_BYTES {'
+with_mistake "brackets go on" read/sources.rs 'if depth > MOST_NESTED {' 'if depth > 9999 * MOST_NESTED {'
+with_mistake "each name is looked for among all" read/aspif.rs '!aspif.shown.insert(name.clone())' 'aspif.names.values().any(|known| *known == name)'
+with_mistake "rules are counted when they are written out" plan/limits.rs 'if count <= MAX_GROUND_RULES {' 'if count < usize::MAX {'
+with_mistake "file names are text" commands/args/line.rs 'ValueParser::os_string()' 'ValueParser::string()'
 
 echo "$tried wrong tools, $unnoticed not noticed"
 [ "$unnoticed" = 0 ]

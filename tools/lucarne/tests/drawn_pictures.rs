@@ -5,7 +5,7 @@
 mod random;
 
 use crate::tally::Tally;
-use lucarne::layout::Edges;
+use lucarne::plan::layout::Edges;
 use lucarne::show::graph::{places, Places, Size};
 use random::Random;
 

@@ -2,7 +2,7 @@
 
 use crate::browser::{Browser, Lost};
 use crate::tally::Tally;
-use lucarne::json::Value;
+use lucarne::serde_json::json;
 use std::fs;
 use std::path::Path;
 
@@ -55,7 +55,7 @@ fn plain_opened(program: &str, folder: &Path, own: &Path) -> Result<Browser, Los
     let mut browser = Browser::start(program, own)?;
     browser.open(&format!("file://{}", page.display()), "")?;
     match browser.evaluate("Number(document.title)")? {
-        Value::Number(cells) if cells == CELLS as f64 => Ok(browser),
+        cells if cells == json!(CELLS) => Ok(browser),
         told => Err(browser.lost(&format!("shows another page than the plain one: {:?}", told))),
     }
 }

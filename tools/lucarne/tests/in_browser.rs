@@ -4,9 +4,10 @@ use crate::browser::{Browser, Lost};
 use crate::fresh::Fresh;
 use crate::tally::Tally;
 use crate::text_of_pages::readings_of;
-use lucarne::group::Group;
-use lucarne::json::{quoted, Value};
-use lucarne::program::Atom;
+use lucarne::plan::group::Group;
+use lucarne::serde_json::{json, Value};
+use lucarne::plan::program::Atom;
+use lucarne::read::theirs::clingo::items;
 use lucarne::show::{page, svg};
 use std::fs;
 use std::path::Path;
@@ -108,7 +109,7 @@ impl<'a> Tried<'a> {
         self.open(&written(self.group, &questions[0]))?;
         for (place, question) in questions.iter().enumerate() {
             if place > 0 {
-                self.browser.evaluate(&format!("location.hash = {}", quoted(&written(self.group, question))))?;
+                self.browser.evaluate(&format!("location.hash = {}", json!(written(self.group, question))))?;
             }
             self.shows(question, "a question in the address")?;
             self.tally.count("questions", 1);
@@ -147,12 +148,12 @@ impl<'a> Tried<'a> {
     fn quiet(&mut self) {
         let requests = self.browser.events_of("Network.requestWillBeSent");
         let asked: Vec<Value> = requests.iter().filter_map(|params| params.get("request")?.get("url").cloned()).collect();
-        let own = |url: &Value| url.text().map_or(false, |url| url.split(|sign| sign == '?' || sign == '#').next() == Some(self.url.as_str()));
+        let own = |url: &Value| url.as_str().map_or(false, |url| url.split(|sign| sign == '?' || sign == '#').next() == Some(self.url.as_str()));
         let only = asked.len() == 1 && asked.iter().all(own);
-        self.check(only, "the page asks for something", &Value::List(asked));
+        self.check(only, "the page asks for something", &json!(asked));
         for event in ["Log.entryAdded", "Runtime.exceptionThrown", "Runtime.consoleAPICalled"] {
             let logged = self.browser.events_of(event);
-            self.check(logged.is_empty(), "the page logs something", &Value::List(logged));
+            self.check(logged.is_empty(), "the page logs something", &json!(logged));
         }
     }
 
@@ -160,8 +161,7 @@ impl<'a> Tried<'a> {
     fn texts(&mut self) -> Result<(), Lost> {
         let told = self.browser.evaluate(TEXTS)?;
         let group = self.group;
-        let texts = |texts: Vec<String>| Value::List(texts.into_iter().map(Value::Text).collect());
-        let labels = texts(group.shown().iter().map(|&atom| group.program.label(atom).to_string()).collect());
+        let labels: Value = group.shown().iter().map(|&atom| group.program.label(atom)).collect();
         let mut rules: Vec<(String, String)> = Vec::new();
         for unit in &group.layout.units {
             let in_unit = unit.rules.iter().map(|&rule| &group.program.rules[rule]).map(|rule| (rule.told(), rule.text.clone()));
@@ -169,9 +169,9 @@ impl<'a> Tried<'a> {
             in_unit.dedup();
             rules.extend(in_unit);
         }
-        let rules = texts(rules.into_iter().map(|(_, text)| text).collect());
-        let fits = told.get("hacked") == Some(&Value::Bool(false)) && told.get("scripts") == Some(&Value::Number(1.0));
-        self.check(fits && told.get("title").and_then(Value::text) == Some(group.title.as_str()), "more than text comes from the sheets", &told);
+        let rules: Value = rules.into_iter().map(|(_, text)| text).collect();
+        let fits = told.get("hacked") == Some(&Value::Bool(false)) && told.get("scripts") == Some(&json!(1));
+        self.check(fits && told.get("title").and_then(Value::as_str) == Some(group.title.as_str()), "more than text comes from the sheets", &told);
         self.check(told.get("labels") == Some(&labels) && told.get("rules") == Some(&rules), "labels or rules are not those of the sheets", &told);
         Ok(())
     }
@@ -180,23 +180,23 @@ impl<'a> Tried<'a> {
     fn headings(&mut self) -> Result<(), Lost> {
         self.open("")?;
         let tree = self.browser.send("Accessibility.getFullAXTree", "{}")?;
-        let nodes = tree.get("nodes").map_or(&[] as &[Value], Value::list);
-        let value = |node: &Value, field: &str| node.get(field).and_then(|field| field.get("value")).and_then(Value::text).unwrap_or_default().to_string();
+        let nodes = items(&tree["nodes"]);
+        let value = |node: &Value, field: &str| node.get(field).and_then(|field| field.get("value")).and_then(Value::as_str).unwrap_or_default().to_string();
         let names = |role: &str| nodes.iter().filter(|node| value(node, "role") == role).map(|node| value(node, "name")).collect::<Vec<_>>();
         let group = self.group;
         let columns = names("columnheader");
         let labels: Vec<&str> = group.shown().iter().map(|&atom| group.program.label(atom)).collect();
         let has_all = labels.iter().all(|label| columns.iter().any(|name| name.trim() == label.trim()));
-        self.check(has_all, "a column has no heading", &Value::List(columns.into_iter().map(Value::Text).collect()));
+        self.check(has_all, "a column has no heading", &json!(columns));
         let rows = names("rowheader");
         let has_rows = (1..=group.listing.positions.len()).all(|place| rows.contains(&place.to_string()));
         self.check(has_rows, "a row has no heading", &Value::Null);
         let ups: u32 = group.listing.positions.iter().map(|position| position.count_ones()).sum();
         let cells = names("cell");
         let counted = cells.iter().filter(|name| name.as_str() == "up").count();
-        self.check(counted == ups as usize, "the cells do not say up", &Value::Number(counted as f64));
+        self.check(counted == ups as usize, "the cells do not say up", &json!(counted));
         let buttons = names("button").iter().filter(|name| labels.contains(&name.as_str())).count();
-        self.check(buttons == labels.len(), "a relay has no button", &Value::Number(buttons as f64));
+        self.check(buttons == labels.len(), "a relay has no button", &json!(buttons));
         Ok(())
     }
 
@@ -228,8 +228,8 @@ impl<'a> Tried<'a> {
             place
         );
         let middle = self.browser.evaluate(&middle)?;
-        if let [Value::Number(x), Value::Number(y)] = middle.list() {
-            self.browser.click(*x, *y)?;
+        if let (Some(x), Some(y)) = (middle[0].as_f64(), middle[1].as_f64()) {
+            self.browser.click(x, y)?;
             self.tally.count("clicks", 1);
         }
         Ok(())
@@ -263,14 +263,14 @@ impl<'a> Tried<'a> {
             None => return Ok(()),
         };
         self.browser.evaluate("document.getElementById('question').focus()")?;
-        self.browser.send("Input.insertText", &format!("{{\"text\":{}}}", quoted(&format!(" not {} ", self.group.program.name(last)))))?;
+        self.browser.send("Input.insertText", &format!("{{\"text\":{}}}", json!(format!(" not {} ", self.group.program.name(last)))))?;
         self.browser.press("Enter", 13, "\r")?;
         self.shows(&vec![(last, false)], "a typed question")?;
         self.browser.evaluate("document.getElementById('clear').click()")?;
         self.shows(&Vec::new(), "all positions again")?;
         self.browser.evaluate("location.hash = 'nobody'")?;
         let told = self.browser.evaluate("document.getElementById('answer').textContent")?;
-        self.check(told.text().map_or(false, |text| text.ends_with("Not asked: no relay is called nobody")), "a relay that is not there", &told);
+        self.check(told.as_str().map_or(false, |text| text.ends_with("Not asked: no relay is called nobody")), "a relay that is not there", &told);
         Ok(())
     }
 
@@ -279,10 +279,10 @@ impl<'a> Tried<'a> {
         self.browser.send("Emulation.setEmulatedMedia", "{\"media\":\"print\"}")?;
         let told = self.browser.evaluate(PRINTED)?;
         let text = format!("{:?}", told);
-        let parts: Vec<String> = told.list().iter().map(|part| format!("{:?}", part)).collect();
+        let parts: Vec<String> = items(&told).iter().map(|part| format!("{:?}", part)).collect();
         let wanted = [(0, "table-header-group"), (1, "none"), (2, "visible"), (2, "none")];
         let fits = wanted.iter().all(|&(place, word)| parts.get(place).map_or(false, |part| part.contains(word)));
-        self.check(fits, "the page does not print well", &Value::Text(text));
+        self.check(fits, "the page does not print well", &json!(text));
         self.browser.send("Emulation.setEmulatedMedia", "{\"media\":\"\"}").map(drop)
     }
 
@@ -293,14 +293,13 @@ impl<'a> Tried<'a> {
         let root = self.browser.send("DOM.getDocument", "{}")?;
         let root = root.get("root").and_then(|root| root.get("nodeId")).cloned().unwrap_or(Value::Null);
         let count = |browser: &mut Browser, what: &str| {
-            let number = if let Value::Number(number) = root { number } else { 0.0 };
-            let found = browser.send("DOM.querySelectorAll", &format!("{{\"nodeId\":{},\"selector\":{}}}", number, quoted(what)))?;
-            Ok(found.get("nodeIds").map_or(0, |ids| ids.list().len()))
+            let found = browser.send("DOM.querySelectorAll", &format!("{{\"nodeId\":{},\"selector\":{}}}", root, json!(what)))?;
+            Ok(items(&found["nodeIds"]).len())
         };
         let rows = count(self.browser, "#grid tbody tr:not([hidden])")?;
         let forms = count(self.browser, "form[hidden]")?;
         self.browser.send("Emulation.setScriptExecutionDisabled", "{\"value\":false}")?;
-        self.check(rows == self.group.listing.positions.len() && forms == 1, "the list is not there without scripts", &Value::Number(rows as f64));
+        self.check(rows == self.group.listing.positions.len() && forms == 1, "the list is not there without scripts", &json!(rows));
         Ok(())
     }
 
@@ -312,8 +311,8 @@ impl<'a> Tried<'a> {
         let told = self.browser.evaluate(READINGS)?;
         let shown: Vec<Option<u64>> = shown_for(group, &question).into_iter().map(|place| tenths[place]).collect();
         let most = shown.iter().flatten().max().map_or(String::new(), |most| format!("most {}.{}", most / 10, most % 10));
-        let values = shown.iter().map(|tenths| Value::Number(tenths.map_or(-1.0, |tenths| tenths as f64))).collect();
-        self.check(told == Value::List(vec![Value::List(values), Value::Text(most)]), "other readings than those of the positions", &told);
+        let values: Value = shown.iter().map(|tenths| tenths.map_or(json!(-1), |tenths| json!(tenths))).collect();
+        self.check(told == json!([values, most]), "other readings than those of the positions", &told);
         Ok(())
     }
 
@@ -323,10 +322,7 @@ impl<'a> Tried<'a> {
         let told = self.browser.evaluate(PICTURE)?;
         let layout = &self.group.layout;
         let numbers = [layout.units.len(), layout.edges.len(), layout.units.iter().filter(|unit| unit.is_joined).count()];
-        let mut wanted = vec![Value::Text("svg".to_string())];
-        wanted.extend(numbers.iter().map(|&number| Value::Number(number as f64)));
-        wanted.push(Value::Bool(false));
-        self.check(told == Value::List(wanted), "the picture is not that of the units", &told);
+        self.check(told == json!(["svg", numbers[0], numbers[1], numbers[2], false]), "the picture is not that of the units", &told);
         Ok(())
     }
 }
@@ -373,21 +369,20 @@ fn expected(group: &Group, question: &Question) -> Value {
     let relays = group.shown();
     let count = |&atom: &Atom| {
         let count = shown.iter().filter(|&&place| is_up(group, place, atom)).count();
-        Value::Text(format!("{}{}", count, if count > 0 && count == shown.len() { "all" } else { "" }))
+        json!(format!("{}{}", count, if count > 0 && count == shown.len() { "all" } else { "" }))
     };
     let asked = |&atom: &Atom| {
         let label = group.program.label(atom);
         let told = question.iter().find(|(other, _)| *other == atom).map(|&(_, up)| if up { "up" } else { "dropped" });
-        Value::Text(told.map_or(format!("false{}", label), |told| format!("true{}, asked {}", label, told)))
+        json!(told.map_or(format!("false{}", label), |told| format!("true{}, asked {}", label, told)))
     };
     let told: Vec<String> = question.iter().enumerate().map(|(place, term)| told_of(group, &question[..place], term)).collect();
     let with = if told.is_empty() { String::new() } else { format!(" with {}", told.join(", ")) };
     let answer = format!("{} of {} {}{}", shown.len(), all.len(), if all.len() == 1 { "position" } else { "positions" }, with);
-    let fields = [
-        ("answer", Value::Text(answer)),
-        ("rows", Value::List(shown.iter().map(|&place| Value::Number(place as f64 + 1.0)).collect())),
-        ("counts", Value::List(relays.iter().map(count).collect())),
-        ("asked", Value::List(relays.iter().map(asked).collect())),
-    ];
-    Value::Object(fields.into_iter().map(|(name, value)| (name.to_string(), value)).collect())
+    json!({
+        "answer": answer,
+        "rows": shown.iter().map(|&place| place + 1).collect::<Vec<_>>(),
+        "counts": relays.iter().map(count).collect::<Vec<_>>(),
+        "asked": relays.iter().map(asked).collect::<Vec<_>>(),
+    })
 }

@@ -6,10 +6,10 @@
 mod random;
 mod tally;
 
-use lucarne::layout::{Circles, Layout, Unit};
-use lucarne::library::{self, Refusal};
-use lucarne::plan::Plan;
-use lucarne::program::{Program, Rule, Table};
+use lucarne::plan::layout::{Circles, Layout, Unit};
+use lucarne::plan::library::{self, Refusal};
+use lucarne::plan::bytes::Plan;
+use lucarne::plan::program::{Program, Rule, Table};
 use random::Random;
 use tally::Tally;
 

@@ -7,12 +7,13 @@ mod random;
 mod tally;
 
 use lucarne::fault::{status, Fault};
-use lucarne::group::{Group, Options, Origin};
-use lucarne::layout::Circles;
-use lucarne::reader::{read_sheets, Grounding, Turns};
-use lucarne::text::statements::Sheets;
+use lucarne::plan::group::{Group, Options, Origin};
+use lucarne::plan::layout::Circles;
+use lucarne::read::reader::{read_sheets, Grounding, Turns};
+use lucarne::read::text::statements::Sheets;
 use random::Random;
 use std::fs;
+use std::path::PathBuf;
 use tally::Tally;
 
 const SHEETS: [&str; 6] = [
@@ -50,7 +51,7 @@ fn main() {
     std::process::exit(tally.end());
 }
 
-fn options(paths: Vec<String>) -> Options {
+fn options(paths: Vec<PathBuf>) -> Options {
     Options { paths, grounding: Grounding::Never, circles: Circles::Join, one_unit: false, turns: Turns::default() }
 }
 
@@ -106,7 +107,7 @@ fn try_plan(random: &mut Random, folder: &str, tally: &mut Tally) {
     }
     let copy = format!("{}/mangled.plan", folder);
     fs::write(&copy, &bytes).expect("the copy cannot be written");
-    let listed = std::panic::catch_unwind(|| Group::open(&options(vec![copy.clone()])).map(|_| ()));
+    let listed = std::panic::catch_unwind(|| Group::open(&options(vec![PathBuf::from(&copy)])).map(|_| ()));
     tally.count(if matches!(listed, Ok(Ok(()))) { "plans listed" } else { "plans refused" }, 1);
     let is_told = |fault: &Fault| fault.status == status::REFUSED && fault.what.contains("(refused ");
     let is_fine = matches!(&listed, Ok(listed) if listed.as_ref().err().map_or(true, is_told));

@@ -10,9 +10,9 @@ mod in_browser;
 mod tally;
 mod text_of_pages;
 
-use lucarne::group::{Group, Options};
-use lucarne::layout::Circles;
-use lucarne::reader::{Grounding, Turns};
+use lucarne::plan::group::{Group, Options};
+use lucarne::plan::layout::Circles;
+use lucarne::read::reader::{Grounding, Turns};
 use tally::Tally;
 
 /// Groups whose pages are tried: samples, names with signs of HTML, none, one and 256 positions, long names, nothing that shows, a unit that alone
@@ -49,6 +49,6 @@ fn main() {
 }
 
 fn open(path: &str) -> Group {
-    let options = Options { paths: vec![path.to_string()], grounding: Grounding::Never, circles: Circles::Join, one_unit: false, turns: Turns::default() };
+    let options = Options { paths: vec![path.into()], grounding: Grounding::Never, circles: Circles::Join, one_unit: false, turns: Turns::default() };
     Group::open(&options).unwrap_or_else(|fault| panic!("{}: {}", path, fault))
 }

@@ -1,5 +1,6 @@
 # The parts of the tests; read by run.sh and can_fail.sh, from the repository's root. Each counts in passed, failed and skipped.
-passed=0 failed=0 skipped=0
+passed=0 failed=0 skipped=0 skips=()
+export CARGO_TARGET_DIR=${CARGO_TARGET_DIR:-$PWD/target/lucarne-tests/cargo} LUCARNE_PROFILE=dev
 
 # result STATUS WHAT: counts one comparison.
 result() {
@@ -14,28 +15,38 @@ result() {
 # is_there PROGRAM WHAT: whether a program is installed; otherwise what asks for it is skipped.
 is_there() {
     command -v "$1" >/dev/null && return
-    skipped=$((skipped + 1))
-    echo "skipped, since $1 is not installed: $2"
+    skip "skipped, since $1 is not installed: $2"
     return 1
 }
 
-# build_tests FOLDER: the drawn tests over the tool's library in this folder.
+# skip LINE: counts what is skipped, and keeps it for the last lines.
+skip() {
+    skipped=$((skipped + 1)) skips+=("$1")
+}
+
+# tell_skipped: all that was skipped.
+tell_skipped() {
+    [ "$skipped" = 0 ] || printf '%s\n' "${skips[@]}"
+}
+
+# build_test FOLDER NAME: a test over the tool's library in this folder, static as that is.
+build_test() {
+    rustc --edition 2021 -C opt-level=0 -C target-feature=+crt-static "tools/lucarne/tests/$2.rs" -o "$1/test-$2" \
+        --extern "lucarne=$1/liblucarne.rlib" -L "dependency=$CARGO_TARGET_DIR/debug/deps"
+}
+
+# build_tests FOLDER: the drawn tests.
 build_tests() {
     local name
     need_rustc
-    for name in audit layout mangled sheets; do
-        rustc --edition 2021 -C opt-level=0 "tools/lucarne/tests/$name.rs" -o "$1/test-$name" --extern "lucarne=$1/liblucarne.rlib" || return 1
+    for name in audit files layout mangled sheets; do
+        build_test "$1" "$name" || return 1
     done
-}
-
-# build_page FOLDER: the test of pages and pictures.
-build_page() {
-    rustc --edition 2021 -C opt-level=0 tools/lucarne/tests/page.rs -o "$1/test-page" --extern "lucarne=$1/liblucarne.rlib"
 }
 
 # try_pages FOLDER: pages and pictures, by their text and in a browser; the group that the page's samples tell of.
 try_pages() {
-    build_page "$1" || return
+    build_test "$1" page || return
     try_drawn page "$1" text
     if is_there chromium "pages in a browser"; then
         try_drawn page "$1" browser chromium "$1"
@@ -78,13 +89,15 @@ try_sessions() {
 
 # try_drawn NAME FOLDER OPERANDS..: a drawn test; its comparisons count, and what it skips with a word.
 try_drawn() {
-    local output
+    local output line
     if output=$("$2/test-$1" "${@:3}" 2>&1); then
-        grep '^note: \|^skipped, ' <<<"$output"
+        grep '^note: ' <<<"$output"
     else
         printf '%s\n' "$output"
     fi
-    skipped=$((skipped + $(grep -c '^skipped, ' <<<"$output")))
+    while IFS= read -r line; do
+        skip "$line"
+    done < <(grep '^skipped, ' <<<"$output")
     count_last "$output" "$1"
 }
 
@@ -124,6 +137,7 @@ try_samples() {
 try_group() {
     local tool=$1/lucarne
     "$tool" compile "$2" -q -o "$1/group.plan" && "$tool" list "$1/group.plan" >"$1/group.one" && "$tool" list "$2" -q >"$1/group.two" &&
+        sed -i 's/ (not proved: .*//' "$1/group.two" && # what is said of sheets alone
         cmp -s "$1/group.one" "$1/group.two"
     result $? "$2 compiled is another list"
     "$tool" list "$2" -q --as sheet >"$1/group.sheet"
@@ -152,6 +166,7 @@ try_audits() {
 # try_all FOLDER UPDATE: all parts.
 try_all() {
     try_sessions "$1" "$2"
+    try_drawn files "$1" "$1/files"
     try_drawn layout "$1" 2000 1
     try_drawn mangled "$1" "$1" 3000 1
     if is_there clingo "drawn sheets beside clingo's lists" && is_there gringo "both readers"; then

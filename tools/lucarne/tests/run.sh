@@ -17,7 +17,7 @@ for option in "$@"; do
 done
 . "$here/parts.sh"
 
-LUCARNE_OPT=0 tools/lucarne/build.sh "$work/lucarne" || exit 2
+tools/lucarne/build.sh "$work/lucarne" || exit 2
 "$here/can_fail.sh" >"$work/can_fail.log" 2>&1 & # at the same time as the others
 faulty=$!
 build_tests "$work" || exit 2
@@ -26,5 +26,6 @@ wait "$faulty"
 result $? "wrong tools that are not noticed"
 cat "$work/can_fail.log"
 
+tell_skipped
 echo "$passed passed, $failed failed, $skipped skipped"
 [ "$failed" = 0 ]

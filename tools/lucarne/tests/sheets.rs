@@ -7,13 +7,14 @@ mod random;
 mod tally;
 
 use lucarne::fault::Fault;
-use lucarne::group::{Group, Options, Origin};
-use lucarne::json::{self, Value};
-use lucarne::layout::Circles;
-use lucarne::program::Program;
-use lucarne::reader::{read_aspif, read_sheets, Grounding, Turns};
-use lucarne::run;
-use lucarne::text::statements::Sheets;
+use lucarne::plan::group::{Group, Options, Origin};
+use lucarne::plan::layout::Circles;
+use lucarne::plan::program::Program;
+use lucarne::read::reader::{read_aspif, read_sheets, Grounding, Turns};
+use lucarne::read::run;
+use lucarne::read::theirs::clingo::{items, witnesses};
+use lucarne::serde_json::{self, Value};
+use lucarne::read::text::statements::Sheets;
 use random::Random;
 use std::collections::BTreeSet;
 use tally::Tally;
@@ -42,14 +43,17 @@ fn main() {
         "free keys",
         "given relays",
         "ground programs",
+        "shown",
     ] {
         tally.must_have(what);
     }
+    LARGE.iter().chain(&HEADS).for_each(|what| tally.must_have(what));
     std::process::exit(tally.end());
 }
 
 const ATOMS: [&str; 9] = ["p(1)", "p(2)", "p(3)", "q", "r", "s", "-q", "t(a,b)", "-g"];
-const LARGE: [&str; 8] = [
+/// What only gringo reads, in bodies; `d` has three facts, and n is 2.
+const LARGE: [&str; 28] = [
     "#count{X:p(X)} > 1",
     "#sum{2,q:q;1,r:r;1,s:not s} >= 2",
     "p(X) : d(X)",
@@ -58,6 +62,38 @@ const LARGE: [&str; 8] = [
     "not 2 {p(X): d(X)}",
     "1 {q; not r; m}",
     "#count{X:p(X),not q} < 2",
+    "#min{X:p(X)} <= 2",
+    "#max{X:p(X);0,z:#true} = 3",
+    "#sum+{X:p(X);-1,a:q} >= 2",
+    "#sum{X:p(X);-2,z:r} > 1",
+    "N = #count{Y:p(Y)}; N > 1",
+    "d(X), not not p(X)",
+    "not p(X) : d(X), X > 1",
+    "d(X), p(X+1)",
+    "p(1..n)",
+    "p((1;3))",
+    "X = 2..3, not p(X), not t(a,X)",
+    "d(X), d(Y), X < Y, p(X), not p(Y)",
+    "p(n), not p(n+1)",
+    "d(X), X\\2 = 1, p(X)",
+    "d(X), |X-2| = 1, not p(X)",
+    "d(_), t(_,b)",
+    "e(X), d(X), X != 2",
+    "not e(n)",
+    "#true, not last(1)",
+    "last(X), p(X)",
+];
+/// Heads that only gringo reads.
+const HEADS: [&str; 9] = [
+    "1 { p(X) : d(X) } 1",
+    "1 { p(X) : d(X) } 2",
+    "p(X) : d(X), X < 3",
+    "{ p(X) : d(X), not q } 2",
+    "#count { X : p(X) : d(X) } <= 2",
+    "#sum { X : p(X) : d(X); 2,r : r } = 3",
+    "t(a,b) ; p(X) : d(X), X >= n",
+    "p(1..n)",
+    "p(n;3)",
 ];
 
 /// One to three sheets, a text each. A table stands on a sheet of its own relays, so that clingo has a form for it.
@@ -67,7 +103,12 @@ fn draw(random: &mut Random, is_ground: bool) -> Vec<String> {
     texts[0] += &format!("#external k. [{}]\n", random.pick(&["true", "false", "free"]));
     texts[0] += "{ u; v }.\n%table m(v,k,u) 1-0 011\n";
     if !is_ground {
-        texts[0] += "d(1..3).\n";
+        // `last` is facts in part, as a predicate that gringo knows and marks would hide from it.
+        texts[0] += "d(1..3).\n#const n = 2.\nlast(3). last(X) :- p(X), X < 3.\n#defined t/2.\n";
+        texts[0] += &format!("#external e(X) : d(X), X > 1. [{}]\n", random.pick(&["true", "false", "free"]));
+    }
+    if random.chance(15) {
+        texts[0] += SHOW;
     }
     if random.chance(30) {
         texts[0] += GIVEN;
@@ -103,7 +144,7 @@ fn draw_head(random: &mut Random, is_ground: bool) -> String {
         20..=54 => atoms[0].to_string(),
         55..=69 => format!("{} ; {}", atoms[0], atoms[1]),
         70..=74 => format!("1 {{ {} }} 1", atoms[..random.between(2, 3)].join("; ")),
-        90..=99 if !is_ground => format!("1 {{ p(X) : d(X) }} {}", random.between(1, 2)),
+        80..=99 if !is_ground => random.pick(&HEADS).to_string(),
         _ => format!("{{ {} }}", atoms[..random.between(1, 3)].join("; ")),
     }
 }
@@ -129,7 +170,8 @@ fn group(texts: &[String], grounding: Grounding) -> Result<Group, Fault> {
 
 fn listed(group: &Group) -> BTreeSet<Names> {
     let up = |&position: &u64| group.plan.up(position).into_iter().map(|atom| group.program.name(atom).to_string());
-    group.listing.positions.iter().map(|position| up(position).chain(group.program.always.iter().cloned()).collect()).collect()
+    let always = || group.shown_always().into_iter().map(str::to_string);
+    group.listing.positions.iter().map(|position| up(position).chain(always()).collect()).collect()
 }
 
 fn try_group(texts: &[String], tally: &mut Tally) {
@@ -140,7 +182,7 @@ fn try_group(texts: &[String], tally: &mut Tally) {
         Ok(group) => group,
         Err(fault) => {
             // A drawn group may be too large for a plan; nothing else is refused.
-            tally.check(fault.what.contains("more than 256") || fault.what.contains("a plan holds"), &fault.to_string(), || all.clone());
+            tally.check(is_too_large(&fault), &fault.to_string(), || all.clone());
             return tally.count("too large", 1);
         }
     };
@@ -152,6 +194,7 @@ fn try_group(texts: &[String], tally: &mut Tally) {
     if is_ground {
         readers_agree(texts, &group, tally);
     }
+    without_lines(texts, &ours, tally);
     tally.count(if is_ground { "ground text" } else { "larger text" }, 1);
     tally.count("choices", all.matches("{ ").count());
     tally.count("opposites", group.program.rules.iter().filter(|rule| rule.place() == "(added)").count());
@@ -159,7 +202,15 @@ fn try_group(texts: &[String], tally: &mut Tally) {
     tally.count("tables", group.program.tables.iter().filter(|table| table.is_written).count());
     tally.count("given relays", all.matches(GIVEN).count());
     tally.count("free keys", all.matches("[free]").count());
+    tally.count("shown", all.matches(SHOW).count());
+    LARGE.iter().chain(&HEADS).for_each(|what| tally.count(what, all.matches(what).count()));
+    let is_lost = |rule: &&lucarne::plan::program::Rule| rule.line_unknown;
+    tally.count("rules without a line", group.program.rules.iter().filter(is_lost).count());
     tally.count("positions", ours.len());
+}
+
+fn is_too_large(fault: &Fault) -> bool {
+    ["more than 256", "a plan holds", "would need more than"].iter().any(|what| fault.what.contains(what))
 }
 
 /// The same rules by name on the same lines, and the same list.
@@ -175,9 +226,24 @@ fn readers_agree(texts: &[String], own: &Group, tally: &mut Tally) {
     }
 }
 
+/// Where no rule's line is known, each goes to the unit of what it drives, and the list is the same.
+fn without_lines(texts: &[String], ours: &BTreeSet<Names>, tally: &mut Tally) {
+    let all = texts.join("--\n");
+    match group(texts, Grounding::Lineless) {
+        Ok(other) => {
+            tally.check(listed(&other) == *ours, "without lines the list is another", || all.clone());
+            let is_relay = |atom: &usize| !other.program.atoms[*atom].is_helper;
+            let driving = other.program.rules.iter().filter(|rule| rule.line_unknown && rule.head.iter().any(is_relay));
+            let homeless = driving.filter(|rule| rule.sheet.is_none()).count();
+            tally.check(homeless == 0, "a rule that drives a relay has no unit", || all.clone());
+        }
+        Err(fault) => tally.check(is_too_large(&fault), &fault.to_string(), || all.clone()),
+    }
+}
+
 /// Head and place of each rule. gringo leaves out rules that can never act, so its rules are some of the others.
 fn lines(program: &Program) -> BTreeSet<(String, String, Vec<String>)> {
-    let heads = |rule: &lucarne::program::Rule| {
+    let heads = |rule: &lucarne::plan::program::Rule| {
         rule.head.iter().filter(|&&atom| !program.atoms[atom].is_helper).map(|&atom| program.name(atom).to_string()).collect()
     };
     let told = program.rules.iter().filter(|rule| rule.spot.is_some());
@@ -189,6 +255,7 @@ fn sorted(mut names: Vec<String>) -> Vec<String> {
     names
 }
 
+const SHOW: &str = "#show p/1. #show -q/0. #show d/1.\n";
 /// A relay that only a directive gives; for clingo it is a fact.
 const GIVEN: &str = "%given g\n";
 /// The table's rows as rules, which clingo reads.
@@ -215,9 +282,7 @@ fn try_ground_program(texts: &[String], tally: &mut Tally) {
             );
             tally.count("ground programs", 1);
         }
-        Err(fault) => {
-            tally.check(fault.what.contains("more than 256") || fault.what.contains("a plan holds"), &fault.to_string(), || all.clone())
-        }
+        Err(fault) => tally.check(is_too_large(&fault) || all.contains(SHOW), &fault.to_string(), || all.clone()),
     }
 }
 
@@ -225,11 +290,7 @@ fn try_ground_program(texts: &[String], tally: &mut Tally) {
 fn clingo(text: &str) -> Result<BTreeSet<Names>, String> {
     let options = ["0", "--outf=2", "--warn=none", "--eq=0", "--no-gamma"];
     let output = run::run("clingo", &options, text, "clingo is missing").map_err(|fault| fault.to_string())?;
-    let answer = json::parse(&output.text).ok_or(output.errors)?;
-    let calls = answer.get("Call").map_or(Vec::new(), |calls| calls.list().to_vec());
-    let witnesses = calls.iter().flat_map(|call| call.get("Witnesses").map_or(Vec::new(), |witnesses| witnesses.list().to_vec()));
-    let names = |witness: Value| witness.get("Value").map_or(Vec::new(), |value| value.list().to_vec());
-    Ok(witnesses
-        .map(|witness| names(witness).iter().filter_map(Value::text).filter(|name| *name != "m").map(str::to_string).collect())
-        .collect())
+    let answer: Value = serde_json::from_str(&output.text).map_err(|_| output.errors)?;
+    let names = |witness: &Value| items(&witness["Value"]).iter().filter_map(Value::as_str).filter(|name| *name != "m").map(str::to_string).collect();
+    Ok(witnesses(&answer["Call"]).map(names).collect())
 }

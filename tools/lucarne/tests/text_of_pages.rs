@@ -1,8 +1,8 @@
 //! The text of a page: what comes from the sheets is text, and the plan in it is the plan that was listed.
 
 use crate::tally::Tally;
-use lucarne::group::Group;
-use lucarne::library;
+use lucarne::plan::group::Group;
+use lucarne::plan::library;
 use lucarne::show::digest::{base64, hex, sha256};
 use lucarne::show::page::{self, Readings};
 use lucarne::show::svg;

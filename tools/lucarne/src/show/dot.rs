@@ -1,6 +1,6 @@
 //! The units and links as Graphviz text: what a unit depends on stands below it.
 
-use crate::group::Group;
+use crate::plan::group::Group;
 use std::collections::BTreeSet;
 
 /// So many relays are written to a link.

@@ -1,6 +1,6 @@
 //! Where the units and links of a picture stand: layers by dependence, a unit above all that it depends on.
 
-use crate::layout::Edges;
+use crate::plan::layout::Edges;
 use std::collections::BTreeMap;
 
 pub const GAP: f64 = 28.0;

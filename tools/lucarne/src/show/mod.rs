@@ -1,5 +1,6 @@
 //! A group's list in the forms that are asked for. The order of positions is the library's in all of them.
 
+pub mod beside;
 pub mod csv;
 pub mod digest;
 pub mod dot;
@@ -7,12 +8,14 @@ pub mod graph;
 pub mod html;
 pub mod json;
 pub mod names;
+pub mod output;
 pub mod page;
+pub mod progress;
 pub mod svg;
 pub mod table;
 
-use crate::group::Group;
-use crate::library;
+use crate::plan::group::Group;
+use crate::plan::library;
 
 #[derive(Clone, Copy, Debug, PartialEq, Eq)]
 pub enum Form {
@@ -25,6 +28,9 @@ pub enum Form {
     Svg,
     Html,
 }
+
+/// How full every list is, for those who read one.
+pub const FULL: &str = "every settled position of the plan, proved to leave none out";
 
 /// Each form with its name on the command line.
 pub const FORMS: [(&str, Form); 8] = [

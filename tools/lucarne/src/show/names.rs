@@ -1,9 +1,11 @@
 //! A line for each position: the relays that are up, by label.
 
-use crate::group::Group;
+use super::FULL;
+use crate::plan::group::{Group, Origin};
 
 pub fn show(group: &Group) -> String {
-    let mut out = format!("positions {}\n", group.listing.positions.len());
+    let beside = if matches!(group.origin, Origin::Bytes) { "" } else { " (not proved: from the sheets to the plan, see lucarne explain)" };
+    let mut out = format!("positions {}: {}{}\n", group.listing.positions.len(), FULL, beside);
     let always = group.shown_always();
     if !always.is_empty() {
         out += &format!("always up: {}\n", always.iter().map(|name| group.program.label_of(name)).collect::<Vec<_>>().join(", "));

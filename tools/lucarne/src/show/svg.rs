@@ -2,10 +2,9 @@
 
 use super::graph::{self, Size, Way};
 use super::html::{counted, escaped};
-use crate::explain;
-use crate::group::Group;
-use crate::layout::Unit;
-use crate::library::MAX_POSITIONS;
+use crate::plan::group::Group;
+use crate::plan::layout::Unit;
+use crate::plan::library::MAX_POSITIONS;
 use std::collections::BTreeSet;
 
 /// The look of the picture, in a page and alone.
@@ -179,7 +178,7 @@ fn link_text(group: &Group, link: (usize, usize)) -> String {
 fn link_told(group: &Group, link: (usize, usize)) -> String {
     let name = |unit: usize| group.layout.units[unit].name.as_str();
     let mut out = format!("{} depends on {}", name(link.0), name(link.1));
-    for (told, labels) in explain::asked_by(group, &group.layout.edges[&link]) {
+    for (told, labels) in group.asked_by(&group.layout.edges[&link]) {
         out += &format!("\nby {}: {}", labels.join(", "), told);
     }
     out

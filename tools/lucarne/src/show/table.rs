@@ -1,6 +1,6 @@
 //! A grid of positions by relays: X is up, a dot is dropped.
 
-use crate::group::Group;
+use crate::plan::group::Group;
 
 pub fn show(group: &Group) -> String {
     let relays = group.shown();

@@ -1,6 +1,6 @@
 //! A list as other offices write it. These are written here anew, so that a writer of the tool with the mistake of its reader is noticed.
 
-use lucarne::group::Group;
+use lucarne::plan::group::Group;
 
 pub struct Form {
     pub name: &'static str,

@@ -4,9 +4,9 @@ use crate::forms::FORMS;
 use crate::options;
 use crate::random::Random;
 use crate::tally::Tally;
-use lucarne::audit;
-use lucarne::group::Group;
-use lucarne::theirs;
+use lucarne::commands::audit;
+use lucarne::plan::group::Group;
+use lucarne::read::theirs;
 
 const SIGNS: [&str; 26] = [
     ",",

@@ -4,13 +4,13 @@ use crate::options;
 use crate::random::Random;
 use crate::tally::Tally;
 use lucarne::fault::Fault;
-use lucarne::group::{Group, Origin};
-use lucarne::library;
-use lucarne::plan;
-use lucarne::program::{Program, Rule};
-use lucarne::reader::{read_sheets, Grounding, Turns};
-use lucarne::text::statements::Sheets;
-use lucarne::why::{self, Position};
+use lucarne::plan::group::{Group, Origin};
+use lucarne::plan::library;
+use lucarne::plan::bytes;
+use lucarne::plan::program::{Program, Rule};
+use lucarne::read::reader::{read_sheets, Grounding, Turns};
+use lucarne::read::text::statements::Sheets;
+use lucarne::plan::reason::{self, Position};
 
 const ATOMS: [&str; 6] = ["a", "b", "c", "d", "e", "f"];
 
@@ -75,7 +75,7 @@ fn try_position(group: &Group, position: u64, text: &str, tally: &mut Tally) {
         return tally.count("settled", 1);
     }
     let up: Position = group.plan.up(position).into_iter().collect();
-    let reason = why::why_not(group, &up);
+    let reason = reason::why_not(group, &up);
     let kind = kind_of(&group.program, &up, &reason);
     tally.check(kind.is_some(), &format!("{:?} is not true of {}", reason, group.told(position)), || text.to_string());
     kind.into_iter().for_each(|kind| tally.count(kind, 1));
@@ -83,7 +83,7 @@ fn try_position(group: &Group, position: u64, text: &str, tally: &mut Tally) {
 
 /// Which kind of reason this is, if it is true.
 fn kind_of(program: &Program, up: &Position, reason: &str) -> Option<&'static str> {
-    let given = plan::given(program);
+    let given = bytes::given(program);
     let key = |name: &str| program.find(name.trim_start_matches("the key "));
     if let Some((name, _)) = reason.split_once(" is turned: ") {
         return key(name).filter(|atom| given.contains(atom) && !up.contains(atom)).map(|_| "keys");
@@ -110,7 +110,7 @@ fn are_loose(program: &Program, up: &Position, loose: &Position) -> bool {
     let less: Position = up.difference(loose).copied().collect();
     let acting = program.rules.iter().filter(|rule| body(program, rule, up));
     let kept = |rule: &Rule| !body(program, rule, &less) || !rule.head.is_disjoint(&less);
-    loose.is_subset(up) && !loose.is_empty() && loose.is_disjoint(&plan::given(program)) && acting.into_iter().all(kept)
+    loose.is_subset(up) && !loose.is_empty() && loose.is_disjoint(&bytes::given(program)) && acting.into_iter().all(kept)
 }
 
 fn body(program: &Program, rule: &Rule, up: &Position) -> bool {

@@ -2,8 +2,8 @@
 
 use super::super::digest::{hex, sha256};
 use super::super::html::escaped;
-use crate::group::Group;
-use crate::plan_file;
+use crate::plan::group::Group;
+use crate::plan::file;
 
 /// So many bytes stand in a line.
 const LINE: usize = 32;
@@ -21,7 +21,7 @@ pub fn section(group: &Group) -> String {
          <pre id=\"bytes\" tabindex=\"0\" aria-label=\"The plan's bytes as hexadecimal digits\">{}</pre>",
         bytes.len(),
         hex(&sha256(bytes)),
-        plan_file::sum(bytes),
+        file::sum(bytes),
         url,
         lines.join("\n"),
         file = escaped(&file)

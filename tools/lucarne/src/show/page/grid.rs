@@ -2,8 +2,8 @@
 
 use super::super::html::{counted, escaped};
 use super::readings::{milliseconds, Readings};
-use crate::group::Group;
-use crate::program::Atom;
+use crate::plan::group::Group;
+use crate::plan::program::Atom;
 
 pub fn table(group: &Group, readings: Option<&Readings>) -> String {
     let relays = group.shown();

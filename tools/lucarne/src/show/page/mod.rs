@@ -11,9 +11,9 @@ pub use readings::Readings;
 
 use super::digest::{base64, sha256};
 use super::html::{counted, escaped, filled};
-use super::svg;
-use crate::group::Group;
-use crate::program::{Program, Setting};
+use super::{svg, FULL};
+use crate::plan::group::{Group, Origin};
+use crate::plan::program::{Program, Setting};
 
 const TEMPLATE: &str = include_str!("page.html");
 const STYLE: &str = include_str!("page.css");
@@ -36,6 +36,7 @@ pub fn show(group: &Group, readings: Option<&Readings>) -> String {
             ("TITLE", &escaped(&group.title)),
             ("POSITIONS", &positions),
             ("FACTS", &facts(group)),
+            ("FULL", &full(group)),
             ("KEYS", &keys(&group.program)),
             ("ALWAYS", &always(group)),
             ("READINGS", &readings.map_or(String::new(), Readings::told)),
@@ -65,6 +66,13 @@ fn facts(group: &Group) -> String {
         counted(group.layout.edges.len(), "link", "links"),
     ];
     parts.join(" · ")
+}
+
+/// How full the list is, and what stands before it without a proof.
+fn full(group: &Group) -> String {
+    let way = "Not proved is the way from the sheets to the plan, which lucarne explain shows and the units below tell.";
+    let way = if matches!(group.origin, Origin::Bytes) { "" } else { way };
+    format!("<p class=\"full\">This is {}. {}</p>", FULL, way)
 }
 
 /// How each key is set.

@@ -2,8 +2,8 @@
 
 use super::super::html::{counted, escaped};
 use super::super::svg;
-use crate::group::Group;
-use crate::program::Atom;
+use crate::plan::group::Group;
+use crate::plan::program::Atom;
 
 pub fn by_unit(group: &Group) -> String {
     (0..group.layout.units.len()).map(|unit| unit_rules(group, unit)).collect()

@@ -1,8 +1,7 @@
 //! What stands below the picture of the units: links with their rules, and notes.
 
 use super::super::html::{counted, escaped};
-use crate::explain;
-use crate::group::Group;
+use crate::plan::group::Group;
 
 /// Each link with the rules that ask for it.
 pub fn links(group: &Group) -> String {
@@ -11,7 +10,7 @@ pub fn links(group: &Group) -> String {
     }
     let name = |unit: usize| escaped(&group.layout.units[unit].name);
     let item = |(&(from, to), rules): (&(usize, usize), &Vec<(usize, usize)>)| {
-        let asked = explain::asked_by(group, rules);
+        let asked = group.asked_by(rules);
         let by: String = asked.iter().map(|(told, labels)| format!("<li>by {} <code>{}</code>", escaped(&labels.join(", ")), escaped(told))).collect();
         format!("<li><b>{}</b> depends on <b>{}</b><ul>{}</ul>", name(from), name(to), by)
     };

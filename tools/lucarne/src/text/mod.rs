@@ -1,6 +1,0 @@
-//! Sheets as text: tokens with their spots, statements and directives, and the reader for ground text.
-
-pub mod directives;
-pub mod ground;
-pub mod statements;
-pub mod tokens;
