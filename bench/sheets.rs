@@ -26,7 +26,7 @@ fn main() {
         println!(
             "| {} | {} | {} | {} | {} | {} | {} | {} |",
             group,
-            list.lines().next().unwrap_or("").trim_start_matches("positions "),
+            list.lines().next().unwrap_or("").trim_start_matches("positions ").split(':').next().unwrap_or(""),
             milliseconds(own, |run| run.wall),
             milliseconds(other, |run| run.wall),
             shown(ratio(own, other, |run| run.wall)),

@@ -112,6 +112,7 @@ with_mistake "a rule without a line has no unit" read/gringo.rs 'house_unknown(p
 with_mistake "a rule stands on any line that drives the same" read/origins.rs 'self.fits(number, rule)).collect()' 'self.fits(number, rule) || true).collect()'
 with_mistake "rules alike stand on one line" read/origins.rs '*before += 1;' ''
 with_mistake "a missing literal fits in any case" read/origins.rs '(rule.has_nameless ||' '(rule.has_nameless || true ||'
+with_mistake "a choice over many relays is one rule" plan/limits.rs 'if rule.is_choice { rule.heads.len() } else { 1 }' 'usize::from(rule.line > 0)'
 with_mistake "facts are counted as rules" plan/limits.rs '!rule.is_fact()' '!rule.is_fact() || true'
 with_mistake "a pool is no list" read/text/ground.rs 'return Err(large(self.peek())); // a pool' ''
 with_mistake "a key that is a fact is listed" read/gringo.rs 'if shapes.iter().any(|shape| shape.is_external) {' 'if shapes.is_empty() {'
