@@ -139,6 +139,9 @@ with_mistake "an empty cell is up" read/theirs/csv.rs '(UP.contains(&cell.text.a
 with_mistake "a short line is filled up" read/theirs/csv.rs 'row.cells.len() != head.cells.len()' 'row.cells.len() > head.cells.len()'
 with_mistake "of relays that hold each other up one is named" plan/founded.rs 'up.difference(&least)' 'up.difference(&least.into_iter().take(1).collect())'
 with_mistake "the nearest position is any" commands/audit.rs '(ours ^ position).count_ones()' '0 * (ours ^ position)'
+with_mistake "what they lack is looked for without their first line" commands/audit.rs \
+    'let lines = self.theirs.lines.iter()' 'let lines = self.theirs.lines.iter().skip(1)'
+with_mistake "a walk ends with its first call" commands/next.rs 'found.len() == most' 'found.len() > most'
 with_mistake "a dropped relay is not asked for" commands/ask.rs 'question.dropped |= bit;' 'question.dropped |= bit & 0;' gate
 with_mistake "the last setting of keys is left out" commands/keys.rs 'for setting in 0..settings {' 'for setting in 0..settings - 1 {'
 with_mistake "the low byte of a reading comes first" commands/readings.rs 'u16::from_be_bytes' 'u16::from_le_bytes'

@@ -170,9 +170,27 @@ impl<'a> Comparison<'a> {
         }
     }
 
+    /// The least position that they lack once more, by the library's own search, which must say the same. It goes by whole positions: theirs are
+    /// such where nothing of the plan is cut (SHOW).
+    fn search(&self, least: Option<u64>) -> Result<(), Fault> {
+        let is_whole = bytes::decode(&self.group.plan.bytes).show.is_none();
+        if !is_whole || self.theirs.lines.len() > library::MAX_POSITIONS {
+            return Ok(());
+        }
+        let lines = self.theirs.lines.iter().filter(|line| line.dropped_fact.is_none());
+        let positions: Vec<u64> = lines.map(|line| line.up & self.theirs.told).collect();
+        let found = verdicts::missing(&self.group.plan.bytes, &positions).map_err(|refusal| self.group.refused(refusal))?;
+        if found == least {
+            return Ok(());
+        }
+        let told = |position: Option<u64>| position.map_or("none".to_string(), |position| format!("{:016x}", position));
+        Err(Fault::of_the_tool(format!("the least position that they lack is {}, and the list says {}", told(found), told(least))))
+    }
+
     fn missing(&mut self) -> Result<(), Fault> {
         let missing: Vec<u64> =
             self.group.listing.positions.iter().copied().filter(|position| !self.first.contains_key(position)).collect();
+        self.search(missing.iter().copied().min())?;
         for position in missing {
             self.differ(format!("MISSING      {}   ({:016x})", self.group.told(position), position));
             if let Some(&whole) = self.wholes.get(&position) {

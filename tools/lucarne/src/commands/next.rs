@@ -10,21 +10,27 @@ use crate::show::progress::Progress;
 use crate::show::csv;
 use crate::show::Form;
 
+/// So many positions a call of the library gives where all are asked for.
+const AT_ONCE: usize = 256;
+
 pub fn run(args: &Args) -> Result<i32, Fault> {
     let group = Group::prepare(&args.group)?;
     output::notes(&group.notes, args.is_quiet);
-    let next = |at: Option<u64>| library::next(&group.plan.bytes, at).map_err(|refusal| group.refused(refusal));
+    let most = if args.is_all { AT_ONCE } else { 1 };
+    let next = |at: Option<u64>| library::next_positions(&group.plan.bytes, at, most).map_err(|refusal| group.refused(refusal));
     let mut found = next(args.position)?;
-    let is_any = found.is_some();
+    let is_any = !found.is_empty();
     let mut stream = Stream::to(args.output.as_deref())?;
     if args.form == Form::Csv {
         stream.text(&csv::line(["position".to_string()].into_iter().chain(csv::headings(&group, &relays(&group)))))?;
     }
     let mut progress = Progress::beside_output("positions", 0);
-    while let Some(position) = found {
-        stream.text(&line(&group, args.form, position))?;
-        progress.step();
-        found = if args.is_all { next(Some(position))? } else { None };
+    while let Some(&last) = found.last() {
+        for &position in &found {
+            stream.text(&line(&group, args.form, position))?;
+            progress.step();
+        }
+        found = if args.is_all && found.len() == most { next(Some(last))? } else { Vec::new() };
     }
     if !is_any && args.form != Form::Csv {
         stream.text(if args.position.is_some() {

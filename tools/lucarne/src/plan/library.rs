@@ -25,6 +25,23 @@ extern "C" {
     fn lucarnecress_judge(plan: *const u8, plan_length: usize, position: u64) -> u64;
     fn lucarnecress_first(plan: *const u8, plan_length: usize, found: *mut u64, found_length: usize) -> u64;
     fn lucarnecress_next(plan: *const u8, plan_length: usize, position: u64, found: *mut u64, found_length: usize) -> u64;
+    fn lucarnecress_first_positions(
+        plan: *const u8,
+        plan_length: usize,
+        found: *mut u64,
+        found_length: usize,
+        count: *mut u64,
+        count_length: usize,
+    ) -> u64;
+    fn lucarnecress_next_positions(
+        plan: *const u8,
+        plan_length: usize,
+        position: u64,
+        found: *mut u64,
+        found_length: usize,
+        count: *mut u64,
+        count_length: usize,
+    ) -> u64;
     fn lucarnecress_sheet(plan: *const u8, plan_length: usize, sheet: *mut u8, sheet_length: usize) -> u64;
 }
 
@@ -81,6 +98,23 @@ pub fn next(plan: &[u8], above: Option<u64>) -> Result<Option<u64>, Refusal> {
         1 => Ok(Some(found[0])),
         code => Err(Refusal::of(code)),
     }
+}
+
+/// The least settled positions of all, or those above this one, rising: so many, and fewer only if no other is left.
+pub fn next_positions(plan: &[u8], above: Option<u64>, most: usize) -> Result<Vec<u64>, Refusal> {
+    let (mut found, mut count) = (vec![0u64; most], [0u64]);
+    let (words, number) = (found.as_mut_ptr(), count.as_mut_ptr());
+    let code = unsafe {
+        match above {
+            None => lucarnecress_first_positions(plan.as_ptr(), plan.len(), words, most, number, count.len()),
+            Some(position) => lucarnecress_next_positions(plan.as_ptr(), plan.len(), position, words, most, number, count.len()),
+        }
+    };
+    if code != 0 {
+        return Err(Refusal::of(code));
+    }
+    found.truncate(count[0] as usize);
+    Ok(found)
 }
 
 /// The plan's sheet as `settle` writes it.

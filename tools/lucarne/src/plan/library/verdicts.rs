@@ -1,4 +1,4 @@
-//! Whole sheets judged, and the constraints that leave a plan without a position.
+//! Whole sheets judged, what they lack, and the constraints that leave a plan without a position.
 
 use super::{Refusal, CODE_STEP, MAX_POSITIONS};
 
@@ -6,6 +6,14 @@ const ALL_SETTLED: u64 = 256;
 
 extern "C" {
     fn lucarnecress_judge_sheet(plan: *const u8, plan_length: usize, positions: *const u8, length: usize) -> u64;
+    fn lucarnecress_missing(
+        plan: *const u8,
+        plan_length: usize,
+        positions: *const u8,
+        length: usize,
+        found: *mut u64,
+        found_length: usize,
+    ) -> u64;
     fn lucarnecress_blame(plan: *const u8, plan_length: usize, found: *mut u64, found_length: usize) -> u64;
 }
 
@@ -15,7 +23,7 @@ pub fn judge_all(plan: &[u8], positions: &[u64]) -> Result<Vec<bool>, Refusal> {
     let mut at = 0;
     while at < positions.len() {
         let some = &positions[at..positions.len().min(at + MAX_POSITIONS)];
-        let bytes: Vec<u8> = some.iter().flat_map(|position| position.to_le_bytes()).collect();
+        let bytes = in_bytes(some);
         match unsafe { lucarnecress_judge_sheet(plan.as_ptr(), plan.len(), bytes.as_ptr(), bytes.len()) } {
             ALL_SETTLED => at += some.len(),
             place if place < some.len() as u64 => {
@@ -26,6 +34,21 @@ pub fn judge_all(plan: &[u8], positions: &[u64]) -> Result<Vec<bool>, Refusal> {
         }
     }
     Ok(settled)
+}
+
+fn in_bytes(positions: &[u64]) -> Vec<u8> {
+    positions.iter().flat_map(|position| position.to_le_bytes()).collect()
+}
+
+/// The least settled position, with all its atoms, that is not among these, of which there are at most 256; none where they are full.
+pub fn missing(plan: &[u8], positions: &[u64]) -> Result<Option<u64>, Refusal> {
+    let (sheet, mut found) = (in_bytes(positions), [0u64]);
+    let code = unsafe { lucarnecress_missing(plan.as_ptr(), plan.len(), sheet.as_ptr(), sheet.len(), found.as_mut_ptr(), found.len()) };
+    match code {
+        0 => Ok(None),
+        1 => Ok(Some(found[0])),
+        code => Err(Refusal::of(code)),
+    }
 }
 
 /// What a plan has: a position, of which this is the least, or none, with the rules that are to blame as a word.
