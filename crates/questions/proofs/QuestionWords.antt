@@ -186,7 +186,11 @@ whole-third ws n e l = record { count-is = e ∙ sym (third ws); at-most = l }
 pub refused-words : (list ws : List ℕ) → MAX_QUESTIONS < length ws / 3 → AnsweredWords list ws ws TooManyQuestions
 refused-words list ws l =
     let a = refused list (questionsIn ws) (omega (arith, third ws)) in
-    record { outcome-is = a .outcome-is; words-are = words-again ws ∙ ap (λ (qs : List Question). inWords qs ++ behind ws) (a .questions-are); meaning = a .meaning }
+    record {
+      outcome-is = a .outcome-is;
+      words-are = words-again ws ∙ ap (λ (qs : List Question). inWords qs ++ behind ws) (a .questions-are);
+      meaning = a .meaning;
+    }
 
 pub filled-words : (list ws zs : List ℕ) (asked : Asked) (cs : List ℕ) (n : ℕ) → Whole ws n → asked ≡ askedOf (questionsIn ws)
     → cs ≡ countsOf list n (asked .up) (asked .dropped) → zs ≡ inWords (withCounts (questionsIn ws) cs) ++ behind ws → AnsweredWords list ws zs Filled
