@@ -1,8 +1,49 @@
-/* Lucarnecress: the functions of target/staticlib/libexports.a, which `rt staticlib exports` builds.
+/* Lucarnecress: every settled position of a relay group, for programs in C and C++.
  *
- * A lent area passes as a pointer and then its length in elements. The pointer is never NULL, the area has as many elements as its
- * length says, and no two areas of a call overlap. No area needs a least length: what a short one gets is said at each function.
- * Words have 64 bits; a position is a word in which bit i is atom i. No function keeps a pointer or has a state of its own. */
+ *     cc $(pkg-config --cflags --libs lucarnecress) host.c       with liblucarnecress.so; behind host.c for liblucarnecress.a
+ *
+ * Proved are all functions but lucarnecress_version and lucarnecress_refusal_text, which are plain C (the last two here). README and docs/PROOF.md of the
+ * repository say what is proved; the macros and constants of this file are not, and are held against the library by its tests.
+ *
+ * Lent areas. An area passes as a pointer and then its length in elements. The pointer is never NULL, not for length 0 either; it is aligned as its type
+ * asks, words to 8 bytes; the area has as many elements as its length says; and no two areas of a call overlap. An area may have any length: what a short
+ * one gets is said at each function. Areas that are only read, const here, are not changed, and no function keeps a pointer.
+ *
+ * Words have 64 bits; a position is a word in which bit i is atom i. Words are handed over in the machine's order. In areas of bytes, plans and
+ * sheets, the lowest byte of a word comes first, and in runs of readings the highest.
+ *
+ * Machine. x86-64 with the System V calling convention, as on Linux.
+ *
+ * Threads. No function has a state of its own, takes memory from a heap, opens, locks or waits for anything, or calls back: of the C library memcpy and
+ * memset alone are called. So any number of threads may call at the same time, each with areas of its own to write; what is only read may be shared.
+ *
+ * Stack. Each function needs as much stack as its constant below says (LUCARNECRESS_LIST_STACK and so on) and always returns on so much. On less it may
+ * crash: a thread of 64 kB is too small for most.
+ *
+ * Time. A call cannot be stopped, and nothing is proved about its time. Measured (2026-11-17, lists): at most 40 milliseconds on 215 plans of a
+ * benchmark; on ten plans that were made to be slow up to 2 seconds, and on one over a minute. A plan may take longer than anyone waits. A host that
+ * must answer in time makes the call in a process of its own, which it can end (examples/walk.c), or in a thread that it leaves to itself, with areas that
+ * stay lent.
+ *
+ * What a number means. All functions but those of readings give one number, and a refusal from LUCARNECRESS_CODE_STEP on (LUCARNECRESS_IS_REFUSAL):
+ *
+ *     function                                 gives
+ *     lucarnecress_list                        0 LISTED
+ *     lucarnecress_judge                       0 NOT_SETTLED, 1 SETTLED
+ *     lucarnecress_judge_sheet                 0 to 255 the place of the first that is not settled, 256 ALL_SETTLED
+ *     lucarnecress_first, _next                0 NONE_LEFT, 1 FOUND
+ *     lucarnecress_first_positions,
+ *     lucarnecress_next_positions              0 WRITTEN
+ *     lucarnecress_missing                     0 FULL, 1 LACKS
+ *     lucarnecress_blame                       0 HELD, 1 FOUND
+ *     lucarnecress_sheet                       0 NO_ROOM, else the sheet's length; never a refusal, since a plan that is refused has a sheet too
+ *     lucarnecress_count, _common, _rows,
+ *     lucarnecress_positions_of_rows           0
+ *     lucarnecress_reading_number, _of         a number or a reading; 65535 NOT_MEASURED    (LUCARNECRESS_READING_IS_REFUSAL)
+ *     lucarnecress_reading_sum                 a reading, and 65536 more for a carry; 65535 NOT_MEASURED    (LUCARNECRESS_READING_IS_REFUSAL)
+ *     lucarnecress_reading_compare             0 BELOW, 1 EQUAL, 2 ABOVE; 65535 NOT_MEASURED    (LUCARNECRESS_READING_IS_REFUSAL)
+ *     lucarnecress_reading_largest             0 where none is measured, 1    (LUCARNECRESS_READING_IS_REFUSAL)
+ */
 #ifndef LUCARNECRESS_H
 #define LUCARNECRESS_H
 
@@ -13,10 +54,14 @@
 extern "C" {
 #endif
 
+/* The version of this header, which is the tool's too; lucarnecress_version gives the library's. */
+#define LUCARNECRESS_VERSION "1.0.0"
+
 /* ---- refusals ---------------------------------------------------------------------------------------------------------------- */
 
 /* The code of a refusal is its number times LUCARNECRESS_CODE_STEP plus its spot, or plus 65,535 where a run of readings has a greater spot. */
 #define LUCARNECRESS_CODE_STEP 65536u
+#define LUCARNECRESS_IS_REFUSAL(code) ((code) >= LUCARNECRESS_CODE_STEP) /* not for readings: a sum with a carry would read as refusal 1 */
 #define LUCARNECRESS_NUMBER(code) ((code) / LUCARNECRESS_CODE_STEP)
 #define LUCARNECRESS_SPOT(code) ((code) % LUCARNECRESS_CODE_STEP)
 
@@ -47,8 +92,37 @@ enum {
     LUCARNECRESS_BAD_SHEET = 24
 };
 
+/* ---- stack ------------------------------------------------------------------------------------------------------------------- */
+
+/* Bytes of stack that a call takes at most, with some to spare: worked out from the frames of the machine code and the proved depth of its recursions,
+ * some 4 KiB for memcpy and memset included (host/stack.py of the repository). What the caller and its signal handlers take comes on top, and for a new
+ * thread PTHREAD_STACK_MIN. */
+#define LUCARNECRESS_LIST_STACK 184320u
+#define LUCARNECRESS_JUDGE_STACK 40960u
+#define LUCARNECRESS_JUDGE_SHEET_STACK 40960u
+#define LUCARNECRESS_FIRST_STACK 229376u
+#define LUCARNECRESS_NEXT_STACK 229376u
+#define LUCARNECRESS_FIRST_POSITIONS_STACK 229376u
+#define LUCARNECRESS_NEXT_POSITIONS_STACK 229376u
+#define LUCARNECRESS_MISSING_STACK 233472u
+#define LUCARNECRESS_BLAME_STACK 245760u
+#define LUCARNECRESS_SHEET_STACK 221184u
+#define LUCARNECRESS_COUNT_STACK 8192u
+#define LUCARNECRESS_COMMON_STACK 4096u
+#define LUCARNECRESS_ROWS_STACK 8192u
+#define LUCARNECRESS_POSITIONS_OF_ROWS_STACK 8192u
+#define LUCARNECRESS_READING_NUMBER_STACK 4096u
+#define LUCARNECRESS_READING_OF_STACK 4096u
+#define LUCARNECRESS_READING_SUM_STACK 4096u
+#define LUCARNECRESS_READING_COMPARE_STACK 4096u
+#define LUCARNECRESS_READING_LARGEST_STACK 4096u
+#define LUCARNECRESS_STACK 245760u /* enough for each of them */
+
 /* ---- lists ------------------------------------------------------------------------------------------------------------------- */
 
+#define LUCARNECRESS_LISTED 0u
+#define LUCARNECRESS_PLAN_BYTES 3783u  /* no plan that reads well is longer. From a file or a line take up to two more, so that a longer one is refused
+                                        * for what it is */
 #define LUCARNECRESS_UNITS 16u         /* the most units of a plan */
 #define LUCARNECRESS_LIST_WORDS 256u   /* words of a list in the table, and the most positions of one */
 #define LUCARNECRESS_LAST_LIST 4096u   /* the word of the table where the last list starts; that of unit i starts at 256 * i */
@@ -58,7 +132,7 @@ enum {
 
 /* Lists a plan. The lists go into the table, rising, with zeros behind each; the counts say how many positions each has. Counts are
  * written as far as there is room. The last list has the positions cut to the atoms that the plan shows (SHOW), each cut once; unit lists are
- * not cut. Gives 0, or the code of the refusal: then all counts are 0, and the table is as it was, or for
+ * not cut. Gives LUCARNECRESS_LISTED, or the code of the refusal: then all counts are 0, and the table is as it was, or for
  * LUCARNECRESS_LONG_LIST its first LUCARNECRESS_TABLE_WORDS words are 0. */
 uint64_t lucarnecress_list(const uint8_t *plan, size_t plan_length, uint64_t *table, size_t table_length, uint64_t *counts,
                            size_t counts_length);
@@ -143,9 +217,11 @@ uint64_t lucarnecress_blame(const uint8_t *plan, size_t plan_length, uint64_t *f
 
 /* ---- sheets ------------------------------------------------------------------------------------------------------------------ */
 
+#define LUCARNECRESS_NO_ROOM 0u
 #define LUCARNECRESS_SHEET_BYTES 4366u /* no sheet is longer */
 
-/* Writes the plan's sheet. Gives its length in bytes, or 0 where the area is too short; then nothing is written. */
+/* Writes the plan's sheet, that of a refused one too: `refused R at S`. Gives its length in bytes, or LUCARNECRESS_NO_ROOM where the area is too short; then
+ * nothing is written. The sheet does not end in a zero byte. */
 uint64_t lucarnecress_sheet(const uint8_t *plan, size_t plan_length, uint8_t *sheet, size_t sheet_length);
 
 /* ---- questions over a list --------------------------------------------------------------------------------------------------- */
@@ -183,6 +259,10 @@ uint64_t lucarnecress_positions_of_rows(const uint64_t *rows, size_t rows_length
 
 /* A reading is four decimal digits, four bits each, highest first: 0x1234 is 1234 tenths of a millisecond. */
 #define LUCARNECRESS_NOT_MEASURED 65535u /* 0xffff, the one reading whose digits may be above 9 */
+/* Of a number that these functions give; a reading or a number is below LUCARNECRESS_CODE_STEP, and a sum has a carry of one such step. */
+#define LUCARNECRESS_READING_IS_REFUSAL(code) ((code) >= LUCARNECRESS_BAD_READING * LUCARNECRESS_CODE_STEP)
+#define LUCARNECRESS_SUM_READING(code) ((code) % LUCARNECRESS_CODE_STEP)
+#define LUCARNECRESS_SUM_CARRY(code) ((code) / LUCARNECRESS_CODE_STEP)
 #define LUCARNECRESS_BELOW 0u
 #define LUCARNECRESS_EQUAL 1u
 #define LUCARNECRESS_ABOVE 2u
@@ -193,7 +273,8 @@ uint64_t lucarnecress_reading_number(uint16_t reading);
 /* The reading of a whole number; LUCARNECRESS_NOT_MEASURED stays so. Any other number above 9999 is LUCARNECRESS_BAD_READING at 0. */
 uint64_t lucarnecress_reading_of(uint64_t number);
 
-/* The sum of two readings modulo 10,000 as a reading, and LUCARNECRESS_CODE_STEP more where it passes 9999. With one that is not measured the sum is
+/* The sum of two readings modulo 10,000 as a reading (LUCARNECRESS_SUM_READING), and LUCARNECRESS_CODE_STEP more where it passes 9999
+ * (LUCARNECRESS_SUM_CARRY). With one that is not measured the sum is
  * not measured. A bad reading is refused at 0 or 1, the first one counting. */
 uint64_t lucarnecress_reading_sum(uint16_t a, uint16_t b);
 
@@ -204,6 +285,15 @@ uint64_t lucarnecress_reading_compare(uint16_t reading, uint16_t limit);
  * place, in readings from 0, in found[1], as far as there is room; or 0 where none is measured. A bad reading, or a lone last byte, is refused
  * at its place. In these two cases nothing is written. */
 uint64_t lucarnecress_reading_largest(const uint8_t *bytes, size_t bytes_length, uint64_t *found, size_t found_length);
+
+/* ---- plain C, not proved ----------------------------------------------------------------------------------------------------- */
+
+/* The version of the library: LUCARNECRESS_VERSION of the header that it was built with. */
+const char *lucarnecress_version(void);
+
+/* A refusal's number in words, as LUCARNECRESS_NUMBER gives it: those of the tool lucarne, without names and places. Never NULL: for other numbers it is
+ * "no refusal has this number". */
+const char *lucarnecress_refusal_text(uint64_t number);
 
 #ifdef __cplusplus
 }

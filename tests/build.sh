@@ -32,6 +32,7 @@ install_for_tool() {
     have_crates || packages="$packages $CRATE_PACKAGES"
     { command -v gringo && command -v clingo; } >/dev/null || packages="$packages gringo"
     command -v chromium >/dev/null || packages="$packages chromium"
+    command -v pkg-config >/dev/null || packages="$packages pkg-config"
     if [ -z "$packages" ] || [ "$(id -u)" != 0 ] || ! command -v apt-get >/dev/null; then return; fi
     apt-get update || true
     for package in $packages; do
@@ -105,6 +106,14 @@ need_chromium() {
     command -v chromium >/dev/null && return
     echo "chromium is missing: install it, on Debian as root with: apt-get update && apt-get install -y chromium" >&2
     exit 2
+}
+
+# Gets pkg-config on a Debian machine without it, where root can; what asks for it is skipped otherwise.
+want_pkg_config() {
+    command -v pkg-config >/dev/null && return
+    if [ "$(id -u)" = 0 ] && command -v apt-get >/dev/null; then
+        { apt-get update && apt-get install -y --no-install-recommends pkg-config; } >&2 || true
+    fi
 }
 
 # build_program SOURCE OUTPUT [OPTIONS]: one program by rustc alone; no other package is needed.

@@ -492,18 +492,82 @@ static void check_largest(void)
     same("largest, nothing written", 99, found[0]);
 }
 
-/* Refusals, as a host takes them apart. */
+/* Refusals, as a host takes them apart. A sum with a carry is none. */
 static void check_codes(void)
 {
-    uint64_t code = refusal(LUCARNECRESS_LONG_LIST, 9);
+    uint64_t code = refusal(LUCARNECRESS_LONG_LIST, 9), carried = lucarnecress_reading_sum(0x9999, 0x0002);
     same("number of a code", LUCARNECRESS_LONG_LIST, LUCARNECRESS_NUMBER(code));
     same("spot of a code", 9, LUCARNECRESS_SPOT(code));
+    same("a code is a refusal", 1, LUCARNECRESS_IS_REFUSAL(code));
+    same("the least code is one", 1, LUCARNECRESS_IS_REFUSAL(refusal(LUCARNECRESS_TABLE_SHORT, 0)));
+    same("256 is none", 0, LUCARNECRESS_IS_REFUSAL(LUCARNECRESS_ALL_SETTLED));
+    same("nor is the longest sheet", 0, LUCARNECRESS_IS_REFUSAL(LUCARNECRESS_SHEET_BYTES));
+    same("a carry", 1, LUCARNECRESS_SUM_CARRY(carried));
+    same("a carry, its reading", 0x0001, LUCARNECRESS_SUM_READING(carried));
+    same("a carry is no refusal", 0, LUCARNECRESS_READING_IS_REFUSAL(carried));
+    same("nor is what is not measured", 0, LUCARNECRESS_READING_IS_REFUSAL(LUCARNECRESS_NOT_MEASURED));
+    same("a bad reading is", 1, LUCARNECRESS_READING_IS_REFUSAL(lucarnecress_reading_sum(0x00a0, 0x0002)));
+    same("a bad reading is, its number", LUCARNECRESS_BAD_READING, LUCARNECRESS_NUMBER(lucarnecress_reading_number(0x00a0)));
+}
+
+/* The plain C: the version, and every refusal in words of its own. */
+static void check_told(void)
+{
+    const char *other = lucarnecress_refusal_text(0);
+    same("version", 0, (uint64_t)(strcmp(lucarnecress_version(), LUCARNECRESS_VERSION) != 0));
+    same("words", 0, (uint64_t)(strcmp(lucarnecress_refusal_text(LUCARNECRESS_EMPTY_RULE), "a RULE has neither head nor body") != 0));
+    for (uint64_t number = 1; number <= LUCARNECRESS_BAD_SHEET; number++)
+        same("words of a number", 1, (uint64_t)(strcmp(lucarnecress_refusal_text(number), other) != 0));
+    same("words of the number behind", 0, (uint64_t)(strcmp(lucarnecress_refusal_text(LUCARNECRESS_BAD_SHEET + 1), other) != 0));
+    same("words of a code", 0, (uint64_t)(strcmp(lucarnecress_refusal_text(refusal(LUCARNECRESS_CYCLE, 0)), other) != 0));
+}
+
+/* A command with its operands, at a plan's end; the new length. */
+static size_t add(uint8_t *plan, size_t length, uint8_t command, const void *operands, size_t bytes)
+{
+    plan[length] = command;
+    memcpy(plan + length + 1, operands, bytes);
+    return length + 1 + bytes;
+}
+
+/* The longest plan: every command as often as it may stand. */
+static size_t longest_plan(uint8_t *plan)
+{
+    static const uint8_t numbers[] = {64, 16, 240};
+    static const uint64_t none = 0, table[] = {0, 1};
+    size_t length = add(plan, add(plan, 0, 0x07, numbers, 3), 0x04, &none, 8);
+    for (unsigned i = 0; i < 16; i++)
+        length = add(plan, length, 0x05, table, 16);
+    for (unsigned i = 0; i < 64; i++)
+        length = add(plan, length, 0x01, (const uint64_t[]){(uint64_t)1 << i, 0, 0}, 24);
+    for (unsigned i = 0; i < 256; i++)
+        length = add(plan, length, 0x06, (const uint8_t[]){(uint8_t)(i / 4), i / 2 % 2, i % 2}, 3);
+    for (unsigned i = 0; i < 16; i++)
+        length = add(plan, length, 0x02, &none, 8);
+    for (unsigned i = 0; i < 256; i++)
+        if (i / 16 != i % 16)
+            length = add(plan, length, 0x03, (const uint8_t[]){(uint8_t)(i / 16), i % 16}, 2);
+    return add(plan, add(plan, length, 0x08, &none, 8), 0x00, &none, 0);
+}
+
+/* The header's length of the longest plan; two bytes more show every fault of a longer one. */
+static void check_longest(void)
+{
+    static uint8_t plan[4096];
+    static const uint8_t edge[] = {0, 1};
+    size_t length = longest_plan(plan);
+    same("the longest plan", LUCARNECRESS_PLAN_BYTES, length);
+    same("the longest plan reads", 0, LUCARNECRESS_IS_REFUSAL(lucarnecress_judge(plan, length, 0)));
+    same("a byte behind it", refusal(LUCARNECRESS_TRAILING_BYTES, length), lucarnecress_judge(plan, length + 1, 0));
+    size_t behind_edges = length - 1 - 9;
+    length = add(plan, behind_edges, 0x03, edge, 2);
+    same("a 241st EDGE", refusal(LUCARNECRESS_BAD_EDGE, behind_edges), lucarnecress_judge(plan, length, 0));
 }
 
 static void (*const checks[])(void) = {check_list,     check_judge, check_judge_sheet, check_walk,     check_walk_edges,
                                        check_blame,    check_sheet, check_count,       check_rows,     check_common,
                                        check_readings, check_largest, check_codes,     check_tables,   check_shown,
-                                       check_counted,  check_batches, check_missing};
+                                       check_counted,  check_batches, check_missing, check_told, check_longest};
 
 int main(void)
 {

@@ -1,10 +1,15 @@
 #!/bin/sh
-# tools/lucarne/package.sh [FOLDER]: makes lucarne_VERSION_ARCHITECTURE.deb in this folder (default target). It needs neither the kit nor a compiler
-# where it is installed; gringo is recommended, for sheets with variables and for --check-with clingo.
+# tools/lucarne/package.sh [--host] [FOLDER]: makes lucarne_VERSION_ARCHITECTURE.deb in this folder (default target). It needs neither the kit nor a
+# compiler where it is installed; gringo is recommended, for sheets with variables and for --check-with clingo. With --host they are the packages of the
+# library for programs in C, as host/package.sh says.
 set -e
+if [ "${1:-}" = --host ]; then
+    shift
+    exec "$(dirname "$0")/../../host/package.sh" "$@"
+fi
 cd "$(dirname "$0")/../.."
 folder=${1:-target}
-version=$(sed -n 's/^pub const VERSION: &str = "\(.*\)";/\1/p' tools/lucarne/src/lib.rs)
+version=$(sed -n 's/^version = "\(.*\)"$/\1/p' tools/lucarne/Cargo.toml)
 architecture=$(dpkg --print-architecture)
 root=target/lucarne/package
 tools/lucarne/build.sh target/lucarne/lucarne

@@ -11,4 +11,4 @@ pub mod show;
 /// For the tests, which read JSON too.
 pub use serde_json;
 
-pub const VERSION: &str = "1.0";
+pub const VERSION: &str = env!("CARGO_PKG_VERSION"); // that of include/lucarnecress.h too
