@@ -71,7 +71,7 @@ static int audit(const uint8_t *plan, size_t plan_length, size_t length)
 
 int main(int count, char **arguments)
 {
-    static uint8_t plan[LUCARNECRESS_PLAN_BYTES + 2];
+    static uint8_t plan[LUCARNECRESS_PLAN_BYTES + 1];
     FILE *file = count == 2 ? fopen(arguments[1], "rb") : NULL;
     if (!file) {
         fprintf(stderr, "usage: audit PLAN < LIST\n");

@@ -7,7 +7,7 @@
 
 int main(void)
 {
-    static uint8_t plan[LUCARNECRESS_PLAN_BYTES + 2];
+    static uint8_t plan[LUCARNECRESS_PLAN_BYTES + 1];
     static uint64_t table[LUCARNECRESS_TABLE_WORDS], counts[LUCARNECRESS_COUNTS];
     size_t length = fread(plan, 1, sizeof plan, stdin);
     uint64_t code = lucarnecress_list(plan, length, table, LUCARNECRESS_TABLE_WORDS, counts, LUCARNECRESS_COUNTS);

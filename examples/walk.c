@@ -32,7 +32,7 @@ static int walk(const uint8_t *plan, size_t length)
 
 int main(int count, char **arguments)
 {
-    static uint8_t plan[LUCARNECRESS_PLAN_BYTES + 2];
+    static uint8_t plan[LUCARNECRESS_PLAN_BYTES + 1];
     unsigned seconds = count > 1 ? (unsigned)strtoul(arguments[1], NULL, 10) : 10;
     size_t length = fread(plan, 1, sizeof plan, stdin);
     int status = 0;

@@ -19,7 +19,9 @@ gzip -9n "$dev/usr/share/man/man3/lucarnecress.3"
 install -d "$run$libdir" "$run/usr/share/doc/$runtime" "$run/DEBIAN" "$dev/DEBIAN"
 mv "$dev$libdir/liblucarnecress.$soname" "$dev$libdir/liblucarnecress.so.$version" "$run$libdir/"
 chmod 644 "$run$libdir/liblucarnecress.so.$version"
-printf 'No licence is granted yet: see README.md of the repository.\n' | tee "$run/usr/share/doc/$runtime/copyright" >"$dev/usr/share/doc/liblucarnecress-dev/copyright"
+for documents in "$run/usr/share/doc/$runtime" "$dev/usr/share/doc/liblucarnecress-dev"; do
+    echo "No licence is granted yet." >"$documents/copyright"
+done
 echo "liblucarnecress ${soname#so.} $runtime (>= $version)" >"$run/DEBIAN/shlibs"
 echo "activate-noawait ldconfig" >"$run/DEBIAN/triggers"
 

@@ -21,11 +21,11 @@
  * crash: a thread of 64 kB is too small for most.
  *
  * Time. A call cannot be stopped, and nothing is proved about its time. Measured (2026-11-17, lists): at most 40 milliseconds on 215 plans of a
- * benchmark; on ten plans that were made to be slow up to 2 seconds, and on one over a minute. A plan may take longer than anyone waits. A host that
+ * benchmark; on ten plans that were made to be slow up to 2 seconds, and on another over a minute. A plan may take longer than anyone waits. A host that
  * must answer in time makes the call in a process of its own, which it can end (examples/walk.c), or in a thread that it leaves to itself, with areas that
  * stay lent.
  *
- * What a number means. All functions but those of readings give one number, and a refusal from LUCARNECRESS_CODE_STEP on (LUCARNECRESS_IS_REFUSAL):
+ * What a number means (names without LUCARNECRESS_). All functions but those of readings give one number, and a refusal from CODE_STEP on (IS_REFUSAL):
  *
  *     function                                 gives
  *     lucarnecress_list                        0 LISTED
@@ -39,10 +39,10 @@
  *     lucarnecress_sheet                       0 NO_ROOM, else the sheet's length; never a refusal, since a plan that is refused has a sheet too
  *     lucarnecress_count, _common, _rows,
  *     lucarnecress_positions_of_rows           0
- *     lucarnecress_reading_number, _of         a number or a reading; 65535 NOT_MEASURED    (LUCARNECRESS_READING_IS_REFUSAL)
- *     lucarnecress_reading_sum                 a reading, and 65536 more for a carry; 65535 NOT_MEASURED    (LUCARNECRESS_READING_IS_REFUSAL)
- *     lucarnecress_reading_compare             0 BELOW, 1 EQUAL, 2 ABOVE; 65535 NOT_MEASURED    (LUCARNECRESS_READING_IS_REFUSAL)
- *     lucarnecress_reading_largest             0 where none is measured, 1    (LUCARNECRESS_READING_IS_REFUSAL)
+ *     lucarnecress_reading_number, _of         a number or a reading; 65535 NOT_MEASURED    (READING_IS_REFUSAL)
+ *     lucarnecress_reading_sum                 a reading, and 65536 more for a carry; 65535 NOT_MEASURED    (READING_IS_REFUSAL)
+ *     lucarnecress_reading_compare             0 BELOW, 1 EQUAL, 2 ABOVE; 65535 NOT_MEASURED    (READING_IS_REFUSAL)
+ *     lucarnecress_reading_largest             0 where none is measured, 1 where one is    (READING_IS_REFUSAL)
  */
 #ifndef LUCARNECRESS_H
 #define LUCARNECRESS_H
@@ -121,8 +121,7 @@ enum {
 /* ---- lists ------------------------------------------------------------------------------------------------------------------- */
 
 #define LUCARNECRESS_LISTED 0u
-#define LUCARNECRESS_PLAN_BYTES 3783u  /* no plan that reads well is longer. From a file or a line take up to two more, so that a longer one is refused
-                                        * for what it is */
+#define LUCARNECRESS_PLAN_BYTES 3783u  /* no plan that reads well is longer. From a file or a line take one more: longer input gets the same refusal */
 #define LUCARNECRESS_UNITS 16u         /* the most units of a plan */
 #define LUCARNECRESS_LIST_WORDS 256u   /* words of a list in the table, and the most positions of one */
 #define LUCARNECRESS_LAST_LIST 4096u   /* the word of the table where the last list starts; that of unit i starts at 256 * i */

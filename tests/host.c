@@ -550,7 +550,7 @@ static size_t longest_plan(uint8_t *plan)
     return add(plan, add(plan, length, 0x08, &none, 8), 0x00, &none, 0);
 }
 
-/* The header's length of the longest plan; two bytes more show every fault of a longer one. */
+/* The header's length of the longest plan; one byte more shows every fault of a longer one. */
 static void check_longest(void)
 {
     static uint8_t plan[4096];
@@ -560,8 +560,8 @@ static void check_longest(void)
     same("the longest plan reads", 0, LUCARNECRESS_IS_REFUSAL(lucarnecress_judge(plan, length, 0)));
     same("a byte behind it", refusal(LUCARNECRESS_TRAILING_BYTES, length), lucarnecress_judge(plan, length + 1, 0));
     size_t behind_edges = length - 1 - 9;
-    length = add(plan, behind_edges, 0x03, edge, 2);
-    same("a 241st EDGE", refusal(LUCARNECRESS_BAD_EDGE, behind_edges), lucarnecress_judge(plan, length, 0));
+    add(plan, behind_edges, 0x03, edge, 2);
+    same("a 241st EDGE", refusal(LUCARNECRESS_BAD_EDGE, behind_edges), lucarnecress_judge(plan, LUCARNECRESS_PLAN_BYTES + 1, 0));
 }
 
 static void (*const checks[])(void) = {check_list,     check_judge, check_judge_sheet, check_walk,     check_walk_edges,

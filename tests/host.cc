@@ -6,8 +6,10 @@
 
 int main()
 {
-    std::vector<uint8_t> plan = {0x01, 3, 0, 0, 0, 0, 0, 0, 0, 0, 0, 0, 0, 0, 0, 0, 0, 0, 0, 0, 0, 0, 0, 0, 0, 0x01, 4, 0, 0, 0, 0, 0, 0, 0, 1, 0,
-                                      0,    0, 0, 0, 0, 0, 0, 0, 0, 0, 0, 0, 0, 0, 0x02, 1, 0, 0, 0, 0, 0, 0, 0, 0x02, 2, 0, 0, 0, 0, 0, 0, 0, 0x03, 1, 0, 0x00};
+    std::vector<uint8_t> plan = {0x01, 3, 0, 0, 0, 0, 0, 0, 0, 0, 0, 0, 0, 0, 0, 0, 0, 0, 0, 0, 0, 0, 0, 0, 0, // RULE
+                                 0x01, 4, 0, 0, 0, 0, 0, 0, 0, 1, 0, 0, 0, 0, 0, 0, 0, 0, 0, 0, 0, 0, 0, 0, 0, // RULE
+                                 0x02, 1, 0, 0, 0, 0, 0, 0, 0, 0x02, 2, 0, 0, 0, 0, 0, 0, 0,                   // UNITs
+                                 0x03, 1, 0, 0x00};                                                            // EDGE, END
     std::vector<uint64_t> table(LUCARNECRESS_TABLE_WORDS), counts(LUCARNECRESS_COUNTS);
     auto code = lucarnecress_list(plan.data(), plan.size(), table.data(), table.size(), counts.data(), counts.size());
     bool right = code == LUCARNECRESS_LISTED && counts[LUCARNECRESS_LAST_COUNT] == 2 && table[LUCARNECRESS_LAST_LIST] == 2 &&

@@ -91,7 +91,8 @@ with_mistake installed "a function is not in the shared library" host/lucarnecre
 with_mistake installed "the shared library has no soname" host/build.sh ' -Wl,-soname,"$soname"' ''
 with_mistake installed "the proved code is not as it was" host/build.sh 'ar rcD' 'strip -g "$folder/$name.a" && ar rcD'
 with_mistake by_pkg_config "pkg-config names another library" host/lucarnecress.pc.in '-llucarnecress' '-lexports'
-with_mistake by_pkg_config "the library is linked behind the sources alone" host/lucarnecress.pc.in '-Wl,--push-state,--no-as-needed' '-Wl,--push-state,--as-needed'
+with_mistake by_pkg_config "the library is linked behind the sources alone" host/lucarnecress.pc.in \
+    '-Wl,--push-state,--no-as-needed' '-Wl,--push-state,--as-needed'
 with_mistake examples "audit.c does not look for what is missing" examples/audit.c 'code == LUCARNECRESS_LACKS' 'code == LUCARNECRESS_LACKS + 1'
 with_mistake examples "walk.c ends with its first call" examples/walk.c 'count[0] < BATCH' 'count[0] <= BATCH'
 with_mistake examples "walk.c does not say that it was stopped" examples/walk.c 'WTERMSIG(status) == SIGALRM' 'WTERMSIG(status) == SIGTERM'

@@ -1,7 +1,7 @@
 #!/bin/bash
 # tests/installed.sh [PART..]: installs the library for hosts under target/prefix and tries it there, all parts or those that are named: what header and
-# libraries have (contents), a host built by pkg-config (pkg_config), the examples and C++ (examples), and the packages (packages). What asks for pkg-config, a C++ compiler, groff or dpkg-deb is skipped with a word where
-# they are not installed. The last line is 'N passed, M failed, S skipped'.
+# libraries have (contents), a host built by pkg-config (pkg_config), the examples and C++ (examples), and the packages (packages). What asks for
+# pkg-config, a C++ compiler, groff or dpkg-deb is skipped with a word where they are not installed. The last line is 'N passed, M failed, S skipped'.
 #
 # The proved library is taken from the folder EXPORTS_DIR (default target/staticlib).
 cd "$(dirname "$0")/.." || exit 2

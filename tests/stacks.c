@@ -1,7 +1,7 @@
-/* stacks TABLE FOLDER PLAN.. [--once PLAN..]: how much stack the functions of the proved library take on these plans, seen by painting it before each call. No call
- * may take more than host/stack.py worked out, of whose table a line is a function's name and its bytes, nor more than the header tells. Plans behind --once
- * are slow, and walked from their start alone; FOLDER has drawn plans, 0.plan and so on. Then each function is called on a thread that has the stack that
- * the header tells, on a plan whose search goes deep. The last line is 'N passed, M failed'. */
+/* stacks TABLE FOLDER PLAN.. [--once PLAN..]: how much stack the functions of the proved library take on these plans, seen by painting it before each call.
+ * No call may take more than host/stack.py worked out, of whose TABLE a line is a function's name and its bytes, nor more than the header tells. FOLDER has
+ * drawn plans, 0.plan and so on; plans behind --once are slow, and walked from their start alone. Then each function is called on a thread that has the
+ * stack that the header tells, on a plan whose search goes deep. The last line is 'N passed, M failed'. */
 #define _GNU_SOURCE
 #include <inttypes.h>
 #include <limits.h>

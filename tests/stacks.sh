@@ -21,8 +21,10 @@ host/stack.py --table "$archive" >"$work/stacks.table"
 
 if [ "${1:-}" = --all ]; then
     drawn=20000
-    # shellcheck disable=SC2046 # the plans are several words
-    set -- bench/plans/*.plan bench/tables/*.plan --once $(ls bench/hard/*.plan | grep -v hidfun_5_5)
+    set -- bench/plans/*.plan bench/tables/*.plan --once
+    for plan in bench/hard/*.plan; do
+        [ "$plan" = bench/hard/hidfun_5_5.plan ] || set -- "$@" "$plan"
+    done
 else
     drawn=1000
     set -- --once bench/hard/guardtseitin_15_4_11.plan bench/hard/hidrand_4_4_11.plan bench/hard/sathid_4_3_4_11.plan bench/hard/sathid_8_3_4_11.plan
