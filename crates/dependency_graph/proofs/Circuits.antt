@@ -7,7 +7,7 @@ use Rattle.atoms.specs.Word.{EVERY_ATOM, has, apart, subset, _∩_, _∪_, _∖
 use Rattle.atoms.specs.Bounded.{unionIn, wordBelow}
 use Rattle.atoms.specs.Collected.{lowest, lowestOf}
 use Rattle.plan.specs.Limits.{FIRST_RULE}
-use Rattle.plan.specs.Record.{undeclared}
+use Rattle.plan.specs.Record.{undeclared, absent}
 use Rattle.answer_sets.specs.Lent.{lent, usedInputs, usedTable}
 use Rattle.plan.specs.declared.record.Plan.{Plan}
 use Rattle.plan.specs.declared.fault.Fault.{Fault}
@@ -31,9 +31,7 @@ plain (head ∷ positive ∷ negative ∷ rules) = head ∷ positive ∷ negativ
 abbrev tabled : ℕ → List ℕ → ℕ → List ℕ → ℕ → List ℕ → Plan
 tabled given words n units m predecessors =
     record {
-      declared = undeclared;
-      given = given;
-      «given_count» = 0;
+      once = record { declared = undeclared; given = absent given; shown = absent EVERY_ATOM };
       rules = words;
       «table_count» = 0;
       «rule_count» = n;
@@ -42,8 +40,6 @@ tabled given words n units m predecessors =
       «unit_count» = m;
       predecessors = predecessors;
       «edge_count» = 0;
-      shown = EVERY_ATOM;
-      «show_count» = 0;
     }
 
 abbrev giving : ℕ → List ℕ → ℕ → List ℕ → ℕ → List ℕ → Plan

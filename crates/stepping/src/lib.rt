@@ -31,7 +31,12 @@ pub fn next_of(plan: Plan, from: From) -> Witness
     requires { ⌜ Fitting plan ⌝ }
     ensures { λ r. ⌜ LeastOf (λ M. Settles plan M × Behind from M) r ⌝ }
 {
-    next(&plan.rules, atoms::first(plan.rule_count), plan.given, from)
+    next(
+        &plan.rules,
+        atoms::first(plan.rule_count),
+        plan.once.given.word,
+        from,
+    )
 }
 
 // The next position of a plan as bytes. Units and edges play no part in it, and neither does the graph.
@@ -60,7 +65,7 @@ pub fn gather_of(plan: Plan, from: From, passed: &[u64], out: &mut [u64]) -> usi
     gather_all(
         &plan.rules,
         atoms::first(plan.rule_count),
-        plan.given,
+        plan.once.given.word,
         from,
         passed,
         out,
