@@ -7,7 +7,7 @@ use native.Mathlib.Omega.{arith}
 use lib.ListN.{length, replicate}
 use Rattle.plan.specs.Limits.{TABLE_WORDS}
 use Rattle.plan.specs.declared.fault.Outcome.the-variants.{Accepted, Refused as RefusedWith}
-use Rattle.reading.specs.Kinds.{Single, sizes, given, show, Kind, single, table, rule, usage, unit, edge, end}
+use Rattle.reading.specs.Kinds.{Single, sizes, given, show, single, table as tabled, rule, usage, unit, edge, end}
 use Rattle.reading.specs.Layout.{Contents, layout, recordOf, WithinLimits, Counted}
 use Rattle.reading.specs.Reading.{reading, accepted}
 use Rattle.reading.specs.declared.reader.Reading.{Reading}
@@ -64,7 +64,7 @@ module _ (c : Contents) where
         under =
             elim [
               | single s ↦ one-left w s
-              | table ↦ w .under table
+              | tabled ↦ w .under tabled
               | rule ↦ w .under rule
               | usage ↦ w .under usage
               | unit ↦ w .under unit

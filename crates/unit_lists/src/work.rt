@@ -102,9 +102,10 @@ fn list_unit(
     ensures { λ r. ⌜ MembersStored (unitList (unitsOf plan) u) u
         (now (table .entry)) (now (counts .entry)) (now (table .exit)) (now (counts .exit)) r ⌝ }
 {
+    let given = plan.once.given.word;
     let heads = head_atoms.heads;
     let unit = unit_at(plan, head_atoms, u);
-    let start = start_within(plan.once.given.word, heads[u]);
+    let start = start_within(given, heads[u]);
     list_one(
         &plan.rules,
         &heads,
