@@ -1,14 +1,14 @@
 -- A COUNT changes no answer: what is read of a plan with a right COUNT differs from what is read without it in the declared sizes alone, and nothing
 -- above reading looks at these.
 use mathlib.Core.Path.{_≡_, refl, ap, sym, _∙_}
-use mathlib.Core.List.{List}
+use mathlib.Core.List.{List, []}
 use Prim.Native.Nat.{ℕ, _≤_}
 use native.Mathlib.Omega.{arith}
 use lib.ListN.{length, replicate}
 use Rattle.plan.specs.Limits.{TABLE_WORDS}
 use Rattle.plan.specs.declared.fault.Outcome.the-variants.{Accepted, Refused as RefusedWith}
-use Rattle.reading.specs.Kinds.{Single, sizes, given, show, single, table as tabled, rule, usage, unit, edge, end}
-use Rattle.reading.specs.Layout.{Contents, layout, recordOf, WithinLimits, Counted}
+use Rattle.reading.specs.Kinds.{Single, sizes, single-discrete, single, table as tabled, rule, usage, unit, edge, end}
+use Rattle.reading.specs.Layout.{Contents, layout, recordOf, All, GoodOnce, WithinLimits, Counted}
 use Rattle.reading.specs.Reading.{reading, accepted}
 use Rattle.reading.specs.declared.reader.Reading.{Reading}
 use Rattle.reading.proofs.RoundTrip.{layout-is-read}
@@ -54,9 +54,18 @@ module _ (c : Contents) where
   next-alike from = refl
 
   one-left : WithinLimits c → (s : Single) → length (noCount c s) ≤ 1
-  one-left w sizes = omega arith
-  one-left w given = w .under (single given)
-  one-left w show = w .under (single show)
+  one-left w s = go (single-discrete s sizes)
+    where
+      go : (d : Dec (s ≡ sizes)) → length (elim d [ yes e ↦ [] | no n ↦ c .once s ]) ≤ 1
+      go (yes e) = omega arith
+      go (no n) = w .under (single s)
+
+  good-left : WithinLimits c → (s : Single) → All (GoodOnce s) (noCount c s)
+  good-left w s = go (single-discrete s sizes)
+    where
+      go : (d : Dec (s ≡ sizes)) → All (GoodOnce s) (elim d [ yes e ↦ [] | no n ↦ c .once s ])
+      go (yes e) = tt
+      go (no n) = w .good-once s
 
   pub uncounted-within : WithinLimits c → WithinLimits (uncounted c)
   uncounted-within w =
@@ -71,7 +80,7 @@ module _ (c : Contents) where
               | edge ↦ w .under edge
               | end ↦ w .under end
             ];
-        good-once = elim [ sizes ↦ tt | given ↦ w .good-once given | show ↦ w .good-once show ];
+        good-once = good-left w;
         good-tables = w .good-tables;
         good-rules = w .good-rules;
         good-uses = w .good-uses;

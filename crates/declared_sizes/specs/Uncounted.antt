@@ -2,7 +2,7 @@
 use mathlib.Core.Path.{_≡_}
 use mathlib.Core.List.{List, []}
 use Prim.Native.Nat.{ℕ}
-use Rattle.reading.specs.Kinds.{Single, sizes, given, show}
+use Rattle.reading.specs.Kinds.{Single, sizes, single-discrete}
 use Rattle.reading.specs.Layout.{OnceElement, Contents}
 use Rattle.judge.specs.Answers.{judged}
 use Rattle.demands.specs.Answer.{answer}
@@ -12,9 +12,7 @@ use Rattle.stepping.specs.Followed.{followed}
 
 -- what may stand once, and no COUNT
 abbrev pub noCount : Contents → (s : Single) → List (OnceElement s)
-noCount c sizes = []
-noCount c given = c .once given
-noCount c show = c .once show
+noCount c s = elim (single-discrete s sizes) [ yes e ↦ [] | no n ↦ c .once s ]
 
 -- the same lists, and no COUNT
 abbrev pub uncounted : Contents → Contents

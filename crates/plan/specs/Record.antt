@@ -66,8 +66,11 @@ withCount p rules units edges =
     (record { declared = record { count = 1; rules = rules; units = units; edges = edges }; given = p .once .given; shown = p .once .shown })
 
 -- S-1: "the record of a read plan carries them": the GIVEN
+abbrev pub keyed : Once → ℕ → Once
+keyed o word = record { declared = o .declared; given = present word; shown = o .shown }
+
 unfoldable pub withGiven : Plan → ℕ → Plan
-withGiven p word = withOnce p (record { declared = p .once .declared; given = present word; shown = p .once .shown })
+withGiven p word = withOnce p (keyed (p .once) word)
 
 -- S-11: "SHOW (0x08) has one word and may stand once": the SHOW
 unfoldable pub withShow : Plan → ℕ → Plan

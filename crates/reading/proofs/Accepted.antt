@@ -10,18 +10,17 @@ use Rattle.atoms.specs.Word.{Has}
 use Rattle.atoms.proofs.Lists.{getD-tabulate}
 use Rattle.plan.specs.Limits.{MAX_UNITS}
 use Rattle.plan.specs.Record.{emptyPlan}
-use Rattle.reading.specs.Words.{WORD_BYTES}
-use Rattle.reading.specs.Commands.{Single, sizes, given, show, Kind, single, table, rule, usage, unit, edge, end}
+use Rattle.reading.specs.Commands.{Single, Kind, single, table, rule, usage, unit, edge, end}
 use Rattle.reading.specs.Commands.{kind-discrete, byteOf, operandBytes, miscounted}
 use Rattle.reading.specs.Reading.{reading, commandBytes}
 use Rattle.reading.specs.Layout.{Contents, Element, endBytes, commands, predecessorsOf, recordOf, IsByte, All}
 use Rattle.reading.specs.Layout.{GoodOnce, GoodTable, GoodRule, WithinLimits, IsPlan}
-use Rattle.reading.proofs.Numbers.{all-drop, word-fits}
+use Rattle.reading.proofs.Numbers.{all-drop}
 use Rattle.reading.proofs.Commands.{Leads}
 use Rattle.reading.proofs.Walk.{walk-keeps}
 use Rattle.reading.proofs.Limits.{record-fits}
 use Rattle.reading.proofs.Predecessors.{pair, has-member}
-use Rattle.reading.proofs.Elements.{nothing, with, elementAt, operandsOf, written-again, Sized, Held, held-none, within-most}
+use Rattle.reading.proofs.Elements.{nothing, with, elementAt, operandsOf, written-again, Sized, sized, Held, held-none, within-most}
 use Rattle.reading.proofs.Elements.{Fits, commands-with, commands-longer, record-none, more}
 use Rattle.reading.proofs.Lists.{all-snoc, all-member, empty}
 use Rattle.reading.proofs.Sizes.{counted-right}
@@ -30,17 +29,6 @@ use Rattle.plan.specs.declared.fault.Outcome.{Outcome}
 use Rattle.plan.specs.declared.fault.Outcome.the-variants.{Accepted, Refused}
 
 -- ---- the words, one element more
-
-sized : (k : Kind) (s : List ℕ) → operandBytes k ≤ length s → All IsByte s → Sized k (elementAt k s)
-sized (single sizes) s long b = tt
-sized (single given) s long b = word-fits s 0 (omega arith) b
-sized table s long b = (word-fits s 0 (omega arith) b, word-fits s WORD_BYTES (omega arith) b)
-sized rule s long b = (word-fits s 0 (omega arith) b, (word-fits s WORD_BYTES (omega arith) b, word-fits s (2 * WORD_BYTES) (omega arith) b))
-sized unit s long b = word-fits s 0 (omega arith) b
-sized usage s long b = tt
-sized edge s long b = tt
-sized (single show) s long b = word-fits s 0 (omega arith) b
-sized end s long b = tt
 
 -- what is asked of the elements beyond what `Held` has
 pub record Good (c : Contents) : Type 0 where

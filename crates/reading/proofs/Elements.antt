@@ -31,7 +31,7 @@ use Rattle.reading.specs.Layout.{GoodOnce, GoodUse, GoodEdge, WithinLimi
 use Rattle.reading.specs.Reading.{commandBytes}
 use Rattle.reading.specs.Layout.{countOf}
 use Rattle.reading.proofs.CommandKinds.{each-kind, none-behind}
-use Rattle.reading.proofs.Numbers.{length-bytes, word-behind, word-bytes}
+use Rattle.reading.proofs.Numbers.{length-bytes, word-behind, word-bytes, word-fits}
 use Rattle.reading.proofs.Edges.{not-bad-edge}
 use Rattle.reading.proofs.Uses.{not-bad-use}
 use Rattle.reading.proofs.Tables.{decides-bad-table, right-table, no-wrong-table}
@@ -153,6 +153,17 @@ Sized usage x = Unit {0}
 Sized unit w = w < WORD_VALUES
 Sized edge e = Unit {0}
 Sized end x = Unit {0}
+
+pub sized : (k : Kind) (s : List ℕ) → operandBytes k ≤ length s → All IsByte s → Sized k (elementAt k s)
+sized (single sizes) s long b = tt
+sized (single given) s long b = word-fits s 0 (omega arith) b
+sized table s long b = (word-fits s 0 (omega arith) b, word-fits s WORD_BYTES (omega arith) b)
+sized rule s long b = (word-fits s 0 (omega arith) b, (word-fits s WORD_BYTES (omega arith) b, word-fits s (2 * WORD_BYTES) (omega arith) b))
+sized unit s long b = word-fits s 0 (omega arith) b
+sized usage s long b = tt
+sized edge s long b = tt
+sized (single show) s long b = word-fits s 0 (omega arith) b
+sized end s long b = tt
 
 -- rows 18, 6, 21, 19, 7 and 8
 abbrev pub Right : Contents → (k : Kind) → Element k → Type 0
