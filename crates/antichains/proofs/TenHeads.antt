@@ -15,6 +15,7 @@ use Rattle.plan.specs.declared.fault.Outcome.{Outcome}
 use Rattle.plan.specs.declared.fault.Outcome.the-variants.{Accepted}
 use Rattle.plan.proofs.Refusals.{told, refused-for}
 use Rattle.reading.specs.Reading.{reading}
+use Rattle.reading.specs.Kinds.{rule, unit}
 use Rattle.reading.specs.Layout.{Contents, WithinLimits, recordOf, predecessorsOf, IsByte, All}
 use Rattle.reading.proofs.Accepted.{accepted-is-plan}
 use Rattle.reading.proofs.Lists.{all-member}
@@ -50,7 +51,7 @@ within-clean c w = record { there = there }
   where
     there : (u v : ℕ) → u < length (c .units) → Has (getD (recordOf c .predecessors) u 0) v → v < length (c .units)
     there u v l h =
-        let row = getD-tabulate MAX_UNITS (predecessorsOf (c .edges)) u (omega (arith, w .most-units)) in
+        let row = getD-tabulate MAX_UNITS (predecessorsOf (c .edges)) u (omega (arith, w .under unit)) in
         all-member _ (c .edges) (pair u v) (w .good-edges) (has-member (c .edges) (pair u v) (subst (λ (w : ℕ). Has w v) row h))
         .to-there
 
@@ -63,7 +64,7 @@ module _ {bytes : List ℕ} {c : Contents} (t : TenHeaded bytes c) where
 
   small : S .rules ≤ MAX_RULES
   unfolding unitsOf recordOf
-  small = t .lays .within .most-rules
+  small = t .lays .within .under rule
 
   unit-fits : (u : ℕ) → u < S .units → Fits (Listed S u)
   unit-fits u l =

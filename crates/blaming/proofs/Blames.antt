@@ -86,7 +86,7 @@ module _ (p : Plan) (fits : Fitting p) where
 
   -- ---- what few_constraints found
 
-  module _ {w : ℕ} (f : FewBlamed (p .rules) (below (p .«rule_count») ∖ constraintsIn p) (constraintsIn p) (p .given) w) where
+  module _ {w : ℕ} (f : FewBlamed (p .rules) (below (p .«rule_count») ∖ constraintsIn p) (constraintsIn p) (p .once .given .word) w) where
     found-held : w ≡ heldIn p
     unfolding heldIn
     found-held =
@@ -105,10 +105,10 @@ module _ (p : Plan) (fits : Fitting p) where
 
   -- by the words of the code
   pub few-found : {all cons top w : ℕ} → all ≡ below (p .«rule_count») → Collects (λ r. Has all r × (lent (p .rules) .head r ≡ 0)) cons → top ≡ all ∖ cons
-      → FewBlamed (p .rules) top cons (p .given) w → (w ≡ heldIn p) × Blames p w
+      → FewBlamed (p .rules) top cons (p .once .given .word) w → (w ≡ heldIn p) × Blames p w
   few-found {all} {cons} {top} {w} a c t f = (found-held here, found-blames here)
     where
-      here : FewBlamed (p .rules) (below (p .«rule_count») ∖ constraintsIn p) (constraintsIn p) (p .given) w
+      here : FewBlamed (p .rules) (below (p .«rule_count») ∖ constraintsIn p) (constraintsIn p) (p .once .given .word) w
       here = rw (top-same p a c t, constraints-same p a c) at f
 
 -- ---- the meaning fixes the word
@@ -122,7 +122,7 @@ module _ {p : Plan} where
   not-both-left : {v w : ℕ} → v ≡ w → Empties p v → Leaves p w → ⊥
   not-both-left {v} {w} e x y =
       let same : y .which ≡ x .which = collects-same (y .rules-are) (rw e at (x .rules-are)) in
-      x .none (y .position) (subst (λ (z : ℕ). AnswerSet (lent (p .rules)) z (p .given) (y .position)) same (y .answers))
+      x .none (y .position) (subst (λ (z : ℕ). AnswerSet (lent (p .rules)) z (p .once .given .word) (y .position)) same (y .answers))
 
   still-same : {v w c d : ℕ} → ((i : ℕ) → i < c → Has v i → Has w i) → StillHeld p v c d → StillHeld p w c d
   still-same {d = d} f (stays l h) = stays l (f d l h)
@@ -188,8 +188,8 @@ says-only (without n a) (without m b) = ap Held (blames-only a b)
 -- ---- the headed rules and given facts alone
 
 -- an answer set with some constraints is one of the headed rules alone
-alone : {p : Plan} {w which bare M : ℕ} → Collects (Among p w) which → Collects (Among p 0) bare → AnswerSet (lent (p .rules)) which (p .given) M
-    → AnswerSet (lent (p .rules)) bare (p .given) M
+alone : {p : Plan} {w which bare M : ℕ} → Collects (Among p w) which → Collects (Among p 0) bare → AnswerSet (lent (p .rules)) which (p .once .given .word) M
+    → AnswerSet (lent (p .rules)) bare (p .once .given .word) M
 alone {p} {w} {which} {bare} c b a =
     fewer-constraints (record { each = λ r h. c .all r (wider (b .each r h)) }) (λ r h. split (c .each r h)) a
   where

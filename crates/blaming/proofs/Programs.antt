@@ -89,17 +89,17 @@ module _ (p : Plan) where
           has-left (below (p .«rule_count») ∖ constraintsIn p) (constraintsIn p) (has-without (below (p .«rule_count»)) (constraintsIn p) h k)
 
   -- an answer set of theirs has only atoms that are given or in heads
-  answer-within : (w M : ℕ) → w ⊆ constraintsIn p → AnswerSet (lent (p .rules)) (rulesWith p w) (p .given) M → M ⊆ mayBeUp p
-  answer-within w M f a = record { each = λ i h. go i (supported (lent (p .rules)) (rulesWith p w) (p .given) M i a h) }
+  answer-within : (w M : ℕ) → w ⊆ constraintsIn p → AnswerSet (lent (p .rules)) (rulesWith p w) (p .once .given .word) M → M ⊆ mayBeUp p
+  answer-within w M f a = record { each = λ i h. go i (supported (lent (p .rules)) (rulesWith p w) (p .once .given .word) M i a h) }
     where
       heads : ℕ → ℕ
       heads r = lent (p .rules) .head r
 
-      go : (i : ℕ) → Supported (lent (p .rules)) (rulesWith p w) (p .given) i → Has (mayBeUp p) i
-      go i (inl h) = has-left (p .given) (unionIn (p .«rule_count») (below (p .«rule_count»)) heads) h
+      go : (i : ℕ) → Supported (lent (p .rules)) (rulesWith p w) (p .once .given .word) i → Has (mayBeUp p) i
+      go i (inl h) = has-left (p .once .given .word) (unionIn (p .«rule_count») (below (p .«rule_count»)) heads) h
       go i (inr t) =
           let l = number-lt w f (t .0) (t .1) in
-          has-right (p .given) (unionIn (p .«rule_count») (below (p .«rule_count»)) heads)
+          has-right (p .once .given .word) (unionIn (p .«rule_count») (below (p .«rule_count»)) heads)
           (union-has (p .«rule_count») (below (p .«rule_count»)) heads (t .0) i l (has-below (p .«rule_count») (t .0) l) (t .2))
 
 -- ---- the test
@@ -109,19 +109,19 @@ module _ (p : Plan) (fits : Fitting p) where
   number-fits w f = lt-of-has (rulesWith p w) MAX_RULES (λ r h. omega (arith, number-lt p w f r h, fits .rules-fit))
 
   decides-answers : (w M : ℕ) → w ⊆ constraintsIn p
-      → Decides (AnswerSet (lent (p .rules)) (rulesWith p w) (p .given) M) (answerSet (lent (p .rules)) (rulesWith p w) (p .given) M)
-  decides-answers w M f = decides-answer-set (lent (p .rules)) (rulesWith p w) (p .given) M (number-fits w f)
+      → Decides (AnswerSet (lent (p .rules)) (rulesWith p w) (p .once .given .word) M) (answerSet (lent (p .rules)) (rulesWith p w) (p .once .given .word) M)
+  decides-answers w M f = decides-answer-set (lent (p .rules)) (rulesWith p w) (p .once .given .word) M (number-fits w f)
 
   pub leaves-yes : (w : ℕ) → w ⊆ constraintsIn p → leaves p w ≡ true → Leaves p w
   unfolding leaves
   leaves-yes w f e =
-      let t = some-at (suc (mayBeUp p)) (λ M. answerSet (lent (p .rules)) (rulesWith p w) (p .given) M) e in
+      let t = some-at (suc (mayBeUp p)) (λ M. answerSet (lent (p .rules)) (rulesWith p w) (p .once .given .word) M) e in
       record { which = rulesWith p w; rules-are = among-rules p w f; position = t .0; answers = decides-answers w (t .0) f .yes (t .2) }
 
-  answer-leaves : (w M : ℕ) → w ⊆ constraintsIn p → AnswerSet (lent (p .rules)) (rulesWith p w) (p .given) M → leaves p w ≡ true
+  answer-leaves : (w M : ℕ) → w ⊆ constraintsIn p → AnswerSet (lent (p .rules)) (rulesWith p w) (p .once .given .word) M → leaves p w ≡ true
   unfolding leaves
   answer-leaves w M f a =
-      some-intro (suc (mayBeUp p)) (λ N. answerSet (lent (p .rules)) (rulesWith p w) (p .given) N) M
+      some-intro (suc (mayBeUp p)) (λ N. answerSet (lent (p .rules)) (rulesWith p w) (p .once .given .word) N) M
       (omega (arith, subset-le (answer-within p w M f a)))
       (decided-true (decides-answers w M f) a)
 
@@ -131,13 +131,13 @@ module _ (p : Plan) (fits : Fitting p) where
 
   -- ---- what few_constraints finds
 
-  pub one-leaves : (w : ℕ) → w ⊆ constraintsIn p → OneSettled (p .rules) (rulesWith p w) (p .given) → leaves p w ≡ true
+  pub one-leaves : (w : ℕ) → w ⊆ constraintsIn p → OneSettled (p .rules) (rulesWith p w) (p .once .given .word) → leaves p w ≡ true
   one-leaves w f o = answer-leaves w (o .member) f (o .answers)
 
-  pub none-leaves : (w : ℕ) → w ⊆ constraintsIn p → NoneSettled (p .rules) (rulesWith p w) (p .given) → leaves p w ≡ false
+  pub none-leaves : (w : ℕ) → w ⊆ constraintsIn p → NoneSettled (p .rules) (rulesWith p w) (p .once .given .word) → leaves p w ≡ false
   unfolding leaves
   none-leaves w f n =
-      some-none (suc (mayBeUp p)) (λ M. answerSet (lent (p .rules)) (rulesWith p w) (p .given) M) (λ M l e. n .nobody M (decides-answers w M f .yes e))
+      some-none (suc (mayBeUp p)) (λ M. answerSet (lent (p .rules)) (rulesWith p w) (p .once .given .word) M) (λ M l e. n .nobody M (decides-answers w M f .yes e))
 
 -- ---- what few_constraints is asked, by the words of the code
 
@@ -150,9 +150,9 @@ module _ (p : Plan) {all cons top : ℕ} (all-is : all ≡ below (p .«rule_coun
   all-same = ap₂ (λ (x y : ℕ). x ∪ y) top-same (constraints-same p all-is cons-are) ∙ whole-rules p
 
   pub few-asked : Lent (p .rules) all → Positionless p
-      → Lent (p .rules) (top ∪ cons) × Constraints (p .rules) cons × NoneSettled (p .rules) (top ∪ cons) (p .given)
+      → Lent (p .rules) (top ∪ cons) × Constraints (p .rules) cons × NoneSettled (p .rules) (top ∪ cons) (p .once .given .word)
   few-asked l n = (
     subst (Lent (p .rules)) (all-is ∙ sym all-same) l,
     record { headless = λ r h. cons-are .each r h .1 },
-    record { nobody = λ M a. n .none M (subst (λ (x : ℕ). AnswerSet (lent (p .rules)) x (p .given) M) all-same a) },
+    record { nobody = λ M a. n .none M (subst (λ (x : ℕ). AnswerSet (lent (p .rules)) x (p .once .given .word) M) all-same a) },
   )

@@ -44,14 +44,14 @@ pub data Among (p : Plan) (w r : ℕ) : Type 0 where
 pub record Empties (p : Plan) (w : ℕ) : Type 0 where
   pub which : ℕ
   pub rules-are : Collects (Among p w) which
-  pub none : (M : ℕ) → ¬ AnswerSet (lent (p .rules)) which (p .given) M
+  pub none : (M : ℕ) → ¬ AnswerSet (lent (p .rules)) which (p .once .given .word) M
 
 -- "there is one"
 pub record Leaves (p : Plan) (w : ℕ) : Type 0 where
   pub which : ℕ
   pub rules-are : Collects (Among p w) which
   pub position : ℕ
-  pub answers : AnswerSet (lent (p .rules)) which (p .given) position
+  pub answers : AnswerSet (lent (p .rules)) which (p .once .given .word) position
 
 -- "Start with all; going up by rule number": where c is tried, the others still held are those below it that stay in w, and all above it
 pub data StillHeld (p : Plan) (w c d : ℕ) : Type 0 where
@@ -93,7 +93,7 @@ rulesWith p w = (below (p .«rule_count») ∖ constraintsIn p) ∪ w
 
 -- they leave an answer set; none is above the word of the atoms that may be up
 unfoldable pub leaves : Plan → ℕ → Bool
-leaves p w = someBelow (suc (mayBeUp p)) (λ M. answerSet (lent (p .rules)) (rulesWith p w) (p .given) M)
+leaves p w = someBelow (suc (mayBeUp p)) (λ M. answerSet (lent (p .rules)) (rulesWith p w) (p .once .given .word) M)
 
 -- constraint c is tried
 abbrev pub tried : (ℕ → Bool) → ℕ → ℕ → ℕ

@@ -57,7 +57,7 @@ fn held_of(plan: Plan) -> u64
     let all = atoms::first(plan.rule_count);
     let constraints = constraints_of(&plan.rules, all);
     let headed = atoms::without(all, constraints);
-    few_constraints(&plan.rules, headed, constraints, plan.given)
+    few_constraints(&plan.rules, headed, constraints, plan.once.given.word)
 }
 
 // What a plan as bytes is blamed on. Units and edges play no part in it, and neither does the graph.

@@ -24,13 +24,13 @@ fn write_counts(plan: &[u8]) {
         return;
     };
     let read = reading.plan;
-    if 0 < read.declared.count {
-        write_number(b" declared ", read.declared.rules as u64);
-        write_number(b" ", read.declared.units as u64);
-        write_number(b" ", read.declared.edges as u64);
+    if 0 < read.once.declared.count {
+        write_number(b" declared ", read.once.declared.rules as u64);
+        write_number(b" ", read.once.declared.units as u64);
+        write_number(b" ", read.once.declared.edges as u64);
     }
-    if 0 < read.given_count {
-        write_number(b" given ", read.given);
+    if 0 < read.once.given.count {
+        write_number(b" given ", read.once.given.word);
     }
     if 0 < read.table_count {
         write_number(b" tables ", read.table_count as u64);
@@ -41,8 +41,8 @@ fn write_counts(plan: &[u8]) {
     }
     write_number(b" units ", read.unit_count as u64);
     write_number(b" edges ", read.edge_count as u64);
-    if 0 < read.show_count {
-        write_number(b" shown ", read.shown);
+    if 0 < read.once.shown.count {
+        write_number(b" shown ", read.once.shown.word);
     }
 }
 

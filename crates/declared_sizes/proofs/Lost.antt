@@ -4,7 +4,7 @@ use mathlib.Core.Path.{_≡_, refl, ap, sym, _∙_, subst}
 use mathlib.Core.List.{List, [], _∷_, _++_, flatMap, List·Memᴰ, List·Memᴰ·tail, List·Memᴰ·append-cases, Memᴰ·append-left, Memᴰ·append-right}
 use mathlib.Core.Bool.{true}
 use mathlib.Core.Logic.{_⊎_, inl, inr}
-use Prim.Native.Nat.{ℕ, suc, _+_, _<_}
+use Prim.Native.Nat.{ℕ, suc, _+_, _≤_, _<_}
 use native.Mathlib.Omega.{arith}
 use lib.ListN.{length, getD, length-append}
 use Rattle.atoms.proofs.Tests.{decided-true}
@@ -13,13 +13,13 @@ use Rattle.plan.specs.declared.fault.Fault.{Fault}
 use Rattle.plan.specs.declared.fault.Fault.the-variants.{WrongCount}
 use Rattle.plan.specs.declared.fault.Outcome.{Outcome}
 use Rattle.plan.specs.declared.fault.Outcome.the-variants.{Accepted, Refused}
-use Rattle.reading.specs.Commands.{end, late, miscounted, ofKind, commandAt}
+use Rattle.reading.specs.Commands.{Kind, single, sizes, table, rule, usage, unit, edge, end, miscounted, ofKind, commandAt}
 use Rattle.reading.specs.Layout.{Sizes, UnitPair, Contents, countBytes, endBytes, commands, layout, firstSizes, recordOf}
-use Rattle.reading.specs.Layout.{IsByte, All, Distinct, GoodEdge, WithinLimits, Agrees, Counted}
+use Rattle.reading.specs.Layout.{IsByte, All, Distinct, GoodEdge, atMost, countOf, WithinLimits, Agrees, Counted}
 use Rattle.reading.specs.Reading.{stepOf, reading, refused}
 use Rattle.reading.specs.declared.reader.Reading.{Reading}
 use Rattle.reading.specs.declared.command.Command.the-variants.{Fault as Faulty}
-use Rattle.reading.proofs.CommandKinds.{kind-of-byte}
+use Rattle.reading.proofs.CommandKinds.{kind-of-byte, end-in-time}
 use Rattle.reading.proofs.Commands.{known-command}
 use Rattle.reading.proofs.Elements.{few-within}
 use Rattle.reading.proofs.Sizes.{decides-miscounted}
@@ -37,17 +37,17 @@ record FirstBytes (bytes : List ℕ) (s : Sizes) : Type 0 where
   units-byte : getD bytes 2 0 ≡ s .units
   edges-byte : getD bytes 3 0 ≡ s .edges
 
-first-bytes : (c : Contents) → 0 < length (c .declared) → FirstBytes (layout c) (firstSizes (c .declared))
+first-bytes : (c : Contents) → 0 < length (c .once sizes) → FirstBytes (layout c) (firstSizes (c .once sizes))
 unfolding flatMap
-first-bytes c some = subst (λ (s : List ℕ). FirstBytes s (firstSizes (c .declared))) (sym (grouped c)) (among (c .declared) _ some)
+first-bytes c some = subst (λ (s : List ℕ). FirstBytes s (firstSizes (c .once sizes))) (sym (grouped c)) (among (c .once sizes) _ some)
   where
     among : (declared : List Sizes) (rest : List ℕ) → 0 < length declared → FirstBytes (flatMap countBytes declared ++ rest) (firstSizes declared)
     among [] rest l = absurd (omega arith)
     among (s ∷ declared) rest l = record { rules-byte = refl; units-byte = refl; edges-byte = refl }
 
 -- the first COUNT agrees where all do
-first-agrees : (c x : Contents) → 0 < length (x .declared) → All (Agrees c) (x .declared) → Agrees c (firstSizes (x .declared))
-first-agrees c x some a = among (x .declared) some a
+first-agrees : (c x : Contents) → 0 < length (x .once sizes) → All (Agrees c) (x .once sizes) → Agrees c (firstSizes (x .once sizes))
+first-agrees c x some a = among (x .once sizes) some a
   where
     among : (declared : List Sizes) → 0 < length declared → All (Agrees c) declared → Agrees c (firstSizes declared)
     among [] l h = absurd (omega arith)
@@ -60,29 +60,29 @@ one-fewer xs front back x e = omega (arith, ap length e, length-append front (x 
 
 -- what is left has the same COUNT, and it is wrong
 record Wrong (c d : Contents) : Type 0 where
-  same-count : d .declared ≡ c .declared
+  same-count : d .once sizes ≡ c .once sizes
   wrong : (s : Sizes) → Agrees c s → ¬ Agrees d s
 
 left : (c d : Contents) → Lost c d → Wrong c d
-left c d (a-rule front back r e z) = record { same-count = ap (λ (x : Contents). x .declared) z; wrong = λ s a b. fewer s a b }
+left c d (a-rule front back r e z) = record { same-count = ap (λ (x : Contents). x .once sizes) z; wrong = λ s a b. fewer s a b }
   where
     fewer : (s : Sizes) → Agrees c s → ¬ Agrees d s
     fewer s a b = omega (arith, one-fewer (c .rules) front back r e, a .rules-are, b .rules-are, ap (λ (x : Contents). length (x .rules)) z)
-left c d (a-unit front back word e z) = record { same-count = ap (λ (x : Contents). x .declared) z; wrong = λ s a b. fewer s a b }
+left c d (a-unit front back word e z) = record { same-count = ap (λ (x : Contents). x .once sizes) z; wrong = λ s a b. fewer s a b }
   where
     fewer : (s : Sizes) → Agrees c s → ¬ Agrees d s
     fewer s a b = omega (arith, one-fewer (c .units) front back word e, a .units-are, b .units-are, ap (λ (x : Contents). length (x .units)) z)
-left c d (an-edge front back p e z) = record { same-count = ap (λ (x : Contents). x .declared) z; wrong = λ s a b. fewer s a b }
+left c d (an-edge front back p e z) = record { same-count = ap (λ (x : Contents). x .once sizes) z; wrong = λ s a b. fewer s a b }
   where
     fewer : (s : Sizes) → Agrees c s → ¬ Agrees d s
     fewer s a b = omega (arith, one-fewer (c .edges) front back p e, a .edges-are, b .edges-are, ap (λ (x : Contents). length (x .edges)) z)
 
 module _ (c d : Contents) (whole : Declares c) (lost : Lost c d) where
-  some-left : 0 < length (d .declared)
+  some-left : 0 < length (d .once sizes)
   some-left = omega (arith, whole .some, ap length (left c d lost .same-count))
 
   -- the COUNT of c agrees with c
-  count-agrees : Agrees c (firstSizes (d .declared))
+  count-agrees : Agrees c (firstSizes (d .once sizes))
   count-agrees = subst (λ (l : List Sizes). Agrees c (firstSizes l)) (sym (left c d lost .same-count)) (first-agrees c c (whole .some) (whole .counted))
 
   -- ---- no such plan reads
@@ -92,12 +92,12 @@ module _ (c d : Contents) (whole : Declares c) (lost : Lost c d) where
       let p = accepted-is-plan (layout d) small o in
       let x = p .contents in
       let same : SameSizes d x = same-sizes d x (p .bytes-are) in
-      let some : 0 < length (x .declared) = omega (arith, some-left, same .counts) in
-      let first : FirstBytes (layout d) (firstSizes (x .declared)) =
-      subst (λ (s : List ℕ). FirstBytes s (firstSizes (x .declared))) (sym (p .bytes-are)) (first-bytes x some) in
+      let some : 0 < length (x .once sizes) = omega (arith, some-left, same .counts) in
+      let first : FirstBytes (layout d) (firstSizes (x .once sizes)) =
+      subst (λ (s : List ℕ). FirstBytes s (firstSizes (x .once sizes))) (sym (p .bytes-are)) (first-bytes x some) in
       let own = first-bytes d some-left in
-      let right : Agrees x (firstSizes (x .declared)) = first-agrees x x some (p .counted) in
-      left c d lost .wrong (firstSizes (d .declared)) count-agrees
+      let right : Agrees x (firstSizes (x .once sizes)) = first-agrees x x some (p .counted) in
+      left c d lost .wrong (firstSizes (d .once sizes)) count-agrees
       (record {
         rules-are = sym (own .rules-byte) ∙ first .rules-byte ∙ right .rules-are ∙ sym (same .rules);
         units-are = sym (own .units-byte) ∙ first .units-byte ∙ right .units-are ∙ sym (same .units);
@@ -115,15 +115,15 @@ module _ (c d : Contents) (whole : Declares c) (lost : Lost c d) where
   -- ---- by 23 at 0, where no other command is at fault
 
   not-counted : ¬ Counted d
-  not-counted a = left c d lost .wrong (firstSizes (d .declared)) count-agrees (first-agrees d d some-left a)
+  not-counted a = left c d lost .wrong (firstSizes (d .once sizes)) count-agrees (first-agrees d d some-left a)
 
   module _ (within : WithinLimits d) where
     wrong-there : miscounted (recordOf d) ≡ true
     wrong-there = decided-true (decides-miscounted d (few-within within)) not-counted
 
     end-refused : (at : ℕ) → commandAt (recordOf d) at endBytes ≡ Faulty (WrongCount 0)
-    unfolding ofKind late
-    end-refused at = known-command (recordOf d) at 0 [] end (kind-of-byte end) ∙ simp wrong-there
+    unfolding ofKind
+    end-refused at = known-command (recordOf d) at 0 [] end (kind-of-byte end) ∙ simp (end-in-time, wrong-there)
 
     pub lost-is-23 : RefusedBy (reading (layout d) .outcome) 23 0
     lost-is-23 =
@@ -154,19 +154,21 @@ module _ (c : Contents) (whole : Declares c) (front back : List UnitPair) (e : U
   abbrev without : Contents
   without = having c (c .rules) (c .units) (front ++ back)
 
+  fewer-edges : WithinLimits c → (k : Kind) → countOf without k ≤ atMost k
+  fewer-edges w (single s) = w .under (single s)
+  fewer-edges w table = w .under table
+  fewer-edges w rule = w .under rule
+  fewer-edges w usage = w .under usage
+  fewer-edges w unit = w .under unit
+  fewer-edges w edge = omega (arith, w .under edge, one-fewer (c .edges) front back e is)
+  fewer-edges w end = omega arith
+
   still-within : WithinLimits without
   still-within =
       let w = whole .within in
       record {
-        one-count = w .one-count;
-        one-given = w .one-given;
-        most-tables = w .most-tables;
-        most-rules = w .most-rules;
-        most-uses = w .most-uses;
-        most-units = w .most-units;
-        most-edges = omega (arith, w .most-edges, one-fewer (c .edges) front back e is);
-        one-shown = w .one-shown;
-        good-given = w .good-given;
+        under = fewer-edges w;
+        good-once = w .good-once;
         good-tables = w .good-tables;
         good-rules = w .good-rules;
         good-uses = w .good-uses;
@@ -174,7 +176,6 @@ module _ (c : Contents) (whole : Declares c) (front back : List UnitPair) (e : U
         good-units = w .good-units;
         good-edges = all-left (GoodEdge (length (c .units))) front back e (subst (All (GoodEdge (length (c .units)))) is (w .good-edges));
         no-repeat = distinct-left front back e (subst (λ (edges : List UnitPair). Distinct edges) is (w .no-repeat));
-        good-shown = w .good-shown;
       }
 
   -- "lost one whole EDGE": refused 23 at 0

@@ -10,7 +10,7 @@ use native.Mathlib.Nat.{mul-suc}
 use lib.Dec.{eqb}
 use lib.ListN.{length, drop}
 use lib.Seq.{drop-at}
-use Rattle.reading.specs.Commands.{Kind, sizes, given, table, rule, usage, unit, edge, show, end, byteOf, kindOf, operandBytes}
+use Rattle.reading.specs.Commands.{Kind, single, sizes, given, show, table, rule, usage, unit, edge, end, byteOf, kindOf, operandBytes}
 use Rattle.reading.specs.Layout.{Contents, Element, endBytes, commands, layout}
 use Rattle.reading.specs.Layout.{countBytes, givenBytes, tableBytes, ruleBytes, useBytes, unitBytes, edgeBytes, showBytes}
 use Rattle.reading.proofs.CommandKinds.{kind-of-byte}
@@ -55,7 +55,7 @@ module _ (k : Kind) where
 
 module _ (c : Contents) where
   abbrev fromShown : List ℕ
-  fromShown = flatMap showBytes (c .shown) ++ endBytes
+  fromShown = flatMap showBytes (c .once show) ++ endBytes
 
   abbrev fromEdges : List ℕ
   fromEdges = flatMap edgeBytes (c .edges) ++ fromShown
@@ -73,10 +73,10 @@ module _ (c : Contents) where
   fromTables = flatMap tableBytes (c .tables) ++ fromRules
 
   abbrev fromGiven : List ℕ
-  fromGiven = flatMap givenBytes (c .given) ++ fromTables
+  fromGiven = flatMap givenBytes (c .once given) ++ fromTables
 
   abbrev pub fromCount : List ℕ
-  fromCount = flatMap countBytes (c .declared) ++ fromGiven
+  fromCount = flatMap countBytes (c .once sizes) ++ fromGiven
 
   pub grouped : layout c ≡ fromCount
   unfolding commands
@@ -84,33 +84,33 @@ module _ (c : Contents) where
 
   -- each group counts for its own kind
   record Groups (k : Kind) : Type 0 where
-    at-count : tally k 0 fromCount ≡ oneOf sizes k * length (c .declared) + tally k 0 fromGiven
-    at-given : tally k 0 fromGiven ≡ oneOf given k * length (c .given) + tally k 0 fromTables
+    at-count : tally k 0 fromCount ≡ oneOf (single sizes) k * length (c .once sizes) + tally k 0 fromGiven
+    at-given : tally k 0 fromGiven ≡ oneOf (single given) k * length (c .once given) + tally k 0 fromTables
     at-tables : tally k 0 fromTables ≡ oneOf table k * length (c .tables) + tally k 0 fromRules
     at-rules : tally k 0 fromRules ≡ oneOf rule k * length (c .rules) + tally k 0 fromUses
     at-uses : tally k 0 fromUses ≡ oneOf usage k * length (c .uses) + tally k 0 fromUnits
     at-units : tally k 0 fromUnits ≡ oneOf unit k * length (c .units) + tally k 0 fromEdges
     at-edges : tally k 0 fromEdges ≡ oneOf edge k * length (c .edges) + tally k 0 fromShown
-    at-shown : tally k 0 fromShown ≡ oneOf show k * length (c .shown) + tally k 0 endBytes
+    at-shown : tally k 0 fromShown ≡ oneOf (single show) k * length (c .once show) + tally k 0 endBytes
     at-end : tally k 0 endBytes ≡ oneOf end k + 0
 
   groups : (k : Kind) → Groups k
   unfolding tally kindOf
   groups k =
       record {
-        at-count = tally-group k sizes (c .declared) fromGiven;
-        at-given = tally-group k given (c .given) fromTables;
+        at-count = tally-group k (single sizes) (c .once sizes) fromGiven;
+        at-given = tally-group k (single given) (c .once given) fromTables;
         at-tables = tally-group k table (c .tables) fromRules;
         at-rules = tally-group k rule (c .rules) fromUses;
         at-uses = tally-group k usage (c .uses) fromUnits;
         at-units = tally-group k unit (c .units) fromEdges;
         at-edges = tally-group k edge (c .edges) fromShown;
-        at-shown = tally-group k show (c .shown) endBytes;
+        at-shown = tally-group k (single show) (c .once show) endBytes;
         at-end = refl;
       }
 
-  tally-counts : tally sizes 0 (layout c) ≡ length (c .declared)
-  tally-counts = ap (tally sizes 0) grouped ∙ omega (arith, groups sizes)
+  tally-counts : tally (single sizes) 0 (layout c) ≡ length (c .once sizes)
+  tally-counts = ap (tally (single sizes) 0) grouped ∙ omega (arith, groups (single sizes))
 
   tally-rules : tally rule 0 (layout c) ≡ length (c .rules)
   tally-rules = ap (tally rule 0) grouped ∙ omega (arith, groups rule)
@@ -123,7 +123,7 @@ module _ (c : Contents) where
 
 -- plans with the same bytes have as many COUNTs, RULEs, UNITs and EDGEs
 pub record SameSizes (c d : Contents) : Type 0 where
-  pub counts : length (c .declared) ≡ length (d .declared)
+  pub counts : length (c .once sizes) ≡ length (d .once sizes)
   pub rules : length (c .rules) ≡ length (d .rules)
   pub units : length (c .units) ≡ length (d .units)
   pub edges : length (c .edges) ≡ length (d .edges)
@@ -131,7 +131,7 @@ pub record SameSizes (c d : Contents) : Type 0 where
 pub same-sizes : (c d : Contents) → layout c ≡ layout d → SameSizes c d
 same-sizes c d e =
     record {
-      counts = omega (arith, tally-counts c, tally-counts d, ap (tally sizes 0) e);
+      counts = omega (arith, tally-counts c, tally-counts d, ap (tally (single sizes) 0) e);
       rules = omega (arith, tally-rules c, tally-rules d, ap (tally rule 0) e);
       units = omega (arith, tally-units c, tally-units d, ap (tally unit 0) e);
       edges = omega (arith, tally-edges c, tally-edges d, ap (tally edge 0) e);

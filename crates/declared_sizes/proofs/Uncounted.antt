@@ -1,13 +1,14 @@
 -- A COUNT changes no answer: what is read of a plan with a right COUNT differs from what is read without it in the declared sizes alone, and nothing
 -- above reading looks at these.
 use mathlib.Core.Path.{_≡_, refl, ap, sym, _∙_}
-use mathlib.Core.List.{List}
-use Prim.Native.Nat.{ℕ}
+use mathlib.Core.List.{List, []}
+use Prim.Native.Nat.{ℕ, _≤_}
 use native.Mathlib.Omega.{arith}
-use lib.ListN.{replicate}
+use lib.ListN.{length, replicate}
 use Rattle.plan.specs.Limits.{TABLE_WORDS}
 use Rattle.plan.specs.declared.fault.Outcome.the-variants.{Accepted, Refused as RefusedWith}
-use Rattle.reading.specs.Layout.{Contents, layout, recordOf, WithinLimits, Counted}
+use Rattle.reading.specs.Kinds.{Single, sizes, single-discrete, single, table as tabled, rule, usage, unit, edge, end}
+use Rattle.reading.specs.Layout.{Contents, layout, recordOf, All, GoodOnce, WithinLimits, Counted}
 use Rattle.reading.specs.Reading.{reading, accepted}
 use Rattle.reading.specs.declared.reader.Reading.{Reading}
 use Rattle.reading.proofs.RoundTrip.{layout-is-read}
@@ -23,7 +24,7 @@ use Rattle.finding.specs.declared.least.From.{From}
 use Rattle.stepping.specs.declared.Next.{Next}
 use Rattle.stepping.specs.declared.Next.the-variants.{Refused as NextRefused}
 use Rattle.stepping.specs.Followed.{nextIn, followed}
-use Rattle.declared_sizes.specs.Uncounted.{uncounted, AnsweredAlike}
+use Rattle.declared_sizes.specs.Uncounted.{noCount, uncounted, AnsweredAlike}
 
 -- ---- the answers, from what was read
 
@@ -52,18 +53,34 @@ module _ (c : Contents) where
   unfolding recordOf nextIn
   next-alike from = refl
 
+  one-left : WithinLimits c → (s : Single) → length (noCount c s) ≤ 1
+  one-left w s = go (single-discrete s sizes)
+    where
+      go : (d : Dec (s ≡ sizes)) → length (elim d [ yes e ↦ [] | no n ↦ c .once s ]) ≤ 1
+      go (yes e) = omega arith
+      go (no n) = w .under (single s)
+
+  good-left : WithinLimits c → (s : Single) → All (GoodOnce s) (noCount c s)
+  good-left w s = go (single-discrete s sizes)
+    where
+      go : (d : Dec (s ≡ sizes)) → All (GoodOnce s) (elim d [ yes e ↦ [] | no n ↦ c .once s ])
+      go (yes e) = tt
+      go (no n) = w .good-once s
+
   pub uncounted-within : WithinLimits c → WithinLimits (uncounted c)
   uncounted-within w =
       record {
-        one-count = omega arith;
-        one-given = w .one-given;
-        most-tables = w .most-tables;
-        most-rules = w .most-rules;
-        most-uses = w .most-uses;
-        most-units = w .most-units;
-        most-edges = w .most-edges;
-        one-shown = w .one-shown;
-        good-given = w .good-given;
+        under =
+            elim [
+              | single s ↦ one-left w s
+              | tabled ↦ w .under tabled
+              | rule ↦ w .under rule
+              | usage ↦ w .under usage
+              | unit ↦ w .under unit
+              | edge ↦ w .under edge
+              | end ↦ w .under end
+            ];
+        good-once = good-left w;
         good-tables = w .good-tables;
         good-rules = w .good-rules;
         good-uses = w .good-uses;
@@ -71,7 +88,6 @@ module _ (c : Contents) where
         good-units = w .good-units;
         good-edges = w .good-edges;
         no-repeat = w .no-repeat;
-        good-shown = w .good-shown;
       }
 
   module _ (within : WithinLimits c) (counted : Counted c) where

@@ -3,20 +3,19 @@ use mathlib.Core.Path.{_≡_}
 use mathlib.Core.List.{List, _∷_, _++_}
 use Prim.Native.Nat.{ℕ, _<_}
 use lib.ListN.{length}
+use Rattle.reading.specs.Kinds.{sizes}
 use Rattle.reading.specs.Layout.{RuleWords, UnitPair, Contents, WithinLimits, Counted}
 
 -- the lists of c with these rules, units and edges in place of its own
 abbrev pub having : Contents → List RuleWords → List ℕ → List UnitPair → Contents
 having c rules units edges =
     record {
-      declared = c .declared;
-      given = c .given;
+      once = c .once;
       tables = c .tables;
       rules = rules;
       uses = c .uses;
       units = units;
       edges = edges;
-      shown = c .shown;
     }
 
 -- d is what is left of c without one whole RULE, UNIT or EDGE
@@ -29,4 +28,4 @@ pub data Lost (c d : Contents) : Type 0 where
 pub record Declares (c : Contents) : Type 0 where
   pub within : WithinLimits c
   pub counted : Counted c
-  pub some : 0 < length (c .declared)
+  pub some : 0 < length (c .once sizes)

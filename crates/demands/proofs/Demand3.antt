@@ -168,7 +168,7 @@ module _ (bytes table : List ℕ) (all : All IsByte bytes) (passed : Passed byte
           units = λ u l. subst (ListOf (Listed S u)) (sym (held-list k u (omega (arith, few)) ∙ list-there S u few l)) (unit-list-is u l);
           rising = subst Rising (sym last) (enumerated .last-one .rising);
           members = λ X.
-              subst (λ (l : List ℕ). List·Memᴰ X l ↔ CutOf (p .shown) (Settles p) X)
+              subst (λ (l : List ℕ). List·Memᴰ X l ↔ CutOf (p .once .shown .word) (Settles p) X)
               (sym last) (
                 λ m. cut-for (λ M. sets M .0) (enumerated .last-one .members X .0 m),
                 λ a. enumerated .last-one .members X .1 (cut-for (λ M. sets M .1) a),

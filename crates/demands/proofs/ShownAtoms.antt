@@ -17,13 +17,13 @@ use Rattle.demands.specs.declared.listing.Listing.{Listing}
 
 module _ {p : Plan} {r : Listing} {table : List ℕ} (l : ListsAll p r table) where
   -- where nothing shows and there is an answer set, the list is {0}
-  pub none-shown : p .shown ≡ 0 → (M : ℕ) → Settles p M → lastIn r table ≡ 0 ∷ []
+  pub none-shown : p .once .shown .word ≡ 0 → (M : ℕ) → Settles p M → lastIn r table ≡ 0 ∷ []
   none-shown e M a =
       rising-ext (lastIn r table) (0 ∷ []) (l .rising) (rising-cons above-nil rising-nil)
       (λ X m. let c = l .members X .0 m in List·Memᴰ·head (c .is ∙ nothing (c .whole)))
       (λ X m. l .members X .1 (record { whole = M; wanted = a; is = List·Memᴰ·eq-of-singleton m ∙ sym (nothing M) }))
     where
-      nothing : (N : ℕ) → N ∩ p .shown ≡ 0
+      nothing : (N : ℕ) → N ∩ p .once .shown .word ≡ 0
       nothing N = ap (λ (w : ℕ). N ∩ w) e ∙ empty (N ∩ 0) (λ i h. has-none (cut-right N 0 h))
 
   -- where there is none, it is empty, whatever shows
@@ -36,29 +36,29 @@ module _ {p : Plan} {r : Listing} {table : List ℕ} (l : ListsAll p r table) wh
 pub record ShownAlike (p q : Plan) : Type 0 where
   pub rules : p .rules ≡ q .rules
   pub rule-count : p .«rule_count» ≡ q .«rule_count»
-  pub given : p .given ≡ q .given
-  pub shown : (i : ℕ) → Supported (lent (p .rules)) (below (p .«rule_count»)) (p .given) i → Has (p .shown) i ↔ Has (q .shown) i
+  pub given : p .once .given .word ≡ q .once .given .word
+  pub shown : (i : ℕ) → Supported (lent (p .rules)) (below (p .«rule_count»)) (p .once .given .word) i → Has (p .once .shown .word) i ↔ Has (q .once .shown .word) i
 
 module _ {p q : Plan} (g : ShownAlike p q) where
-  same-cut : (M : ℕ) → Settles p M → M ∩ p .shown ≡ M ∩ q .shown
+  same-cut : (M : ℕ) → Settles p M → M ∩ p .once .shown .word ≡ M ∩ q .once .shown .word
   same-cut M a =
-      ext (M ∩ p .shown) (M ∩ q .shown)
-      (λ i h. has-cut M (q .shown) (cut-left M (p .shown) h) (alike i (cut-left M (p .shown) h) .0 (cut-right M (p .shown) h)))
-      (λ i h. has-cut M (p .shown) (cut-left M (q .shown) h) (alike i (cut-left M (q .shown) h) .1 (cut-right M (q .shown) h)))
+      ext (M ∩ p .once .shown .word) (M ∩ q .once .shown .word)
+      (λ i h. has-cut M (q .once .shown .word) (cut-left M (p .once .shown .word) h) (alike i (cut-left M (p .once .shown .word) h) .0 (cut-right M (p .once .shown .word) h)))
+      (λ i h. has-cut M (p .once .shown .word) (cut-left M (q .once .shown .word) h) (alike i (cut-left M (q .once .shown .word) h) .1 (cut-right M (q .once .shown .word) h)))
     where
-      alike : (i : ℕ) → Has M i → Has (p .shown) i ↔ Has (q .shown) i
-      alike i h = g .shown i (supported (lent (p .rules)) (below (p .«rule_count»)) (p .given) M i a h)
+      alike : (i : ℕ) → Has M i → Has (p .once .shown .word) i ↔ Has (q .once .shown .word) i
+      alike i h = g .shown i (supported (lent (p .rules)) (below (p .«rule_count»)) (p .once .given .word) M i a h)
 
   carried : (M : ℕ) → Settles p M → Settles q M
   carried M a =
       subst (λ (w : ℕ). AnswerSet (lent (q .rules)) (below (q .«rule_count»)) w M) (g .given)
-      (subst (λ (n : ℕ). AnswerSet (lent (q .rules)) (below n) (p .given) M) (g .rule-count)
-      (subst (λ (w : List ℕ). AnswerSet (lent w) (below (p .«rule_count»)) (p .given) M) (g .rules) a))
+      (subst (λ (n : ℕ). AnswerSet (lent (q .rules)) (below n) (p .once .given .word) M) (g .rule-count)
+      (subst (λ (w : List ℕ). AnswerSet (lent w) (below (p .«rule_count»)) (p .once .given .word) M) (g .rules) a))
 
   brought-back : (M : ℕ) → Settles q M → Settles p M
   brought-back M a =
-      subst (λ (w : List ℕ). AnswerSet (lent w) (below (p .«rule_count»)) (p .given) M) (sym (g .rules))
-      (subst (λ (n : ℕ). AnswerSet (lent (q .rules)) (below n) (p .given) M) (sym (g .rule-count))
+      subst (λ (w : List ℕ). AnswerSet (lent w) (below (p .«rule_count»)) (p .once .given .word) M) (sym (g .rules))
+      (subst (λ (n : ℕ). AnswerSet (lent (q .rules)) (below n) (p .once .given .word) M) (sym (g .rule-count))
       (subst (λ (w : ℕ). AnswerSet (lent (q .rules)) (below (q .«rule_count»)) w M) (sym (g .given)) a))
 
   -- a shown atom that is in no head and not given changes nothing

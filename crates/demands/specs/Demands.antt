@@ -89,7 +89,7 @@ pub record ListsAll (p : Plan) (r : Listing) (table : List ℕ) : Type 0 where
   pub units : (u : ℕ) → u < p .«unit_count» → ListOf (Listed (unitsOf p) u) (listIn r table u)
   pub rising : Rising (lastIn r table)
   pub members : (X : ℕ)
-      → List·Memᴰ X (lastIn r table) ↔ CutOf (p .shown) (Settles p) X
+      → List·Memᴰ X (lastIn r table) ↔ CutOf (p .once .shown .word) (Settles p) X
   pub counted : length (lastIn r table) ≡ getD (r .counts) LAST_COUNT 0
 
 -- in the working order, refusal 15 exactly at the first list above 256, and otherwise all answer sets

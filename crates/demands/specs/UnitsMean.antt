@@ -5,6 +5,7 @@ use mathlib.Core.List.{List, List·Memᴰ}
 use Prim.Native.Nat.{ℕ, _<_}
 use lib.ListN.{length}
 use Rattle.atoms.specs.Word.{ATOMS, Has}
+use Rattle.reading.specs.Kinds.{given, show}
 use Rattle.reading.specs.Layout.{RuleWords, UnitPair, Contents, Lays}
 use Rattle.reading.specs.Reading.{reading}
 use Rattle.plan_meaning.specs.Meaning.{Number, LooksAt, RuleMeans}
@@ -27,9 +28,9 @@ pub record UnitsMean (c : Contents) (S : Units) : Type 0 where
   -- "Edge (u,v) says that unit u depends on unit v"
   pub edge : (u v : ℕ) → Edge S u v ↔ ((e : UnitPair) × List·Memᴰ e (c .edges) × (e .u ≡ u) × (e .v ≡ v))
   -- S-1: "Its atoms are facts of the whole program"
-  pub given : (a : ℕ) → Has (S .given) a ↔ ((word : ℕ) × List·Memᴰ word (c .given) × Has word a)
+  pub given : (a : ℕ) → Has (S .given) a ↔ ((word : ℕ) × List·Memᴰ word (c .once given) × Has word a)
   -- S-11: "without it all 64 atoms show"
-  pub shown : (a : ℕ) → a < ATOMS → Has (S .shown) a ↔ ((word : ℕ) → List·Memᴰ word (c .shown) → Has word a)
+  pub shown : (a : ℕ) → a < ATOMS → Has (S .shown) a ↔ ((word : ℕ) → List·Memᴰ word (c .once show) → Has word a)
 
 -- what was read of a plan's bytes means what its lists say, and so do the units of the lists and of what was read
 pub record ListsMean (bytes : List ℕ) : Type 0 where

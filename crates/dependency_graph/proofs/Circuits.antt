@@ -3,11 +3,11 @@ use mathlib.Core.Path.{_≡_, refl}
 use mathlib.Core.List.{List, [], _∷_, _++_, map}
 use Prim.Native.Nat.{ℕ}
 use lib.ListN.{replicate}
-use Rattle.atoms.specs.Word.{EVERY_ATOM, has, apart, subset, _∩_, _∪_, _∖_, atom, below}
+use Rattle.atoms.specs.Word.{has, apart, subset, _∩_, _∪_, _∖_, atom, below}
 use Rattle.atoms.specs.Bounded.{unionIn, wordBelow}
 use Rattle.atoms.specs.Collected.{lowest, lowestOf}
 use Rattle.plan.specs.Limits.{FIRST_RULE}
-use Rattle.plan.specs.Record.{undeclared}
+use Rattle.plan.specs.Record.{neverStood, keyed}
 use Rattle.answer_sets.specs.Lent.{lent, usedInputs, usedTable}
 use Rattle.plan.specs.declared.record.Plan.{Plan}
 use Rattle.plan.specs.declared.fault.Fault.{Fault}
@@ -31,9 +31,7 @@ plain (head ∷ positive ∷ negative ∷ rules) = head ∷ positive ∷ negativ
 abbrev tabled : ℕ → List ℕ → ℕ → List ℕ → ℕ → List ℕ → Plan
 tabled given words n units m predecessors =
     record {
-      declared = undeclared;
-      given = given;
-      «given_count» = 0;
+      once = keyed neverStood given;
       rules = words;
       «table_count» = 0;
       «rule_count» = n;
@@ -42,8 +40,6 @@ tabled given words n units m predecessors =
       «unit_count» = m;
       predecessors = predecessors;
       «edge_count» = 0;
-      shown = EVERY_ATOM;
-      «show_count» = 0;
     }
 
 abbrev giving : ℕ → List ℕ → ℕ → List ℕ → ℕ → List ℕ → Plan

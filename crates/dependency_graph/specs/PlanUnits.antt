@@ -17,8 +17,8 @@ unitsOf p = record {
   units = p .«unit_count»;
   unit = λ u. getD (p .units) u 0;
   predecessors = λ u. getD (p .predecessors) u 0;
-  given = p .given;
-  shown = p .shown;
+  given = p .once .given .word;
+  shown = p .once .shown .word;
 }
 
 -- H(v) and Hp(v) of each unit v of the plan

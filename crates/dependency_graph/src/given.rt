@@ -14,7 +14,7 @@ pub fn given_in_head(plan: Plan) -> u64
     let mut found = 0;
     let mut r = 0;
     while r < plan.rule_count {
-        let shares = !atoms::are_apart(rule::head(&plan.rules, r), plan.given);
+        let shares = !atoms::are_apart(rule::head(&plan.rules, r), plan.once.given.word);
         found = atoms::union(found, atoms::single_if(shares, r));
         r += 1;
     }

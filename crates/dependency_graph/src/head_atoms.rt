@@ -67,7 +67,7 @@ fn fill_heads(plan: Plan, table: &mut [u64])
     let mut reached = [0u64; MAX_UNITS];
     fill_own(plan, &mut own);
     fill_reach(plan, &mut reached);
-    fill_unions(plan.given, &own, &reached, unit_count, table);
+    fill_unions(plan.once.given.word, &own, &reached, unit_count, table);
     add_words(&own, unit_count, table);
 }
 
@@ -80,7 +80,7 @@ pub fn head_atoms(plan: Plan) -> HeadAtoms
     let mut inputs = [0u64; MAX_UNITS];
     fill_heads(plan, &mut heads);
     fill_unions(
-        plan.given,
+        plan.once.given.word,
         &heads,
         &plan.predecessors,
         plan.unit_count,

@@ -7,6 +7,7 @@ use Rattle.plan.specs.Limits.{MAX_RULES, MAX_UNITS}
 use Rattle.plan.specs.Faults.{RefusedBy, CODE_STEP, WIDEST_SPOT, refusalCode}
 use Rattle.plan.specs.declared.fault.Outcome.{Outcome}
 use Rattle.plan.proofs.Refusals.{told}
+use Rattle.reading.specs.Kinds.{rule, unit}
 use Rattle.reading.specs.Layout.{IsByte, All, Contents, recordOf, Lays}
 use Rattle.reading.specs.Refusals.{Stopped}
 use Rattle.reading.proofs.Judged.{reading-judged}
@@ -41,7 +42,7 @@ long-at-most (next below r low o) (later l f) = long-at-most o f
 
 few : {bytes : List ℕ} {c : Contents} → Lays bytes c → (unitsOf (recordOf c) .rules ≤ MAX_RULES) × (unitsOf (recordOf c) .units ≤ MAX_UNITS)
 unfolding unitsOf recordOf
-few l = (l .within .most-rules, l .within .most-units)
+few l = (l .within .under rule, l .within .under unit)
 
 pub fault-at-most : {bytes table : List ℕ} {n s : ℕ} → All IsByte bytes → FirstFault bytes table n s → s ≤ WIDEST_SPOT
 fault-at-most small (table-place l) = omega arith

@@ -69,9 +69,9 @@ module _ (p : Plan) (sheet : List ℕ) where
   Passed n = (q : ℕ) → q < n → settled p (positionAt sheet q) ≡ true
 
   -- the test of the code is that of the position at the place
-  pub tested-at : {which M : ℕ} {b : Bool} (place : ℕ) → b ≡ answerSet (lent (p .rules)) which (p .given) M → which ≡ below (p .«rule_count»)
+  pub tested-at : {which M : ℕ} {b : Bool} (place : ℕ) → b ≡ answerSet (lent (p .rules)) which (p .once .given .word) M → which ≡ below (p .«rule_count»)
       → M ≡ positionAt sheet place → b ≡ settled p (positionAt sheet place)
-  tested-at {which} {M} place t w m = t ∙ ap (λ (x : ℕ). answerSet (lent (p .rules)) x (p .given) M) w ∙ ap (settled p) m
+  tested-at {which} {M} place t w m = t ∙ ap (λ (x : ℕ). answerSet (lent (p .rules)) x (p .once .given .word) M) w ∙ ap (settled p) m
 
   pub passed-more : (n : ℕ) → Passed n → settled p (positionAt sheet n) ≡ true → Passed (n + 1)
   passed-more n before here q l = go (decLt q n)

@@ -38,7 +38,7 @@ whole-lent p which f l e =
 
 pub decides-settled : (p : Plan) (M : ℕ) → Fitting p → Decides (Settles p M) (settled p M)
 decides-settled p M f =
-    decides-answer-set (lent (p .rules)) (below (p .«rule_count»)) (p .given) M
+    decides-answer-set (lent (p .rules)) (below (p .«rule_count»)) (p .once .given .word) M
     (lt-of-has (below (p .«rule_count»)) MAX_RULES (λ r h. let k : r < p .«rule_count» = below-lt (p .«rule_count») h in omega (arith, f .rules-fit)))
 
 -- ---- the answer
@@ -84,7 +84,7 @@ module _ (bytes : List ℕ) (position : ℕ) (r : Reading) (read : r ≡ reading
 
 -- the atom is given or in the head of one of the plan's rules
 abbrev pub Headed : Plan → ℕ → Type 0
-Headed p a = Has (p .given) a ⊎ ((r : ℕ) × (r < p .«rule_count») × Has (lent (p .rules) .head r) a)
+Headed p a = Has (p .once .given .word) a ⊎ ((r : ℕ) × (r < p .«rule_count») × Has (lent (p .rules) .head r) a)
 
 yes-is-settled : (answer : Answer) → isYes answer ≡ true → answer ≡ Settled
 yes-is-settled Settled e = refl
@@ -101,9 +101,9 @@ settled-exactly bytes position e =
 
 -- only given atoms and head atoms are up
 pub settled-headed : (p : Plan) (M a : ℕ) → Settles p M → Has M a → Headed p a
-settled-headed p M a s h = go (supported (lent (p .rules)) (below (p .«rule_count»)) (p .given) M a s h)
+settled-headed p M a s h = go (supported (lent (p .rules)) (below (p .«rule_count»)) (p .once .given .word) M a s h)
   where
-    go : Supported (lent (p .rules)) (below (p .«rule_count»)) (p .given) a → Headed p a
+    go : Supported (lent (p .rules)) (below (p .«rule_count»)) (p .once .given .word) a → Headed p a
     go (inl fact) = inl fact
     go (inr r) = inr (r .0, below-lt (p .«rule_count») (r .1), r .2)
 

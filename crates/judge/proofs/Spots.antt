@@ -8,7 +8,7 @@ use native.Mathlib.Omega.{arith}
 use lib.ListN.{length, drop, length-drop}
 use Rattle.plan.specs.Faults.{spot}
 use Rattle.plan.specs.Record.{emptyPlan}
-use Rattle.reading.specs.Commands.{Kind, sizes, given, table, rule, usage, unit, edge, show, end, kindOf, carrying, commandAt}
+use Rattle.reading.specs.Commands.{Kind, single, table, rule, usage, unit, edge, end, kindOf, carrying, commandAt}
 use Rattle.reading.specs.Commands.{Row, operandRows, rows, firstFit, ofKind}
 use Rattle.reading.specs.Reading.{Step, onward, ended, stepOf, reading, commandBytes}
 use Rattle.reading.proofs.Commands.{known-command, unknown-command, adds, step-when, Leads}
@@ -43,14 +43,12 @@ first-fit-by n p (r ∷ rs) x a h = go (r .fits) refl (first-fit-by n p rs x (a 
     go false t rest = rw t rest
 
 operand-rows-by : (p : Plan) (at : ℕ) (k : Kind) (operands : List ℕ) → RowsBy (at + 1) (operandRows p at k operands)
-operand-rows-by p at sizes operands = tt
-operand-rows-by p at given operands = tt
+operand-rows-by p at (single s) operands = tt
 operand-rows-by p at table operands = (omega arith, tt)
 operand-rows-by p at rule operands = (omega arith, (omega arith, tt))
 operand-rows-by p at usage operands = (omega arith, tt)
 operand-rows-by p at unit operands = (omega arith, tt)
 operand-rows-by p at edge operands = (omega arith, tt)
-operand-rows-by p at show operands = tt
 operand-rows-by p at end operands = (omega arith, (omega arith, tt))
 
 rows-by : (p : Plan) (at : ℕ) (k : Kind) (operands : List ℕ) → RowsBy (at + 1) (rows p at k operands)

@@ -29,7 +29,7 @@ fn is_settled(plan: Plan, position: u64) -> bool
     ensures { λ r. ⌜ r ≡ settled plan position ⌝ }
 {
     let whole_program = atoms::first(plan.rule_count);
-    answer_sets::is_answer_set(&plan.rules, whole_program, plan.given, position)
+    answer_sets::is_answer_set(&plan.rules, whole_program, plan.once.given.word, position)
 }
 
 // The answer for a plan as bytes. Units and edges play no part in it, and neither does the graph.

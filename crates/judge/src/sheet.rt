@@ -48,7 +48,13 @@ fn judge_places(plan: Plan, positions: &[u8]) -> SheetAnswer
     let mut place = 0;
     while place < count {
         let position = read_word(positions, WORD_BYTES * place);
-        let judged = judge_set(&plan.rules, whole_program, plan.given, position, &mut memo);
+        let judged = judge_set(
+            &plan.rules,
+            whole_program,
+            plan.once.given.word,
+            position,
+            &mut memo,
+        );
         if !judged.answers {
             return SheetAnswer::NotSettledAt(place);
         }

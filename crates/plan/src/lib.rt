@@ -26,6 +26,8 @@ pub use limits::RULE_WORDS;
 pub use limits::TABLE_WORDS;
 pub use limits::USES;
 pub use record::Declared;
+pub use record::Once;
+pub use record::OnceWord;
 pub use record::Plan;
 pub use record::empty_plan;
 pub use record::with_count;

@@ -21,14 +21,25 @@ pub struct Declared {
     pub edges: usize,
 }
 
-// A read plan: the sizes it declares, its given atoms and those that show, its contact tables (two words each: inputs, truth) and behind their room
+// A word that may stand once: how many were read, none or one, and the word, or what holds without it.
+pub struct OnceWord {
+    pub count: usize,
+    pub word: u64,
+}
+
+// What may stand once in a plan: the sizes that its COUNT declares, the atoms of its GIVEN, and those of its SHOW.
+pub struct Once {
+    pub declared: Declared,
+    pub given: OnceWord,
+    pub shown: OnceWord,
+}
+
+// A read plan: what may stand once, its contact tables (two words each: inputs, truth) and behind their room
 // its rules (four words each: head, positive, negative, uses), its units and edges, zeros behind. Bit t of a rule's uses says that table t must be true, bit
 // MAX_TABLES + t that it must be false; bit v of predecessors[u] is the edge (u, v). The counts say how many commands of each kind
 // were read.
 pub struct Plan {
-    pub declared: Declared,
-    pub given: u64,
-    pub given_count: usize,
+    pub once: Once,
     pub rules: [u64; PROGRAM_WORDS],
     pub table_count: usize,
     pub rule_count: usize,
@@ -37,8 +48,6 @@ pub struct Plan {
     pub unit_count: usize,
     pub predecessors: [u64; MAX_UNITS],
     pub edge_count: usize,
-    pub shown: u64,
-    pub show_count: usize,
 }
 
 // The record of no commands.
@@ -46,14 +55,19 @@ pub fn empty_plan() -> Plan
     ensures { λ r. ⌜ r ≡ emptyPlan ⌝ }
 {
     Plan {
-        declared: Declared {
-            count: 0,
-            rules: 0,
-            units: 0,
-            edges: 0,
+        once: Once {
+            declared: Declared {
+                count: 0,
+                rules: 0,
+                units: 0,
+                edges: 0,
+            },
+            given: OnceWord { count: 0, word: 0 },
+            shown: OnceWord {
+                count: 0,
+                word: atoms::EVERY_ATOM,
+            },
         },
-        given: 0,
-        given_count: 0,
         rules: [0; PROGRAM_WORDS],
         table_count: 0,
         rule_count: 0,
@@ -62,8 +76,6 @@ pub fn empty_plan() -> Plan
         unit_count: 0,
         predecessors: [0; MAX_UNITS],
         edge_count: 0,
-        shown: atoms::EVERY_ATOM,
-        show_count: 0,
     }
 }
 
@@ -77,8 +89,10 @@ pub fn with_count(read: Plan, rules: u8, units: u8, edges: u8) -> Plan
         units: units as usize,
         edges: edges as usize,
     };
+    let mut once = read.once;
+    once.declared = declared;
     let mut next = read;
-    next.declared = declared;
+    next.once = once;
     next
 }
 
@@ -87,8 +101,8 @@ pub fn with_given(read: Plan, word: u64) -> Plan
     ensures { λ r. ⌜ r ≡ withGiven read word ⌝ }
 {
     let mut next = read;
-    next.given = word;
-    next.given_count = 1;
+    next.once.given.count = 1;
+    next.once.given.word = word;
     next
 }
 
@@ -166,7 +180,7 @@ pub fn with_show(read: Plan, word: u64) -> Plan
     ensures { λ r. ⌜ r ≡ withShow read word ⌝ }
 {
     let mut next = read;
-    next.shown = word;
-    next.show_count = 1;
+    next.once.shown.count = 1;
+    next.once.shown.word = word;
     next
 }

@@ -42,13 +42,13 @@ module _ {c : Contents} {P : Program} {r : ℕ} {w : RuleWords} (m : RuleMeans c
 
 module _ {c : Contents} {p : Plan} (m : Means c p) (which : ℕ) (These : ℕ → Type 0) (there : (r : ℕ) → Has which r → r < length (c .rules))
     (told : (r : ℕ) → Has which r → These r) (back : (r : ℕ) → r < length (c .rules) → These r → Has which r) where
-  model-told : {M N : ℕ} → ReductModel (lent (p .rules)) which (p .given) M N → KeptModel c These M N
+  model-told : {M N : ℕ} → ReductModel (lent (p .rules)) which (p .once .given .word) M N → KeptModel c These M N
   model-told x = record {
     given-up = λ word l. record { each = λ a h. x .facts-up .each a (m .given a .1 (word, l, h)) };
     each = λ r w n t b. satisfied-told (m .rule r w n) (x .each r (record { numbered = back r (number-lt n) t; holds = body-back (m .rule r w n) b }));
   }
 
-  model-back : {M N : ℕ} → KeptModel c These M N → ReductModel (lent (p .rules)) which (p .given) M N
+  model-back : {M N : ℕ} → KeptModel c These M N → ReductModel (lent (p .rules)) which (p .once .given .word) M N
   model-back x = record {
     facts-up = record { each = λ a h. let g = m .given a .0 h in x .given-up (g .0) (g .1) .each a (g .2) };
     each = λ r k.
@@ -57,7 +57,7 @@ module _ {c : Contents} {p : Plan} (m : Means c p) (which : ℕ) (These : ℕ �
         satisfied-back w (x .each r (n .0) (n .1) (told r (k .numbered)) (body-told w (k .holds)));
   }
 
-  pub sets-same : (M : ℕ) → AnswerSet (lent (p .rules)) which (p .given) M ↔ AnswerSetOf c These M
+  pub sets-same : (M : ℕ) → AnswerSet (lent (p .rules)) which (p .once .given .word) M ↔ AnswerSetOf c These M
   sets-same M = (
     λ s. record { model = model-told (s .model); minimal = λ N l x. s .minimal N l (model-back x) },
     λ s. record { model = model-back (s .model); minimal = λ N l x. s .minimal N l (model-told x) },

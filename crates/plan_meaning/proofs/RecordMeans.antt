@@ -19,6 +19,7 @@ use Rattle.atoms.proofs.Lists.{padded-at}
 use Rattle.plan.specs.Limits.{MAX_TABLES, MAX_RULES, MAX_UNITS, CONTACT_WORDS, FIRST_RULE, RULE_WORDS}
 use Rattle.contact_tables.specs.Table.{tableAnswer}
 use Rattle.answer_sets.specs.Lent.{lent, ruleAt, negative, inputs, truth, uses, looks, USE_BITS, usedTable, asks, useHolds, usesHold, usedInputs}
+use Rattle.reading.specs.Kinds.{single, given, show, table}
 use Rattle.reading.specs.Layout.{TableWords, RuleWords, TableUse, UnitPair, Contents, twoWords, usesOf, ruleWords, predecessorsOf, recordOf}
 use Rattle.reading.specs.Layout.{GoodTable, GoodUse, All, WithinLimits, Lays}
 use Rattle.reading.specs.Reading.{reading}
@@ -58,7 +59,7 @@ module _ (c : Contents) (within : WithinLimits c) where
   words = recordOf c .rules
 
   front-long : length (tableWords (c .tables)) ≡ FIRST_RULE
-  front-long = table-words-long (c .tables) (within .most-tables)
+  front-long = table-words-long (c .tables) (within .under table)
 
   two-words : (tables : List TableWords) {i : ℕ} {t : TableWords} → Number tables i t
       → (getD (flatMap twoWords tables) (CONTACT_WORDS * i) 0 ≡ t .inputs) × (getD (flatMap twoWords tables) (CONTACT_WORDS * i + 1) 0 ≡ t .truth)
@@ -81,8 +82,8 @@ module _ (c : Contents) (within : WithinLimits c) where
   table-words {i} n =
       let w = two-words (c .tables) n in
       let l = number-lt n in (
-        in-front (CONTACT_WORDS * i) (omega (arith, w .2)) (omega (arith, within .most-tables)) ∙ w .0,
-        in-front (CONTACT_WORDS * i + 1) (w .2) (omega (arith, within .most-tables)) ∙ w .1,
+        in-front (CONTACT_WORDS * i) (omega (arith, w .2)) (omega (arith, within .under table)) ∙ w .0,
+        in-front (CONTACT_WORDS * i + 1) (w .2) (omega (arith, within .under table)) ∙ w .1,
       )
 
   four-words : (n : ℕ) (rules : List RuleWords) {i : ℕ} {w : RuleWords} → Number rules i w
@@ -157,7 +158,7 @@ module _ (c : Contents) (within : WithinLimits c) where
 
   module _ (x : TableUse) (good : GoodUse (length (c .rules)) (length (c .tables)) x) (M : ℕ) where
     small : x .table < MAX_TABLES
-    small = omega (arith, good .table-there, within .most-tables)
+    small = omega (arith, good .table-there, within .under table)
 
     said : Bool
     said = tableAnswer (inputs words (x .table)) (truth words (x .table)) M
@@ -256,18 +257,18 @@ module _ (c : Contents) (within : WithinLimits c) where
 
   -- ---- the other lists
 
-  given-means : (a : ℕ) → Has (recordOf c .given) a ↔ ((word : ℕ) × List·Memᴰ word (c .given) × Has word a)
+  given-means : (a : ℕ) → Has (recordOf c .once .given .word) a ↔ ((word : ℕ) × List·Memᴰ word (c .once given) × Has word a)
   unfolding recordOf
-  given-means a = go (c .given) (within .one-given)
+  given-means a = go (c .once given) (within .under (single given))
     where
       go : (xs : List ℕ) → length xs ≤ 1 → Has (getD xs 0 0) a ↔ ((word : ℕ) × List·Memᴰ word xs × Has word a)
       go [] l = (λ h. absurd (has-none h), λ k. absurd (List·Memᴰ·not-nil (k .1)))
       go (x ∷ []) l = (λ h. (x, List·Memᴰ·head refl, h), λ k. subst (λ (v : ℕ). Has v a) (List·Memᴰ·eq-of-singleton (k .1)) (k .2))
       go (x ∷ y ∷ xs) l = absurd (omega arith)
 
-  shown-means : (a : ℕ) → a < ATOMS → Has (recordOf c .shown) a ↔ ((word : ℕ) → List·Memᴰ word (c .shown) → Has word a)
+  shown-means : (a : ℕ) → a < ATOMS → Has (recordOf c .once .shown .word) a ↔ ((word : ℕ) → List·Memᴰ word (c .once show) → Has word a)
   unfolding recordOf below
-  shown-means a s = go (c .shown) (within .one-shown)
+  shown-means a s = go (c .once show) (within .under (single show))
     where
       go : (xs : List ℕ) → length xs ≤ 1 → Has (getD xs 0 EVERY_ATOM) a ↔ ((word : ℕ) → List·Memᴰ word xs → Has word a)
       go [] l = (λ h word m. absurd (List·Memᴰ·not-nil m), λ k. has-below ATOMS a s)

@@ -2,6 +2,7 @@
 use mathlib.Core.List.{List·Memᴰ}
 use Prim.Native.Nat.{ℕ}
 use Rattle.atoms.specs.Word.{Has, _⊆_, _⊂_}
+use Rattle.reading.specs.Kinds.{given}
 use Rattle.reading.specs.Layout.{RuleWords, Contents}
 use Rattle.plan_meaning.specs.Meaning.{Number, RestHolds}
 
@@ -17,7 +18,7 @@ pub record RuleSatisfied (c : Contents) (r : ℕ) (w : RuleWords) (M : ℕ) : Ty
 -- N satisfies the facts and each of these rules that the reduct at M keeps: "the reduct at M keeps the rules whose body holds at M"; S-1: GIVEN's "atoms are
 -- facts of the whole program"
 pub record KeptModel (c : Contents) (These : ℕ → Type 0) (M N : ℕ) : Type 0 where
-  pub given-up : (word : ℕ) → List·Memᴰ word (c .given) → word ⊆ N
+  pub given-up : (word : ℕ) → List·Memᴰ word (c .once given) → word ⊆ N
   pub each : (r : ℕ) (w : RuleWords) → Number (c .rules) r w → These r → BodyHolds c r w M → RuleSatisfied c r w N
 
 -- "M is an answer set exactly if M satisfies all kept rules and no proper subset of M does.": of these rules and the given facts

@@ -7,6 +7,7 @@ use Prim.Native.Nat.{ℕ, zero, suc, _<_}
 use lib.ListN.{length, getD}
 use Rattle.atoms.specs.Word.{ATOMS, Has, Apart}
 use Rattle.plan.specs.declared.record.Plan.{Plan}
+use Rattle.reading.specs.Kinds.{given, show}
 use Rattle.reading.specs.Layout.{TableWords, RuleWords, TableUse, UnitPair, Contents}
 use Rattle.answer_sets.specs.Program.{Program}
 use Rattle.answer_sets.specs.Lent.{lent, looks}
@@ -45,7 +46,7 @@ pub record Means (c : Contents) (p : Plan) : Type 0 where
   pub rule : (r : ℕ) (w : RuleWords) → Number (c .rules) r w → RuleMeans c (lent (p .rules)) r w
   pub looks-at : (r : ℕ) (w : RuleWords) → Number (c .rules) r w → (a : ℕ) → Has (looks (p .rules) r) a ↔ LooksAt c r w a
   -- S-1: "Its atoms are facts of the whole program"
-  pub given : (a : ℕ) → Has (p .given) a ↔ ((word : ℕ) × List·Memᴰ word (c .given) × Has word a)
+  pub given : (a : ℕ) → Has (p .once .given .word) a ↔ ((word : ℕ) × List·Memᴰ word (c .once given) × Has word a)
   pub unit-count : p .«unit_count» ≡ length (c .units)
   -- "UNIT: one word, bit i for rule i"
   pub unit : (u word : ℕ) → Number (c .units) u word → getD (p .units) u 0 ≡ word
@@ -53,4 +54,4 @@ pub record Means (c : Contents) (p : Plan) : Type 0 where
   pub edge : (u v : ℕ) → u < length (c .units)
       → Has (getD (p .predecessors) u 0) v ↔ ((e : UnitPair) × List·Memᴰ e (c .edges) × (e .u ≡ u) × (e .v ≡ v))
   -- S-11: "without it all 64 atoms show"
-  pub shown : (a : ℕ) → a < ATOMS → Has (p .shown) a ↔ ((word : ℕ) → List·Memᴰ word (c .shown) → Has word a)
+  pub shown : (a : ℕ) → a < ATOMS → Has (p .once .shown .word) a ↔ ((word : ℕ) → List·Memᴰ word (c .once show) → Has word a)

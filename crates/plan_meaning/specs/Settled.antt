@@ -10,8 +10,8 @@ use Rattle.plan.specs.declared.record.Plan.{Plan}
 
 -- the position is an answer set of the whole program
 abbrev pub Settles : Plan → ℕ → Type 0
-Settles p M = AnswerSet (lent (p .rules)) (below (p .«rule_count»)) (p .given) M
+Settles p M = AnswerSet (lent (p .rules)) (below (p .«rule_count»)) (p .once .given .word) M
 
 -- the same, computed
 abbrev pub settled : Plan → ℕ → Bool
-settled p M = answerSet (lent (p .rules)) (below (p .«rule_count»)) (p .given) M
+settled p M = answerSet (lent (p .rules)) (below (p .«rule_count»)) (p .once .given .word) M

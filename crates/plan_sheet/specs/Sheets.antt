@@ -37,7 +37,7 @@ SHEET_BYTES = 14 + lineLength * LIST_WORDS
 -- the positions of a plan's sheet: what shows of the answer sets of all its rules as one set, with its given atoms as facts, each once, rising
 pub record Positions (p : Plan) (ws : List ℕ) : Type 0 where
   pub rising : Rising ws
-  pub members : (X : ℕ) → List·Memᴰ X ws ↔ CutOf (p .shown) (Settles p) X
+  pub members : (X : ℕ) → List·Memᴰ X ws ↔ CutOf (p .once .shown .word) (Settles p) X
 
 -- what a sheet says: of a plan that is listed its positions, one line each, and of any other its first fault; and what the plan's lists mean
 pub record SheetSays (bytes table sheet : List ℕ) : Type 0 where

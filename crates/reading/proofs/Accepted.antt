@@ -1,7 +1,7 @@
 -- Whenever reading accepts bytes they are the layout of lists within the limits, and the record is theirs.
 -- What each command keeps: the bytes read so far are the commands of lists within the limits, and the record is theirs.
 use mathlib.Core.Path.{_≡_, refl, ap, sym, _∙_, subst}
-use mathlib.Core.List.{List, _∷_, _++_, flatMap}
+use mathlib.Core.List.{List, [], _∷_, _++_, flatMap}
 use mathlib.Core.Bool.{Bool, true, false, true≢false}
 use Prim.Native.Nat.{ℕ, _+_, _*_, _^_, _≤_, _<_}
 use native.Mathlib.Omega.{arith}
@@ -10,16 +10,17 @@ use Rattle.atoms.specs.Word.{Has}
 use Rattle.atoms.proofs.Lists.{getD-tabulate}
 use Rattle.plan.specs.Limits.{MAX_UNITS}
 use Rattle.plan.specs.Record.{emptyPlan}
-use Rattle.reading.specs.Words.{WORD_BYTES, WORD_VALUES}
-use Rattle.reading.specs.Commands.{Kind, sizes, given, table, rule, usage, unit, edge, show, end, byteOf, operandBytes, miscounted}
+use Rattle.reading.specs.Commands.{Single, Kind, single, table, rule, usage, unit, edge, end}
+use Rattle.reading.specs.Commands.{kind-discrete, byteOf, operandBytes, miscounted}
 use Rattle.reading.specs.Reading.{reading, commandBytes}
-use Rattle.reading.specs.Layout.{Contents, Element, endBytes, commands, predecessorsOf, recordOf, IsByte, All, GoodTable, GoodRule, WithinLimits, IsPlan}
-use Rattle.reading.proofs.Numbers.{all-drop, word-fits}
+use Rattle.reading.specs.Layout.{Contents, Element, endBytes, commands, predecessorsOf, recordOf, IsByte, All}
+use Rattle.reading.specs.Layout.{GoodOnce, GoodTable, GoodRule, WithinLimits, IsPlan}
+use Rattle.reading.proofs.Numbers.{all-drop}
 use Rattle.reading.proofs.Commands.{Leads}
 use Rattle.reading.proofs.Walk.{walk-keeps}
 use Rattle.reading.proofs.Limits.{record-fits}
 use Rattle.reading.proofs.Predecessors.{pair, has-member}
-use Rattle.reading.proofs.Elements.{nothing, with, elementAt, operandsOf, written-again, Sized, Held, held-none, few-edges}
+use Rattle.reading.proofs.Elements.{nothing, with, elementAt, operandsOf, written-again, Sized, sized, Held, held-none, within-most}
 use Rattle.reading.proofs.Elements.{Fits, commands-with, commands-longer, record-none, more}
 use Rattle.reading.proofs.Lists.{all-snoc, all-member, empty}
 use Rattle.reading.proofs.Sizes.{counted-right}
@@ -29,93 +30,54 @@ use Rattle.plan.specs.declared.fault.Outcome.the-variants.{Accepted, Refused}
 
 -- ---- the words, one element more
 
-sized : (k : Kind) (s : List ℕ) → operandBytes k ≤ length s → All IsByte s → Sized k (elementAt k s)
-sized sizes s long b = tt
-sized given s long b = word-fits s 0 (omega arith) b
-sized table s long b = (word-fits s 0 (omega arith) b, word-fits s WORD_BYTES (omega arith) b)
-sized rule s long b = (word-fits s 0 (omega arith) b, (word-fits s WORD_BYTES (omega arith) b, word-fits s (2 * WORD_BYTES) (omega arith) b))
-sized unit s long b = word-fits s 0 (omega arith) b
-sized usage s long b = tt
-sized edge s long b = tt
-sized show s long b = word-fits s 0 (omega arith) b
-sized end s long b = tt
-
 -- what is asked of the elements beyond what `Held` has
 pub record Good (c : Contents) : Type 0 where
-  pub good-given : All (λ word. word < WORD_VALUES) (c .given)
+  pub good-once : (s : Single) → All (GoodOnce s) (c .once s)
   pub good-tables : All GoodTable (c .tables)
   pub good-rules : All GoodRule (c .rules)
   pub good-units : All (λ word. word < 2 ^ length (c .rules)) (c .units)
-  pub good-shown : All (λ word. word < WORD_VALUES) (c .shown)
+
+-- an element keeps its size where its kind is called by another name
+sized-as : {j k : Kind} (e : j ≡ k) (x : Element j) → Sized j x → Sized k (subst Element e x)
+sized-as e x z = coe 0 1 (i. Sized (e i) (coe 0 i (h. Element (e h)) x)) z
+
+once-with : (c : Contents) (s : Single) (x : Element (single s)) → Sized (single s) x → Good c → (t : Single) → All (GoodOnce t) (with c (single s) x .once t)
+once-with c s x z g t = go (kind-discrete (single s) (single t))
+  where
+    go : (d : Dec (single s ≡ single t))
+        → All (GoodOnce t) (elim d [ yes e ↦ c .once t ++ (subst Element e x ∷ []) | no n ↦ c .once t ])
+    go (yes e) = all-snoc (GoodOnce t) (c .once t) (subst Element e x) (g .good-once t) (sized-as e x z)
+    go (no n) = g .good-once t
 
 good-with : (c : Contents) (k : Kind) (x : Element k) → Sized k x → Fits c k x → Good c → Good (with c k x)
 unfolding recordOf
-good-with c sizes s z f g =
-    record {
-      good-given = g .good-given;
-      good-tables = g .good-tables;
-      good-rules = g .good-rules;
-      good-units = g .good-units;
-      good-shown = g .good-shown;
-    }
-good-with c given w z f g =
-    record {
-      good-given = all-snoc (λ y. y < WORD_VALUES) (c .given) w (g .good-given) z;
-      good-tables = g .good-tables;
-      good-rules = g .good-rules;
-      good-units = g .good-units;
-      good-shown = g .good-shown;
-    }
+good-with c (single s) x z f g =
+    record { good-once = once-with c s x z g; good-tables = g .good-tables; good-rules = g .good-rules; good-units = g .good-units }
 good-with c table t z f g =
     let good : GoodTable t = record { inputs-fit = z .0; truth-fits = z .1; few-inputs = f .right .0; rows-there = f .right .1 } in
     record {
-      good-given = g .good-given;
+      good-once = g .good-once;
       good-tables = all-snoc GoodTable (c .tables) t (g .good-tables) good;
       good-rules = g .good-rules;
       good-units = g .good-units;
-      good-shown = g .good-shown;
     }
 good-with c rule r z f g =
     let good : GoodRule r = record { head-fits = z .0; positive-fits = z .1 .0; negative-fits = z .1 .1; some-word = f .right .0; none-shared = f .right .1 } in
     record {
-      good-given = g .good-given;
+      good-once = g .good-once;
       good-tables = g .good-tables;
       good-rules = all-snoc GoodRule (c .rules) r (g .good-rules) good;
       good-units = rw (empty (c .units) (omega (arith, f .in-place .on-time))) tt;
-      good-shown = g .good-shown;
     }
-good-with c usage x z f g =
-    record {
-      good-given = g .good-given;
-      good-tables = g .good-tables;
-      good-rules = g .good-rules;
-      good-units = g .good-units;
-      good-shown = g .good-shown;
-    }
+good-with c usage x z f g = record { good-once = g .good-once; good-tables = g .good-tables; good-rules = g .good-rules; good-units = g .good-units }
 good-with c unit w z f g =
     record {
-      good-given = g .good-given;
+      good-once = g .good-once;
       good-tables = g .good-tables;
       good-rules = g .good-rules;
       good-units = all-snoc (λ y. y < 2 ^ length (c .rules)) (c .units) w (g .good-units) (f .right);
-      good-shown = g .good-shown;
     }
-good-with c edge e z f g =
-    record {
-      good-given = g .good-given;
-      good-tables = g .good-tables;
-      good-rules = g .good-rules;
-      good-units = g .good-units;
-      good-shown = g .good-shown;
-    }
-good-with c show w z f g =
-    record {
-      good-given = g .good-given;
-      good-tables = g .good-tables;
-      good-rules = g .good-rules;
-      good-units = g .good-units;
-      good-shown = all-snoc (λ y. y < WORD_VALUES) (c .shown) w (g .good-shown) z;
-    }
+good-with c edge e z f g = record { good-once = g .good-once; good-tables = g .good-tables; good-rules = g .good-rules; good-units = g .good-units }
 good-with c end x z f g = g
 
 -- ---- reading on
@@ -161,7 +123,7 @@ module _ (whole : List ℕ) where
       record {
         contents = nothing;
         held = held-none;
-        good = record { good-given = tt; good-tables = tt; good-rules = tt; good-units = tt; good-shown = tt };
+        good = record { good-once = λ s. tt; good-tables = tt; good-rules = tt; good-units = tt };
         record-is = sym record-none;
         bytes-are = refl;
         placed = refl;
@@ -172,15 +134,8 @@ module _ (whole : List ℕ) where
   read-within p at s r =
       let h = r .held in
       record {
-        one-count = h .few .under sizes;
-        one-given = h .few .under given;
-        most-tables = h .few .under table;
-        most-rules = h .few .under rule;
-        most-uses = h .few .under usage;
-        most-units = h .few .under unit;
-        most-edges = few-edges (r .contents) h;
-        one-shown = h .few .under show;
-        good-given = r .good .good-given;
+        under = within-most (r .contents) h;
+        good-once = r .good .good-once;
         good-tables = r .good .good-tables;
         good-rules = r .good .good-rules;
         good-uses = h .few .good-uses;
@@ -188,7 +143,6 @@ module _ (whole : List ℕ) where
         good-units = r .good .good-units;
         good-edges = h .good-edges;
         no-repeat = h .no-repeat;
-        good-shown = r .good .good-shown;
       }
 
   read-ended : (p : Plan) (at : ℕ) (s : List ℕ) → Read whole p at s → s ≡ endBytes → miscounted p ≡ false → IsPlan whole p

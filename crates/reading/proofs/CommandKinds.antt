@@ -1,31 +1,31 @@
 -- Kinds of commands: their bytes, and the order of their groups. Kinds are gone through as a list, so that no law speaks of pairs of kinds.
 use mathlib.Core.Path.{_≡_, refl, ap, sym, _∙_, subst}
 use mathlib.Core.List.{List, [], _∷_, List·Memᴰ, List·Memᴰ·head, List·Memᴰ·tail, List·Memᴰ·not-nil, List·Memᴰ·cases-cons}
-use mathlib.Core.Bool.{Bool, true, false, _&&_}
+use mathlib.Core.Bool.{Bool, true, false, _&&_, _||_}
 use mathlib.Core.Logic.{_⊎_, inl, inr}
 use mathlib.Core.Option.{some, none}
-use Prim.Native.Nat.{ℕ, _+_, _≤_, _<_}
+use Prim.Native.Nat.{ℕ, zero, suc, _+_, _≤_, _<_}
 use native.Mathlib.Omega.{arith}
 use native.Mathlib.Decide.{decLt}
 use lib.Dec.{eqb, ltb, leb}
 use borrow.Author.Tests.{leb-true, eqb-true, ne-eqb, ltb-true, ltb-false, lt-ltb, le-ltb}
 use Rattle.atoms.proofs.Tests.{bool-ext, and-true}
-use Rattle.reading.specs.Commands.{Kind, sizes, given, table, rule, usage, unit, edge, show, end, byteOf, kindAmong, kinds, kindOf, orderOf}
-use Rattle.reading.specs.Commands.{earliestBehind, count, countBehind, late}
+use Rattle.reading.specs.Commands.{Kind, single, sizes, given, show, table, rule, usage, unit, edge, end, byteOf, kindAmong, kinds, kindOf, orderOf}
+use Rattle.reading.specs.Commands.{earliestBehind, count, someBehind, late}
 use Rattle.plan.specs.declared.record.Plan.{Plan}
 
 -- ---- bytes
 
 pub kind-of-byte : (k : Kind) → kindOf (byteOf k) ≡ some k
 unfolding kindOf
-kind-of-byte sizes = refl
-kind-of-byte given = refl
+kind-of-byte (single sizes) = refl
+kind-of-byte (single given) = refl
 kind-of-byte table = refl
 kind-of-byte rule = refl
 kind-of-byte usage = refl
 kind-of-byte unit = refl
 kind-of-byte edge = refl
-kind-of-byte show = refl
+kind-of-byte (single show) = refl
 kind-of-byte end = refl
 
 -- what a byte names is listed, and has that byte
@@ -89,7 +89,35 @@ each-kind test all k = among kinds (all-kinds k) all
 pub order-end : (k : Kind) → orderOf k ≤ orderOf end
 order-end k = leb-true _ _ (each-kind (λ j. leb (orderOf j) (orderOf end)) refl k)
 
+some-of : (m n : ℕ) → ((ltb 0 m && true) || ltb 0 n) ≡ ltb 0 (m + n)
+some-of zero n = let e : n ≡ 0 + n = omega arith in ap (ltb 0) e
+some-of (suc m) n = simp (lt-ltb 0 (suc m) (omega arith), lt-ltb 0 (suc m + n) (omega arith))
+
+and-none : (a b : Bool) → ((a && false) || b) ≡ b
+and-none true b = refl
+and-none false b = refl
+
+-- how many commands are read behind which none of this group may come
+abbrev pub countBehind : Plan → ℕ → List Kind → ℕ
+countBehind p group [] = 0
+countBehind p group (j ∷ js) =
+    elim (ltb group (orderOf (earliestBehind j))) [ true ↦ count p j + countBehind p group js | false ↦ countBehind p group js ]
+
 module _ (p : Plan) (group : ℕ) where
+  -- there is one exactly if their count says so
+  some-counted : (js : List Kind) → someBehind p group js ≡ ltb 0 (countBehind p group js)
+  some-counted [] = refl
+  some-counted (j ∷ js) = go (ltb group (orderOf (earliestBehind j))) refl (some-counted js)
+    where
+      go : (t : Bool) → ltb group (orderOf (earliestBehind j)) ≡ t → someBehind p group js ≡ ltb 0 (countBehind p group js)
+          → someBehind p group (j ∷ js) ≡ ltb 0 (countBehind p group (j ∷ js))
+      go true t rec = rw (t, someBehind, countBehind, rec) (some-of (count p j) (countBehind p group js))
+      go false t rec = rw (t, someBehind, countBehind, rec) (and-none (ltb 0 (count p j)) (ltb 0 (countBehind p group js)))
+
+  pub late-counted : late p group ≡ ltb 0 (countBehind p group kinds)
+  unfolding late
+  late-counted = some-counted kinds
+
   -- a command that is counted, and behind which none of the group may come
   pub record Later : Type 0 where
     pub kind : Kind
@@ -132,32 +160,6 @@ module _ (p : Plan) (group : ℕ) where
   pub none-behind : countBehind p group kinds ≤ 0 → (k : Kind) → group < orderOf (earliestBehind k) → count p k ≤ 0
   none-behind h k l = none-later kinds h k (all-kinds k) l
 
--- the last group that is read tells which groups come too late
-pub late-behind : (p : Plan) (k : Kind) (group : ℕ) → 0 < count p k → countBehind p (orderOf (earliestBehind k)) kinds ≤ 0
-    → ltb group (orderOf (earliestBehind k)) ≡ late p group
-unfolding late
-late-behind p k group there last =
-    bool-ext _ _ (λ t. lt-ltb _ _ (counted (ltb-true _ _ t) (decLt 0 (countBehind p group kinds))))
-    (λ t. lt-ltb _ _ (before (later-there p group (ltb-true _ _ t)) (decLt group first)))
-  where
-    first : ℕ
-    first = orderOf (earliestBehind k)
-
-    counted : group < first → Dec (0 < countBehind p group kinds) → 0 < countBehind p group kinds
-    counted l (yes h) = h
-    counted l (no h) = absurd (omega (arith, none-behind p group (omega arith) k l))
-
-    before : Later p group → Dec (group < first) → group < first
-    before j (yes h) = h
-    before j (no h) = absurd (omega (arith, j .there, none-behind p first last (j .kind) (omega (arith, j .behind))))
-
--- nothing is late where nothing is read
-pub late-none : (p : Plan) (group : ℕ) → countBehind p 0 kinds ≤ 0 → false ≡ late p group
-unfolding late
-late-none p group h0 = sym (le-ltb _ _ (go (decLt 0 (countBehind p group kinds))))
-  where
-    go : Dec (0 < countBehind p group kinds) → countBehind p group kinds ≤ 0
-    go (yes h) =
-        let j = later-there p group h in
-        absurd (omega (arith, j .there, none-behind p 0 h0 (j .kind) (omega (arith, j .behind))))
-    go (no h) = omega arith
+-- END never comes too late
+pub end-in-time : (p : Plan) → late p (orderOf end) ≡ false
+end-in-time p = late-counted p (orderOf end)

@@ -12,10 +12,10 @@ use lib.Seq.{take-all, drop-cons}
 use lib.Dec.{eqb}
 use borrow.Author.Tests.{eqb-true, ltb-false, leb-false, le-ltb, not-false}
 use Rattle.plan.specs.Record.{emptyPlan}
-use Rattle.reading.specs.Commands.{Kind, sizes, given, table, rule, usage, unit, edge, show, end, byteOf, kinds, kindOf, operandBytes, orderOf, carrying}
+use Rattle.reading.specs.Commands.{Kind, single, sizes, given, show, table, rule, usage, unit, edge, end, byteOf, kinds, kindOf, operandBytes, orderOf, carrying}
 use Rattle.reading.specs.Commands.{Most, once, upTo, runsOutAt, mostOf, count, noRoom}
-use Rattle.reading.specs.Commands.{countBehind, late, full, Row, kindRows, operandRows, rows, firstFit, ofKind, commandAt}
-use Rattle.reading.proofs.CommandKinds.{kind-of-byte, kind-byte, byte-own, no-kind}
+use Rattle.reading.specs.Commands.{full, Row, kindRows, operandRows, rows, firstFit, ofKind, commandAt}
+use Rattle.reading.proofs.CommandKinds.{kind-of-byte, kind-byte, byte-own, no-kind, countBehind, late-counted}
 use Rattle.reading.specs.Reading.{Step, onward, ended, stepOf, accepted, refused}
 use Rattle.reading.specs.Progress.{kindOfStep}
 use Rattle.plan.specs.declared.record.Plan.{Plan}
@@ -79,12 +79,10 @@ room-left k {p} i = left (mostOf k) (i .room)
     left (runsOutAt m) e = tt
 
 pub passed-in-place : (p : Plan) (at : ℕ) (k : Kind) → Passed (kindRows p at k) → InPlace p k
-unfolding late
-passed-in-place p at k h = record { on-time = ltb-false _ _ (h .0); room = h .1 .0 }
+passed-in-place p at k h = record { on-time = ltb-false _ _ (sym (late-counted p (orderOf k)) ∙ h .0); room = h .1 .0 }
 
 pub in-place-passed : (p : Plan) (at : ℕ) (k : Kind) → InPlace p k → Passed (kindRows p at k)
-unfolding late
-in-place-passed p at k h = (le-ltb _ _ (h .on-time), (h .room, tt))
+in-place-passed p at k h = (late-counted p (orderOf k) ∙ le-ltb _ _ (h .on-time), (h .room, tt))
 
 -- ---- a command at the front of s: one that no row stops, or a fault
 
@@ -153,14 +151,14 @@ stepWhen false more last = last
 step-is : (p : Plan) (k : Kind) (operands : List ℕ)
     → stepOf p (carrying k operands) ≡ stepWhen (adds k) (onward k (grown p k operands)) (ended (accepted p))
 unfolding carrying
-step-is p sizes operands = refl
-step-is p given operands = refl
+step-is p (single sizes) operands = refl
+step-is p (single given) operands = refl
 step-is p table operands = refl
 step-is p rule operands = refl
 step-is p usage operands = refl
 step-is p unit operands = refl
 step-is p edge operands = refl
-step-is p show operands = refl
+step-is p (single show) operands = refl
 step-is p end operands = refl
 
 module _ (p : Plan) (k : Kind) (operands : List ℕ) where

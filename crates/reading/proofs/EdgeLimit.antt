@@ -1,4 +1,4 @@
--- "every reading fault, a 241st EDGE .. included": behind MAX_EDGES edges and no SHOW none is new, so a further EDGE is 8, or 2 where it is cut short.
+-- "every reading fault, a 241st EDGE .. included": behind MAX_EDGES edges, and nothing that comes behind EDGEs, none is new, so a further EDGE is 8, or 2 where it is cut short.
 use mathlib.Core.Path.{_≡_, refl, ap, _∙_}
 use mathlib.Core.List.{List, [], _∷_, _++_}
 use mathlib.Core.Bool.{true, false}
@@ -10,11 +10,11 @@ use borrow.Author.Tests.{lt-ltb, le-ltb}
 use Rattle.atoms.proofs.Tests.{decided, decided-true}
 use Rattle.plan.specs.Limits.{MAX_EDGES}
 use Rattle.plan.specs.Faults.{RefusedBy}
-use Rattle.reading.specs.Commands.{edge, byteOf, kinds, operandBytes, orderOf, countBehind, late, badEdge, ofKind, commandAt}
+use Rattle.reading.specs.Commands.{single, table, rule, usage, unit, edge, byteOf, kinds, operandBytes, orderOf, late, badEdge, ofKind, commandAt}
 use Rattle.reading.specs.Reading.{stepOf, reading, refused}
 use Rattle.reading.specs.Layout.{UnitPair, Contents, commands, recordOf, GoodEdge, WithinLimits}
-use Rattle.reading.specs.Refusals.{NoNewEdge, no-such-u, no-such-v, to-itself, repeated}
-use Rattle.reading.proofs.CommandKinds.{kind-of-byte}
+use Rattle.reading.specs.Refusals.{behindEdges, NoNewEdge, no-such-u, no-such-v, to-itself, repeated}
+use Rattle.reading.proofs.CommandKinds.{kind-of-byte, countBehind, late-counted}
 use Rattle.reading.proofs.Commands.{known-command}
 use Rattle.reading.proofs.Walk.{walk-ended}
 use Rattle.reading.proofs.Elements.{with, Few, few-so, few-within, Held, few-edges}
@@ -27,7 +27,7 @@ use Rattle.reading.specs.declared.reader.Reading.{Reading}
 use Rattle.reading.specs.declared.command.Command.{Command}
 use Rattle.reading.specs.declared.command.Command.the-variants.{Fault as Faulty}
 
-module _ (c : Contents) (w : WithinLimits c) (all : length (c .edges) ≡ MAX_EDGES) (unshown : c .shown ≡ []) where
+module _ (c : Contents) (w : WithinLimits c) (all : length (c .edges) ≡ MAX_EDGES) (last : behindEdges c ≡ 0) where
   few : Few c
   few = few-within w
 
@@ -54,7 +54,7 @@ module _ (c : Contents) (w : WithinLimits c) (all : length (c .edges) ≡ MAX_ED
       held new =
           record {
             few =
-                few-so (more new) (w .one-count) (w .one-given) (w .most-tables) (w .most-rules) (w .most-uses) (w .most-units) (w .one-shown) (w .good-uses);
+                few-so (more new) (λ s. w .under (single s)) (w .under table) (w .under rule) (w .under usage) (w .under unit) (w .good-uses);
             no-use-again = w .no-use-again;
             good-edges = all-snoc (GoodEdge (length (c .units))) (c .edges) e (w .good-edges) (good new);
             no-repeat = distinct-snoc (c .edges) e (w .no-repeat) (λ m. new (repeated m));
@@ -66,8 +66,8 @@ module _ (c : Contents) (w : WithinLimits c) (all : length (c .edges) ≡ MAX_ED
 
   module _ (more : List ℕ) where
     in-time : late (recordOf c) (orderOf edge) ≡ false
-    unfolding late recordOf
-    in-time = le-ltb 0 (countBehind (recordOf c) (orderOf edge) kinds) (omega (arith, ap length unshown))
+    unfolding recordOf
+    in-time = late-counted (recordOf c) (orderOf edge) ∙ le-ltb 0 (countBehind (recordOf c) (orderOf edge) kinds) (omega (arith, last))
 
     abbrev at : ℕ
     at = length (commands c)

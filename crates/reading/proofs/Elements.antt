@@ -20,17 +20,18 @@ use Rattle.atoms.proofs.Tests.{decided-true, decided-false, not-both, decides-a
 use Rattle.plan.specs.Limits.{MAX_TABLES, MAX_RULES, MAX_USES, MAX_UNITS, MAX_EDGES, MAX_INPUTS}
 use Rattle.plan.specs.Record.{usesAt, emptyPlan, withCount, withGiven, withTable, withRule, withUse, withUnit, withEdge, withShow}
 use Rattle.reading.specs.Words.{WORD_BYTES, WORD_VALUES, wordAt}
-use Rattle.reading.specs.Commands.{Kind, sizes, given, table, rule, usage, unit, edge, show, end, byteOf, operandBytes, carrying, operandRows}
+use Rattle.reading.specs.Commands.{Single, sizes, given, show, Kind, single, table, rule, usage, unit, edge, end}
+use Rattle.reading.specs.Commands.{byteOf, operandBytes, carrying, operandRows}
 use Rattle.reading.specs.Commands.{kind-discrete, Most, once, upTo, runsOutAt, mostOf, orderOf, earliestBehind, count}
 use Rattle.reading.specs.Commands.{emptyRule, contradictory, badUse, absentRule, badEdge}
-use Rattle.reading.specs.Layout.{TableWords, RuleWords, TableUse, UnitPair, Contents, Element, listOf}
+use Rattle.reading.specs.Layout.{TableWords, RuleWords, TableUse, UnitPair, Contents, Element, listOf, atMost}
 use Rattle.reading.specs.Layout.{wordBytes, countBytes, givenBytes, tableBytes, ruleBytes, useBytes}
 use Rattle.reading.specs.Layout.{unitBytes, edgeBytes, showBytes, commands, wordOf, usesOf, ruleWords, predecessorsOf, recordOf, IsByte, All, Distinct}
-use Rattle.reading.specs.Layout.{GoodUse, GoodEdge, WithinLimits}
+use Rattle.reading.specs.Layout.{GoodOnce, GoodUse, GoodEdge, WithinLimits}
 use Rattle.reading.specs.Reading.{commandBytes}
 use Rattle.reading.specs.Layout.{countOf}
 use Rattle.reading.proofs.CommandKinds.{each-kind, none-behind}
-use Rattle.reading.proofs.Numbers.{length-bytes, word-behind, word-bytes}
+use Rattle.reading.proofs.Numbers.{length-bytes, word-behind, word-bytes, word-fits}
 use Rattle.reading.proofs.Edges.{not-bad-edge}
 use Rattle.reading.proofs.Uses.{not-bad-use}
 use Rattle.reading.proofs.Tables.{decides-bad-table, right-table, no-wrong-table}
@@ -45,14 +46,12 @@ use Rattle.plan.specs.declared.record.Plan.{Plan}
 abbrev contentsOf : ((k : Kind) → List (Element k)) → Contents
 contentsOf lists =
     record {
-      declared = lists sizes;
-      given = lists given;
+      once = λ s. lists (single s);
       tables = lists table;
       rules = lists rule;
       uses = lists usage;
       units = lists unit;
       edges = lists edge;
-      shown = lists show;
     }
 
 abbrev pub nothing : Contents
@@ -69,41 +68,41 @@ with c k x = contentsOf (λ j. added k x j (listOf c j))
 
 -- the bytes of an element
 abbrev pub operandsOf : (k : Kind) → Element k → List ℕ
-operandsOf sizes s = s .rules ∷ s .units ∷ s .edges ∷ []
-operandsOf given w = wordBytes w
+operandsOf (single sizes) s = s .rules ∷ s .units ∷ s .edges ∷ []
+operandsOf (single given) w = wordBytes w
 operandsOf table t = wordBytes (t .inputs) ++ wordBytes (t .truth)
 operandsOf rule r = wordBytes (r .head) ++ (wordBytes (r .positive) ++ wordBytes (r .negative))
 operandsOf usage x = x .rule ∷ x .table ∷ x .sign ∷ []
 operandsOf unit w = wordBytes w
 operandsOf edge e = e .u ∷ e .v ∷ []
-operandsOf show w = wordBytes w
+operandsOf (single show) w = wordBytes w
 operandsOf end x = []
 
 -- the element that the bytes spell
 abbrev pub elementAt : (k : Kind) → List ℕ → Element k
-elementAt sizes s = record { rules = getD s 0 0; units = getD s 1 0; edges = getD s 2 0 }
-elementAt given s = wordAt 0 s
+elementAt (single sizes) s = record { rules = getD s 0 0; units = getD s 1 0; edges = getD s 2 0 }
+elementAt (single given) s = wordAt 0 s
 elementAt table s = record { inputs = wordAt 0 s; truth = wordAt WORD_BYTES s }
 elementAt rule s = record { head = wordAt 0 s; positive = wordAt WORD_BYTES s; negative = wordAt (2 * WORD_BYTES) s }
 elementAt usage s = record { rule = getD s 0 0; table = getD s 1 0; sign = getD s 2 0 }
 elementAt unit s = wordAt 0 s
 elementAt edge s = record { u = getD s 0 0; v = getD s 1 0 }
-elementAt show s = wordAt 0 s
+elementAt (single show) s = wordAt 0 s
 elementAt end s = tt
 
 word-long : (w : ℕ) → length (wordBytes w) ≡ WORD_BYTES
 word-long w = length-bytes WORD_BYTES w
 
 pub operands-long : (k : Kind) (x : Element k) → length (operandsOf k x) ≡ operandBytes k
-operands-long sizes s = refl
-operands-long given w = word-long w
+operands-long (single sizes) s = refl
+operands-long (single given) w = word-long w
 operands-long table t = simp (length-append, length-bytes WORD_BYTES (t .inputs), length-bytes WORD_BYTES (t .truth))
 operands-long rule r =
     simp (length-append, length-bytes WORD_BYTES (r .head), length-bytes WORD_BYTES (r .positive), length-bytes WORD_BYTES (r .negative))
 operands-long usage x = refl
 operands-long unit w = word-long w
 operands-long edge e = refl
-operands-long show w = word-long w
+operands-long (single show) w = word-long w
 operands-long end x = refl
 
 -- the word's bytes at n
@@ -115,11 +114,11 @@ word-more s n = ap (λ (t : List ℕ). wordPart s n ++ t) (sym (drop-drop WORD_B
 
 -- bytes, read and written again
 pub written-again : (k : Kind) (s : List ℕ) → operandBytes k ≤ length s → All IsByte s → operandsOf k (elementAt k s) ++ drop (operandBytes k) s ≡ s
-written-again sizes [] long b = absurd (omega arith)
-written-again sizes (x ∷ []) long b = absurd (omega arith)
-written-again sizes (x ∷ y ∷ []) long b = absurd (omega arith)
-written-again sizes (x ∷ y ∷ z ∷ s) long b = refl
-written-again given s long b = rw (word-bytes s 0 (omega arith) b) (word-more s 0)
+written-again (single sizes) [] long b = absurd (omega arith)
+written-again (single sizes) (x ∷ []) long b = absurd (omega arith)
+written-again (single sizes) (x ∷ y ∷ []) long b = absurd (omega arith)
+written-again (single sizes) (x ∷ y ∷ z ∷ s) long b = refl
+written-again (single given) s long b = rw (word-bytes s 0 (omega arith) b) (word-more s 0)
 written-again table s long b =
     rw (word-bytes s 0 (omega arith) b, word-bytes s WORD_BYTES (omega arith) b)
     (append-assoc (wordPart s 0) (wordPart s WORD_BYTES) (drop (operandBytes table) s)
@@ -140,33 +139,40 @@ written-again unit s long b = rw (word-bytes s 0 (omega arith) b) (word-more s 0
 written-again edge [] long b = absurd (omega arith)
 written-again edge (x ∷ []) long b = absurd (omega arith)
 written-again edge (x ∷ y ∷ s) long b = refl
-written-again show s long b = rw (word-bytes s 0 (omega arith) b) (word-more s 0)
+written-again (single show) s long b = rw (word-bytes s 0 (omega arith) b) (word-more s 0)
 written-again end s long b = refl
 
 -- ---- what fits behind the lists
 
 -- words of 64 bits
 abbrev pub Sized : (k : Kind) → Element k → Type 0
-Sized sizes s = Unit {0}
-Sized given w = w < WORD_VALUES
+Sized (single s) x = GoodOnce s x
 Sized table t = (t .inputs < WORD_VALUES) × (t .truth < WORD_VALUES)
 Sized rule r = (r .head < WORD_VALUES) × ((r .positive < WORD_VALUES) × (r .negative < WORD_VALUES))
 Sized usage x = Unit {0}
 Sized unit w = w < WORD_VALUES
 Sized edge e = Unit {0}
-Sized show w = w < WORD_VALUES
 Sized end x = Unit {0}
+
+pub sized : (k : Kind) (s : List ℕ) → operandBytes k ≤ length s → All IsByte s → Sized k (elementAt k s)
+sized (single sizes) s long b = tt
+sized (single given) s long b = word-fits s 0 (omega arith) b
+sized table s long b = (word-fits s 0 (omega arith) b, word-fits s WORD_BYTES (omega arith) b)
+sized rule s long b = (word-fits s 0 (omega arith) b, (word-fits s WORD_BYTES (omega arith) b, word-fits s (2 * WORD_BYTES) (omega arith) b))
+sized unit s long b = word-fits s 0 (omega arith) b
+sized usage s long b = tt
+sized edge s long b = tt
+sized (single show) s long b = word-fits s 0 (omega arith) b
+sized end s long b = tt
 
 -- rows 18, 6, 21, 19, 7 and 8
 abbrev pub Right : Contents → (k : Kind) → Element k → Type 0
-Right c sizes s = Unit {0}
-Right c given w = Unit {0}
+Right c (single s) x = Unit {0}
 Right c table t = (ones (t .inputs) ≤ MAX_INPUTS) × ((j : ℕ) → Has (t .truth) j → j < 2 ^ ones (t .inputs))
 Right c rule r = (¬ ((r .head ≡ 0) × ((r .positive ≡ 0) × (r .negative ≡ 0)))) × Apart (r .positive) (r .negative)
 Right c usage x = GoodUse (length (c .rules)) (length (c .tables)) x × ¬ List·Memᴰ x (c .uses)
 Right c unit w = w < 2 ^ length (c .rules)
 Right c edge e = GoodEdge (length (c .units)) e × ¬ List·Memᴰ e (c .edges)
-Right c show w = Unit {0}
 Right c end x = Unit {0}
 
 -- no more than column "most" allows
@@ -180,17 +186,13 @@ pub record Few (c : Contents) : Type 0 where
   pub under : (k : Kind) → Under (mostOf k) (countOf c k)
   pub good-uses : All (GoodUse (length (c .rules)) (length (c .tables))) (c .uses)
 
-pub few-so : (c : Contents) → length (c .declared) ≤ 1 → length (c .given) ≤ 1 → length (c .tables) ≤ MAX_TABLES → length (c .rules) ≤ MAX_RULES
-    → length (c .uses) ≤ MAX_USES → length (c .units) ≤ MAX_UNITS → length (c .shown) ≤ 1
-    → All (GoodUse (length (c .rules)) (length (c .tables))) (c .uses) → Few c
-few-so c d g t r x u s good =
-    record {
-      under = elim [ sizes ↦ d | given ↦ g | table ↦ t | rule ↦ r | usage ↦ x | unit ↦ u | edge ↦ tt | show ↦ s | end ↦ tt ];
-      good-uses = good;
-    }
+pub few-so : (c : Contents) → ((s : Single) → length (c .once s) ≤ 1) → length (c .tables) ≤ MAX_TABLES → length (c .rules) ≤ MAX_RULES
+    → length (c .uses) ≤ MAX_USES → length (c .units) ≤ MAX_UNITS → All (GoodUse (length (c .rules)) (length (c .tables))) (c .uses) → Few c
+few-so c o t r x u good =
+    record { under = elim [ single s ↦ o s | table ↦ t | rule ↦ r | usage ↦ x | unit ↦ u | edge ↦ tt | end ↦ tt ]; good-uses = good }
 
 pub few-within : {c : Contents} → WithinLimits c → Few c
-few-within {c} w = few-so c (w .one-count) (w .one-given) (w .most-tables) (w .most-rules) (w .most-uses) (w .most-units) (w .one-shown) (w .good-uses)
+few-within {c} w = few-so c (λ s. w .under (single s)) (w .under table) (w .under rule) (w .under usage) (w .under unit) (w .good-uses)
 
 pub record Held (c : Contents) : Type 0 where
   pub few : Few c
@@ -205,8 +207,8 @@ pub record Fits (c : Contents) (k : Kind) (x : Element k) : Type 0 where
 
 -- an element, written and read again
 pub read-again : (k : Kind) (x : Element k) (rest : List ℕ) → Sized k x → elementAt k (operandsOf k x ++ rest) ≡ x
-read-again sizes s rest g = refl
-read-again given w rest g = word-behind [] 0 w rest refl g
+read-again (single sizes) s rest g = refl
+read-again (single given) w rest g = word-behind [] 0 w rest refl g
 read-again table t rest g =
     let n = wordBytes (t .inputs) in
     let first : wordAt 0 ((n ++ wordBytes (t .truth)) ++ rest) ≡ t .inputs = rw append-assoc (word-behind [] 0 (t .inputs) _ refl (g .0)) in
@@ -227,7 +229,7 @@ read-again rule r rest g =
 read-again usage x rest g = refl
 read-again unit w rest g = word-behind [] 0 w rest refl g
 read-again edge e rest g = refl
-read-again show w rest g = word-behind [] 0 w rest refl g
+read-again (single show) w rest g = word-behind [] 0 w rest refl g
 read-again end x rest g = refl
 
 pub decides-empty : (h b n : ℕ) → Decides (((h ≡ 0) × (b ≡ 0)) × (n ≡ 0)) (emptyRule h b n)
@@ -262,8 +264,7 @@ module _ (c : Contents) (at : ℕ) (s : List ℕ) (few : Few c) where
   -- no row of its operands stops an element exactly if it is right
   pub passed-right : (k : Kind) → Passed (operandRows (recordOf c) at k s) → Right c k (elementAt k s)
   unfolding recordOf absentRule
-  passed-right sizes h = tt
-  passed-right given h = tt
+  passed-right (single s) h = tt
   passed-right table h = right-table (elementAt table s) (decides-bad-table (elementAt table s) .no (h .0))
   passed-right rule h = (λ z. decides-empty _ _ _ .no (h .0) ((z .0, z .1 .0), z .1 .1), none-shared _ _ (h .1 .0))
   passed-right usage h =
@@ -281,13 +282,11 @@ module _ (c : Contents) (at : ℕ) (s : List ℕ) (few : Few c) where
         record { from-there = new .from-there; to-there = new .to-there; apart = new .apart },
         λ m. not-both (decided-true (decides-has _ _) (member-has (c .edges) e m)) absent,
       )
-  passed-right show h = tt
   passed-right end h = tt
 
   pub right-passed : (k : Kind) → adds k ≡ true → Right c k (elementAt k s) → Passed (operandRows (recordOf c) at k s)
   unfolding recordOf badUse absentRule badEdge
-  right-passed sizes a g = tt
-  right-passed given a g = tt
+  right-passed (single s) a g = tt
   right-passed table a g = (decided-false (decides-bad-table (elementAt table s)) (no-wrong-table (elementAt table s) (g .0) (g .1)), tt)
   right-passed rule a g = (
     decided-false (decides-empty _ _ _) (λ z. g .0 (z .0 .0, (z .0 .1, z .1))),
@@ -313,33 +312,30 @@ module _ (c : Contents) (at : ℕ) (s : List ℕ) (few : Few c) where
       let t = g .0 in
       let absent : has (predecessorsOf (c .edges) (e .u)) (e .v) ≡ false = decided-false (decides-has _ _) (λ h. g .1 (has-member (c .edges) e h)) in
       (simp (lt-leb _ _ (t .from-there), lt-leb _ _ (t .to-there), ne-eqb _ _ (t .apart), row-is c few (e .u) (t .from-there), absent), tt)
-  right-passed show a g = tt
   right-passed end a g = absurd (true≢false (sym a))
 
 -- ---- the lists, one element more
 
 pub count-of : (c : Contents) (k : Kind) → count (recordOf c) k ≡ countOf c k
 unfolding recordOf
-count-of c sizes = refl
-count-of c given = refl
+count-of c (single sizes) = refl
+count-of c (single given) = refl
 count-of c table = refl
 count-of c rule = refl
 count-of c usage = refl
 count-of c unit = refl
 count-of c edge = refl
-count-of c show = refl
+count-of c (single show) = refl
 count-of c end = refl
 
 -- a list of the contents is no longer than the one it is made of
 lists-long : (lists : (k : Kind) → List (Element k)) (j : Kind) → countOf (contentsOf lists) j ≤ length (lists j)
-lists-long lists sizes = omega arith
-lists-long lists given = omega arith
+lists-long lists (single s) = omega arith
 lists-long lists table = omega arith
 lists-long lists rule = omega arith
 lists-long lists usage = omega arith
 lists-long lists unit = omega arith
 lists-long lists edge = omega arith
-lists-long lists show = omega arith
 lists-long lists end = omega arith
 
 under-less : (m : Most) {a b : ℕ} → a ≤ b → Under m b → Under m a
@@ -377,16 +373,9 @@ few-with c k x few i j = under-less (mostOf j) (lists-long (λ h. added k x h (l
 
 held-with : (c : Contents) (k : Kind) (x : Element k) → Held c → Fits c k x → Held (with c k x)
 unfolding recordOf
-held-with c sizes s h f =
+held-with c (single s) x h f =
     record {
-      few = record { under = few-with c sizes s (f .few) (f .in-place); good-uses = f .few .good-uses };
-      no-use-again = h .no-use-again;
-      good-edges = h .good-edges;
-      no-repeat = h .no-repeat;
-    }
-held-with c given w h f =
-    record {
-      few = record { under = few-with c given w (f .few) (f .in-place); good-uses = f .few .good-uses };
+      few = record { under = few-with c (single s) x (f .few) (f .in-place); good-uses = f .few .good-uses };
       no-use-again = h .no-use-again;
       good-edges = h .good-edges;
       no-repeat = h .no-repeat;
@@ -438,19 +427,12 @@ held-with c edge e h f =
       good-edges = all-snoc (GoodEdge (length (c .units))) (c .edges) e (h .good-edges) (f .right .0);
       no-repeat = distinct-snoc (c .edges) e (h .no-repeat) (f .right .1);
     }
-held-with c show w h f =
-    record {
-      few = record { under = few-with c show w (f .few) (f .in-place); good-uses = f .few .good-uses };
-      no-use-again = h .no-use-again;
-      good-edges = h .good-edges;
-      no-repeat = h .no-repeat;
-    }
 held-with c end x h f = h
 
 pub held-none : Held nothing
 held-none =
     record {
-      few = few-so nothing (omega arith) (omega arith) (omega arith) (omega arith) (omega arith) (omega arith) (omega arith) tt;
+      few = few-so nothing (λ s. omega arith) (omega arith) (omega arith) (omega arith) (omega arith) tt;
       no-use-again = tt;
       good-edges = tt;
       no-repeat = tt;
@@ -466,25 +448,35 @@ few-edges c h = edges-at-most (c .edges) (below (c .edges) (h .good-edges)) (h .
         let l = h .few .under unit in
         (record { from-there = omega (arith, g .from-there); to-there = omega (arith, g .to-there); apart = g .apart }, below edges (a .1))
 
+-- column "most"
+pub within-most : (c : Contents) → Held c → (k : Kind) → countOf c k ≤ atMost k
+within-most c h (single s) = h .few .under (single s)
+within-most c h table = h .few .under table
+within-most c h rule = h .few .under rule
+within-most c h usage = h .few .under usage
+within-most c h unit = h .few .under unit
+within-most c h edge = few-edges c h
+within-most c h end = omega arith
+
 -- ---- the bytes
 
 pub commands-with : (c : Contents) (k : Kind) (x : Element k) (t : List ℕ) → adds k ≡ true → InPlace (recordOf c) k
     → commands (with c k x) ++ t ≡ commands c ++ (byteOf k ∷ (operandsOf k x ++ t))
 unfolding commands recordOf flatMap
-commands-with c sizes s t a h =
+commands-with c (single sizes) s t a h =
     let behind = h .on-time in
     rw (
-      empty (c .given) (omega arith),
+      empty (c .once given) (omega arith),
       empty (c .tables) (omega arith),
       empty (c .rules) (omega arith),
       empty (c .uses) (omega arith),
       empty (c .units) (omega arith),
       empty (c .edges) (omega arith),
-      empty (c .shown) (omega arith),
-      flat-snoc countBytes (c .declared) s,
+      empty (c .once show) (omega arith),
+      flat-snoc countBytes (c .once sizes) s,
     )
     (simp (append-nil, append-assoc))
-commands-with c given w t a h =
+commands-with c (single given) w t a h =
     let behind = h .on-time in
     rw (
       empty (c .tables) (omega arith),
@@ -492,8 +484,8 @@ commands-with c given w t a h =
       empty (c .uses) (omega arith),
       empty (c .units) (omega arith),
       empty (c .edges) (omega arith),
-      empty (c .shown) (omega arith),
-      flat-snoc givenBytes (c .given) w,
+      empty (c .once show) (omega arith),
+      flat-snoc givenBytes (c .once given) w,
     )
     (simp (append-nil, append-assoc))
 commands-with c table x t a h =
@@ -503,7 +495,7 @@ commands-with c table x t a h =
       empty (c .uses) (omega arith),
       empty (c .units) (omega arith),
       empty (c .edges) (omega arith),
-      empty (c .shown) (omega arith),
+      empty (c .once show) (omega arith),
       flat-snoc tableBytes (c .tables) x,
     )
     (simp (append-nil, append-assoc))
@@ -513,20 +505,20 @@ commands-with c rule r t a h =
       empty (c .uses) (omega arith),
       empty (c .units) (omega arith),
       empty (c .edges) (omega arith),
-      empty (c .shown) (omega arith),
+      empty (c .once show) (omega arith),
       flat-snoc ruleBytes (c .rules) r,
     )
     (simp (append-nil, append-assoc))
 commands-with c usage x t a h =
     let behind = h .on-time in
-    rw (empty (c .units) (omega arith), empty (c .edges) (omega arith), empty (c .shown) (omega arith), flat-snoc useBytes (c .uses) x)
+    rw (empty (c .units) (omega arith), empty (c .edges) (omega arith), empty (c .once show) (omega arith), flat-snoc useBytes (c .uses) x)
     (simp (append-nil, append-assoc))
 commands-with c unit w t a h =
     let behind = h .on-time in
-    rw (empty (c .edges) (omega arith), empty (c .shown) (omega arith), flat-snoc unitBytes (c .units) w) (simp (append-nil, append-assoc))
+    rw (empty (c .edges) (omega arith), empty (c .once show) (omega arith), flat-snoc unitBytes (c .units) w) (simp (append-nil, append-assoc))
 commands-with c edge e t a h =
-    rw (empty (c .shown) (omega (arith, h .on-time)), flat-snoc edgeBytes (c .edges) e) (simp (append-nil, append-assoc))
-commands-with c show w t a h = rw (flat-snoc showBytes (c .shown) w) (simp append-assoc)
+    rw (empty (c .once show) (omega (arith, h .on-time)), flat-snoc edgeBytes (c .edges) e) (simp (append-nil, append-assoc))
+commands-with c (single show) w t a h = rw (flat-snoc showBytes (c .once show) w) (simp append-assoc)
 commands-with c end x t a h = absurd (true≢false (sym a))
 
 pub commands-longer : (c : Contents) (k : Kind) (x : Element k) → adds k ≡ true → InPlace (recordOf c) k
@@ -540,15 +532,12 @@ pub record-none : recordOf nothing ≡ emptyPlan
 unfolding recordOf emptyPlan padded tabulate predecessorsOf wordOf ruleWords flatMap
 record-none = refl
 
-same-plan : {p q : Plan} → p .declared ≡ q .declared → p .given ≡ q .given → p .«given_count» ≡ q .«given_count» → p .rules ≡ q .rules
-    → p .«table_count» ≡ q .«table_count» → p .«rule_count» ≡ q .«rule_count» → p .«use_count» ≡ q .«use_count» → p .units ≡ q .units
-    → p .«unit_count» ≡ q .«unit_count» → p .predecessors ≡ q .predecessors → p .«edge_count» ≡ q .«edge_count» → p .shown ≡ q .shown
-    → p .«show_count» ≡ q .«show_count» → p ≡ q
-same-plan z g n a t b u c d e f x y =
+same-plan : {p q : Plan} → p .once ≡ q .once → p .rules ≡ q .rules → p .«table_count» ≡ q .«table_count» → p .«rule_count» ≡ q .«rule_count»
+    → p .«use_count» ≡ q .«use_count» → p .units ≡ q .units → p .«unit_count» ≡ q .«unit_count» → p .predecessors ≡ q .predecessors
+    → p .«edge_count» ≡ q .«edge_count» → p ≡ q
+same-plan o a t b u c d e f =
     λ i. record {
-      declared = z i;
-      given = g i;
-      «given_count» = n i;
+      once = o i;
       rules = a i;
       «table_count» = t i;
       «rule_count» = b i;
@@ -557,45 +546,43 @@ same-plan z g n a t b u c d e f x y =
       «unit_count» = d i;
       predecessors = e i;
       «edge_count» = f i;
-      shown = x i;
-      «show_count» = y i;
     }
 
 -- the record of the lists with one element more
 pub record-with : (c : Contents) (k : Kind) (s : List ℕ) → Fits c k (elementAt k s) → grown (recordOf c) k s ≡ recordOf (with c k (elementAt k s))
 unfolding recordOf withCount withGiven withTable withRule withUse withUnit withEdge withShow carrying
-record-with c sizes s f =
-    let first = empty (c .declared) (omega (arith, f .in-place .on-time)) in
-    same-plan (rw first) refl refl refl refl refl refl refl refl refl refl refl refl
-record-with c given s f =
-    let first = empty (c .given) (omega (arith, f .in-place .on-time)) in
-    same-plan refl (rw first) (rw first) refl refl refl refl refl refl refl refl refl refl
+record-with c (single sizes) s f =
+    let first = empty (c .once sizes) (omega (arith, f .in-place .on-time)) in
+    same-plan (rw first) refl refl refl refl refl refl refl refl
+record-with c (single given) s f =
+    let first = empty (c .once given) (omega (arith, f .in-place .on-time)) in
+    same-plan (rw first) refl refl refl refl refl refl refl refl
 record-with c table s f =
     let t : TableWords = elementAt table s in
     let e = tables-snoc (c .tables) t _ (room-left table (f .in-place)) in
-    same-plan refl refl refl e (sym (length-snoc (c .tables) t)) refl refl refl refl refl refl refl refl
+    same-plan refl e (sym (length-snoc (c .tables) t)) refl refl refl refl refl refl
 record-with c rule s f =
     let r : RuleWords = elementAt rule s in
     let whole = table-words-long (c .tables) (f .few .under table) in
     let unused = empty (c .uses) (omega (arith, f .in-place .on-time)) in
     let e = rules-snoc (tableWords (c .tables)) (c .uses) (c .rules) r whole (room-left rule (f .in-place)) unused in
-    same-plan refl refl refl e refl (sym (length-snoc (c .rules) r)) refl refl refl refl refl refl refl
+    same-plan refl e refl (sym (length-snoc (c .rules) r)) refl refl refl refl refl
 record-with c usage s f =
     let x : TableUse = elementAt usage s in
     let whole = table-words-long (c .tables) (f .few .under table) in
     let e = uses-snoc (c .uses) x (tableWords (c .tables)) (c .rules) whole (f .few .under rule) (f .right .0 .rule-there) in
-    same-plan refl refl refl e refl refl (sym (length-snoc (c .uses) x)) refl refl refl refl refl refl
+    same-plan refl e refl refl (sym (length-snoc (c .uses) x)) refl refl refl refl
 record-with c unit s f =
     let w : ℕ = elementAt unit s in
     let e = padded-snoc MAX_UNITS (c .units) (length (c .units)) w refl (room-left unit (f .in-place)) in
-    same-plan refl refl refl refl refl refl refl e (sym (length-snoc (c .units) w)) refl refl refl refl
+    same-plan refl refl refl refl refl e (sym (length-snoc (c .units) w)) refl refl
 record-with c edge s f =
     let x : UnitPair = elementAt edge s in
     let e = rows-snoc (c .edges) x (omega (arith, f .right .0 .from-there, f .few .under unit)) in
-    same-plan refl refl refl refl refl refl refl refl refl e (sym (length-snoc (c .edges) x)) refl refl
-record-with c show s f =
-    let first = empty (c .shown) (omega (arith, f .in-place .on-time)) in
-    same-plan refl refl refl refl refl refl refl refl refl refl refl (rw first) (rw first)
+    same-plan refl refl refl refl refl refl refl e (sym (length-snoc (c .edges) x))
+record-with c (single show) s f =
+    let first = empty (c .once show) (omega (arith, f .in-place .on-time)) in
+    same-plan (rw first) refl refl refl refl refl refl refl refl
 record-with c end s f = refl
 
 -- one command more, behind the record of the lists

@@ -13,7 +13,7 @@ use types.Run.{OneOf, miss}
 use denote.Enum.Declared.{tagOf}
 use Rattle.reading.proofs.command.Command.{the-type}
 use Rattle.plan.specs.Record.{Fitting, emptyPlan}
-use Rattle.reading.specs.Commands.{Kind, sizes, usage, edge, end, orderOf, earliestBehind, count, commandAt, carrying}
+use Rattle.reading.specs.Commands.{Kind, single, sizes, usage, edge, end, orderOf, earliestBehind, count, commandAt, carrying}
 use Rattle.reading.specs.Reading.{onward, stepOf, walk, reading, accepted, refused, commandBytes}
 use Rattle.reading.specs.Progress.{placeAt, kindOfStep, Reached}
 use Rattle.reading.proofs.Commands.{InPlace, Unstopped, Front, unstopped, stopped, front}
@@ -134,7 +134,7 @@ pub place-is : (bytes : List ℕ) (taken : Plan) (at : ℕ) (x : Command) → x 
 place-is bytes taken at x e = ap (λ (y : Command). record { plan = taken; at = at; command = y }) e
 
 -- nothing is read yet
-pub start : (bytes : List ℕ) (q : Plan) (r : Progress) → q ≡ emptyPlan → r ≡ placeAt bytes q 0 → Reached sizes bytes r
+pub start : (bytes : List ℕ) (q : Plan) (r : Progress) → q ≡ emptyPlan → r ≡ placeAt bytes q 0 → Reached (single sizes) bytes r
 unfolding emptyPlan reading
 start bytes q r e f =
     rw (f, e)

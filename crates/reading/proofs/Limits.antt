@@ -7,7 +7,7 @@ use native.Mathlib.Omega.{arith}
 use lib.ListN.{getD}
 use Rattle.plan.specs.Record.{Fitting, emptyPlan, withCount, withGiven, withTable, withRule, withUse, withUnit, withEdge, withShow}
 use Rattle.reading.specs.Words.{BYTE_VALUES}
-use Rattle.reading.specs.Commands.{Kind, sizes, given, table, rule, usage, unit, edge, show, end, carrying, count}
+use Rattle.reading.specs.Commands.{Kind, single, sizes, given, show, table, rule, usage, unit, edge, end, carrying, count}
 use Rattle.reading.specs.Reading.{reading}
 use Rattle.reading.specs.Layout.{IsByte, All}
 use Rattle.reading.proofs.Commands.{room-left, Unstopped, adds, grown, Leads}
@@ -31,8 +31,8 @@ pub record Grown (p q : Plan) (k : Kind) : Type 0 where
 
 grown-so : (p : Plan) (at : ℕ) (s : List ℕ) (k : Kind) → adds k ≡ true → (u : Unstopped k p at s) → Grown p (grown p k (u .operands)) k
 unfolding withCount withGiven withTable withRule withUse withUnit withEdge withShow carrying
-grown-so p at s sizes a u = record { fitting = fits-still refl refl refl; some = omega arith; few-edges = omega arith }
-grown-so p at s given a u = record { fitting = fits-still refl refl refl; some = omega arith; few-edges = omega arith }
+grown-so p at s (single sizes) a u = record { fitting = fits-still refl refl refl; some = omega arith; few-edges = omega arith }
+grown-so p at s (single given) a u = record { fitting = fits-still refl refl refl; some = omega arith; few-edges = omega arith }
 grown-so p at s table a u =
     let room = room-left table (u .in-place) in
     record {
@@ -56,7 +56,7 @@ grown-so p at s unit a u =
       few-edges = omega arith;
     }
 grown-so p at s edge a u = record { fitting = fits-still refl refl refl; some = omega arith; few-edges = omega arith }
-grown-so p at s show a u = record { fitting = fits-still refl refl refl; some = omega arith; few-edges = omega arith }
+grown-so p at s (single show) a u = record { fitting = fits-still refl refl refl; some = omega arith; few-edges = omega arith }
 grown-so p at s end a u = absurd (true≢false (sym a))
 
 pub leads-grown : (p q : Plan) (at : ℕ) (s : List ℕ) (k : Kind) → Leads k p at s q → Grown p q k

@@ -9,10 +9,10 @@ use lib.Count.{ones-le}
 use lib.ListN.{length, replicate, length-append}
 use Rattle.atoms.proofs.Sets.{has-none}
 use Rattle.plan.specs.Limits.{MAX_TABLES, MAX_RULES, MAX_USES, MAX_UNITS, MAX_EDGES}
-use Rattle.reading.specs.Commands.{sizes, given, table, rule, usage, unit, edge, show}
+use Rattle.reading.specs.Commands.{Single, sizes, given, show, single, table, rule, usage, unit, edge, end}
 use Rattle.reading.specs.Reading.{commandBytes, LONGEST_PLAN}
 use Rattle.reading.specs.Layout.{countBytes, givenBytes, tableBytes, ruleBytes, useBytes, unitBytes, edgeBytes, showBytes}
-use Rattle.reading.specs.Layout.{TableUse, Contents, commands, layout, All}
+use Rattle.reading.specs.Layout.{TableUse, OnceElement, Contents, commands, layout, All}
 use Rattle.reading.specs.Layout.{GoodTable, GoodRule, GoodUse, WithinLimits, Counted}
 use Rattle.reading.proofs.Elements.{operands-long}
 use Rattle.reading.proofs.Lists.{listBelow, below-long, below-all, below-distinct}
@@ -28,31 +28,42 @@ elements-long f k e (x ∷ xs) =
 
 pub commands-long : (c : Contents)
     → length (commands c)
-    ≡ commandBytes sizes * length (c .declared) + commandBytes given * length (c .given) + commandBytes table * length (c .tables)
+    ≡ commandBytes (single sizes) * length (c .once sizes) + commandBytes (single given) * length (c .once given) + commandBytes table * length (c .tables)
     + commandBytes rule * length (c .rules)
     + commandBytes usage * length (c .uses)
     + commandBytes unit * length (c .units)
     + commandBytes edge * length (c .edges)
-    + commandBytes show * length (c .shown)
+    + commandBytes (single show) * length (c .once show)
 unfolding commands
 commands-long c =
     simp length-append
     (omega (
       arith,
-      elements-long countBytes (commandBytes sizes) (λ s. refl) (c .declared),
-      elements-long givenBytes (commandBytes given) (λ g. ap suc (operands-long given g)) (c .given),
+      elements-long countBytes (commandBytes (single sizes)) (λ s. refl) (c .once sizes),
+      elements-long givenBytes (commandBytes (single given)) (λ g. ap suc (operands-long (single given) g)) (c .once given),
       elements-long tableBytes (commandBytes table) (λ t. ap suc (operands-long table t)) (c .tables),
       elements-long ruleBytes (commandBytes rule) (λ r. ap suc (operands-long rule r)) (c .rules),
       elements-long useBytes (commandBytes usage) (λ x. refl) (c .uses),
       elements-long unitBytes (commandBytes unit) (λ u. ap suc (operands-long unit u)) (c .units),
       elements-long edgeBytes (commandBytes edge) (λ e. refl) (c .edges),
-      elements-long showBytes (commandBytes show) (λ w. ap suc (operands-long show w)) (c .shown),
+      elements-long showBytes (commandBytes (single show)) (λ w. ap suc (operands-long (single show) w)) (c .once show),
     ))
 
 pub layout-at-most : (c : Contents) → WithinLimits c → length (layout c) ≤ LONGEST_PLAN
 layout-at-most c w =
     simp length-append
-    (omega (arith, commands-long c, w .one-count, w .one-given, w .most-tables, w .most-rules, w .most-uses, w .most-units, w .most-edges, w .one-shown))
+    (omega (
+      arith,
+      commands-long c,
+      w .under (single sizes),
+      w .under (single given),
+      w .under table,
+      w .under rule,
+      w .under usage,
+      w .under unit,
+      w .under edge,
+      w .under (single show),
+    ))
 
 -- ---- one that is so long
 
@@ -76,32 +87,37 @@ use-own i j e =
     halves m n p q = omega arith
 
 -- a COUNT, a GIVEN, a SHOW, and as many tables, rules, uses, units and edges as there may be
+oneEach : (s : Single) → OnceElement s
+oneEach sizes = record { rules = MAX_RULES; units = MAX_UNITS; edges = MAX_EDGES }
+oneEach given = 0
+oneEach show = 0
+
 longest : Contents
 longest =
     record {
-      declared = record { rules = MAX_RULES; units = MAX_UNITS; edges = MAX_EDGES } ∷ [];
-      given = 0 ∷ [];
+      once = λ s. oneEach s ∷ [];
       tables = replicate MAX_TABLES (record { inputs = 0; truth = 0 });
       rules = replicate MAX_RULES (record { head = 1; positive = 0; negative = 0 });
       uses = listBelow useAt MAX_USES;
       units = replicate {A = ℕ} MAX_UNITS 0;
       edges = edgesBelow MAX_EDGES;
-      shown = 0 ∷ [];
     }
 
 longest-within : WithinLimits longest
-unfolding longest
+unfolding longest oneEach
 longest-within =
     record {
-      one-count = omega arith;
-      one-given = omega arith;
-      most-tables = omega arith;
-      most-rules = omega arith;
-      most-uses = omega (arith, below-long useAt MAX_USES);
-      most-units = omega arith;
-      most-edges = omega (arith, edges-long MAX_EDGES);
-      one-shown = omega arith;
-      good-given = (omega arith, tt);
+      under =
+          elim [
+            | single s ↦ omega arith
+            | table ↦ omega arith
+            | rule ↦ omega arith
+            | usage ↦ omega (arith, below-long useAt MAX_USES)
+            | unit ↦ omega arith
+            | edge ↦ omega (arith, edges-long MAX_EDGES)
+            | end ↦ omega arith
+          ];
+      good-once = elim [ sizes ↦ (tt, tt) | given ↦ (omega arith, tt) | show ↦ (omega arith, tt) ];
       good-tables = all-replicate GoodTable MAX_TABLES _
           (record {
             inputs-fit = omega arith;
@@ -122,15 +138,14 @@ longest-within =
       good-units = all-replicate (λ word. word < 2 ^ MAX_RULES) MAX_UNITS 0 (omega arith);
       good-edges = edges-good MAX_EDGES (omega arith);
       no-repeat = edges-distinct MAX_EDGES;
-      good-shown = (omega arith, tt);
     }
 
 longest-counted : Counted longest
-unfolding longest
+unfolding longest oneEach
 longest-counted = (record { rules-are = omega arith; units-are = omega arith; edges-are = omega (arith, edges-long MAX_EDGES) }, tt)
 
 pub longest-there : (c : Contents) × WithinLimits c × Counted c × (length (layout c) ≡ LONGEST_PLAN)
-unfolding longest
+unfolding longest oneEach
 longest-there =
     (longest, longest-within, longest-counted, simp length-append (omega (arith, commands-long longest, below-long useAt MAX_USES, edges-long MAX_EDGES)))
 

@@ -14,13 +14,14 @@ use lib.Seq.{take-nil, take-take, getD-take}
 use borrow.Author.Tests.{lt-ltb, le-ltb}
 use Rattle.plan.specs.Record.{emptyPlan}
 use Rattle.reading.specs.Words.{WORD_BYTES, spelled, wordAt}
-use Rattle.reading.specs.Commands.{Kind, sizes, given, table, rule, usage, unit, edge, show, end, kindOf, operandBytes, carrying, Row, kindRows}
+use Rattle.plan.specs.Limits.{MAX_TABLES, MAX_RULES, MAX_USES, MAX_UNITS, MAX_EDGES}
+use Rattle.reading.specs.Commands.{Kind, single, sizes, given, show, table, rule, usage, unit, edge, end, kindOf, operandBytes, carrying, Row, kindRows}
 use Rattle.reading.specs.Commands.{operandRows, firstFit, ofKind, commandAt}
 use Rattle.reading.specs.Reading.{ended, stepOf, walk, reading, accepted, refused, commandBytes, DECIDING_BYTES}
 use Rattle.reading.specs.Layout.{Contents, commands, recordOf}
 use Rattle.reading.proofs.Commands.{Passed, InPlace, room-left, passed-in-place, known-command}
 use Rattle.reading.proofs.Commands.{unknown-command, Leads, leads-step}
-use Rattle.reading.proofs.Elements.{nothing, with, commands-longer, Held, held-none, few-edges, record-none, more}
+use Rattle.reading.proofs.Elements.{nothing, with, commands-longer, Held, held-none, within-most, record-none, more}
 use Rattle.reading.proofs.Longest.{commands-long}
 use Rattle.reading.proofs.RoundTrip.{end-step}
 use Rattle.reading.proofs.Walk.{walk-on, walk-ended, walk-keeps}
@@ -78,14 +79,14 @@ module _ (p : Plan) (at m : ℕ) (s : List ℕ) where
   operands-kept : (k : Kind) → looksAt k ≤ m
       → firstFit (operandRows p at k (take m s)) (carrying k (take m s)) ≡ firstFit (operandRows p at k s) (carrying k s)
   unfolding carrying
-  operands-kept sizes h = rw (getD-take m s 0 0 (omega arith), getD-take m s 1 0 (omega arith), getD-take m s 2 0 (omega arith))
-  operands-kept given h = rw (word-kept 0 m s (omega arith))
+  operands-kept (single sizes) h = rw (getD-take m s 0 0 (omega arith), getD-take m s 1 0 (omega arith), getD-take m s 2 0 (omega arith))
+  operands-kept (single given) h = rw (word-kept 0 m s (omega arith))
   operands-kept table h = rw (word-kept 0 m s (omega arith), word-kept WORD_BYTES m s (omega arith))
   operands-kept rule h = rw (word-kept 0 m s (omega arith), word-kept WORD_BYTES m s (omega arith), word-kept (2 * WORD_BYTES) m s (omega arith))
   operands-kept usage h = rw (getD-take m s 0 0 (omega arith), getD-take m s 1 0 (omega arith), getD-take m s 2 0 (omega arith))
   operands-kept unit h = rw (word-kept 0 m s (omega arith))
   operands-kept edge h = rw (getD-take m s 0 0 (omega arith), getD-take m s 1 0 (omega arith))
-  operands-kept show h = rw (word-kept 0 m s (omega arith))
+  operands-kept (single show) h = rw (word-kept 0 m s (omega arith))
   operands-kept end h = rw (some-kept m s h)
 
   kind-kept : (k : Kind) → (InPlace p k → looksAt k ≤ m) → operandBytes k ≤ looksAt k → ofKind p at k (take m s) ≡ ofKind p at k s
@@ -109,33 +110,44 @@ record Cut (n : ℕ) (result : Reading) (p : Plan) (at : ℕ) (s : List ℕ) : T
   placed : at ≡ length (commands contents)
   same : walk p at 0 (take (n - at) s) ≡ result
 
-module _ (n : ℕ) (long : DECIDING_BYTES ≤ n) where
-  -- behind all commands there may be, a second byte is kept
-  all-there : (c : Contents) → Held c → length (commands c) + suc (looksAt end) ≤ n
-  all-there c h =
-      let f = h .few in
-      omega (arith, commands-long c, f .under sizes, f .under given, f .under table, f .under rule, f .under usage, f .under unit, f .under show, few-edges c h)
+-- how many commands of each kind there are at most
+record Counts (c : Contents) : Type 0 where
+  counts : length (c .once sizes) ≤ 1
+  givens : length (c .once given) ≤ 1
+  tables : length (c .tables) ≤ MAX_TABLES
+  rules : length (c .rules) ≤ MAX_RULES
+  uses : length (c .uses) ≤ MAX_USES
+  units : length (c .units) ≤ MAX_UNITS
+  edges : length (c .edges) ≤ MAX_EDGES
+  shows : length (c .once show) ≤ 1
 
-  -- what a command that is in place looks at is kept
+counts : (c : Contents) → Held c → Counts c
+counts c h =
+    let m = within-most c h in
+    record {
+      counts = m (single sizes);
+      givens = m (single given);
+      tables = m table;
+      rules = m rule;
+      uses = m usage;
+      units = m unit;
+      edges = m edge;
+      shows = m (single show);
+    }
+
+module _ (n : ℕ) (long : DECIDING_BYTES ≤ n) where
+  -- what a command that is in place looks at is kept; behind all commands there may be, a second byte
   near : (c : Contents) → Held c → (k : Kind) → InPlace (recordOf c) k → length (commands c) + suc (looksAt k) ≤ n
   unfolding recordOf
-  near c h sizes i = omega (arith, commands-long c, i .on-time)
-  near c h given i = omega (arith, commands-long c, i .on-time, h .few .under sizes)
-  near c h table i = omega (arith, commands-long c, i .on-time, room-left table i, h .few .under sizes, h .few .under given)
-  near c h rule i = omega (arith, commands-long c, i .on-time, room-left rule i, h .few .under sizes, h .few .under given, h .few .under table)
-  near c h usage i =
-      let f = h .few in
-      omega (arith, commands-long c, i .on-time, room-left usage i, f .under sizes, f .under given, f .under table, f .under rule)
-  near c h unit i =
-      let f = h .few in
-      omega (arith, commands-long c, i .on-time, room-left unit i, f .under sizes, f .under given, f .under table, f .under rule, f .under usage)
-  near c h edge i =
-      let f = h .few in
-      omega (arith, commands-long c, i .on-time, f .under sizes, f .under given, f .under table, f .under rule, f .under usage, f .under unit, few-edges c h)
-  near c h show i =
-      let f = h .few in
-      omega (arith, commands-long c, i .on-time, f .under sizes, f .under given, f .under table, f .under rule, f .under usage, f .under unit, few-edges c h)
-  near c h end i = all-there c h
+  near c h (single sizes) i = omega (arith, commands-long c, i .on-time)
+  near c h (single given) i = omega (arith, commands-long c, i .on-time, counts c h)
+  near c h table i = omega (arith, commands-long c, i .on-time, room-left table i, counts c h)
+  near c h rule i = omega (arith, commands-long c, i .on-time, room-left rule i, counts c h)
+  near c h usage i = omega (arith, commands-long c, i .on-time, room-left usage i, counts c h)
+  near c h unit i = omega (arith, commands-long c, i .on-time, room-left unit i, counts c h)
+  near c h edge i = omega (arith, commands-long c, i .on-time, counts c h)
+  near c h (single show) i = omega (arith, commands-long c, i .on-time, counts c h)
+  near c h end i = omega (arith, commands-long c, counts c h)
 
   module _ (result : Reading) (p : Plan) (at : ℕ) (s : List ℕ) (cut : Cut n result p at s) where
     near-by : (k : Kind) → InPlace p k → at + suc (looksAt k) ≤ n

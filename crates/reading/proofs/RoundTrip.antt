@@ -14,15 +14,15 @@ use borrow.Author.Tests.{le-ltb, lt-leb}
 use Rattle.atoms.proofs.Tests.{decided-false}
 use Rattle.plan.specs.Limits.{MAX_TABLES, MAX_RULES, MAX_USES, MAX_UNITS, MAX_EDGES}
 use Rattle.reading.specs.Words.{WORD_VALUES}
-use Rattle.reading.specs.Commands.{Kind, sizes, given, table, rule, usage, unit, edge, show, end, byteOf, operandBytes}
-use Rattle.reading.specs.Commands.{carrying, late, miscounted, rows, ofKind, commandAt}
+use Rattle.reading.specs.Commands.{Single, sizes, given, show, Kind, single, table, rule, usage, unit, edge, end, byteOf, operandBytes}
+use Rattle.reading.specs.Commands.{carrying, miscounted, rows, ofKind, commandAt}
 use Rattle.reading.specs.Reading.{onward, ended, stepOf, walk, reading, accepted, commandBytes}
-use Rattle.reading.specs.Layout.{Sizes, TableWords, RuleWords, TableUse, UnitPair, Contents, Element}
+use Rattle.reading.specs.Layout.{Sizes, TableWords, RuleWords, TableUse, UnitPair, OnceElement, Contents, Element}
 use Rattle.reading.specs.Layout.{countBytes, givenBytes, tableBytes, ruleBytes, useBytes, unitBytes, edgeBytes}
 use Rattle.reading.specs.Layout.{showBytes, endBytes, commands, layout, recordOf, All, Distinct}
 use Rattle.reading.specs.Layout.{GoodTable, GoodRule, GoodUse, GoodEdge, WithinLimits, Counted}
 use Rattle.reading.proofs.Commands.{Passed, none-fits, known-command, in-place-passed, adds, step-when}
-use Rattle.reading.proofs.CommandKinds.{kind-of-byte}
+use Rattle.reading.proofs.CommandKinds.{kind-of-byte, end-in-time}
 use Rattle.reading.proofs.Walk.{walk-on, walk-ended}
 use Rattle.reading.proofs.Elements.{nothing, with, operandsOf, operands-long, elementAt, read-again, Sized, few-so, few-within, Fits, right-passed}
 use Rattle.reading.proofs.Elements.{record-none, record-with}
@@ -134,152 +134,151 @@ new-follow most P (x ∷ xs) done l b h d a = (
         go (inl old) = h e (List·Memᴰ·tail m) old
         go (inr q) = d .0 (subst (λ (y : _). List·Memᴰ y xs) (List·Memᴰ·eq-of-singleton q) m)
 
--- what holds of nothing in particular
-all-unit : {A : Type 0} (xs : List A) → All (λ x. Unit {0}) xs
-all-unit [] = tt
-all-unit (x ∷ xs) = (tt, all-unit xs)
-
 pub end-step : (p : Plan) (at : ℕ) → miscounted p ≡ false → stepOf p (commandAt p at endBytes) ≡ ended (accepted p)
-unfolding carrying late
-end-step p at right = ap (stepOf p) (read-as p at end [] (refl, (refl, (refl, (right, (refl, tt))))))
+unfolding carrying
+end-step p at right = ap (stepOf p) (read-as p at end [] (end-in-time p, (refl, (refl, (right, (refl, tt))))))
 
 -- ---- all groups
 
 module _ (c : Contents) (w : WithinLimits c) where
+  -- of what may stand once, what stands before the TABLEs
+  before-tables : (s : Single) → List (OnceElement s)
+  before-tables sizes = c .once sizes
+  before-tables given = c .once given
+  before-tables show = []
+
+  one-before : (s : Single) → length (before-tables s) ≤ 1
+  unfolding before-tables
+  one-before sizes = w .under (single sizes)
+  one-before given = w .under (single given)
+  one-before show = omega arith
+
   counts-only : List Sizes → Contents
-  counts-only d = record { declared = d; given = []; tables = []; rules = []; uses = []; units = []; edges = []; shown = [] }
+  counts-only d =
+      record { once = elim [ sizes ↦ d | given ↦ [] | show ↦ [] ]; tables = []; rules = []; uses = []; units = []; edges = [] }
 
   given-too : List ℕ → Contents
-  given-too d = record { declared = c .declared; given = d; tables = []; rules = []; uses = []; units = []; edges = []; shown = [] }
+  given-too d =
+      record { once = elim [ sizes ↦ c .once sizes | given ↦ d | show ↦ [] ]; tables = []; rules = []; uses = []; units = []; edges = [] }
 
   tables-too : List TableWords → Contents
-  tables-too d = record { declared = c .declared; given = c .given; tables = d; rules = []; uses = []; units = []; edges = []; shown = [] }
+  tables-too d = record { once = before-tables; tables = d; rules = []; uses = []; units = []; edges = [] }
 
   rules-too : List RuleWords → Contents
-  rules-too d = record { declared = c .declared; given = c .given; tables = c .tables; rules = d; uses = []; units = []; edges = []; shown = [] }
+  rules-too d = record { once = before-tables; tables = c .tables; rules = d; uses = []; units = []; edges = [] }
 
   uses-too : List TableUse → Contents
-  uses-too d = record { declared = c .declared; given = c .given; tables = c .tables; rules = c .rules; uses = d; units = []; edges = []; shown = [] }
+  uses-too d = record { once = before-tables; tables = c .tables; rules = c .rules; uses = d; units = []; edges = [] }
 
   units-too : List ℕ → Contents
-  units-too d = record { declared = c .declared; given = c .given; tables = c .tables; rules = c .rules; uses = c .uses; units = d; edges = []; shown = [] }
+  units-too d = record { once = before-tables; tables = c .tables; rules = c .rules; uses = c .uses; units = d; edges = [] }
 
   edges-too : List UnitPair → Contents
-  edges-too d =
-      record {
-        declared = c .declared;
-        given = c .given;
-        tables = c .tables;
-        rules = c .rules;
-        uses = c .uses;
-        units = c .units;
-        edges = d;
-        shown = [];
-      }
+  edges-too d = record { once = before-tables; tables = c .tables; rules = c .rules; uses = c .uses; units = c .units; edges = d }
 
   shown-too : List ℕ → Contents
   shown-too d =
       record {
-        declared = c .declared;
-        given = c .given;
+        once = elim [ sizes ↦ c .once sizes | given ↦ c .once given | show ↦ d ];
         tables = c .tables;
         rules = c .rules;
         uses = c .uses;
         units = c .units;
         edges = c .edges;
-        shown = d;
       }
 
-  counts-taken : Takes (recordOf nothing) (flatMap countBytes (c .declared)) (recordOf (counts-only (c .declared)))
+  counts-taken : Takes (recordOf nothing) (flatMap countBytes (c .once sizes)) (recordOf (counts-only (c .once sizes)))
   unfolding recordOf counts-only
   counts-taken =
       group-takes countBytes (λ d. recordOf (counts-only d)) (λ d x. (length d < 1) × Unit {0})
-      (λ d x f. one-takes (counts-only d) sizes x refl (record {
-        few = few-so _ (omega (arith, f .0)) (omega arith) (omega arith) (omega arith) (omega arith) (omega arith) (omega arith) tt;
+      (λ d x f. one-takes (counts-only d) (single sizes) x refl (record {
+        few = few-so _ (elim [ sizes ↦ omega (arith, f .0) | given ↦ omega arith | show ↦ omega arith ]) (omega arith) (omega arith) (omega arith) (omega arith) tt;
         in-place = record { on-time = omega (arith, f .0); room = refl };
         right = tt;
       }) tt)
-      (c .declared) [] (few-follow 1 (λ x. Unit {0}) (c .declared) [] (omega (arith, w .one-count)) (all-unit (c .declared)))
+      (c .once sizes) [] (few-follow 1 (λ x. Unit {0}) (c .once sizes) [] (omega (arith, w .under (single sizes))) (w .good-once sizes))
 
-  given-taken : Takes (recordOf (counts-only (c .declared))) (flatMap givenBytes (c .given)) (recordOf (given-too (c .given)))
-  unfolding recordOf counts-only given-too
+  given-taken : Takes (recordOf (counts-only (c .once sizes))) (flatMap givenBytes (c .once given)) (recordOf (given-too (c .once given)))
+  unfolding recordOf counts-only given-too before-tables
   given-taken =
       group-takes givenBytes (λ d. recordOf (given-too d)) (λ d x. (length d < 1) × (x < WORD_VALUES))
-      (λ d x f. one-takes (given-too d) given x refl (record {
-        few = few-so _ (w .one-count) (omega (arith, f .0)) (omega arith) (omega arith) (omega arith) (omega arith) (omega arith) tt;
+      (λ d x f. one-takes (given-too d) (single given) x refl (record {
+        few = few-so _ (elim [ sizes ↦ w .under (single sizes) | given ↦ omega (arith, f .0) | show ↦ omega arith ]) (omega arith) (omega arith) (omega arith)
+            (omega arith) tt;
         in-place = record { on-time = omega (arith, f .0); room = refl };
         right = tt;
       }) (f .1))
-      (c .given) [] (few-follow 1 (λ x. x < WORD_VALUES) (c .given) [] (omega (arith, w .one-given)) (w .good-given))
+      (c .once given) [] (few-follow 1 (λ x. x < WORD_VALUES) (c .once given) [] (omega (arith, w .under (single given))) (w .good-once given))
 
-  tables-taken : Takes (recordOf (given-too (c .given))) (flatMap tableBytes (c .tables)) (recordOf (tables-too (c .tables)))
-  unfolding recordOf given-too tables-too
+  tables-taken : Takes (recordOf (given-too (c .once given))) (flatMap tableBytes (c .tables)) (recordOf (tables-too (c .tables)))
+  unfolding recordOf before-tables given-too tables-too
   tables-taken =
       group-takes tableBytes (λ d. recordOf (tables-too d)) (λ d x. (length d < MAX_TABLES) × GoodTable x)
       (λ d x f. one-takes (tables-too d) table x refl (record {
-        few = few-so _ (w .one-count) (w .one-given) (omega (arith, f .0)) (omega arith) (omega arith) (omega arith) (omega arith) tt;
+        few = few-so _ one-before (omega (arith, f .0)) (omega arith) (omega arith) (omega arith) tt;
         in-place = record { on-time = omega arith; room = lt-leb _ _ (f .0) };
         right = (f .1 .few-inputs, f .1 .rows-there);
       }) (f .1 .inputs-fit, f .1 .truth-fits))
-      (c .tables) [] (few-follow MAX_TABLES GoodTable (c .tables) [] (omega (arith, w .most-tables)) (w .good-tables))
+      (c .tables) [] (few-follow MAX_TABLES GoodTable (c .tables) [] (omega (arith, w .under table)) (w .good-tables))
 
   rules-taken : Takes (recordOf (tables-too (c .tables))) (flatMap ruleBytes (c .rules)) (recordOf (rules-too (c .rules)))
-  unfolding recordOf tables-too rules-too
+  unfolding recordOf before-tables tables-too rules-too
   rules-taken =
       group-takes ruleBytes (λ d. recordOf (rules-too d)) (λ d x. (length d < MAX_RULES) × GoodRule x)
       (λ d x f. one-takes (rules-too d) rule x refl (record {
-        few = few-so _ (w .one-count) (w .one-given) (w .most-tables) (omega (arith, f .0)) (omega arith) (omega arith) (omega arith) tt;
+        few = few-so _ one-before (w .under table) (omega (arith, f .0)) (omega arith) (omega arith) tt;
         in-place = record { on-time = omega arith; room = lt-leb _ _ (f .0) };
         right = (f .1 .some-word, f .1 .none-shared);
       }) (f .1 .head-fits, (f .1 .positive-fits, f .1 .negative-fits)))
-      (c .rules) [] (few-follow MAX_RULES GoodRule (c .rules) [] (omega (arith, w .most-rules)) (w .good-rules))
+      (c .rules) [] (few-follow MAX_RULES GoodRule (c .rules) [] (omega (arith, w .under rule)) (w .good-rules))
 
   uses-taken : Takes (recordOf (rules-too (c .rules))) (flatMap useBytes (c .uses)) (recordOf (uses-too (c .uses)))
-  unfolding recordOf rules-too uses-too
+  unfolding recordOf before-tables rules-too uses-too
   uses-taken =
       let Good = GoodUse (length (c .rules)) (length (c .tables)) in
       group-takes useBytes (λ d. recordOf (uses-too d)) (New MAX_USES Good)
       (λ d x f. one-takes (uses-too d) usage x refl (record {
-        few = few-so _ (w .one-count) (w .one-given) (w .most-tables) (w .most-rules) (omega (arith, f .room)) (omega arith) (omega arith) (f .all-good);
+        few = few-so _ one-before (w .under table) (w .under rule) (omega (arith, f .room)) (omega arith) (f .all-good);
         in-place = record { on-time = omega arith; room = lt-leb _ _ (f .room) };
         right = (f .good, f .new);
       }) tt)
-      (c .uses) [] (new-follow MAX_USES Good (c .uses) [] (omega (arith, w .most-uses)) tt (λ x m k. List·Memᴰ·not-nil k) (w .no-use-again) (w .good-uses))
+      (c .uses) [] (new-follow MAX_USES Good (c .uses) [] (omega (arith, w .under usage)) tt (λ x m k. List·Memᴰ·not-nil k) (w .no-use-again) (w .good-uses))
 
   units-taken : Takes (recordOf (uses-too (c .uses))) (flatMap unitBytes (c .units)) (recordOf (units-too (c .units)))
-  unfolding recordOf uses-too units-too
+  unfolding recordOf before-tables uses-too units-too
   units-taken =
-      let most : 2 ^ length (c .rules) ≤ WORD_VALUES = pow-mono (w .most-rules) in
+      let most : 2 ^ length (c .rules) ≤ WORD_VALUES = pow-mono (w .under rule) in
       group-takes unitBytes (λ d. recordOf (units-too d)) (λ d x. (length d < MAX_UNITS) × (x < 2 ^ length (c .rules)))
       (λ d x f. one-takes (units-too d) unit x refl (record {
-        few = few-so _ (w .one-count) (w .one-given) (w .most-tables) (w .most-rules) (w .most-uses) (omega (arith, f .0)) (omega arith) (w .good-uses);
+        few = few-so _ one-before (w .under table) (w .under rule) (w .under usage) (omega (arith, f .0)) (w .good-uses);
         in-place = record { on-time = omega arith; room = lt-leb _ _ (f .0) };
         right = f .1;
       }) (omega (arith, f .1)))
-      (c .units) [] (few-follow MAX_UNITS (λ x. x < 2 ^ length (c .rules)) (c .units) [] (omega (arith, w .most-units)) (w .good-units))
+      (c .units) [] (few-follow MAX_UNITS (λ x. x < 2 ^ length (c .rules)) (c .units) [] (omega (arith, w .under unit)) (w .good-units))
 
   edges-taken : Takes (recordOf (units-too (c .units))) (flatMap edgeBytes (c .edges)) (recordOf (edges-too (c .edges)))
-  unfolding recordOf units-too edges-too
+  unfolding recordOf before-tables units-too edges-too
   edges-taken =
       let Good = GoodEdge (length (c .units)) in
       group-takes edgeBytes (λ d. recordOf (edges-too d)) (New MAX_EDGES Good)
       (λ d x f. one-takes (edges-too d) edge x refl (record {
-        few = few-so _ (w .one-count) (w .one-given) (w .most-tables) (w .most-rules) (w .most-uses) (w .most-units) (omega arith) (w .good-uses);
+        few = few-so _ one-before (w .under table) (w .under rule) (w .under usage) (w .under unit) (w .good-uses);
         in-place = record { on-time = omega arith; room = refl };
         right = (f .good, f .new);
       }) tt)
-      (c .edges) [] (new-follow MAX_EDGES Good (c .edges) [] (omega (arith, w .most-edges)) tt (λ x m k. List·Memᴰ·not-nil k) (w .no-repeat) (w .good-edges))
+      (c .edges) [] (new-follow MAX_EDGES Good (c .edges) [] (omega (arith, w .under edge)) tt (λ x m k. List·Memᴰ·not-nil k) (w .no-repeat) (w .good-edges))
 
-  shown-taken : Takes (recordOf (edges-too (c .edges))) (flatMap showBytes (c .shown)) (recordOf c)
-  unfolding recordOf edges-too shown-too
+  shown-taken : Takes (recordOf (edges-too (c .edges))) (flatMap showBytes (c .once show)) (recordOf c)
+  unfolding recordOf before-tables edges-too shown-too
   shown-taken =
       group-takes showBytes (λ d. recordOf (shown-too d)) (λ d x. (length d < 1) × (x < WORD_VALUES))
-      (λ d x f. one-takes (shown-too d) show x refl (record {
-        few = few-so _ (w .one-count) (w .one-given) (w .most-tables) (w .most-rules) (w .most-uses) (w .most-units) (omega (arith, f .0)) (w .good-uses);
+      (λ d x f. one-takes (shown-too d) (single show) x refl (record {
+        few = few-so _ (elim [ sizes ↦ w .under (single sizes) | given ↦ w .under (single given) | show ↦ omega (arith, f .0) ]) (w .under table) (w .under rule)
+            (w .under usage) (w .under unit) (w .good-uses);
         in-place = record { on-time = omega (arith, f .0); room = refl };
         right = tt;
       }) (f .1))
-      (c .shown) [] (few-follow 1 (λ x. x < WORD_VALUES) (c .shown) [] (omega (arith, w .one-shown)) (w .good-shown))
+      (c .once show) [] (few-follow 1 (λ x. x < WORD_VALUES) (c .once show) [] (omega (arith, w .under (single show))) (w .good-once show))
 
   commands-taken : Takes (recordOf nothing) (commands c) (recordOf c)
   unfolding commands

@@ -22,8 +22,8 @@ use Rattle.plan.specs.Limits.{MAX_UNITS}
 use Rattle.plan.specs.Record.{usesAt}
 use Rattle.plan.specs.Faults.{number, spot, FaultRow, FirstFit}
 use Rattle.reading.specs.Words.{WORD_BYTES, wordAt}
-use Rattle.reading.specs.Commands.{Kind, sizes, given, table, rule, usage, unit, edge, show, end, byteOf, kindOf, operandBytes, orderOf}
-use Rattle.reading.specs.Commands.{carrying, kinds, countBehind, late, full}
+use Rattle.reading.specs.Commands.{Kind, single, sizes, given, show, table, rule, usage, unit, edge, end, byteOf, kindOf, operandBytes, orderOf}
+use Rattle.reading.specs.Commands.{carrying, kinds, late, full}
 use Rattle.reading.specs.Commands.{emptyRule, contradictory, badTable, badUse, absentRule, badEdge, miscounted}
 use Rattle.reading.specs.Commands.{Row, operandRows, rows, firstFit, ofKind, commandAt}
 use Rattle.reading.specs.Layout.{RuleWords, TableUse, UnitPair, Contents, Element, predecessorsOf, recordOf, IsByte, All, Counted}
@@ -34,7 +34,7 @@ use Rattle.reading.specs.Refusals.{WrongEdge, Miscounted, BytesAfterEnd}
 use Rattle.reading.specs.Refusals.{faultRow, readingPlace}
 use Rattle.reading.proofs.Numbers.{word-fits}
 use Rattle.reading.proofs.HighBits.{atom-from}
-use Rattle.reading.proofs.CommandKinds.{kind-of-byte, kind-byte, byte-own, each-kind}
+use Rattle.reading.proofs.CommandKinds.{kind-of-byte, kind-byte, byte-own, each-kind, countBehind, late-counted}
 use Rattle.reading.proofs.CommandLines.{kind-line, line-kind, kind-late, late-kind, kind-full, full-kind}
 use Rattle.reading.proofs.Commands.{Passed, none-fits, known-command, unknown-command, not-faulty}
 use Rattle.reading.proofs.Predecessors.{has-member, member-has}
@@ -205,13 +205,12 @@ module _ (c : Contents) (few : Few c) (operands : List ℕ) where
   other j k e s = eqb-false _ _ e (sym (head-same s))
 
   order-decided : (k : Kind) → Decides (OutOfGroupOrder c (byteOf k ∷ operands)) (late (recordOf c) (orderOf k))
-  unfolding late
   order-decided k = record {
-    yes = λ e. record { byte = byteOf k; behind = operands; is = refl; too-late = kind-late c k (ltb-true _ _ e) };
+    yes = λ e. record { byte = byteOf k; behind = operands; is = refl; too-late = kind-late c k (ltb-true _ _ (sym (late-counted (recordOf c) (orderOf k)) ∙ e)) };
     no = λ e o.
         let j = late-kind c (o .too-late) in
         let some = subst (λ (i : Kind). 0 < countBehind (recordOf c) (orderOf i) kinds) (own k (o .is) (j .0) (j .1)) (j .2) in
-        omega (arith, ltb-false 0 (countBehind (recordOf c) (orderOf k) kinds) e, some);
+        omega (arith, ltb-false 0 (countBehind (recordOf c) (orderOf k) kinds) (sym (late-counted (recordOf c) (orderOf k)) ∙ e), some);
   }
 
   many-decided : (k : Kind) → Decides (OneTooMany c (byteOf k ∷ operands)) (full (recordOf c) k)
@@ -349,10 +348,10 @@ module _ (c : Contents) (few : Few c) (operands : List ℕ) where
         wrong : ¬ Counted c → Miscounted c (byteOf end ∷ operands)
         wrong n =
             let s = some-wrong c few n in
-            record { more = operands; is = refl; sizes = s .0; declared = s .1; differs = s .2 }
+            record { more = operands; is = refl; three = s .0; declared = s .1; differs = s .2 }
 
         right : Miscounted c (byteOf end ∷ operands) → ¬ Counted c
-        right m a = none-wrong c a (m .sizes) (m .declared) (m .differs)
+        right m a = none-wrong c a (m .three) (m .declared) (m .differs)
 
     end-decided : Decides (BytesAfterEnd (byteOf end ∷ operands)) (ltb 0 (length operands))
     end-decided = go operands
@@ -378,21 +377,18 @@ module _ (c : Contents) (few : Few c) (operands : List ℕ) where
 
     -- the rows that go by the operands of a command of kind j, at a command of kind k
     abbrev ownRows : ℕ → Kind → Kind → List FaultRow
-    ownRows at k sizes = []
-    ownRows at k given = []
+    ownRows at k (single s) = []
     ownRows at k table = faultRow 18 (WrongTable (byteOf k ∷ operands)) at ∷ []
     ownRows at k rule = faultRow 6 (ZeroRule (byteOf k ∷ operands)) at ∷ faultRow 21 (ContradictoryRule (byteOf k ∷ operands)) at ∷ []
     ownRows at k usage = faultRow 19 (WrongUse c (byteOf k ∷ operands)) at ∷ []
     ownRows at k unit = faultRow 7 (NamesAbsentRule c (byteOf k ∷ operands)) at ∷ []
     ownRows at k edge = faultRow 8 (WrongEdge c (byteOf k ∷ operands)) at ∷ []
-    ownRows at k show = []
     ownRows at k end = faultRow 23 (Miscounted c (byteOf k ∷ operands)) 0 ∷ faultRow 9 (BytesAfterEnd (byteOf k ∷ operands)) (suc at) ∷ []
 
     -- those of another kind do not fit
     other-skipped : (at : ℕ) (k j : Kind) → eqb (byteOf j) (byteOf k) ≡ false → {rs : List Row} {ts : List FaultRow}
         → Agree rs ts → Agree rs (ownRows at k j ++ ts)
-    other-skipped at k sizes e a = a
-    other-skipped at k given e a = a
+    other-skipped at k (single s) e a = a
     other-skipped at k table e a = skips (λ (w : WrongTable (byteOf k ∷ operands)). other table k e (w .is)) a
     other-skipped at k rule e a =
         skips (λ (z : ZeroRule (byteOf k ∷ operands)). other rule k e (z .is))
@@ -400,7 +396,6 @@ module _ (c : Contents) (few : Few c) (operands : List ℕ) where
     other-skipped at k usage e a = skips (λ (w : WrongUse c (byteOf k ∷ operands)). other usage k e (w .is)) a
     other-skipped at k unit e a = skips (λ (n : NamesAbsentRule c (byteOf k ∷ operands)). other unit k e (n .is)) a
     other-skipped at k edge e a = skips (λ (w : WrongEdge c (byteOf k ∷ operands)). other edge k e (w .is)) a
-    other-skipped at k show e a = a
     other-skipped at k end e a =
         skips (λ (m : Miscounted c (byteOf k ∷ operands)). other end k e (m .is))
         (skips (λ (b : BytesAfterEnd (byteOf k ∷ operands)). other end k e (b .is)) a)
@@ -408,15 +403,13 @@ module _ (c : Contents) (few : Few c) (operands : List ℕ) where
     -- those of its own kind are decided
     own-decided : (at : ℕ) (k : Kind) → operandBytes k ≤ length operands → {ts : List FaultRow}
         → Agree [] ts → Agree (operandRows (recordOf c) at k operands) (ownRows at k k ++ ts)
-    own-decided at sizes long a = a
-    own-decided at given long a = a
+    own-decided at (single s) long a = a
     own-decided at table long a = meets (meet refl refl (table-decided long)) (λ e. a)
     own-decided at rule long a =
         meets (meet refl refl (zero-decided long)) (λ e. meets (meet refl refl (contradictory-decided long)) (λ f. a))
     own-decided at usage long a = meets (meet refl refl (use-decided long)) (λ e. a)
     own-decided at unit long a = meets (meet refl refl (absent-decided long)) (λ e. a)
     own-decided at edge long a = meets (meet refl refl (edge-decided long)) (λ e. a)
-    own-decided at show long a = a
     own-decided at end long a = meets (meet refl refl sizes-decided) (λ e. meets (meet refl (add-one at) end-decided) (λ f. a))
 
     -- the rows of a list of kinds, in which k stands once
@@ -454,7 +447,7 @@ module _ (c : Contents) (few : Few c) (operands : List ℕ) where
 
     -- the kinds in the order of their rows
     abbrev byRows : List Kind
-    byRows = rule ∷ table ∷ usage ∷ unit ∷ edge ∷ end ∷ sizes ∷ given ∷ show ∷ []
+    byRows = rule ∷ table ∷ usage ∷ unit ∷ edge ∷ end ∷ single sizes ∷ single given ∷ single show ∷ []
 
     agree : (at : ℕ) (k : Kind) → Agree (rows (recordOf c) at k operands) (readingPlace c at (byteOf k ∷ operands))
     agree at k = kind-rows at k (λ long. own-once at k long byRows (each-kind (λ j. standsOnce j byRows) refl k))

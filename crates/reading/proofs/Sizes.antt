@@ -10,7 +10,7 @@ use lib.ListN.{length}
 use borrow.Author.Tests.{lt-ltb, le-ltb, eq-eqb, ne-eqb, not-false}
 use Rattle.atoms.specs.Bounded.{Decides}
 use Rattle.atoms.proofs.Tests.{decides-iff, decides-and, decides-not, decides-equal}
-use Rattle.reading.specs.Commands.{sizes, miscounted}
+use Rattle.reading.specs.Commands.{single, sizes, miscounted}
 use Rattle.reading.specs.Layout.{Sizes, Contents, firstSizes, recordOf, All, Agrees, Counted}
 use Rattle.reading.specs.Refusals.{Differs, in-rules, in-units, in-edges}
 use Rattle.reading.proofs.Elements.{Few}
@@ -43,11 +43,11 @@ module _ (c : Contents) where
 
   pub counted-right : Few c → miscounted (recordOf c) ≡ false → Counted c
   unfolding miscounted recordOf
-  counted-right few e = first-right (c .declared) (few .under sizes) e
+  counted-right few e = first-right (c .once sizes) (few .under (single sizes)) e
 
   pub decides-miscounted : Few c → Decides (¬ Counted c) (miscounted (recordOf c))
   unfolding miscounted recordOf
-  decides-miscounted few = decides-first (c .declared) (few .under sizes)
+  decides-miscounted few = decides-first (c .once sizes) (few .under (single sizes))
 
   -- sizes that do not agree differ somewhere
   differs-so : (s : Sizes) → ¬ Agrees c s → Differs c s
@@ -64,37 +64,37 @@ module _ (c : Contents) where
   differs-not s (in-edges n) a = n (a .edges-are)
 
   -- the first COUNT of at most one is wrong where not all are right
-  pub some-wrong : Few c → ¬ Counted c → (s : Sizes) × List·Memᴰ s (c .declared) × Differs c s
-  some-wrong few = among (c .declared) (few .under sizes)
+  pub some-wrong : Few c → ¬ Counted c → (s : Sizes) × List·Memᴰ s (c .once sizes) × Differs c s
+  some-wrong few = among (c .once sizes) (few .under (single sizes))
     where
       among : (declared : List Sizes) → length declared ≤ 1 → ¬ All (Agrees c) declared → (s : Sizes) × List·Memᴰ s declared × Differs c s
       among [] l n = absurd (n tt)
       among (s ∷ []) l n = (s, List·Memᴰ·head refl, differs-so s (λ a. n (a, tt)))
       among (s ∷ t ∷ declared) l n = absurd (omega arith)
 
-  pub none-wrong : Counted c → (s : Sizes) → List·Memᴰ s (c .declared) → ¬ Differs c s
-  none-wrong a s m d = differs-not s d (all-member (Agrees c) (c .declared) s a m)
+  pub none-wrong : Counted c → (s : Sizes) → List·Memᴰ s (c .once sizes) → ¬ Differs c s
+  none-wrong a s m d = differs-not s d (all-member (Agrees c) (c .once sizes) s a m)
 
 -- ---- the test, as the code goes
 
 module _ (p : Plan) where
-  pub not-declared : p .declared .count ≡ 0 → false ≡ miscounted p
+  pub not-declared : p .once .declared .count ≡ 0 → false ≡ miscounted p
   unfolding miscounted
-  not-declared e = simp (le-ltb 0 (p .declared .count) (omega arith))
+  not-declared e = simp (le-ltb 0 (p .once .declared .count) (omega arith))
 
-  module _ (some : ¬ (p .declared .count ≡ 0)) where
-    declared-so : ltb 0 (p .declared .count) ≡ true
-    declared-so = lt-ltb 0 (p .declared .count) (omega arith)
+  module _ (some : ¬ (p .once .declared .count ≡ 0)) where
+    declared-so : ltb 0 (p .once .declared .count) ≡ true
+    declared-so = lt-ltb 0 (p .once .declared .count) (omega arith)
 
-    pub rules-differ : ¬ (p .declared .rules ≡ p .«rule_count») → true ≡ miscounted p
+    pub rules-differ : ¬ (p .once .declared .rules ≡ p .«rule_count») → true ≡ miscounted p
     unfolding miscounted
     rules-differ n = simp (declared-so, ne-eqb _ _ n)
 
-    pub units-differ : p .declared .rules ≡ p .«rule_count» → ¬ (p .declared .units ≡ p .«unit_count») → true ≡ miscounted p
+    pub units-differ : p .once .declared .rules ≡ p .«rule_count» → ¬ (p .once .declared .units ≡ p .«unit_count») → true ≡ miscounted p
     unfolding miscounted
     units-differ r n = simp (declared-so, eq-eqb _ _ r, ne-eqb _ _ n)
 
-    pub edges-tell : p .declared .rules ≡ p .«rule_count» → p .declared .units ≡ p .«unit_count»
-        → not (eqb (p .declared .edges) (p .«edge_count»)) ≡ miscounted p
+    pub edges-tell : p .once .declared .rules ≡ p .«rule_count» → p .once .declared .units ≡ p .«unit_count»
+        → not (eqb (p .once .declared .edges) (p .«edge_count»)) ≡ miscounted p
     unfolding miscounted
     edges-tell r u = simp (declared-so, eq-eqb _ _ r, eq-eqb _ _ u)

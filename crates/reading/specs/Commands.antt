@@ -8,6 +8,7 @@ use lib.Count.{ones}
 use lib.ListN.{length, getD}
 use lib.Dec.{eqb, ltb, leb}
 use Rattle.atoms.specs.Word.{has, apart}
+pub use Rattle.reading.specs.Kinds.{Single, sizes, given, show, Kind, single, table, rule, usage, unit, edge, end, kind-discrete}
 use Rattle.reading.specs.Words.{WORD_BYTES, wordAt}
 use Rattle.plan.specs.Limits.{MAX_TABLES, MAX_RULES, MAX_USES, MAX_UNITS, MAX_EDGES, MAX_INPUTS, CONTACT_WORDS}
 use Rattle.plan.specs.Record.{wantedBit, usesAt}
@@ -18,15 +19,10 @@ use Rattle.plan.specs.declared.fault.Fault.{Fault}
 use Rattle.plan.specs.declared.fault.Fault.the-variants.{Truncated, UnknownCommand, OutOfOrder, TooMany}
 use Rattle.plan.specs.declared.fault.Fault.the-variants.{EmptyRule, ContradictoryBody, BadTable, BadUse, AbsentRule, BadEdge, WrongCount, TrailingBytes}
 
--- column "command", GIVEN of document 02, S-1, TABLE and USE of S-4, COUNT of S-10, and SHOW of S-11
-pub data Kind : Type 0 where
-  sizes given table rule usage unit edge show end : Kind
-  deriving Discrete as kind-discrete
-
 -- all kinds, in the order of their groups: COUNT "may be the first command"; "All RULEs come first, then UNITs, then EDGEs, then END"; GIVEN stands
 -- "before all RULEs", TABLEs "before RULEs, after GIVEN", USE "after RULEs, before UNITs", SHOW "just before END"
 abbrev pub kinds : List Kind
-kinds = sizes ∷ given ∷ table ∷ rule ∷ usage ∷ unit ∷ edge ∷ show ∷ end ∷ []
+kinds = single sizes ∷ single given ∷ table ∷ rule ∷ usage ∷ unit ∷ edge ∷ single show ∷ end ∷ []
 
 -- column "most": "may stand once", so that a second one is out of order; at most so many, and one more is 5; or so many because rows of its own stop any
 -- further one
@@ -49,17 +45,21 @@ line b n m r = record { byte = b; operands = n; most = m; read = r }
 abbrev pub RULE_OPERAND_WORDS : ℕ
 RULE_OPERAND_WORDS = 3
 
+-- the lines of the commands that may stand once
+abbrev pub onceLine : Single → CommandLine
+onceLine sizes = line 0x07 3 once (λ p. p .once .declared .count)
+onceLine given = line 0x04 WORD_BYTES once (λ p. p .once .given .count)
+onceLine show = line 0x08 WORD_BYTES once (λ p. p .once .shown .count)
+
 -- the command table. "65th RULE, 17th UNIT" and S-4's "17th and the 257th are 5"; a 241st EDGE names no unit, joins a unit to itself or is a repeat, so it
 -- has row 8 alone
 abbrev pub lineOf : Kind → CommandLine
-lineOf sizes = line 0x07 3 once (λ p. p .declared .count)
-lineOf given = line 0x04 WORD_BYTES once (λ p. p .«given_count»)
+lineOf (single s) = line (onceLine s .byte) (onceLine s .operands) once (onceLine s .read)
 lineOf table = line 0x05 (CONTACT_WORDS * WORD_BYTES) (upTo MAX_TABLES) (λ p. p .«table_count»)
 lineOf rule = line 0x01 (RULE_OPERAND_WORDS * WORD_BYTES) (upTo MAX_RULES) (λ p. p .«rule_count»)
 lineOf usage = line 0x06 3 (upTo MAX_USES) (λ p. p .«use_count»)
 lineOf unit = line 0x02 WORD_BYTES (upTo MAX_UNITS) (λ p. p .«unit_count»)
 lineOf edge = line 0x03 2 (runsOutAt MAX_EDGES) (λ p. p .«edge_count»)
-lineOf show = line 0x08 WORD_BYTES once (λ p. p .«show_count»)
 lineOf end = line 0x00 0 (runsOutAt 1) (λ p. 0)
 
 abbrev pub byteOf : Kind → ℕ
@@ -97,27 +97,26 @@ earliestBehind k = elim (mostOf k) [ once ↦ getD kinds (suc (orderOf k)) end |
 
 -- "A command is one of four kinds carrying its operands": of nine, with COUNT, GIVEN, TABLE, USE and SHOW
 unfoldable pub carrying : Kind → List ℕ → Command
-carrying sizes operands = Count (getD operands 0 0) (getD operands 1 0) (getD operands 2 0)
-carrying given operands = Given (wordAt 0 operands)
+carrying (single sizes) operands = Count (getD operands 0 0) (getD operands 1 0) (getD operands 2 0)
+carrying (single given) operands = Given (wordAt 0 operands)
 carrying table operands = Table (wordAt 0 operands) (wordAt WORD_BYTES operands)
 carrying rule operands = Rule (wordAt 0 operands) (wordAt WORD_BYTES operands) (wordAt (2 * WORD_BYTES) operands)
 carrying usage operands = Use (getD operands 0 0) (getD operands 1 0) (getD operands 2 0)
 carrying unit operands = UnitOf (wordAt 0 operands)
 carrying edge operands = Edge (getD operands 0 0) (getD operands 1 0)
-carrying show operands = Show (wordAt 0 operands)
+carrying (single show) operands = Show (wordAt 0 operands)
 carrying end operands = End
 
--- how many commands are read behind which none of this group may come
-abbrev pub countBehind : Plan → ℕ → List Kind → ℕ
-countBehind p group [] = 0
-countBehind p group (j ∷ js) =
-    elim (ltb group (orderOf (earliestBehind j))) [ true ↦ count p j + countBehind p group js | false ↦ countBehind p group js ]
+-- whether a command of these kinds is read behind which none of this group may come
+abbrev pub someBehind : Plan → ℕ → List Kind → Bool
+someBehind p group [] = false
+someBehind p group (j ∷ js) = (ltb 0 (count p j) && ltb group (orderOf (earliestBehind j))) || someBehind p group js
 
 -- "command out of group order": there is a command behind which it may not come; "a second or late GIVEN is 4"; S-10: COUNT "may be the first
 -- command .. Elsewhere it is 4";
 -- S-11: "After SHOW every known command but END is 4."
 unfoldable pub late : Plan → ℕ → Bool
-late p group = ltb 0 (countBehind p group kinds)
+late p group = someBehind p group kinds
 
 -- 5: one more than column "most" allows, of n that are read
 abbrev pub noRoom : Most → ℕ → Bool
@@ -156,8 +155,9 @@ badEdge p u v = leb (p .«unit_count») u || leb (p .«unit_count») v || eqb u 
 -- S-10: "a declared number differs from what was read": RULEs, UNITs and EDGEs alone are counted
 unfoldable pub miscounted : Plan → Bool
 miscounted p =
-    ltb 0 (p .declared .count)
-    && not (eqb (p .declared .rules) (p .«rule_count») && eqb (p .declared .units) (p .«unit_count») && eqb (p .declared .edges) (p .«edge_count»))
+    let declared = p .once .declared in
+    ltb 0 (declared .count)
+    && not (eqb (declared .rules) (p .«rule_count») && eqb (declared .units) (p .«unit_count») && eqb (declared .edges) (p .«edge_count»))
 
 -- a row of the fault table: whether it fits, and its fault with the spot
 pub record Row : Type 0 where
@@ -173,8 +173,7 @@ kindRows p at kind = row (late p (orderOf kind)) (OutOfOrder at) ∷ row (full p
 
 -- rows 6, 21, 18, 19, 7, 8, 23 and 9: what the operands tell, and at END the sizes; S-10: "found at END before 9, spot 0"
 abbrev pub operandRows : Plan → ℕ → Kind → List ℕ → List Row
-operandRows p at sizes operands = []
-operandRows p at given operands = []
+operandRows p at (single s) operands = []
 operandRows p at table operands = row (badTable (wordAt 0 operands) (wordAt WORD_BYTES operands)) (BadTable at) ∷ []
 operandRows p at rule operands =
     row (emptyRule (wordAt 0 operands) (wordAt WORD_BYTES operands) (wordAt (2 * WORD_BYTES) operands)) (EmptyRule at)
@@ -183,7 +182,6 @@ operandRows p at rule operands =
 operandRows p at usage operands = row (badUse p (getD operands 0 0) (getD operands 1 0) (getD operands 2 0)) (BadUse at) ∷ []
 operandRows p at unit operands = row (absentRule p (wordAt 0 operands)) (AbsentRule at) ∷ []
 operandRows p at edge operands = row (badEdge p (getD operands 0 0) (getD operands 1 0)) (BadEdge at) ∷ []
-operandRows p at show operands = []
 operandRows p at end operands = row (miscounted p) (WrongCount 0) ∷ row (ltb 0 (length operands)) (TrailingBytes (at + 1)) ∷ []
 
 -- the rows that a command of each kind can meet, from top to bottom; row 2 stands between the two

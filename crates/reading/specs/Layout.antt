@@ -9,9 +9,10 @@ use lib.ListN.{length, getD}
 use Rattle.atoms.specs.Lists.{padded, tabulate}
 use Rattle.atoms.specs.Word.{EVERY_ATOM, Has, Apart, _∪_, atom}
 use Rattle.reading.specs.Words.{WORD_BYTES, BYTE_VALUES, WORD_VALUES}
-use Rattle.reading.specs.Commands.{Kind, sizes, given, table, rule, usage, unit, edge, show, end}
+use Rattle.reading.specs.Kinds.{Single, sizes, given, show, Kind, single, table, rule, usage, unit, edge, end}
 use Rattle.plan.specs.Limits.{MAX_TABLES, MAX_RULES, MAX_USES, MAX_UNITS, MAX_EDGES, MAX_INPUTS, FIRST_RULE, RULE_WORDS}
 use Rattle.plan.specs.Record.{wantedBit}
+use Rattle.plan.specs.declared.record.OnceWord.{OnceWord}
 use Rattle.plan.specs.declared.record.Plan.{Plan}
 
 -- S-10: "three bytes: rules, units, edges"
@@ -84,38 +85,38 @@ showBytes word = 0x08 ∷ wordBytes word
 abbrev pub endBytes : List ℕ
 endBytes = 0x00 ∷ []
 
+-- what a command that may stand once says: three numbers, or a word
+abbrev pub OnceElement : Single → Type 0
+OnceElement sizes = Sizes
+OnceElement given = ℕ
+OnceElement show = ℕ
+
 -- what a plan says: its lists
 pub record Contents : Type 0 where
-  pub declared : List Sizes
-  pub given : List ℕ
+  pub once : (s : Single) → List (OnceElement s)
   pub tables : List TableWords
   pub rules : List RuleWords
   pub uses : List TableUse
   pub units : List ℕ
   pub edges : List UnitPair
-  pub shown : List ℕ
 
 -- what a command of each kind says, and all that those of a kind say
 abbrev pub Element : Kind → Type 0
-Element sizes = Sizes
-Element given = ℕ
+Element (single s) = OnceElement s
 Element table = TableWords
 Element rule = RuleWords
 Element usage = TableUse
 Element unit = ℕ
 Element edge = UnitPair
-Element show = ℕ
 Element end = Unit {0}
 
 abbrev pub listOf : Contents → (kind : Kind) → List (Element kind)
-listOf c sizes = c .declared
-listOf c given = c .given
+listOf c (single s) = c .once s
 listOf c table = c .tables
 listOf c rule = c .rules
 listOf c usage = c .uses
 listOf c unit = c .units
 listOf c edge = c .edges
-listOf c show = c .shown
 listOf c end = []
 
 -- how many commands of the kind there are
@@ -126,12 +127,12 @@ countOf c kind = length (listOf c kind)
 -- then UNITs, then EDGEs", SHOW "just before END": every command but END
 unfoldable pub commands : Contents → List ℕ
 commands c =
-    flatMap countBytes (c .declared)
-    ++ (flatMap givenBytes (c .given)
+    flatMap countBytes (c .once sizes)
+    ++ (flatMap givenBytes (c .once given)
     ++ (flatMap tableBytes (c .tables)
     ++ (flatMap ruleBytes (c .rules)
     ++ (flatMap useBytes (c .uses)
-    ++ (flatMap unitBytes (c .units) ++ (flatMap edgeBytes (c .edges) ++ flatMap showBytes (c .shown)))))))
+    ++ (flatMap unitBytes (c .units) ++ (flatMap edgeBytes (c .edges) ++ flatMap showBytes (c .once show)))))))
 
 -- "then END"
 abbrev pub layout : Contents → List ℕ
@@ -162,19 +163,26 @@ predecessorsOf edges u = wordOf (λ e. e .u) (λ e. e .v) edges u
 abbrev pub firstSizes : List Sizes → Sizes
 firstSizes declared = getD declared 0 (record { rules = 0; units = 0; edges = 0 })
 
--- the record of the lists
+-- the first of some words, or what holds without one
+abbrev pub onceWord : ℕ → List ℕ → OnceWord
+onceWord otherwise words = record { count = length words; word = getD words 0 otherwise }
+
+-- the record of the lists; S-11: "without it all 64 atoms show"
 unfoldable pub recordOf : Contents → Plan
 recordOf c =
     record {
-      declared =
+      once =
           record {
-            count = length (c .declared);
-            rules = firstSizes (c .declared) .rules;
-            units = firstSizes (c .declared) .units;
-            edges = firstSizes (c .declared) .edges;
+            declared =
+                record {
+                  count = length (c .once sizes);
+                  rules = firstSizes (c .once sizes) .rules;
+                  units = firstSizes (c .once sizes) .units;
+                  edges = firstSizes (c .once sizes) .edges;
+                };
+            given = onceWord 0 (c .once given);
+            shown = onceWord EVERY_ATOM (c .once show);
           };
-      given = getD (c .given) 0 0;
-      «given_count» = length (c .given);
       rules = padded FIRST_RULE (flatMap twoWords (c .tables)) ++ padded (RULE_WORDS * MAX_RULES) (ruleWords (c .uses) 0 (c .rules));
       «table_count» = length (c .tables);
       «rule_count» = length (c .rules);
@@ -183,8 +191,6 @@ recordOf c =
       «unit_count» = length (c .units);
       predecessors = tabulate MAX_UNITS (predecessorsOf (c .edges));
       «edge_count» = length (c .edges);
-      shown = getD (c .shown) 0 EVERY_ATOM;
-      «show_count» = length (c .shown);
     }
 
 abbrev pub IsByte : ℕ → Type 0
@@ -225,17 +231,26 @@ pub record GoodEdge (n : ℕ) (e : UnitPair) : Type 0 where
   pub to-there : e .v < n
   pub apart : ¬ (e .u ≡ e .v)
 
--- what the commands before END may hold: column "most", COUNT, GIVEN and SHOW once, and rows 6, 21, 18, 19, 7 and 8 of the fault table
+-- column "most"; COUNT, GIVEN and SHOW "may stand once"; END ends the commands
+abbrev pub atMost : Kind → ℕ
+atMost (single s) = 1
+atMost table = MAX_TABLES
+atMost rule = MAX_RULES
+atMost usage = MAX_USES
+atMost unit = MAX_UNITS
+atMost edge = MAX_EDGES
+atMost end = 0
+
+-- what may stand once is words of 64 bits
+abbrev pub GoodOnce : (s : Single) → OnceElement s → Type 0
+GoodOnce sizes three = Unit {0}
+GoodOnce given word = word < WORD_VALUES
+GoodOnce show word = word < WORD_VALUES
+
+-- what the commands before END may hold: column "most", and rows 6, 21, 18, 19, 7 and 8 of the fault table
 pub record WithinLimits (c : Contents) : Type 0 where
-  pub one-count : length (c .declared) ≤ 1
-  pub one-given : length (c .given) ≤ 1
-  pub most-tables : length (c .tables) ≤ MAX_TABLES
-  pub most-rules : length (c .rules) ≤ MAX_RULES
-  pub most-uses : length (c .uses) ≤ MAX_USES
-  pub most-units : length (c .units) ≤ MAX_UNITS
-  pub most-edges : length (c .edges) ≤ MAX_EDGES
-  pub one-shown : length (c .shown) ≤ 1
-  pub good-given : All (λ word. word < WORD_VALUES) (c .given)
+  pub under : (k : Kind) → countOf c k ≤ atMost k
+  pub good-once : (s : Single) → All (GoodOnce s) (c .once s)
   pub good-tables : All GoodTable (c .tables)
   pub good-rules : All GoodRule (c .rules)
   pub good-uses : All (GoodUse (length (c .rules)) (length (c .tables))) (c .uses)
@@ -243,7 +258,6 @@ pub record WithinLimits (c : Contents) : Type 0 where
   pub good-units : All (λ word. word < 2 ^ length (c .rules)) (c .units)
   pub good-edges : All (GoodEdge (length (c .units))) (c .edges)
   pub no-repeat : Distinct (c .edges)
-  pub good-shown : All (λ word. word < WORD_VALUES) (c .shown)
 
 -- S-10: the declared numbers are those of the lists
 pub record Agrees (c : Contents) (s : Sizes) : Type 0 where
@@ -253,7 +267,7 @@ pub record Agrees (c : Contents) (s : Sizes) : Type 0 where
 
 -- a whole plan's COUNT, if there is one, is right
 abbrev pub Counted : Contents → Type 0
-Counted c = All (Agrees c) (c .declared)
+Counted c = All (Agrees c) (c .once sizes)
 
 -- the bytes are the layout of these lists, which keep the limits; S-10: the declared sizes are theirs
 pub record Lays (bytes : List ℕ) (c : Contents) : Type 0 where

@@ -1,4 +1,5 @@
 pub mod Words
+pub mod Kinds
 pub mod Commands
 pub mod Reading
 pub mod Progress

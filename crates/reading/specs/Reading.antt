@@ -2,7 +2,7 @@
 use mathlib.Core.List.{List, [], _∷_}
 use Prim.Native.Nat.{ℕ, zero, suc, _+_, _*_}
 use Rattle.plan.specs.Record.{emptyPlan, withCount, withGiven, withTable, withRule, withUse, withUnit, withEdge, withShow}
-use Rattle.reading.specs.Commands.{Kind, sizes, given, table, rule, usage, unit, edge, show, kinds, operandBytes, commandAt}
+use Rattle.reading.specs.Commands.{Kind, single, sizes, given, show, table, rule, usage, unit, edge, kinds, operandBytes, commandAt}
 use Rattle.reading.specs.Commands.{Most, once, upTo, runsOutAt, mostOf}
 use Rattle.plan.specs.declared.record.Plan.{Plan}
 use Rattle.reading.specs.declared.command.Command.{Command}
@@ -28,14 +28,14 @@ pub data Step : Type 0 where
   ended : Reading → Step
 
 abbrev pub stepOf : Plan → Command → Step
-stepOf p (Count rules units edges) = onward sizes (withCount p rules units edges)
-stepOf p (Given word) = onward given (withGiven p word)
+stepOf p (Count rules units edges) = onward (single sizes) (withCount p rules units edges)
+stepOf p (Given word) = onward (single given) (withGiven p word)
 stepOf p (Table inputs truth) = onward table (withTable p inputs truth)
 stepOf p (Rule head positive negative) = onward rule (withRule p head positive negative)
 stepOf p (Use r t sign) = onward usage (withUse p r t sign)
 stepOf p (UnitOf word) = onward unit (withUnit p word)
 stepOf p (Edge u v) = onward edge (withEdge p u v)
-stepOf p (Show word) = onward show (withShow p word)
+stepOf p (Show word) = onward (single show) (withShow p word)
 stepOf p End = ended (accepted p)
 stepOf p (Faulty f) = ended (refused f)
 

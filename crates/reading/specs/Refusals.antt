@@ -9,6 +9,7 @@ use lib.ListN.{length}
 use Rattle.atoms.specs.Word.{Has}
 use Rattle.plan.specs.Limits.{MAX_INPUTS}
 use Rattle.plan.specs.Faults.{RefusedBy, FaultRow, FirstFit}
+use Rattle.reading.specs.Kinds.{sizes, given, show}
 use Rattle.reading.specs.Words.{WORD_VALUES}
 use Rattle.reading.specs.Layout.{Sizes, TableWords, RuleWords, TableUse, UnitPair, Contents, tableBytes, ruleBytes, useBytes, unitBytes, edgeBytes}
 use Rattle.reading.specs.Layout.{endBytes, commands, layout, WithinLimits, Counted}
@@ -39,7 +40,7 @@ pub record UnknownByte (rest : List ℕ) : Type 0 where
 -- how many commands there are that stand behind all EDGEs, behind all UNITs, .. : SHOW "just before END", "All RULEs come first, then UNITs, then EDGEs",
 -- USE "after RULEs, before UNITs", TABLEs "before RULEs, after GIVEN", GIVEN "before all RULEs"
 abbrev pub behindEdges : Contents → ℕ
-behindEdges c = length (c .shown)
+behindEdges c = length (c .once show)
 
 abbrev pub behindUnits : Contents → ℕ
 behindUnits c = length (c .edges) + behindEdges c
@@ -57,19 +58,19 @@ abbrev pub behindGiven : Contents → ℕ
 behindGiven c = length (c .tables) + behindTables c
 
 abbrev pub behindCount : Contents → ℕ
-behindCount c = length (c .given) + behindGiven c
+behindCount c = length (c .once given) + behindGiven c
 
 -- a command with this byte comes too late: one is there behind which it may not come. COUNT "may be the first command .. Elsewhere it is 4"; "a second or late
 -- GIVEN is 4"; SHOW "may stand once"; "After SHOW every known command but END is 4", and END never is
 pub data TooLate (c : Contents) : ℕ → Type 0 where
-  late-count : 0 < length (c .declared) + behindCount c → TooLate c 0x07
-  late-given : 0 < length (c .given) + behindGiven c → TooLate c 0x04
+  late-count : 0 < length (c .once sizes) + behindCount c → TooLate c 0x07
+  late-given : 0 < length (c .once given) + behindGiven c → TooLate c 0x04
   late-table : 0 < behindTables c → TooLate c 0x05
   late-rule : 0 < behindRules c → TooLate c 0x01
   late-use : 0 < behindUses c → TooLate c 0x06
   late-unit : 0 < behindUnits c → TooLate c 0x02
   late-edge : 0 < behindEdges c → TooLate c 0x03
-  second-show : 0 < length (c .shown) → TooLate c 0x08
+  second-show : 0 < length (c .once show) → TooLate c 0x08
 
 -- 4: "command out of group order"
 pub record OutOfGroupOrder (c : Contents) (rest : List ℕ) : Type 0 where
@@ -173,9 +174,9 @@ pub data Differs (c : Contents) (s : Sizes) : Type 0 where
 pub record Miscounted (c : Contents) (rest : List ℕ) : Type 0 where
   pub more : List ℕ
   pub is : rest ≡ endBytes ++ more
-  pub sizes : Sizes
-  pub declared : List·Memᴰ sizes (c .declared)
-  pub differs : Differs c sizes
+  pub three : Sizes
+  pub declared : List·Memᴰ three (c .once sizes)
+  pub differs : Differs c three
 
 -- 9: "bytes after END"
 pub record BytesAfterEnd (rest : List ℕ) : Type 0 where

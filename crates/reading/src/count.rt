@@ -1,6 +1,6 @@
 // COUNT: its operands, and the rows of the fault table that it is held against.
 ghost use mathlib.Core.Path.{_≡_};
-ghost use Rattle.reading.specs.Commands.{ofKind, sizes};
+ghost use Rattle.reading.specs.Commands.{ofKind, single, sizes};
 use crate::command::Command;
 use crate::kinds::COUNT_GROUP;
 use crate::kinds::COUNT_OPERANDS;
@@ -10,7 +10,7 @@ use plan::Plan;
 
 // The COUNT with these operands, or the fault that stops it.
 pub fn read_count(operands: &[u8], at: usize, read: Plan) -> Command
-    ensures { λ r. ⌜ r ≡ ofKind read at sizes (now (operands .entry)) ⌝ }
+    ensures { λ r. ⌜ r ≡ ofKind read at (single sizes) (now (operands .entry)) ⌝ }
 {
     if is_late(COUNT_GROUP, read) {
         return Command::Fault(Fault::OutOfOrder(at));

@@ -14,16 +14,16 @@ const COUNT_SPOT: usize = 0;
 fn is_miscounted(read: Plan) -> bool
     ensures { λ r. ⌜ r ≡ miscounted read ⌝ }
 {
-    if read.declared.count == 0 {
+    if read.once.declared.count == 0 {
         return false;
     }
-    if read.declared.rules != read.rule_count {
+    if read.once.declared.rules != read.rule_count {
         return true;
     }
-    if read.declared.units != read.unit_count {
+    if read.once.declared.units != read.unit_count {
         return true;
     }
-    read.declared.edges != read.edge_count
+    read.once.declared.edges != read.edge_count
 }
 
 // The END at `at`, or the fault that a declared size is wrong or that bytes stand behind it.

@@ -1,6 +1,6 @@
 // GIVEN: its operand, and the rows of the fault table that it is held against.
 ghost use mathlib.Core.Path.{_≡_};
-ghost use Rattle.reading.specs.Commands.{ofKind, given};
+ghost use Rattle.reading.specs.Commands.{ofKind, single, given};
 use crate::command::Command;
 use crate::kinds::GIVEN_GROUP;
 use crate::kinds::GIVEN_OPERANDS;
@@ -12,7 +12,7 @@ use plan::Plan;
 
 // The GIVEN with these operands, or the fault that stops it.
 pub fn read_given(operands: &[u8], at: usize, read: Plan) -> Command
-    ensures { λ r. ⌜ r ≡ ofKind read at given (now (operands .entry)) ⌝ }
+    ensures { λ r. ⌜ r ≡ ofKind read at (single given) (now (operands .entry)) ⌝ }
 {
     if is_late(GIVEN_GROUP, read) {
         return Command::Fault(Fault::OutOfOrder(at));

@@ -10,34 +10,16 @@ use crate::kinds::UNIT_GROUP;
 use crate::kinds::USE_GROUP;
 use plan::Plan;
 
-// Whether a command is read behind which none of this group may come. COUNT and GIVEN may stand once, so behind them come GIVEN and TABLEs at the
-// earliest; behind a SHOW comes END alone.
+// Whether a command is read behind which none of this group may come, kind by kind: what may stand once is followed by the next group at the earliest.
 pub fn is_late(group: usize, read: Plan) -> bool
     ensures { λ r. ⌜ r ≡ late read group ⌝ }
 {
-    if 0 < read.show_count {
-        return group < END_GROUP;
-    }
-    if 0 < read.edge_count {
-        return group < EDGE_GROUP;
-    }
-    if 0 < read.unit_count {
-        return group < UNIT_GROUP;
-    }
-    if 0 < read.use_count {
-        return group < USE_GROUP;
-    }
-    if 0 < read.rule_count {
-        return group < RULE_GROUP;
-    }
-    if 0 < read.table_count {
-        return group < TABLE_GROUP;
-    }
-    if 0 < read.given_count {
-        return group < TABLE_GROUP;
-    }
-    if 0 < read.declared.count {
-        return group < GIVEN_GROUP;
-    }
-    false
+    ((0 < read.once.declared.count) & (group < GIVEN_GROUP))
+        | ((0 < read.once.given.count) & (group < TABLE_GROUP))
+        | ((0 < read.table_count) & (group < TABLE_GROUP))
+        | ((0 < read.rule_count) & (group < RULE_GROUP))
+        | ((0 < read.use_count) & (group < USE_GROUP))
+        | ((0 < read.unit_count) & (group < UNIT_GROUP))
+        | ((0 < read.edge_count) & (group < EDGE_GROUP))
+        | ((0 < read.once.shown.count) & (group < END_GROUP))
 }

@@ -1,7 +1,7 @@
 // Reading a plan from the left: a COUNT, a GIVEN, then TABLEs, RULEs, USEs, UNITs, EDGEs, a SHOW, then END. Any of these but END may be missing.
 ghost use mathlib.Core.Path.{_≡_};
 ghost use Rattle.plan.specs.Record.{Fitting};
-ghost use Rattle.reading.specs.Commands.{given, table, rule, usage, unit, edge, show, end};
+ghost use Rattle.reading.specs.Commands.{single, given, show, table, rule, usage, unit, edge, end};
 ghost use Rattle.reading.specs.Progress.{placeAt, Reached};
 ghost use Rattle.reading.specs.Reading.{reading};
 ghost use Rattle.reading.specs.Layout.{Records};
@@ -56,7 +56,7 @@ fn place(bytes: &[u8], taken: Plan, at: usize) -> Progress
 
 // The place behind the COUNT, if there is one.
 fn read_counts(bytes: &[u8]) -> Progress
-    ensures { λ r. ⌜ Reached given (now (bytes .entry)) r ⌝ }
+    ensures { λ r. ⌜ Reached (single given) (now (bytes .entry)) r ⌝ }
 {
     let progress = place(bytes, empty_plan(), 0);
     let command = progress.command;
@@ -75,7 +75,7 @@ fn read_counts(bytes: &[u8]) -> Progress
 
 // The place behind the GIVEN, if there is one.
 fn read_givens(bytes: &[u8], from: Progress) -> Progress
-    requires { ⌜ Reached given (now bytes) from ⌝ }
+    requires { ⌜ Reached (single given) (now bytes) from ⌝ }
     ensures { λ r. ⌜ Reached table (now (bytes .entry)) r ⌝ }
 {
     let command = from.command;
@@ -163,7 +163,7 @@ fn read_units(bytes: &[u8], from: Progress) -> Progress
 // The place behind all EDGEs.
 fn read_edges(bytes: &[u8], from: Progress) -> Progress
     requires { ⌜ Reached edge (now bytes) from ⌝ }
-    ensures { λ r. ⌜ Reached show (now (bytes .entry)) r ⌝ }
+    ensures { λ r. ⌜ Reached (single show) (now (bytes .entry)) r ⌝ }
 {
     let mut progress = from;
     loop {
@@ -179,7 +179,7 @@ fn read_edges(bytes: &[u8], from: Progress) -> Progress
 
 // The place behind the SHOW, if there is one.
 fn read_shows(bytes: &[u8], from: Progress) -> Progress
-    requires { ⌜ Reached show (now bytes) from ⌝ }
+    requires { ⌜ Reached (single show) (now bytes) from ⌝ }
     ensures { λ r. ⌜ Reached end (now (bytes .entry)) r ⌝ }
 {
     let command = from.command;

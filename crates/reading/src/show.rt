@@ -1,6 +1,6 @@
 // SHOW: its operand, and the rows of the fault table that it is held against.
 ghost use mathlib.Core.Path.{_≡_};
-ghost use Rattle.reading.specs.Commands.{ofKind, show};
+ghost use Rattle.reading.specs.Commands.{ofKind, single, show};
 use crate::command::Command;
 use crate::kinds::SHOW_GROUP;
 use crate::kinds::SHOW_OPERANDS;
@@ -12,7 +12,7 @@ use plan::Plan;
 
 // The SHOW with these operands, or the fault that stops it.
 pub fn read_show(operands: &[u8], at: usize, read: Plan) -> Command
-    ensures { λ r. ⌜ r ≡ ofKind read at show (now (operands .entry)) ⌝ }
+    ensures { λ r. ⌜ r ≡ ofKind read at (single show) (now (operands .entry)) ⌝ }
 {
     if is_late(SHOW_GROUP, read) {
         return Command::Fault(Fault::OutOfOrder(at));

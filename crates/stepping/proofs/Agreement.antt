@@ -70,14 +70,14 @@ walk-members : (p : Plan) {xs : List ℕ} → Walk (Settles p) Start xs → (M :
 walk-members p w M = (walk-at w M, λ q. walk-has w M q from-start)
 
 walk-yields : {p : Plan} {r : Listing} {table xs : List ℕ} → ListsAll p r table → Walk (Settles p) Start xs
-    → cutList (p .shown) xs ≡ lastIn r table
+    → cutList (p .once .shown .word) xs ≡ lastIn r table
 walk-yields {p} {r} {table} {xs} l w =
-    let cuts = cut-of-list (p .shown) xs (walk-members p w) in
-    rising-ext (cutList (p .shown) xs) (lastIn r table) (cut-rising (p .shown) xs) (l .rising) (λ X m. l .members X .1 (cuts X .0 m))
+    let cuts = cut-of-list (p .once .shown .word) xs (walk-members p w) in
+    rising-ext (cutList (p .once .shown .word) xs) (lastIn r table) (cut-rising (p .once .shown .word) xs) (l .rising) (λ X m. l .members X .1 (cuts X .0 m))
     (λ X m. cuts X .1 (l .members X .0 m))
 
 pub walk-is-last : (bytes table : List ℕ) {r : Listing} {table′ : List ℕ} → Promised bytes table r table′ → r .outcome ≡ Accepted → {xs : List ℕ}
-    → Walked bytes Start xs → cutList (reading bytes .plan .shown) xs ≡ lastIn r table′
+    → Walked bytes Start xs → cutList (reading bytes .plan .once .shown .word) xs ≡ lastIn r table′
 walk-is-last bytes table {r} {table′} h e w =
     let k = h .demand-1 .accepts .0 e in
     let lists : ListsAll (reading bytes .plan) r table′ =

@@ -44,7 +44,7 @@ use Rattle.stepping.proofs.Agreement.{walk-is-last}
 -- ---- all rules of the record
 
 pub gathered-of : (p : Plan) {w r : ℕ} {from : From} {passed before after : List ℕ} → w ≡ below (p .«rule_count»)
-    → Added (λ M. AnswerSet (lent (p .rules)) w (p .given) M × Sought from passed M) before 0 after r
+    → Added (λ M. AnswerSet (lent (p .rules)) w (p .once .given .word) M × Sought from passed M) before 0 after r
     → Added (λ M. Settles p M × Sought from passed M) before 0 after r
 gathered-of p e a = rw e at a
 
@@ -133,7 +133,7 @@ walked-steps bytes {from} (suc n) (goes {M = M} e w) l =
 
 -- one batch from the start that is not full, cut, is the last list of a plan that the unit work finishes
 pub batch-is-last : (bytes table : List ℕ) {r : Listing} {table′ : List ℕ} → Promised bytes table r table′ → r .outcome ≡ Accepted → (n : ℕ)
-    → length (steps bytes Start n) < n → cutList (reading bytes .plan .shown) (steps bytes Start n) ≡ lastIn r table′
+    → length (steps bytes Start n) < n → cutList (reading bytes .plan .once .shown .word) (steps bytes Start n) ≡ lastIn r table′
 batch-is-last bytes table h e n l =
     walk-is-last bytes table h e (short-walked bytes Start n (lays-accepted (h .demand-1 .accepts .0 e .1 .1 .lays)) l)
 

@@ -64,9 +64,9 @@ settled-within p M s = record { each = λ i h. go i (settled-headed p M i s h) }
     heads r = lent (p .rules) .head r
 
     go : (i : ℕ) → Headed p i → Has (mayBeUp p) i
-    go i (inl h) = has-left (p .given) (unionIn (p .«rule_count») (below (p .«rule_count»)) heads) h
+    go i (inl h) = has-left (p .once .given .word) (unionIn (p .«rule_count») (below (p .«rule_count»)) heads) h
     go i (inr t) =
-        has-right (p .given) (unionIn (p .«rule_count») (below (p .«rule_count»)) heads)
+        has-right (p .once .given .word) (unionIn (p .«rule_count») (below (p .«rule_count»)) heads)
         (union-has (p .«rule_count») (below (p .«rule_count»)) heads (t .0) i (t .1) (has-below (p .«rule_count») (t .0) (t .1)) (t .2))
 
 pub may-be-up : (p : Plan) (M : ℕ) → Settles p M → M < suc (mayBeUp p)

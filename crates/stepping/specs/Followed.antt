@@ -29,7 +29,7 @@ pub data Follows (p : Plan) (from : From) : Next → Type 0 where
 
 -- the atoms that may be up: those that are given, and those in heads
 abbrev pub mayBeUp : Plan → ℕ
-mayBeUp p = p .given ∪ unionIn (p .«rule_count») (below (p .«rule_count»)) (λ r. lent (p .rules) .head r)
+mayBeUp p = p .once .given .word ∪ unionIn (p .«rule_count») (below (p .«rule_count»)) (λ r. lent (p .rules) .head r)
 
 -- `Behind`, computed
 abbrev pub behind : From → ℕ → Bool

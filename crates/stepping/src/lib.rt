@@ -31,7 +31,8 @@ pub fn next_of(plan: Plan, from: From) -> Witness
     requires { ⌜ Fitting plan ⌝ }
     ensures { λ r. ⌜ LeastOf (λ M. Settles plan M × Behind from M) r ⌝ }
 {
-    next(&plan.rules, atoms::first(plan.rule_count), plan.given, from)
+    let given = plan.once.given.word;
+    next(&plan.rules, atoms::first(plan.rule_count), given, from)
 }
 
 // The next position of a plan as bytes. Units and edges play no part in it, and neither does the graph.
@@ -57,10 +58,11 @@ pub fn gather_of(plan: Plan, from: From, passed: &[u64], out: &mut [u64]) -> usi
     requires { ⌜ Fitting plan ⌝ }
     ensures { λ r. ⌜ Added (λ M. Settles plan M × Sought from (now (passed .entry)) M) (now (out .entry)) 0 (now (out .exit)) r ⌝ }
 {
+    let given = plan.once.given.word;
     gather_all(
         &plan.rules,
         atoms::first(plan.rule_count),
-        plan.given,
+        given,
         from,
         passed,
         out,

@@ -64,10 +64,10 @@ module _ {p : Plan} {h : HeadAtoms} (s : Setting p h) where
   abbrev all-heads : ℕ
   all-heads = unionIn (p .«unit_count») (below (p .«unit_count»)) (λ v. getD (h .heads) v 0)
 
-  input-of-last : p .given ∪ all-heads ≡ inputHeads (withLast (unitsOf p)) (p .«unit_count»)
+  input-of-last : p .once .given .word ∪ all-heads ≡ inputHeads (withLast (unitsOf p)) (p .«unit_count»)
   unfolding unitsOf withLast
   input-of-last =
-      ext (p .given ∪ all-heads) (inputHeads (withLast (unitsOf p)) (p .«unit_count»)) (λ a k. into a (union-cases (p .given) all-heads k))
+      ext (p .once .given .word ∪ all-heads) (inputHeads (withLast (unitsOf p)) (p .«unit_count»)) (λ a k. into a (union-cases (p .once .given .word) all-heads k))
       (λ a k. back a (input-cases (withLast (unitsOf p)) (p .«unit_count») a (omega arith) k))
     where
       heads-at : (v : ℕ) → v < p .«unit_count» → getD (h .heads) v 0 ≡ heads (withLast (unitsOf p)) v
@@ -79,21 +79,21 @@ module _ {p : Plan} {h : HeadAtoms} (s : Setting p h) where
           input-edge (withLast (unitsOf p)) (p .«unit_count») (f .0) a (edge-from-last (unitsOf p) (f .0) (f .1))
           (rw (heads-at (f .0) (f .1)) at (f .3))
 
-      into : (a : ℕ) → Has (p .given) a ⊎ Has all-heads a → Has (inputHeads (withLast (unitsOf p)) (p .«unit_count»)) a
+      into : (a : ℕ) → Has (p .once .given .word) a ⊎ Has all-heads a → Has (inputHeads (withLast (unitsOf p)) (p .«unit_count»)) a
       into a (inl g) = input-given (withLast (unitsOf p)) (p .«unit_count») a g
       into a (inr k) = there a (union-at (p .«unit_count») (below (p .«unit_count»)) (λ v. getD (h .heads) v 0) a k)
 
       back : (a : ℕ)
-          → Has (p .given) a ⊎ ((v : ℕ) × Edge (withLast (unitsOf p)) (p .«unit_count») v × Has (heads (withLast (unitsOf p)) v) a)
-          → Has (p .given ∪ all-heads) a
-      back a (inl k) = has-left (p .given) all-heads k
+          → Has (p .once .given .word) a ⊎ ((v : ℕ) × Edge (withLast (unitsOf p)) (p .«unit_count») v × Has (heads (withLast (unitsOf p)) v) a)
+          → Has (p .once .given .word ∪ all-heads) a
+      back a (inl k) = has-left (p .once .given .word) all-heads k
       back a (inr f) =
           let l = edge-below (unitsOf p) (f .0) (f .1) in
-          has-right (p .given) all-heads
+          has-right (p .once .given .word) all-heads
           (union-has (p .«unit_count») (below (p .«unit_count»)) (λ v. getD (h .heads) v 0) (f .0) a l (has-below (p .«unit_count») (f .0) l)
           (rw (heads-at (f .0) l) (f .2)))
 
-  pub last-told : (input near : ℕ) → input ≡ p .given ∪ all-heads → near ⊆ below (p .«unit_count»)
+  pub last-told : (input near : ℕ) → input ≡ p .once .given .word ∪ all-heads → near ⊆ below (p .«unit_count»)
       → UnitTold (withLast (unitsOf p)) (p .«unit_count») (record { rules = 0; inputs = input; predecessors = below (p .«unit_count»); nearest = near })
   unfolding unitsOf withLast
   last-told input near e n = record {

@@ -102,9 +102,10 @@ fn list_unit(
     ensures { λ r. ⌜ MembersStored (unitList (unitsOf plan) u) u
         (now (table .entry)) (now (counts .entry)) (now (table .exit)) (now (counts .exit)) r ⌝ }
 {
+    let given = plan.once.given.word;
     let heads = head_atoms.heads;
     let unit = unit_at(plan, head_atoms, u);
-    let start = start_within(plan.given, heads[u]);
+    let start = start_within(given, heads[u]);
     list_one(
         &plan.rules,
         &heads,
@@ -147,7 +148,10 @@ fn last_unit(plan: Plan, head_atoms: HeadAtoms) -> Unit
     let every = atoms::first(plan.unit_count);
     Unit {
         rules: 0,
-        inputs: atoms::union(plan.given, atoms::union_of(&heads, plan.unit_count, every)),
+        inputs: atoms::union(
+            plan.once.given.word,
+            atoms::union_of(&heads, plan.unit_count, every),
+        ),
         predecessors: every,
         nearest: nearest(&heads, every),
     }
@@ -161,13 +165,13 @@ fn list_last(plan: Plan, head_atoms: HeadAtoms, table: &mut [u64], counts: &mut 
 {
     let heads = head_atoms.heads;
     let unit = last_unit(plan, head_atoms);
-    let start = start_within(plan.given, unit.inputs);
+    let start = start_within(plan.once.given.word, unit.inputs);
     list_one(
         &plan.rules,
         &heads,
         unit,
         start,
-        plan.shown,
+        plan.once.shown.word,
         LAST_COUNT,
         table,
         counts,

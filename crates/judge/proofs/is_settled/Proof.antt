@@ -18,7 +18,7 @@ returns : tie.Need-returns
 returns c =
     let read = c .before .before .before .before in
     let at = read .before .args in
-    c .is-answer-set .ensures ∙ ap (λ (w : ℕ). answerSet (lent (at .t1 .rules)) w (at .t1 .given) (at .position)) (read .first .ensures)
+    c .is-answer-set .ensures ∙ ap (λ (w : ℕ). answerSet (lent (at .t1 .rules)) w (at .t1 .once .given .word) (at .position)) (read .first .ensures)
 
 pub is-settled-spec : {M : Type 1} → statement M
 is-settled-spec = tie.close (tie.spec (λ c κs. search needs) is-answer-set-requires returns)

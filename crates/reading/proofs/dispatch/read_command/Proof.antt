@@ -1,6 +1,6 @@
 -- `read_command` meets its contract: the byte at `at` picks the kind, and the part behind it is what `commandAt` calls the operands.
 use Rattle.reading.proofs.Commands.{no-byte-there, kind-there, no-kind-there}
-use Rattle.reading.specs.Commands.{sizes, given, table, rule, usage, unit, edge, show, end}
+use Rattle.reading.specs.Commands.{single, sizes, given, show, table, rule, usage, unit, edge, end}
 use borrow.Author.Needs.{needs}
 use Rattle.reading.proofs.dispatch.read_command.Statement.{statement}
 use Rattle.reading.proofs.dispatch.read_command.Tie as tie
@@ -9,10 +9,10 @@ returns : tie.Need-returns
 returns c = no-byte-there _ _ _ (c .if1 .taken)
 
 returns-2 : tie.Need-returns-2
-returns-2 c = kind-there _ _ _ (c .before .before .before .before .if1 .left) sizes _ (c .before .match .keys1) (c .read-count .ensures)
+returns-2 c = kind-there _ _ _ (c .before .before .before .before .if1 .left) (single sizes) _ (c .before .match .keys1) (c .read-count .ensures)
 
 returns-3 : tie.Need-returns-3
-returns-3 c = kind-there _ _ _ (c .before .before .before .before .if1 .left) given _ (c .before .match .keys2) (c .read-given .ensures)
+returns-3 c = kind-there _ _ _ (c .before .before .before .before .if1 .left) (single given) _ (c .before .match .keys2) (c .read-given .ensures)
 
 returns-4 : tie.Need-returns-4
 returns-4 c = kind-there _ _ _ (c .before .before .before .before .if1 .left) table _ (c .before .match .keys3) (c .read-table .ensures)
@@ -30,7 +30,7 @@ returns-8 : tie.Need-returns-8
 returns-8 c = kind-there _ _ _ (c .before .before .before .before .if1 .left) edge _ (c .before .match .keys7) (c .read-edge .ensures)
 
 returns-9 : tie.Need-returns-9
-returns-9 c = kind-there _ _ _ (c .before .before .before .before .if1 .left) show _ (c .before .match .keys8) (c .read-show .ensures)
+returns-9 c = kind-there _ _ _ (c .before .before .before .before .if1 .left) (single show) _ (c .before .match .keys8) (c .read-show .ensures)
 
 returns-10 : tie.Need-returns-10
 returns-10 c = kind-there _ _ _ (c .before .before .before .before .if1 .left) end _ (c .before .match .keys9) (c .read-end .ensures)
@@ -40,14 +40,14 @@ returns-11 c =
     let none = c .match .rest in
     no-kind-there _ _ _ (c .before .before .before .if1 .left)
     (elim [
-      | sizes ↦ none .0 .0 .0 .0 .0 .0 .0 .0 .1
-      | given ↦ none .0 .0 .0 .0 .0 .0 .0 .1
+      | single sizes ↦ none .0 .0 .0 .0 .0 .0 .0 .0 .1
+      | single given ↦ none .0 .0 .0 .0 .0 .0 .0 .1
       | table ↦ none .0 .0 .0 .0 .0 .0 .1
       | rule ↦ none .0 .0 .0 .0 .0 .1
       | usage ↦ none .0 .0 .0 .0 .1
       | unit ↦ none .0 .0 .0 .1
       | edge ↦ none .0 .0 .1
-      | show ↦ none .0 .1
+      | single show ↦ none .0 .1
       | end ↦ none .1
     ])
 

@@ -3,21 +3,22 @@ use mathlib.Core.Path.{sym, _∙_}
 use borrow.Author.Needs.{needs}
 use lib.Dec.{leb·suc-zero}
 use borrow.Author.Tests.{lt-ltb, le-ltb}
-use Rattle.reading.specs.Commands.{ofKind, carrying, late}
+use Rattle.reading.specs.Commands.{ofKind, carrying}
+use Rattle.reading.proofs.CommandKinds.{end-in-time}
 use Rattle.reading.proofs.end.read_end.Statement.{statement}
 use Rattle.reading.proofs.end.read_end.Tie as tie
 
 returns : tie.Need-returns
-unfolding ofKind late
-returns c = simp (leb·suc-zero, sym (c .before .is-miscounted .ensures) ∙ c .if1 .taken)
+unfolding ofKind
+returns c = simp (end-in-time, leb·suc-zero, sym (c .before .is-miscounted .ensures) ∙ c .if1 .taken)
 
 returns-2 : tie.Need-returns-2
-unfolding ofKind late
-returns-2 c = simp (leb·suc-zero, sym (c .before .before .is-miscounted .ensures) ∙ c .before .if1 .left, lt-ltb _ _ (c .if2 .taken))
+unfolding ofKind
+returns-2 c = simp (end-in-time, leb·suc-zero, sym (c .before .before .is-miscounted .ensures) ∙ c .before .if1 .left, lt-ltb _ _ (c .if2 .taken))
 
 returns-3 : tie.Need-returns-3
-unfolding ofKind late carrying
-returns-3 c = simp (leb·suc-zero, sym (c .before .before .is-miscounted .ensures) ∙ c .before .if1 .left, le-ltb _ _ (c .if2 .left))
+unfolding ofKind carrying
+returns-3 c = simp (end-in-time, leb·suc-zero, sym (c .before .before .is-miscounted .ensures) ∙ c .before .if1 .left, le-ltb _ _ (c .if2 .left))
 
 pub read-end-spec : {M : Type 1} → statement M
 read-end-spec = tie.close (tie.spec (λ c κs. search needs) returns (λ c. search needs) returns-2 returns-3)

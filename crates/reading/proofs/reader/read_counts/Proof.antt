@@ -2,7 +2,7 @@
 use mathlib.Core.Path.{refl}
 use native.Mathlib.Omega.{arith}
 use denote.Ref.{now}
-use Rattle.reading.specs.Commands.{sizes, given}
+use Rattle.reading.specs.Commands.{single, sizes, given}
 use Rattle.reading.specs.Progress.{Reached}
 use Rattle.reading.proofs.Groups.{start, Turn, taken, taken-fits, taken-there, passed-by}
 use Rattle.reading.proofs.Limits.{empty-fits}
@@ -11,12 +11,12 @@ use Rattle.reading.proofs.reader.read_counts.Statement.{statement}
 use Rattle.reading.proofs.reader.read_counts.Tie as tie
 
 -- the first place
-first : (c : tie.After-place) → Reached sizes (now (c .before .before .before .args .bytes)) (c .place .result)
+first : (c : tie.After-place) → Reached (single sizes) (now (c .before .before .before .args .bytes)) (c .place .result)
 first c = start _ _ _ (c .before .empty-plan .ensures) (c .place .ensures)
 
 -- the place behind the COUNT
 abbrev took : (c : tie.After-command) → Turn (first (c .before .before))
-took c = (_, taken sizes _ _ _ _ (first (c .before .before)) (c .command .given .1) refl)
+took c = (_, taken (single sizes) _ _ _ _ (first (c .before .before)) (c .command .given .1) refl)
 
 pub read-counts-spec : {M : Type 1} → statement M
 read-counts-spec =
@@ -25,7 +25,7 @@ read-counts-spec =
     (λ c κs. search needs)
     (λ c κs. rw (c .empty-plan .ensures) empty-fits)
     (λ c. search needs)
-    (λ c. passed-by sizes given _ _ (first (c .before)) (c .match .keys2) refl)
+    (λ c. passed-by (single sizes) (single given) _ _ (first (c .before)) (c .match .keys2) refl)
     (λ c κs. search needs)
     (λ c. omega (arith, took (c .before .before) .1 .inside))
     (λ c κs. taken-fits (took (c .before .before) .1) _ (c .with-count .ensures))

@@ -4,7 +4,7 @@ use mathlib.Core.Path.{refl, sym, _∙_}
 use native.Mathlib.Omega.{arith}
 use Prim.Native.Nat.{_-_}
 use lib.ListN.{length}
-use Rattle.reading.specs.Commands.{edge, show}
+use Rattle.reading.specs.Commands.{single, show, edge}
 use Rattle.reading.specs.Progress.{Reached}
 use Rattle.reading.proofs.Groups.{Turn, taken, taken-fits, taken-there, taken-less, passed-by, edge-there}
 use borrow.Author.Needs.{needs}
@@ -18,7 +18,7 @@ abbrev μ-loop : tie.MeasureT-loop
 μ-loop bytes progress₀ progress = length bytes - progress .at
 
 returns : tie.Need-returns Inv-loop μ-loop
-returns c = passed-by edge show _ _ (c .before .loop .inv) (c .match .keys2) refl
+returns c = passed-by edge (single show) _ _ (c .before .loop .inv) (c .match .keys2) refl
 
 -- the place behind the command that this turn takes
 abbrev took : (c : tie.After-command Inv-loop μ-loop) → Turn (c .before .before .loop .inv)

@@ -1,7 +1,7 @@
 -- `read_shows` meets its contract: behind a SHOW comes no second one, so one look is enough.
 use mathlib.Core.Path.{refl}
 use native.Mathlib.Omega.{arith}
-use Rattle.reading.specs.Commands.{show, end}
+use Rattle.reading.specs.Commands.{single, show, end}
 use Rattle.reading.proofs.Groups.{Turn, taken, taken-fits, taken-there, passed-by}
 use borrow.Author.Needs.{needs}
 use Rattle.reading.proofs.reader.read_shows.Statement.{statement}
@@ -9,14 +9,14 @@ use Rattle.reading.proofs.reader.read_shows.Tie as tie
 
 -- the place behind the SHOW
 abbrev took : (c : tie.After-command) → Turn (c .before .before .before .pre)
-took c = (_, taken show _ _ _ _ (c .before .before .before .pre) (c .command .given .1) refl)
+took c = (_, taken (single show) _ _ _ _ (c .before .before .before .pre) (c .command .given .1) refl)
 
 pub read-shows-spec : {M : Type 1} → statement M
 read-shows-spec =
     tie.close
     (tie.spec
     (λ c. search needs)
-    (λ c. passed-by show end _ _ (c .before .before .pre) (c .match .keys2) refl)
+    (λ c. passed-by (single show) end _ _ (c .before .before .pre) (c .match .keys2) refl)
     (λ c κs. search needs)
     (λ c. omega (arith, took (c .before .before) .1 .inside))
     (λ c κs. taken-fits (took (c .before .before) .1) _ (c .with-show .ensures))

@@ -50,7 +50,7 @@ returns c =
     let told = begun .before in
     let plan = start told .args .t1 in
     let from = rw (told .last-unit .ensures .inputs-are ∙ heads-of-last (unitsOf plan)) at (begun .start-within .ensures) in
-    cuts-stored (listable told) (told .last-unit .ensures) (plan .shown) LAST_COUNT (from .1) (from .0) (done .list-one .ensures)
+    cuts-stored (listable told) (told .last-unit .ensures) (plan .once .shown .word) LAST_COUNT (from .1) (from .0) (done .list-one .ensures)
 
 pub list-last-spec : {M : Type 1} → statement M
 list-last-spec =

@@ -59,7 +59,7 @@ list-unit-spec =
     (λ c. search needs)
     (λ c. search needs)
     (λ c κs. search needs)
-    (λ c. search needs)
+    (λ c. search (heads-long (start (c .before .before .before .before .before)), needs))
     list-one-requires
     (λ c. search needs)
     (λ c. search needs)
