@@ -276,8 +276,8 @@ module _ {rules : List ℕ} {which facts : ℕ} {from : From} {passed : List ℕ
       })
       (λ M d. record { is = completion-one z (d .fits .settled .word) (f .word) (d .fits .completes) (f .completes); sought = d .sought }) a
 
-  module _ {desk memory₁ memory₂ : List ℕ} {s : State} {k : ℕ} {low up : Branch} (h : Highest (undecided (s .up) (s .dropped)) k)
-      (d : Descended rules desk memory₁ which facts from s k false low) (u : Descended rules desk memory₂ which facts from s k true up) where
+  module _ {desk memory₁ : List ℕ} {s : State} {k : ℕ} {low : Branch} (h : Highest (undecided (s .up) (s .dropped)) k)
+      (d : Descended rules desk memory₁ which facts from s k false low) where
     due-back : (phase : Bool) {memory : List ℕ} {node : Branch} → Descended rules desk memory which facts from s k phase node → (M : ℕ)
         → Due rules which facts from passed (node .front .state) M → Due rules which facts from passed s M
     due-back phase n M q = record {
@@ -292,27 +292,46 @@ module _ {rules : List ℕ} {which facts : ℕ} {from : From} {passed : List ℕ
       sought = q .sought;
     }
 
-    due-split : (M : ℕ) → Due rules which facts from passed s M
-        → Due rules which facts from passed (low .front .state) M ⊎ Due rules which facts from passed (up .front .state) M
-    due-split M q = go (some-branch s k false (q .fits .completes))
-      where
-        go : Completes (branchOf s k false) M ⊎ Completes (branchOf s k true) M
-            → Due rules which facts from passed (low .front .state) M ⊎ Due rules which facts from passed (up .front .state) M
-        go (inl c) = inl (due-after false d M q c)
-        go (inr c) = inr (due-after true u M q c)
-
-    due-below : (M N : ℕ) → Due rules which facts from passed (low .front .state) M → Due rules which facts from passed (up .front .state) N → M < N
-    due-below M N p q =
+    -- all that lack the atom are below all that have it
+    low-below : (M N : ℕ) → Due rules which facts from passed (low .front .state) M → Due rules which facts from passed s N
+        → Completes (branchOf s k true) N → M < N
+    low-below M N p q b =
         let a = fits-back d M (p .fits) in
-        let b = fits-back u N (q .fits) in
-        completion-below h (p .fits .settled .word) (q .fits .settled .word) (without-branch s k false a) (without-branch s k true b)
+        completion-below h (p .fits .settled .word) (q .fits .settled .word) (without-branch s k false a) (q .fits .completes)
         (λ m. a .no-dropped .none k (has-right (s .dropped) _ (has-atom k)) m) (b .has-up .each k (has-right (s .up) _ (has-atom k)))
 
-    pub gather-both : {list₀ list₁ list₂ : List ℕ} {count₀ count₁ count₂ : ℕ}
-        → Added (Due rules which facts from passed (low .front .state)) list₀ count₀ list₁ count₁
-        → Added (Due rules which facts from passed (up .front .state)) list₁ count₁ list₂ count₂
-        → Added (Due rules which facts from passed s) list₀ count₀ list₂ count₂
-    gather-both a b = added-both (due-back false d) (due-back true u) due-split due-below a b
+    -- the words are full
+    pub gather-low : {list₀ list₁ : List ℕ} {count₀ count₁ : ℕ} → Added (Due rules which facts from passed (low .front .state)) list₀ count₀ list₁ count₁
+        → length list₁ ≤ count₁ → Added (Due rules which facts from passed s) list₀ count₀ list₁ count₁
+    gather-low a l =
+        added-both (due-back false d) (λ M q. q .0) split (λ M N p q. low-below M N p (q .0) (q .1)) a
+        (added-full (omega (arith, a .room, a .long)) l)
+      where
+        split : (M : ℕ) → Due rules which facts from passed s M
+            → Due rules which facts from passed (low .front .state) M ⊎ (Due rules which facts from passed s M × Completes (branchOf s k true) M)
+        split M q = go (some-branch s k false (q .fits .completes))
+          where
+            go : Completes (branchOf s k false) M ⊎ Completes (branchOf s k true) M
+                → Due rules which facts from passed (low .front .state) M ⊎ (Due rules which facts from passed s M × Completes (branchOf s k true) M)
+            go (inl c) = inl (due-after false d M q c)
+            go (inr c) = inr (q, c)
+
+    module _ {memory₂ : List ℕ} {up : Branch} (u : Descended rules desk memory₂ which facts from s k true up) where
+      due-split : (M : ℕ) → Due rules which facts from passed s M
+          → Due rules which facts from passed (low .front .state) M ⊎ Due rules which facts from passed (up .front .state) M
+      due-split M q = go (some-branch s k false (q .fits .completes))
+        where
+          go : Completes (branchOf s k false) M ⊎ Completes (branchOf s k true) M
+              → Due rules which facts from passed (low .front .state) M ⊎ Due rules which facts from passed (up .front .state) M
+          go (inl c) = inl (due-after false d M q c)
+          go (inr c) = inr (due-after true u M q c)
+
+      pub gather-both : {list₀ list₁ list₂ : List ℕ} {count₀ count₁ count₂ : ℕ}
+          → Added (Due rules which facts from passed (low .front .state)) list₀ count₀ list₁ count₁
+          → Added (Due rules which facts from passed (up .front .state)) list₁ count₁ list₂ count₂
+          → Added (Due rules which facts from passed s) list₀ count₀ list₂ count₂
+      gather-both a b =
+          added-both (due-back false d) (due-back true u) due-split (λ M N p q. low-below M N p (due-back true u N q) (fits-back u N (q .fits))) a b
 
 -- the branches have fewer undecided atoms
 pub descended-falls : {rules desk memory : List ℕ} {which facts : ℕ} {from : From} {s : State} {k n : ℕ} {node : Branch} (phase : Bool)

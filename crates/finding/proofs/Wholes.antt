@@ -4,7 +4,7 @@ use mathlib.Core.Logic.{_⊎_, inl, inr}
 use mathlib.Core.List.{List, []}
 use Prim.Native.Nat.{ℕ, zero, suc}
 use native.Mathlib.Omega.{arith}
-use lib.ListN.{getD, replicate}
+use lib.ListN.{length, getD, replicate}
 use Rattle.atoms.specs.Word.{Has, _⊆_, _∩_}
 use Rattle.atoms.proofs.Tests.{and-true}
 use Rattle.atoms.proofs.Sets.{ext, has-cut, cut-right, has-none, has-left, has-right, union-cases, decides-subset}
@@ -17,6 +17,7 @@ use Rattle.learning.specs.Reason.{Remembers}
 use Rattle.propagating.specs.Job.{Belongs}
 use Rattle.propagating.specs.Desk.{LaidOut, Prepared}
 use Rattle.propagating.proofs.Desks.{prepared}
+use Rattle.joining.specs.Filter.{FILTER_WORDS, Filtered}
 use Rattle.joining.proofs.JoinedLists.{joins-none}
 use Rattle.searching.specs.Witness.{Witnessed}
 use Rattle.searching.specs.declared.witness.Witness.{Witness}
@@ -35,6 +36,10 @@ zero-at : (n v : ℕ) → getD (replicate {A = ℕ} n 0) v 0 ≡ 0
 zero-at zero v = refl
 zero-at (suc n) zero = refl
 zero-at (suc n) (suc v) = zero-at n v
+
+-- any filter does where there are no lists
+pub no-lists-filtered : {table counts heads filter : List ℕ} {s : State} → length filter ≡ FILTER_WORDS → Filtered table counts heads 0 s filter
+no-lists-filtered e = record { long = e; each = λ M j c v h. absurd (has-none h) }
 
 module _ {rules desk : List ℕ} {which facts : ℕ} where
   pub belongs-settled : {M : ℕ} → facts ⊆ M → Belongs rules [] noLists desk (wholeOf which facts) M → Settled rules which facts M

@@ -6,7 +6,7 @@ use crate::ask::whole;
 use crate::least::From;
 use crate::least::is_behind;
 use crate::least::put;
-use joining::filter::full_filter;
+use joining::filter::FILTER_WORDS;
 use learning::store::empty_store;
 use plan::MAX_UNITS;
 use propagating::front::Front;
@@ -31,6 +31,13 @@ ghost use Rattle.propagating.specs.Job.{Belongs};
 ghost use Rattle.searching.specs.Witness.{Witnessed};
 ghost use Rattle.finding.specs.Whole.{wholeOf, noLists, Fitting};
 ghost use Rattle.finding.specs.Gather.{Added, Sought, Due, AllPassed, Likely, Looked, Kept, PlaceIn, Standing, Node, Descended};
+
+// What is asked: the rules by number, their facts, and the place behind which answer sets are sought.
+pub struct Query {
+    pub which: u64,
+    pub facts: u64,
+    pub from: From,
+}
 
 // A node of the tree: where propagation stands, and a position that completes its state, if one is known: an answer set, or one that is passed.
 pub struct Branch {
@@ -100,27 +107,20 @@ fn ask_here(
 }
 
 // The position that is known of the node, or an answer set that completes its state; or that none there is behind the place.
-fn look(
-    rules: &[u64],
-    desk: &[u64],
-    memory: &mut [u64],
-    which: u64,
-    facts: u64,
-    node: Branch,
-    from: From,
-) -> Witness
-    requires { ⌜ Node (now rules) (now desk) (now memory) which facts from node ⌝ }
-    ensures looked { λ r. ⌜ Looked (now (rules .entry)) which facts from (node .front .state) r ⌝ }
-    ensures stands { λ _. ⌜ Standing (now (rules .entry)) (now (desk .entry)) (now (memory .exit)) which facts (node .front .state) ⌝ }
+fn look(rules: &[u64], desk: &[u64], memory: &mut [u64], query: Query, node: Branch) -> Witness
+    requires { ⌜ Node (now rules) (now desk) (now memory) (query .which) (query .facts) (query .from) node ⌝ }
+    ensures looked { λ r. ⌜ Looked (now (rules .entry)) (query .which) (query .facts) (query .from) (node .front .state) r ⌝ }
+    ensures stands { λ _. ⌜ Standing (now (rules .entry)) (now (desk .entry)) (now (memory .exit)) (query .which) (query .facts) (node .front .state) ⌝ }
 {
     let f = node.front;
+    let from = query.from;
     if is_passed(f.state, from) {
         return Witness::Nothing;
     }
     let known = node.known;
     match known {
         Witness::Member(m) => Witness::Member(m),
-        Witness::Nothing => ask_here(rules, desk, memory, which, facts, f),
+        Witness::Nothing => ask_here(rules, desk, memory, query.which, query.facts, f),
     }
 }
 
@@ -129,19 +129,19 @@ fn step_down(
     rules: &[u64],
     desk: &[u64],
     memory: &mut [u64],
-    which: u64,
-    facts: u64,
+    query: Query,
     f: Front,
     k: usize,
     phase: bool,
-    from: From,
 ) -> Front
-    requires { ⌜ Standing (now rules) (now desk) (now memory) which facts (f .state) × (k < ATOMS) ⌝ }
-    ensures narrows { λ g. ⌜ Narrows (Belongs (now (rules .entry)) [] noLists (now (desk .entry)) (wholeOf which facts))
+    requires { ⌜ Standing (now rules) (now desk) (now memory) (query .which) (query .facts) (f .state) × (k < ATOMS) ⌝ }
+    ensures narrows { λ g. ⌜ Narrows (Belongs (now (rules .entry)) [] noLists (now (desk .entry)) (wholeOf (query .which) (query .facts)))
         (branchOf (f .state) k phase) (g .state) ⌝ }
-    ensures remembers { λ _. ⌜ Remembers (Belongs (now (rules .entry)) [] noLists (now (desk .entry)) (wholeOf which facts)) (now (memory .exit)) ⌝ }
+    ensures remembers { λ _. ⌜ Remembers (Belongs (now (rules .entry)) [] noLists (now (desk .entry)) (wholeOf (query .which) (query .facts)))
+        (now (memory .exit)) ⌝ }
 {
     let t = decide(f.state, k, phase);
+    let from = query.from;
     if is_passed(t, from) {
         let agenda = f.agenda;
         return Front {
@@ -152,14 +152,14 @@ fn step_down(
     }
     let table = [0u64; 0];
     let counts = [0usize; MAX_UNITS];
-    let mut filter = full_filter(&counts);
+    let mut filter = [0u64; FILTER_WORDS];
     let g = moved(desk, f, t);
     propagate(
         rules,
         &table,
         &counts,
         desk,
-        whole(which, facts),
+        whole(query.which, query.facts),
         memory,
         &mut filter,
         g,
@@ -171,18 +171,18 @@ fn descend(
     rules: &[u64],
     desk: &[u64],
     memory: &mut [u64],
-    which: u64,
-    facts: u64,
+    query: Query,
     f: Front,
     m: u64,
     k: usize,
     phase: bool,
-    from: From,
 ) -> Branch
-    requires { ⌜ Standing (now rules) (now desk) (now memory) which facts (f .state) × Likely (now rules) which facts from (f .state) m × (k < ATOMS) ⌝ }
-    ensures { λ r. ⌜ Descended (now (rules .entry)) (now (desk .entry)) (now (memory .exit)) which facts from (f .state) k phase r ⌝ }
+    requires { ⌜ Standing (now rules) (now desk) (now memory) (query .which) (query .facts) (f .state)
+        × Likely (now rules) (query .which) (query .facts) (query .from) (f .state) m × (k < ATOMS) ⌝ }
+    ensures { λ r. ⌜ Descended (now (rules .entry)) (now (desk .entry)) (now (memory .exit)) (query .which) (query .facts) (query .from)
+        (f .state) k phase r ⌝ }
 {
-    let front = step_down(rules, desk, memory, which, facts, f, k, phase, from);
+    let front = step_down(rules, desk, memory, query, f, k, phase);
     Branch {
         front,
         known: kept(m, front.state),
@@ -190,28 +190,26 @@ fn descend(
 }
 
 // Puts the least answer sets that are sought and complete the node's state into the words from `at` on, until none is left or the words are full:
-// the new count. All that lack the highest undecided atom are below all that have it.
+// the new count. All that lack the highest undecided atom are below all that have it, so that these are not looked for once the words are full.
 fn gather(
     rules: &[u64],
     desk: &[u64],
     memory: &mut [u64],
-    which: u64,
-    facts: u64,
+    query: Query,
     node: Branch,
-    from: From,
     skip: &[u64],
     out: &mut [u64],
     at: usize,
 ) -> usize
-    requires { ⌜ Node (now rules) (now desk) (now memory) which facts from node × (at ≤ length (now out)) ⌝ }
-    ensures added { λ r. ⌜ Added (Due (now (rules .entry)) which facts from (now (skip .entry)) (node .front .state)) (now (out .entry)) at
-        (now (out .exit)) r ⌝ }
-    ensures stands { λ _. ⌜ Standing (now (rules .entry)) (now (desk .entry)) (now (memory .exit)) which facts (node .front .state) ⌝ }
+    requires { ⌜ Node (now rules) (now desk) (now memory) (query .which) (query .facts) (query .from) node × (at ≤ length (now out)) ⌝ }
+    ensures added { λ r. ⌜ Added (Due (now (rules .entry)) (query .which) (query .facts) (query .from) (now (skip .entry)) (node .front .state))
+        (now (out .entry)) at (now (out .exit)) r ⌝ }
+    ensures stands { λ _. ⌜ Standing (now (rules .entry)) (now (desk .entry)) (now (memory .exit)) (query .which) (query .facts) (node .front .state) ⌝ }
 {
     if out.len() <= at {
         return at;
     }
-    let seen = look(rules, desk, memory, which, facts, node, from);
+    let seen = look(rules, desk, memory, query, node);
     let Witness::Member(m) = seen else {
         return at;
     };
@@ -219,13 +217,17 @@ fn gather(
     let s = f.state;
     let free = undecided(s.up, s.dropped);
     if free == 0 {
+        let from = query.from;
         return put(out, at, from, skip, m);
     }
     let k = atoms::highest(free);
-    let low = descend(rules, desk, memory, which, facts, f, m, k, false, from);
-    let mid = gather(rules, desk, memory, which, facts, low, from, skip, out, at);
-    let up = descend(rules, desk, memory, which, facts, f, m, k, true, from);
-    gather(rules, desk, memory, which, facts, up, from, skip, out, mid)
+    let low = descend(rules, desk, memory, query, f, m, k, false);
+    let mid = gather(rules, desk, memory, query, low, skip, out, at);
+    if out.len() <= mid {
+        return mid;
+    }
+    let up = descend(rules, desk, memory, query, f, m, k, true);
+    gather(rules, desk, memory, query, up, skip, out, mid)
 }
 
 // Fills the words with the least answer sets behind the place that are not passed over, rising: how many there are.
@@ -248,16 +250,6 @@ pub fn gather_all(
         front,
         known: place_in(front.state, from),
     };
-    gather(
-        rules,
-        &desk,
-        &mut memory,
-        which,
-        facts,
-        root,
-        from,
-        passed,
-        out,
-        0,
-    )
+    let query = Query { which, facts, from };
+    gather(rules, &desk, &mut memory, query, root, passed, out, 0)
 }

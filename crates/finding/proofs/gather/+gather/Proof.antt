@@ -9,7 +9,8 @@ use borrow.Fn.Kinds.{In}
 use borrow.Fn.PlainCycle.{Measures, is, falls, and}
 use Rattle.atoms.specs.Word.{ATOMS, Highest}
 use Rattle.states.specs.State.{undecided}
-use Rattle.finding.proofs.Trees.{looked-seen, stands-still, gather-full, gather-none, gather-leaf, gather-both, descended-falls}
+use Rattle.finding.proofs.Trees.{looked-seen, stands-still, gather-full, gather-none, gather-leaf, gather-low, gather-both}
+use Rattle.finding.proofs.Trees.{descended-falls}
 use Rattle.finding.proofs.gather.gather.Reads as gather
 use Rattle.finding.proofs.gather.gather.Kinds as gather-kinds
 use Rattle.finding.proofs.gather.+gather.Lts-gather as gather-lts
@@ -22,7 +23,7 @@ use Rattle.finding.proofs.gather.+gather.{statement}
 use Rattle.finding.proofs.gather.+gather.Tie.{close}
 
 abbrev μ-gather : Measures 5 gather-kinds.ps ℕ
-μ-gather κs a = ones (undecided (a .1 .1 .1 .1 .1 .0 .front .state .up) (a .1 .1 .1 .1 .1 .0 .front .state .dropped))
+μ-gather κs a = ones (undecided (a .1 .1 .1 .1 .0 .front .state .up) (a .1 .1 .1 .1 .0 .front .state .dropped))
 
 abbrev gather-at : ℕ → In 5 gather-kinds.ps
 gather-at t = and 5 gather-kinds.ps (is 5 gather-kinds.ps μ-gather t) gather.Pre
@@ -60,6 +61,19 @@ module _ (t : ℕ) where
   abbrev Chosen : Type 0
   Chosen = gather-lts.After-highest (calls t) (gather-at t) gather.Post
 
+  -- the branch without the atom is entered, and gathered
+  abbrev Lowered : Type 0
+  Lowered = gather-lts.After-descend (calls t) (gather-at t) gather.Post
+
+  abbrev First : Type 0
+  First = gather-lts.After-gather (calls t) (gather-at t) gather.Post
+
+  abbrev lowered : First → Lowered
+  lowered c = c .before .before .before .before .before
+
+  abbrev chosen : Lowered → Chosen
+  chosen c = c .before .before
+
   abbrev looked : Chosen → Looked
   looked c = c .before .before .before .before .before .before .before .before .before .before
 
@@ -83,14 +97,14 @@ module _ (t : ℕ) where
   first-requires : gather-lts.Need-gather-requires (calls t) (gather-at t) gather.Post
   first-requires c κs =
       let low = c .before .before .before .before in
-      let k = low .before .before in
+      let k = chosen low in
       let pre = start (looked k) .pre in
       (descended-falls false (top k .0) (low .descend .ensures) (pre .0), (low .descend .ensures .is-node, pre .1 .1))
 
   descend-requires-2 : gather-lts.Need-descend-requires-2 (calls t) (gather-at t) gather.Post
   descend-requires-2 c κs =
-      let first = c .before .before .before .before .before in
-      let k = first .before .before .before .before .before .before .before in (
+      let first = c .before .before .before .before .before .before in
+      let k = chosen (lowered first) in (
         stands-still (looked k .look .ensures .1) (first .gather .ensures .1 .remembers),
         looked-seen (k .before .before .before .before .before .before .seen .given .1) (looked k .look .ensures .0),
         top k .1,
@@ -99,8 +113,8 @@ module _ (t : ℕ) where
   second-requires : gather-lts.Need-gather-requires-2 (calls t) (gather-at t) gather.Post
   second-requires c κs =
       let up = c .before .before .before .before in
-      let first = up .before .before .before .before .before .before in
-      let k = first .before .before .before .before .before .before .before in
+      let first = up .before .before .before .before .before .before .before in
+      let k = chosen (lowered first) in
       let told = first .gather .ensures .0 in
       let pre = start (looked k) .pre in
       (descended-falls true (top k .0) (up .descend2 .ensures) (pre .0), (up .descend2 .ensures .is-node, omega (arith, told .room, told .long)))
@@ -122,13 +136,22 @@ module _ (t : ℕ) where
       let fits = looked-seen (c .before .before .before .before .before .before .before .before .before .seen .given .1) (l .look .ensures .0) in
       (gather-leaf fits (sym (test .before .undecided .ensures) ∙ test .if2 .taken) (c .before .before .put .ensures), l .look .ensures .1)
 
-  both : gather-lts.Need-returns-4 (calls t) (gather-at t) gather.Post
+  full-below : gather-lts.Need-returns-4 (calls t) (gather-at t) gather.Post
+  full-below c =
+      let first = c .before .before .before .before .before in
+      let low = lowered first in
+      let k = chosen low in (
+        gather-low (top k .0) (low .descend .ensures) (first .gather .ensures .0) (c .if3 .taken),
+        stands-still (looked k .look .ensures .1) (first .gather .ensures .1 .remembers),
+      )
+
+  both : gather-lts.Need-returns-5 (calls t) (gather-at t) gather.Post
   both c =
       let second = c .before .before .before .before in
       let up = second .before .before .before .before .before in
-      let first = up .before .before .before .before .before .before in
-      let low = first .before .before .before .before .before in
-      let k = low .before .before in (
+      let first = up .before .before .before .before .before .before .before in
+      let low = lowered first in
+      let k = chosen low in (
         gather-both (top k .0) (low .descend .ensures) (up .descend2 .ensures) (first .gather .ensures .0) (second .gather2 .ensures .0),
         stands-still (looked k .look .ensures .1) (second .gather2 .ensures .1 .remembers),
       )
@@ -151,17 +174,21 @@ pub +gather-spec : {M : Type 1} → statement M
     (λ c κs. c .if2 .left)
     (descend-requires t)
     (first-requires t)
+    (λ c.
+    let first = c .before .before .before .before .before in
+    first .gather .kept .1 .1 .0 ∙ lowered t first .descend .kept .1 .1 .0 ∙ looked t (chosen t (lowered t first)) .look .kept .1 .1 .0)
+    (λ c. c .before .before .before .before .before .gather .kept .1 .1 .1 .1 .1 .1 .0)
+    (full-below t)
     (descend-requires-2 t)
     (second-requires t)
     (λ c.
     let second = c .before .before .before .before in
     let up = second .before .before .before .before .before in
-    let first = up .before .before .before .before .before .before in
-    let low = first .before .before .before .before .before in
-    second .gather2 .kept .1 .1 .0 ∙ up .descend2 .kept .1 .1 .0 ∙ first .gather .kept .1 .1 .0 ∙ low .descend .kept .1 .1 .0
-    ∙ looked t (low .before .before) .look .kept .1 .1 .0)
+    let first = up .before .before .before .before .before .before .before in
+    second .gather2 .kept .1 .1 .0 ∙ up .descend2 .kept .1 .1 .0 ∙ first .gather .kept .1 .1 .0 ∙ lowered t first .descend .kept .1 .1 .0
+    ∙ looked t (chosen t (lowered t first)) .look .kept .1 .1 .0)
     (λ c.
     let second = c .before .before .before .before in
-    let first = second .before .before .before .before .before .before .before .before .before .before .before in
-    second .gather2 .kept .1 .1 .1 .1 .1 .1 .1 .1 .0 ∙ first .gather .kept .1 .1 .1 .1 .1 .1 .1 .1 .0)
+    let first = second .before .before .before .before .before .before .before .before .before .before .before .before in
+    second .gather2 .kept .1 .1 .1 .1 .1 .1 .0 ∙ first .gather .kept .1 .1 .1 .1 .1 .1 .0)
     (both t)
