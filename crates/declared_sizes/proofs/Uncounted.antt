@@ -8,7 +8,7 @@ use lib.ListN.{length, replicate}
 use Rattle.plan.specs.Limits.{TABLE_WORDS}
 use Rattle.plan.specs.declared.fault.Outcome.the-variants.{Accepted, Refused as RefusedWith}
 use Rattle.reading.specs.Kinds.{Single, sizes, single-discrete, single, table as tabled, rule, usage, unit, edge, end}
-use Rattle.reading.specs.Layout.{Contents, layout, recordOf, All, GoodOnce, WithinLimits, Counted}
+use Rattle.reading.specs.Layout.{OnceElement, Contents, layout, recordOf, All, GoodOnce, WithinLimits, Counted}
 use Rattle.reading.specs.Reading.{reading, accepted}
 use Rattle.reading.specs.declared.reader.Reading.{Reading}
 use Rattle.reading.proofs.RoundTrip.{layout-is-read}
@@ -56,7 +56,7 @@ module _ (c : Contents) where
   one-left : WithinLimits c → (s : Single) → length (noCount c s) ≤ 1
   one-left w s = go (single-discrete s sizes)
     where
-      go : (d : Dec (s ≡ sizes)) → length (elim d [ yes e ↦ [] | no n ↦ c .once s ]) ≤ 1
+      go : (d : Dec (s ≡ sizes)) → length {A = OnceElement s} (elim d [ yes e ↦ [] | no n ↦ c .once s ]) ≤ 1
       go (yes e) = omega arith
       go (no n) = w .under (single s)
 
