@@ -15,15 +15,16 @@ use lucarne::plan::layout::Circles;
 use lucarne::read::reader::{Grounding, Turns};
 use tally::Tally;
 
-/// Groups whose pages are tried: samples, names with signs of HTML, none, one and 256 positions, long names, nothing that shows, a unit that alone
-/// is too long.
-const GROUPS: [&str; 9] = [
+/// Groups whose pages are tried: samples, names with signs of HTML, none, one and 256 positions, these by 56 relays, long names, nothing that shows, a
+/// unit that alone is too long.
+const GROUPS: [&str; 10] = [
     "plans/north",
     "plans/story",
     "tools/lucarne/tests/pages/hostile.lp",
     "tools/lucarne/tests/pages/none.lp",
     "tools/lucarne/tests/pages/one.lp",
     "tools/lucarne/tests/pages/full.lp",
+    "tools/lucarne/tests/pages/wide.lp",
     "tools/lucarne/tests/pages/long.lp",
     "tools/lucarne/tests/pages/bare.lp",
     "tools/lucarne/tests/groups/cross",
