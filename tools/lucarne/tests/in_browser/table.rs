@@ -149,7 +149,7 @@ impl<'a> Tried<'a> {
         self.shows_table(&columns, &all, "the columns are not by unit")?;
         let mut wanted: Vec<(String, usize)> = Vec::new();
         for &atom in &columns {
-            let name = unit(atom).map_or("driven by no rule".to_string(), |unit| group.layout.units[unit].name.clone());
+            let name = unit(atom).map_or("no unit".to_string(), |unit| group.layout.units[unit].name.clone());
             match wanted.last_mut().filter(|(last, _)| *last == name) {
                 Some((_, count)) => *count += 1,
                 None => wanted.push((name, 1)),
@@ -239,7 +239,7 @@ impl<'a> Tried<'a> {
     fn positions(&mut self) -> Result<(), Lost> {
         let (group, count) = (self.group, self.group.listing.positions.len());
         let state = "(() => { const here = [...document.querySelectorAll('#grid .here')], box = here[0] && here[0].getBoundingClientRect();
-            return [here.map((row) => Number(row.cells[0].textContent)), Boolean(box) && box.top >= 0 && box.bottom <= innerHeight,
+            return [here.map((row) => Number(row.cells[0].textContent)), Boolean(box) && box.bottom <= innerHeight && box.top >= document.querySelector('#grid thead th').getBoundingClientRect().bottom,
               document.querySelector('#grid [aria-current]') === (here[0] || null), document.getElementById('answer').textContent, location.hash]; })()";
         let told_of = |number: usize| format!("Position {} of {}: {} up", number, count, group.told(group.listing.positions[number - 1]));
         let number = count - 7;

@@ -239,9 +239,9 @@
     end.className = 'w';
     visible.forEach((relay, place) => {
       if (!place || visible[place - 1].unit !== relay.unit) {
-        const cell = made('th', made('span', relay.unit || 'driven by no rule'));
+        const cell = made('th', made('span', relay.unit || 'no unit'));
         cell.scope = 'colgroup';
-        cell.title = relay.unit || 'driven by no rule';
+        cell.title = relay.unit || 'no unit';
         cell.colSpan = 0;
         row.append(cell);
         relay.head.classList.add('start');
@@ -286,10 +286,17 @@
     relays.forEach((relay) => relay.head.classList.remove('differs'));
     if (numbers) drawPositions(text, numbers); else drawQuestion(text);
     drawTable();
-    const here = numbers && body.querySelector('.here');
+    lead();
+  };
+
+  // To the position of the address: its row in the middle of the table, and the table in the window, so that the heads are seen. The browser takes the
+  // focus away when it goes to a row.
+  const lead = () => {
+    const here = body.querySelector('.here');
     if (!here) return;
-    here.scrollIntoView({ block: 'center' });
-    // The browser takes the focus away when it goes to a row.
+    const row = here.getBoundingClientRect(), frame = scroll.getBoundingClientRect();
+    scroll.scrollTop += row.top - frame.top - (scroll.clientHeight - row.height) / 2;
+    scroll.scrollIntoView({ block: 'nearest' });
     if (document.activeElement === document.body) here.querySelector('a').focus({ preventScroll: true });
   };
 
@@ -463,6 +470,7 @@
   });
 
   window.addEventListener('hashchange', draw);
+  window.addEventListener('load', () => setTimeout(lead));
   form.hidden = view.hidden = by('copy').hidden = relays.length === 0;
   draw();
 })();
