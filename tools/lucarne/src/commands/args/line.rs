@@ -32,7 +32,6 @@ lucarne: every settled position of a relay group, by name
 
     lucarne list GROUP..      the positions
         --as names|table|csv|json|sheet|dot|svg|html
-        --names               columns of CSV by name, also where there are labels; so for all that writes CSV
         --check-with clingo   hold the list against clingo's on the same sheets
         --clingo-option X     an option for clingo, as --clingo-option=--eq=0
     lucarne compile GROUP.. -o X.plan
@@ -71,6 +70,7 @@ lucarne: every settled position of a relay group, by name
     --one-unit                work all sheets as one unit
     --ground auto|always|never
                               let gringo read sheets with variables, all, or none
+    --names                   head the columns of CSV by names, also where there are labels
     -q                        no notes on standard error
     -h, --help, -V, --version lucarne list --help, or lucarne help list, tells of list alone
     --                        what follows is no option, as a sheet whose name starts with -
@@ -147,7 +147,11 @@ const KNOWN: [Known; 11] = [
 ];
 
 /// The options of all commands.
-pub const COMMON: [&str; 7] = ["output", "turn", "release", "strict", "one-unit", "ground", "quiet"];
+const COMMON: [&str; 7] = ["output", "turn", "release", "strict", "one-unit", "ground", "quiet"];
+
+pub fn is_common(id: &str) -> bool {
+    COMMON.contains(&id)
+}
 
 pub fn command(name: &str) -> Result<Command, Fault> {
     one_of("command", name, &KNOWN.map(|known| (known.name, known.command)))
@@ -185,7 +189,6 @@ pub fn option(id: &'static str) -> Arg {
     let flag = || Arg::new(id).long(id).action(ArgAction::SetTrue).overrides_with(id);
     match id {
         "as" => value("FORM").help("names, table, csv, json, sheet, dot, svg or html; not every command writes all"),
-        "names" => flag().help("Head the columns of CSV by names, also where there are labels"),
         "check-with" => value("PROGRAM").help("Hold the list against clingo's on the same sheets: --check-with clingo"),
         "clingo-option" => value("X").action(ArgAction::Append).help("An option for clingo, as --clingo-option=--eq=0"),
         "file" => file("QUESTIONS").help("A file with a question a line"),
@@ -200,6 +203,7 @@ pub fn option(id: &'static str) -> Arg {
         "strict" => flag().help("Refuse sheets that depend on each other in a circle, and files of a folder that are no sheets"),
         "one-unit" => flag().help("Work all sheets as one unit"),
         "ground" => value("WAY").help("auto, always or never: let gringo read sheets with variables, all, or none"),
+        "names" => flag().help("Head the columns of CSV by names, also where there are labels"),
         _ => flag().short('q').help("No notes on standard error"),
     }
 }

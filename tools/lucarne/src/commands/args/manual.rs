@@ -43,7 +43,7 @@ fn words(command: &Command) -> String {
 }
 
 fn is_common(argument: &Arg) -> bool {
-    line::COMMON.contains(&argument.get_id().as_str())
+    line::is_common(argument.get_id().as_str())
 }
 
 /// An option that not all commands have.
