@@ -149,10 +149,10 @@ with_mistake "what is not looked for is not told" commands/audit.rs \
 with_mistake "a walk ends with its first call" commands/next.rs 'found = if args.is_all {' 'found = if args.is_all && found.len() > most {'
 with_mistake "a walk goes by whole positions" commands/next.rs 'let mut walk = if args.is_whole {' 'let mut walk = if args.is_whole || true {' gate
 with_mistake "positions alike in what shows come again" plan/walk.rs '        found.dedup();' ''
-with_mistake "a walk goes on behind the first that looks so" plan/walk.rs 'self.whole(position) | self.hidden' 'self.whole(position)'
 with_mistake "what shows stands below what does not" plan/walk.rs 'hidden.iter().chain(&shown)' 'shown.iter().chain(&hidden)'
-with_mistake "an unknown command is passed over" plan/bytes.rs 'self.unread.filter(|_| is_taken)' 'self.unread.filter(|_| is_taken && self.rules.is_empty())'
-with_mistake "what stands behind END is not seen" plan/bytes.rs '!is_ended || at < bytes.len()' 'at < bytes.len()'
+with_mistake "an unknown command is passed over" plan/bytes.rs \
+    'self.unread.filter(|_| is_taken)' 'self.unread.filter(|_| is_taken && self.rules.is_empty())'
+with_mistake "a plan without its END is whole" plan/bytes.rs '!is_ended || at < bytes.len()' 'at < bytes.len()'
 with_mistake "columns go by names" show/csv.rs 'heads == Heads::Labels &&' 'heads == Heads::Names &&'
 with_mistake "a blank line at the end is a position" read/theirs/csv.rs 'let is_certain = !full.is_empty()' 'let is_certain = full.is_empty()'
 with_mistake "a blank line at the end is none in any case" read/theirs/csv.rs '(is_numbered || is_written)' '(is_numbered || is_written || true)'

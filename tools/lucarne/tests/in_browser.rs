@@ -209,6 +209,9 @@ impl<'a> Tried<'a> {
         let cells = names("cell");
         let counted = cells.iter().filter(|name| name.as_str() == "up").count();
         self.check(counted == ups as usize, "the cells do not say up", &json!(counted));
+        let (fields, presses, choices) = (names("combobox"), names("radio"), names("checkbox"));
+        let is_named = fields == ["Question"] && presses == ["asks for it", "sorts by it", "hides it"] && choices == ["Columns by unit"];
+        self.check(is_named, "what asks, sorts and hides is not told by name", &json!([fields, presses, choices]));
         let buttons = names("button").iter().filter(|name| labels.contains(&name.as_str())).count();
         self.check(buttons == labels.len(), "a relay has no button", &json!(buttons));
         Ok(())

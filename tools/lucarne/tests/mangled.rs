@@ -99,6 +99,9 @@ fn try_record(bytes: &[u8], path: &str, tally: &mut Tally) {
     let is_taken = library::next(bytes, None).is_ok();
     tally.check(!is_taken || record.unread.is_none(), "a byte that is taken is not known", || format!("{}: {:02x?}", path, bytes));
     if is_taken {
+        let (end, behind) = (bytes::decode(&bytes[..bytes.len() - 1]).unread, bytes::decode(&[bytes, &[0]].concat()).unread);
+        let fits = end == Some(bytes.len() - 1) && behind == Some(bytes.len());
+        tally.check(fits, "a plan is taken for whole without its END, or with more behind it", || format!("{:?} {:?}", end, behind));
         let unknown = [&bytes[..bytes.len() - 1], &[0xee, 0]].concat();
         let fault = bytes::decode(&unknown).account("x.plan", &unknown, true).err().map_or(String::new(), |fault| fault.to_string());
         let told = format!("a fault of this tool: x.plan: the library takes the plan, and byte {}, ee, is nothing that this tool knows", bytes.len() - 1);

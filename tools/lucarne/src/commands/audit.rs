@@ -184,7 +184,8 @@ impl<'a> Comparison<'a> {
                 Some(wholes) => wholes.into_iter().filter(|whole| self.first.contains_key(&(whole & show))).collect(),
                 None => {
                     self.report.lines.push(format!(
-                        "note: that nothing else is missing is by the list alone: the library's search for it takes whole positions, at most {}, and more stand behind the {} that show",
+                        "note: that nothing else is missing is by the list alone: the library's search for it takes whole positions, at most {}, and more \
+                         stand behind the {} that show",
                         library::MAX_POSITIONS,
                         counted(show.count_ones() as usize, "relay", "relays")
                     ));

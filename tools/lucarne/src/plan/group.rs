@@ -212,7 +212,9 @@ fn refused(program: &Program, plan: &Plan, refusal: Refusal) -> Fault {
             MAX_POSITIONS,
             if cut { ", or so many that differ in what shows" } else { "" }
         );
-        return Fault::new(what).hint("lucarne next GROUP --all goes through all of them; for a list turn or release keys (--turn, --release), show fewer relays (#show), or split the group");
+        let walk = "lucarne next GROUP --all goes through all of them";
+        let otherwise = "for a list turn or release keys (--turn, --release), show fewer relays (#show), or split the group";
+        return Fault::new(what).hint(format!("{}; {}", walk, otherwise));
     }
     let kept = beside::keep(&std::env::temp_dir(), "lucarne-refused-", ".plan", &plan.bytes);
     let kept = kept.map_or(String::new(), |path| format!("; the plan is kept as {}", path.display()));

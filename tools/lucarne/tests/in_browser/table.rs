@@ -11,7 +11,8 @@ use lucarne::show::csv::{self, Heads};
 const TABLE: &str = "(() => { const seen = (node) => node.getClientRects().length > 0;
   const heads = [...document.querySelectorAll('#grid thead .r')].filter(seen).map((head) => head.querySelector('.l').textContent);
   const rows = [...document.querySelector('#grid tbody').rows].filter(seen)
-    .map((row) => [Number(row.cells[0].textContent), [...row.cells].filter((cell) => seen(cell) && !/[nwm]/.test(cell.className)).map((cell) => cell.textContent)]);
+    .map((row) => [Number(row.cells[0].textContent),
+      [...row.cells].filter((cell) => seen(cell) && !/[nwm]/.test(cell.className)).map((cell) => cell.textContent)]);
   return [heads, rows]; })()";
 
 /// Copies what is selected, or all, as the browser would hand it over.
@@ -50,7 +51,8 @@ impl<'a> Tried<'a> {
     pub fn wide(&mut self) -> Result<(), Lost> {
         self.browser.send("Emulation.setDeviceMetricsOverride", "{\"width\":3000,\"height\":1000,\"deviceScaleFactor\":1,\"mobile\":false}")?;
         self.open("")?;
-        let told = self.browser.evaluate("(() => { const box = document.querySelector('.scroll'); return [box.scrollWidth - box.clientWidth, box.clientWidth > 1300]; })()")?;
+        let room = "(() => { const box = document.querySelector('.scroll'); return [box.scrollWidth - box.clientWidth, box.clientWidth > 1300]; })()";
+        let told = self.browser.evaluate(room)?;
         self.check(told == json!([0, true]), "the table is not as wide as the window", &told);
         self.browser.send("Emulation.clearDeviceMetricsOverride", "{}").map(drop)
     }
@@ -201,7 +203,8 @@ impl<'a> Tried<'a> {
         let told = self.browser.evaluate(state)?;
         self.check(told == json!([false, "true", group.program.label(second), typed]), "no relay is suggested", &told);
         self.browser.press("ArrowDown", 40, "")?;
-        let told = self.browser.evaluate("document.getElementById(document.getElementById('question').getAttribute('aria-activedescendant')).getAttribute('aria-selected')")?;
+        let active = "document.getElementById(document.getElementById('question').getAttribute('aria-activedescendant')).getAttribute('aria-selected')";
+        let told = self.browser.evaluate(active)?;
         self.check(told == json!("true"), "a suggestion is not told aloud", &told);
         self.browser.press("Enter", 13, "\r")?;
         let told = self.browser.evaluate(state)?;
@@ -221,7 +224,7 @@ impl<'a> Tried<'a> {
         let name = group.program.name(last);
         self.browser.evaluate(&format!("location.hash = {}", json!(format!("{}z", name))))?;
         let state = "(() => { const instead = document.getElementById('instead');
-            return [document.querySelector('#grid tbody').getClientRects().length && [...document.querySelector('#grid tbody').rows].filter((row) => !row.hidden).length,
+            return [[...document.querySelector('#grid tbody').rows].filter((row) => row.getClientRects().length).length,
               document.querySelector('#answer b') === null, instead.getClientRects().length > 0, instead.textContent]; })()";
         let told = self.browser.evaluate(state)?;
         let text = told[3].as_str().unwrap_or_default().to_string();
@@ -239,7 +242,8 @@ impl<'a> Tried<'a> {
     fn positions(&mut self) -> Result<(), Lost> {
         let (group, count) = (self.group, self.group.listing.positions.len());
         let state = "(() => { const here = [...document.querySelectorAll('#grid .here')], box = here[0] && here[0].getBoundingClientRect();
-            return [here.map((row) => Number(row.cells[0].textContent)), Boolean(box) && box.bottom <= innerHeight && box.top >= document.querySelector('#grid thead th').getBoundingClientRect().bottom,
+            const heads = document.querySelector('#grid thead th').getBoundingClientRect();
+            return [here.map((row) => Number(row.cells[0].textContent)), Boolean(box) && box.bottom <= innerHeight && box.top >= heads.bottom && heads.top >= 0,
               document.querySelector('#grid [aria-current]') === (here[0] || null), document.getElementById('answer').textContent, location.hash]; })()";
         let told_of = |number: usize| format!("Position {} of {}: {} up", number, count, group.told(group.listing.positions[number - 1]));
         let number = count - 7;

@@ -8,7 +8,8 @@ use crate::plan::program::Atom;
 pub fn table(group: &Group, readings: Option<&Readings>) -> String {
     let relays = group.shown();
     format!(
-        "<table id=\"grid\" data-first=\"{}\">\n<caption>{}</caption>\n<thead>{}</thead>\n<tbody>\n{}</tbody>\n<tbody id=\"instead\" aria-live=\"polite\" hidden><tr><td></tbody>\n<tfoot>{}</tfoot>\n</table>",
+        "<table id=\"grid\" data-first=\"{}\">\n<caption>{}</caption>\n<thead>{}</thead>\n<tbody>\n{}</tbody>\n\
+         <tbody id=\"instead\" aria-live=\"polite\" hidden><tr><td></tbody>\n<tfoot>{}</tfoot>\n</table>",
         1 + usize::from(readings.is_some()),
         caption(group, relays.len()),
         head(group, &relays, readings.is_some()),

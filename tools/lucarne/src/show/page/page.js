@@ -176,7 +176,8 @@
       const up = relays.filter((_, k) => known[0].up[k]);
       answer.replaceChildren(made('b', 'Position ' + numbers[0] + ' of ' + rows.length), ': ' + labels(up) + ' up');
     } else {
-      answer.replaceChildren(made('b', 'Positions ' + numbers.join(', ')), ' differ in ' + counted(differing.length, 'relay', 'relays') + ': ' + labels(differing));
+      const differ = ' differ in ' + counted(differing.length, 'relay', 'relays') + ': ' + labels(differing);
+      answer.replaceChildren(made('b', 'Positions ' + numbers.join(', ')), differ);
       drawPair(known, differing);
     }
     compare.hidden = lost.length > 0 || known.length !== 1;
@@ -258,7 +259,8 @@
     const button = (text, work) => { const node = made('button', text); node.type = 'button'; node.addEventListener('click', work); return node; };
     const nodes = [];
     if (sorted) {
-      nodes.push(made('p', 'Sorted by ' + sorted.relay.label + ', ' + (sorted.isUpFirst ? 'up' : 'dropped') + ' first. ', button('In the list\u2019s order', () => { sorted = null; drawTable(); })));
+      const told = 'Sorted by ' + sorted.relay.label + ', ' + (sorted.isUpFirst ? 'up' : 'dropped') + ' first. ';
+      nodes.push(made('p', told, button('In the list\u2019s order', () => { sorted = null; drawTable(); })));
     }
     if (hidden.size) {
       const back = columns.filter((relay) => hidden.has(relay)).map((relay) => button(relay.label, () => { hidden.delete(relay); drawTable(); }));
@@ -456,7 +458,8 @@
     if (!some.length) return;
     const table = lines(some), escaped = (text) => { const node = made('p', text); return node.innerHTML; };
     event.clipboardData.setData('text/plain', table.map((line) => line.map((cell) => quoted(cell, /["\t\r\n]/)).join('\t')).join('\n') + '\n');
-    event.clipboardData.setData('text/html', '<table>' + table.map((line) => '<tr>' + line.map((cell) => '<td>' + escaped(cell) + '</td>').join('') + '</tr>').join('') + '</table>');
+    const marked = table.map((line) => '<tr>' + line.map((cell) => '<td>' + escaped(cell) + '</td>').join('') + '</tr>').join('');
+    event.clipboardData.setData('text/html', '<table>' + marked + '</table>');
     event.preventDefault();
   });
   by('copy').addEventListener('click', () => {
@@ -466,7 +469,8 @@
     const isCopied = document.execCommand('copy');
     isCopying = false;
     selection.removeAllRanges();
-    by('copied').textContent = isCopied ? 'Copied ' + counted(shown.length, 'position', 'positions') + ', with heads.' : 'The browser does not let it be copied: select the table and copy it.';
+    const done = 'Copied ' + counted(shown.length, 'position', 'positions') + ', with heads.';
+    by('copied').textContent = isCopied ? done : 'The browser does not let it be copied: select the table and copy it.';
   });
 
   window.addEventListener('hashchange', draw);
