@@ -148,13 +148,18 @@ impl<'a> Tried<'a> {
     /// The page must show what the list holds for a question, on a busy machine after a while. Once one has failed, none is waited for.
     fn shows(&mut self, question: &Question, what: &str) -> Result<(), Lost> {
         let wanted = expected(self.group, question);
+        self.becomes(STATE, &wanted, what)
+    }
+
+    /// What an expression gives must become this.
+    fn becomes(&mut self, expression: &str, wanted: &Value, what: &str) -> Result<(), Lost> {
         let start = Instant::now();
-        let mut state = self.browser.evaluate(STATE)?;
-        while state != wanted && self.tally.failed == 0 && start.elapsed() < A_WHILE {
-            state = self.browser.evaluate(STATE)?;
+        let mut state = self.browser.evaluate(expression)?;
+        while state != *wanted && self.tally.failed == 0 && start.elapsed() < A_WHILE {
+            state = self.browser.evaluate(expression)?;
         }
         let title = &self.group.title;
-        self.tally.check(state == wanted, what, || format!("{} {:?}\n{:?}\n{:?}", title, question, state, wanted));
+        self.tally.check(state == *wanted, what, || format!("{}\n{:?}\n{:?}", title, state, wanted));
         Ok(())
     }
 

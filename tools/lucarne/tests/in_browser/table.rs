@@ -52,8 +52,7 @@ impl<'a> Tried<'a> {
         self.browser.send("Emulation.setDeviceMetricsOverride", "{\"width\":3000,\"height\":1000,\"deviceScaleFactor\":1,\"mobile\":false}")?;
         self.open("")?;
         let room = "(() => { const box = document.querySelector('.scroll'); return [box.scrollWidth - box.clientWidth, box.clientWidth > 1300]; })()";
-        let told = self.browser.evaluate(room)?;
-        self.check(told == json!([0, true]), "the table is not as wide as the window", &told);
+        self.becomes(room, &json!([0, true]), "the table is not as wide as the window")?;
         self.browser.send("Emulation.clearDeviceMetricsOverride", "{}").map(drop)
     }
 
@@ -80,10 +79,8 @@ impl<'a> Tried<'a> {
         let wanted: String = lines(&whole, &places[..2]).iter().map(|line| tabbed(line)).collect();
         self.check(told == json!([wanted, true]), "what is copied is no table with heads", &told);
         self.press_by_pointer("#copy")?;
-        let told = self.browser.evaluate("document.getElementById('copied').textContent")?;
         let count = if places.len() == 1 { "1 position".to_string() } else { format!("{} positions", places.len()) };
-        self.check(told == json!(format!("Copied {}, with heads.", count)), "the button does not copy", &told);
-        Ok(())
+        self.becomes("document.getElementById('copied').textContent", &json!(format!("Copied {}, with heads.", count)), "the button does not copy")
     }
 
     /// The table must show these columns and these rows, counted from 0.
@@ -92,9 +89,7 @@ impl<'a> Tried<'a> {
         let heads: Vec<&str> = columns.iter().map(|&atom| group.program.label(atom)).collect();
         let cells = |place: usize| columns.iter().map(|&atom| if is_up(group, place, atom) { "up" } else { "dropped" }).collect::<Vec<_>>();
         let wanted = json!([heads, places.iter().map(|&place| json!([place + 1, cells(place)])).collect::<Vec<_>>()]);
-        let told = self.browser.evaluate(TABLE)?;
-        self.check(told == wanted, what, &told);
-        Ok(())
+        self.becomes(TABLE, &wanted, what)
     }
 
     /// A press on what a selector finds, by the pointer.
@@ -127,8 +122,8 @@ impl<'a> Tried<'a> {
         for (up_first, word) in [(true, "descending"), (false, "ascending")] {
             self.click(4)?;
             self.shows_table(&relays, &sorted(up_first), "the rows are not sorted by a relay")?;
-            let told = self.browser.evaluate("[...document.querySelectorAll('#grid [aria-sort]')].map((head) => head.getAttribute('aria-sort'))")?;
-            self.check(told == json!([word]), "the order is not told", &told);
+            let told = "[...document.querySelectorAll('#grid [aria-sort]')].map((head) => head.getAttribute('aria-sort'))";
+            self.becomes(told, &json!([word]), "the order is not told")?;
         }
         self.press_by_pointer("#order button")?;
         self.shows_table(&relays, &all, "the list's order does not come back")?;
@@ -157,8 +152,8 @@ impl<'a> Tried<'a> {
                 None => wanted.push((name, 1)),
             }
         }
-        let told = self.browser.evaluate("[...document.querySelectorAll('#grid .units th')].map((head) => [head.textContent, head.colSpan])")?;
-        self.check(told == json!(wanted), "the units do not stand above their columns", &told);
+        let heads = "[...document.querySelectorAll('#grid .units th')].map((head) => [head.textContent, head.colSpan])";
+        self.becomes(heads, &json!(wanted), "the units do not stand above their columns")?;
         self.press_by_pointer("#by-unit")?;
         self.shows_table(&relays, &all, "the columns do not come back")
     }
@@ -170,8 +165,8 @@ impl<'a> Tried<'a> {
         self.click(1)?;
         let fewer: Vec<Atom> = relays.iter().enumerate().filter(|&(place, _)| place != 1).map(|(_, &atom)| atom).collect();
         self.shows_table(&fewer, &all, "a column is not hidden")?;
-        let told = self.browser.evaluate("[document.getElementById('order').textContent.startsWith('1 column hidden'), document.activeElement.dataset.name]")?;
-        self.check(told == json!([true, group.program.name(relays[2])]), "what is hidden is not told, or the focus is lost", &told);
+        let told = "[document.getElementById('order').textContent.startsWith('1 column hidden'), document.activeElement.dataset.name]";
+        self.becomes(told, &json!([true, group.program.name(relays[2])]), "what is hidden is not told, or the focus is lost")?;
         let told = self.browser.evaluate(SAVED)?;
         let is_there = told[1].as_str().map_or(false, |text| text.contains(group.program.label(relays[1])));
         self.check(!is_there, "a hidden column is saved", &told[0]);
@@ -200,16 +195,13 @@ impl<'a> Tried<'a> {
         self.browser.send("Input.insertText", &format!("{{\"text\":{}}}", json!(typed)))?;
         let state = "(() => { const input = document.getElementById('question'), list = document.getElementById('suggestions');
             return [list.hidden, input.getAttribute('aria-expanded'), list.children.length ? list.children[0].firstChild.data : '', input.value]; })()";
-        let told = self.browser.evaluate(state)?;
-        self.check(told == json!([false, "true", group.program.label(second), typed]), "no relay is suggested", &told);
+        self.becomes(state, &json!([false, "true", group.program.label(second), typed]), "no relay is suggested")?;
         self.browser.press("ArrowDown", 40, "")?;
         let active = "document.getElementById(document.getElementById('question').getAttribute('aria-activedescendant')).getAttribute('aria-selected')";
-        let told = self.browser.evaluate(active)?;
-        self.check(told == json!("true"), "a suggestion is not told aloud", &told);
+        self.becomes(active, &json!("true"), "a suggestion is not told aloud")?;
         self.browser.press("Enter", 13, "\r")?;
-        let told = self.browser.evaluate(state)?;
         let wanted = format!("{}, -{}", group.program.name(first), group.program.name(second));
-        self.check(told == json!([true, "false", "", wanted]), "a suggestion is not taken", &told);
+        self.becomes(state, &json!([true, "false", "", wanted]), "a suggestion is not taken")?;
         self.browser.press("Enter", 13, "\r")?;
         self.shows(&vec![(first, true), (second, false)], "a suggested question")?;
         let folded = format!("{},-{}", group.program.label(first).to_lowercase(), group.program.label(second).replace(' ', "_"));
@@ -226,16 +218,12 @@ impl<'a> Tried<'a> {
         let state = "(() => { const instead = document.getElementById('instead');
             return [[...document.querySelector('#grid tbody').rows].filter((row) => row.getClientRects().length).length,
               document.querySelector('#answer b') === null, instead.getClientRects().length > 0, instead.textContent]; })()";
-        let told = self.browser.evaluate(state)?;
-        let text = told[3].as_str().unwrap_or_default().to_string();
-        let is_told = text.starts_with(&format!("No relay is called {}z. Is it {}", name, group.program.label(last)));
-        self.check(told[0] == json!(0) && told[1] == json!(true) && told[2] == json!(true) && is_told, "a mistyped question leaves rows", &told);
+        let near = format!("No relay is called {}z. Is it {}?", name, group.program.label(last));
+        self.becomes(state, &json!([0, true, true, near]), "a mistyped question leaves rows")?;
         self.press_by_pointer("#instead button")?;
         self.shows(&vec![(last, true)], "the nearest name")?;
         self.browser.evaluate("location.hash = 'qqqqqqqqqqqqqqqqq'")?;
-        let told = self.browser.evaluate(state)?;
-        self.check(told[3] == json!("No relay is called qqqqqqqqqqqqqqqqq."), "what is far from all names", &told);
-        Ok(())
+        self.becomes(state, &json!([0, true, true, "No relay is called qqqqqqqqqqqqqqqqq."]), "what is far from all names")
     }
 
     /// A position by its number, in the address and by a press, with arrows from one to the next.
@@ -248,26 +236,25 @@ impl<'a> Tried<'a> {
         let told_of = |number: usize| format!("Position {} of {}: {} up", number, count, group.told(group.listing.positions[number - 1]));
         let number = count - 7;
         self.open(&format!("#{}", number))?;
-        let told = self.browser.evaluate(state)?;
-        self.check(told == json!([[number], true, true, told_of(number), format!("#{}", number)]), "a link to a position does not lead there", &told);
+        self.becomes(state, &json!([[number], true, true, told_of(number), format!("#{}", number)]), "a link to a position does not lead there")?;
         self.press_by_pointer("#grid tbody tr:nth-child(3) a")?;
-        let told = self.browser.evaluate(state)?;
-        self.check(told == json!([[3], true, true, told_of(3), "#3"]), "a press on a number does not lead there", &told);
+        self.becomes(state, &json!([[3], true, true, told_of(3), "#3"]), "a press on a number does not lead there")?;
         self.browser.press("ArrowDown", 40, "")?;
         self.browser.press("Enter", 13, "\r")?;
-        let told = self.browser.evaluate(state)?;
-        self.check(told == json!([[4], true, true, told_of(4), "#4"]), "an arrow and Enter do not lead to the next position", &told);
+        self.becomes(state, &json!([[4], true, true, told_of(4), "#4"]), "an arrow and Enter do not lead to the next position")?;
         self.browser.evaluate(&format!("location.hash = '{}'", count + 1))?;
-        let told = self.browser.evaluate("[document.getElementById('instead').textContent, document.querySelectorAll('#grid .here').length]")?;
-        self.check(told == json!([format!("There is no position {}: the list has {}.", count + 1, count), 0]), "a position that is not there", &told);
-        Ok(())
+        let instead = "[document.getElementById('instead').textContent, document.querySelectorAll('#grid .here').length]";
+        let none = format!("There is no position {}: the list has {}.", count + 1, count);
+        self.becomes(instead, &json!([none, 0]), "a position that is not there")
     }
 
     /// Two positions with what differs: by the field, and with Shift.
     fn side_by_side(&mut self) -> Result<(), Lost> {
         let (group, relays) = (self.group, self.group.shown());
         let (one, other) = (5, 6);
+        let here = "[document.querySelectorAll('#grid .here').length, document.getElementById('compare').hidden]";
         self.browser.evaluate("location.hash = '6'")?;
+        self.becomes(here, &json!([1, false]), "a position has no field for another")?;
         self.browser.evaluate("document.getElementById('other').focus()")?;
         self.browser.send("Input.insertText", "{\"text\":\"7\"}")?;
         self.browser.press("Enter", 13, "\r")?;
@@ -277,15 +264,14 @@ impl<'a> Tried<'a> {
         wanted.extend(differing.iter().map(|&atom| vec![group.program.label(atom).to_string(), word(one, atom).to_string(), word(other, atom).to_string()]));
         let state = "[location.hash, [...document.querySelector('#pair').rows].map((row) => [...row.cells].map((cell) => cell.textContent)),
             [...document.querySelectorAll('#grid .differs .l')].map((label) => label.textContent)]";
-        let told = self.browser.evaluate(state)?;
         let labels: Vec<&str> = differing.iter().map(|&atom| group.program.label(atom)).collect();
-        self.check(told == json!(["#6,7", wanted, labels]), "what differs between two positions is not told", &told);
+        self.becomes(state, &json!(["#6,7", wanted, labels]), "what differs between two positions is not told")?;
         self.shows_table(&relays, &[one, other], "two positions do not stand side by side")?;
         self.browser.evaluate("location.hash = '6'")?;
+        self.becomes(here, &json!([1, false]), "a position behind two")?;
         let (x, y) = self.middle("#grid tbody tr:nth-child(7) a")?;
         self.browser.click_with(x, y, 8)?;
-        let told = self.browser.evaluate(state)?;
-        self.check(told == json!(["#6,7", wanted, labels]), "Shift does not put a position beside the other", &told);
+        self.becomes(state, &json!(["#6,7", wanted, labels]), "Shift does not put a position beside the other")?;
         self.browser.evaluate("document.getElementById('clear').click()")?;
         self.shows(&Vec::new(), "all positions behind two")
     }
@@ -295,12 +281,9 @@ impl<'a> Tried<'a> {
         let relays = self.group.shown();
         let (x, y) = self.middle(&format!("#grid tbody tr:nth-child(5) td:nth-child({})", 2 + 7))?;
         self.browser.hover(x, y)?;
-        let told = self.browser.evaluate(MARKED)?;
-        self.check(told == json!([self.group.program.label(relays[7]), true]), "the column under the pointer is not marked", &told);
+        self.becomes(MARKED, &json!([self.group.program.label(relays[7]), true]), "the column under the pointer is not marked")?;
         self.browser.hover(5.0, 5.0)?;
-        let told = self.browser.evaluate(MARKED)?;
-        self.check(told.is_null(), "the mark stays when the pointer is gone", &told);
-        Ok(())
+        self.becomes(MARKED, &json!(null), "the mark stays when the pointer is gone")
     }
 }
 
