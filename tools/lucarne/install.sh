@@ -8,5 +8,5 @@ tools/lucarne/build.sh target/lucarne/lucarne
 . tools/lucarne/beside.sh
 install -d "$prefix/bin"
 install -m 755 target/lucarne/lucarne "$prefix/bin/lucarne"
-install_beside "$prefix/bin/lucarne" "$prefix/share"
+install_beside "$prefix/bin/lucarne" "$prefix/share" site-functions
 echo "installed $prefix/bin/lucarne"

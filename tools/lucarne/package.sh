@@ -13,7 +13,7 @@ rm -rf "$root"
 . tools/lucarne/beside.sh
 install -d "$root/DEBIAN" "$root/usr/bin" "$root/usr/share/doc/lucarne/examples" "$folder"
 install -m 755 target/lucarne/lucarne "$root/usr/bin/lucarne"
-install_beside "$root/usr/bin/lucarne" "$root/usr/share"
+install_beside "$root/usr/bin/lucarne" "$root/usr/share" vendor-completions
 install -m 644 README.md "$root/usr/share/doc/lucarne/README.md"
 for group in north yard found story; do
     install -d "$root/usr/share/doc/lucarne/examples/$group"

@@ -191,7 +191,7 @@ impl<'a> Tried<'a> {
         let (group, relays) = (self.group, self.group.shown());
         let (first, second) = (relays[0], relays[4]);
         self.browser.evaluate("document.getElementById('question').select()")?;
-        let typed = format!("{}, -{}", group.program.name(first), group.program.label(second).to_lowercase().replace(' ', "_"));
+        let typed = format!("{}, -{}", group.program.name(first), mixed(group.program.label(second)).replace(' ', "_"));
         self.browser.send("Input.insertText", &format!("{{\"text\":{}}}", json!(typed)))?;
         let state = "(() => { const input = document.getElementById('question'), list = document.getElementById('suggestions');
             return [list.hidden, input.getAttribute('aria-expanded'), list.children.length ? list.children[0].firstChild.data : '', input.value]; })()";
@@ -204,7 +204,7 @@ impl<'a> Tried<'a> {
         self.becomes(state, &json!([true, "false", "", wanted]), "a suggestion is not taken")?;
         self.browser.press("Enter", 13, "\r")?;
         self.shows(&vec![(first, true), (second, false)], "a suggested question")?;
-        let folded = format!("{},-{}", group.program.label(first).to_lowercase(), group.program.label(second).replace(' ', "_"));
+        let folded = format!("{},-{}", mixed(group.program.name(first)).replace('_', " "), mixed(group.program.label(second)).replace(' ', "_"));
         self.browser.evaluate(&format!("location.hash = {}", json!(folded)))?;
         self.shows(&vec![(first, true), (second, false)], "a question in another case")
     }
@@ -285,6 +285,11 @@ impl<'a> Tried<'a> {
         self.browser.hover(5.0, 5.0)?;
         self.becomes(MARKED, &json!(null), "the mark stays when the pointer is gone")
     }
+}
+
+/// A text in an odd case, which is neither a label's nor a name's.
+fn mixed(text: &str) -> String {
+    text.chars().enumerate().map(|(place, sign)| if place % 2 == 0 { sign.to_ascii_lowercase() } else { sign.to_ascii_uppercase() }).collect()
 }
 
 fn all_places(tried: &Tried) -> Vec<usize> {
