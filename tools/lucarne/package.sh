@@ -1,7 +1,7 @@
 #!/bin/sh
 # tools/lucarne/package.sh [--host] [FOLDER]: makes lucarne_VERSION_ARCHITECTURE.deb in this folder (default target). It needs neither the kit nor a
-# compiler where it is installed; gringo is recommended, for sheets with variables and for --check-with clingo. With --host they are the packages of the
-# library for programs in C, as host/package.sh says.
+# compiler where it is installed; completions and the manual page are in it; gringo is recommended, for sheets with variables and for --check-with clingo. With
+# --host they are the packages of the library for programs in C, as host/package.sh says.
 set -e
 if [ "${1:-}" = --host ]; then
     shift
@@ -15,10 +15,10 @@ root=target/lucarne/package
 tools/lucarne/build.sh target/lucarne/lucarne
 
 rm -rf "$root"
-completions=$root/usr/share/bash-completion/completions
-install -d "$root/DEBIAN" "$completions" "$root/usr/bin" "$root/usr/share/doc/lucarne/examples" "$folder"
+. tools/lucarne/beside.sh
+install -d "$root/DEBIAN" "$root/usr/bin" "$root/usr/share/doc/lucarne/examples" "$folder"
 install -m 755 target/lucarne/lucarne "$root/usr/bin/lucarne"
-"$root/usr/bin/lucarne" completions bash >"$completions/lucarne"
+install_beside "$root/usr/bin/lucarne" "$root/usr/share" vendor-completions
 install -m 644 README.md "$root/usr/share/doc/lucarne/README.md"
 for group in north yard found story; do
     install -d "$root/usr/share/doc/lucarne/examples/$group"

@@ -21,7 +21,8 @@ use lucarne::read::theirs;
 use random::Random;
 use tally::Tally;
 
-const SAME: &str = "their list is the list: nothing is missing, and every position is settled";
+const SAME: &str =
+    "their list is the list: nothing is missing, and every position is settled (proved: the library's own search finds none that they lack)";
 /// So many positions of a list are taken out, doubled and changed in each form.
 const MOST: usize = 8;
 

@@ -190,9 +190,21 @@ impl Browser {
 
     /// A click at this place of the window. It is done when the answer comes.
     pub fn click(&mut self, x: f64, y: f64) -> Result<(), Lost> {
-        let mouse = |kind: &str| format!("{{\"type\":\"{}\",\"x\":{},\"y\":{},\"button\":\"left\",\"clickCount\":1}}", kind, x, y);
+        self.click_with(x, y, 0)
+    }
+
+    /// The same with keys that are held, as the protocol numbers them: 8 is Shift.
+    pub fn click_with(&mut self, x: f64, y: f64, held: u32) -> Result<(), Lost> {
+        let mouse = |kind: &str| {
+            format!("{{\"type\":\"{}\",\"x\":{},\"y\":{},\"button\":\"left\",\"clickCount\":1,\"modifiers\":{}}}", kind, x, y, held)
+        };
         self.post("Input.dispatchMouseEvent", &mouse("mousePressed"))?;
         self.send("Input.dispatchMouseEvent", &mouse("mouseReleased")).map(drop)
+    }
+
+    /// The pointer at this place of the window.
+    pub fn hover(&mut self, x: f64, y: f64) -> Result<(), Lost> {
+        self.send("Input.dispatchMouseEvent", &format!("{{\"type\":\"mouseMoved\",\"x\":{},\"y\":{}}}", x, y)).map(drop)
     }
 
     /// A key, by its name and number, with the text that it writes.

@@ -60,6 +60,7 @@ try_copy() {
     build_tests "$work"
     try_drawn files "$work" "$work/files"
     try_drawn layout "$work" 300 1
+    try_drawn mangled "$work" "$work" 300 1
     build_test "$work" page && try_drawn page "$work" text
     [ "$failed" = 0 ] || return 0
     if is_there clingo "drawn sheets"; then
@@ -82,7 +83,7 @@ with_mistake "the page leaves a position out" show/page/grid.rs 'positions.iter(
 with_mistake "the page has another plan" show/page/bytes.rs 'let bytes = &group.plan.bytes;' 'let bytes = &group.plan.bytes[1..].to_vec();'
 with_mistake "the page counts what is hidden" show/page/page.js 'const count = shown.filter' 'const count = rows.filter'
 with_mistake "a question in the address is not asked" show/page/page.js 'const text = location.hash.slice(1);' 'const text = "";'
-with_mistake "a click on a relay asks nothing" show/page/page.js "addEventListener('click', () => turn" "addEventListener('dblclick', () => turn"
+with_mistake "a click on a relay asks nothing" show/page/page.js "addEventListener('click', () => press" "addEventListener('dblclick', () => press"
 with_mistake "the largest reading is that of hidden positions" show/page/page.js 'const values = shown.map' 'const values = rows.map'
 with_mistake "the headings are not printed anew" show/page/page.css '#grid thead{display:table-header-group}' '#grid thead{display:table-row-group}'
 with_mistake "facts that do not show are in the compiled plan" plan/file.rs 'group.shown_always()' 'program.always'
@@ -140,8 +141,41 @@ with_mistake "a short line is filled up" read/theirs/csv.rs 'row.cells.len() != 
 with_mistake "of relays that hold each other up one is named" plan/founded.rs 'up.difference(&least)' 'up.difference(&least.into_iter().take(1).collect())'
 with_mistake "the nearest position is any" commands/audit.rs '(ours ^ position).count_ones()' '0 * (ours ^ position)'
 with_mistake "what they lack is looked for without their first line" commands/audit.rs \
-    'let lines = self.theirs.lines.iter()' 'let lines = self.theirs.lines.iter().skip(1)'
-with_mistake "a walk ends with its first call" commands/next.rs 'found.len() == most' 'found.len() > most'
+    'None => self.first.keys().copied().filter' 'None => self.first.keys().copied().skip(1).filter'
+with_mistake "what they lack is looked for without a position behind their lines" commands/audit.rs \
+    'wholes.into_iter().filter' 'wholes.into_iter().skip(1).filter' gate
+with_mistake "what is not looked for is not told" commands/audit.rs \
+    'let proved = if self.is_searched {' 'let proved = if self.is_searched || true {'
+with_mistake "a walk ends with its first call" commands/next.rs 'found = if args.is_all {' 'found = if args.is_all && found.len() > most {'
+with_mistake "a walk goes by whole positions" commands/next.rs 'let mut walk = if args.is_whole {' 'let mut walk = if args.is_whole || true {' gate
+with_mistake "positions alike in what shows come again" plan/walk.rs '        found.dedup();' ''
+with_mistake "what shows stands below what does not" plan/walk.rs 'hidden.iter().chain(&shown)' 'shown.iter().chain(&hidden)'
+with_mistake "an unknown command is passed over" plan/bytes.rs \
+    'self.unread.filter(|_| is_taken)' 'self.unread.filter(|_| is_taken && self.rules.is_empty())'
+with_mistake "a plan without its END is whole" plan/bytes.rs '!is_ended || at < bytes.len()' 'at < bytes.len()'
+with_mistake "columns go by names" show/csv.rs 'heads == Heads::Labels &&' 'heads == Heads::Names &&'
+with_mistake "a blank line at the end is a position" read/theirs/csv.rs 'let is_certain = !full.is_empty()' 'let is_certain = full.is_empty()'
+with_mistake "a blank line at the end is none in any case" read/theirs/csv.rs '(is_numbered || is_written)' '(is_numbered || is_written || true)'
+with_mistake "UTF-16 is read the other way round" read/theirs/mod.rs 'rest, u16::from_le_bytes' 'rest, u16::from_be_bytes'
+with_mistake "a workbook is read as text" read/theirs/mod.rs 'bytes.starts_with(&PACKED) ||' 'bytes.is_empty() ||'
+with_mistake "a note is told again" plan/group.rs 'seen.insert(note.clone())' '(seen.insert(note.clone()) || true)'
+with_mistake "a letter is near another" commands/args/faults.rs '[] if !name.starts_with("--")' '[] if name.is_empty()'
+with_mistake "braces are taken for a head" read/text/ground.rs 'brace.map_or(false' 'brace.map_or(true, |_| false) && brace.map_or(false'
+with_mistake "the manual has no options" commands/args/manual.rs '.filter(|argument| is_own(argument)).map(option)' '.filter(|argument| is_own(argument)).skip(99).map(option)'
+with_mistake "the page is no wider than a column of text" show/page/page.css 'section:not(.wide){max-width:76rem}' 'section{max-width:76rem}'
+with_mistake "rows are sorted the other way" show/page/page.js '=== sorted.isUpFirst ? 0 : 1' '=== sorted.isUpFirst ? 1 : 0'
+with_mistake "columns by unit stay as they are" show/page/page.js 'one.place - other.place || one.k - other.k' 'one.k - other.k'
+with_mistake "a hidden column does not come back" show/page/page.js '{ hidden.delete(relay); drawTable(); }' '{ drawTable(); }'
+with_mistake "suggestions go by case" show/page/page.js 'text.toLowerCase().replace' 'text.replace'
+with_mistake "a mistyped question leaves all rows" show/page/page.js 'both.length || faults.length ? []' 'both.length ? []'
+with_mistake "the nearest name is any" show/page/page.js 'steps === least' 'steps >= least'
+with_mistake "a link to a position is a question" show/page/page.js "if (!match || !match[1]" "if (true || !match || !match[1]"
+with_mistake "what is alike is told as differing" show/page/page.js 'up[k] !== known[0].up[k]' 'up[k] === known[0].up[k]'
+with_mistake "another column than that under the pointer is marked" show/page/page.js 'columns[cell.cellIndex - first]' 'columns[cell.cellIndex - first + 1]'
+with_mistake "what is copied has no heads" show/page/page.js 'return [top, ...some.map' 'return [...some.map'
+with_mistake "all is saved, whatever is shown" show/page/page.js 'const toCsv = () => lines(shown)' 'const toCsv = () => lines(rows)'
+with_mistake "the file in the page is another" show/page/files.rs 'csv::show(group, Heads::Labels)' 'csv::show(group, Heads::Names)'
+with_mistake "a position has no address" show/page/grid.rs '<tr id=\"{}\">{}' '<tr data-id=\"{}\">{}'
 with_mistake "a dropped relay is not asked for" commands/ask.rs 'question.dropped |= bit;' 'question.dropped |= bit & 0;' gate
 with_mistake "the last setting of keys is left out" commands/keys.rs 'for setting in 0..settings {' 'for setting in 0..settings - 1 {'
 with_mistake "the low byte of a reading comes first" commands/readings.rs 'u16::from_be_bytes' 'u16::from_le_bytes'

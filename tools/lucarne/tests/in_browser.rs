@@ -1,5 +1,7 @@
 //! Pages in a browser: what is shown for a question is what the list holds.
 
+mod table;
+
 use crate::browser::{Browser, Lost};
 use crate::fresh::Fresh;
 use crate::tally::Tally;
@@ -28,7 +30,7 @@ const TEXTS: &str = "{hacked: 'hacked' in window, scripts: document.scripts.leng
   rules: [...document.querySelectorAll('.rules code')].map((rule) => rule.textContent)}";
 
 /// How a page is laid out for paper.
-const PRINTED: &str = "['#grid thead', '#ask', '.scroll'].map((name) => getComputedStyle(document.querySelector(name)))
+const PRINTED: &str = "['#grid thead', '#ask', '.scroll', '#view', '.files', '#column'].map((name) => getComputedStyle(document.querySelector(name)))
   .map((style) => [style.display, style.overflow, style.maxHeight])";
 
 /// The readings of the rows that are not hidden, and the foot's word on them.
@@ -53,6 +55,9 @@ pub fn try_all(groups: &[Group], program: &str, folder: &str, tally: &mut Tally)
         fresh.work(&url, tally, |browser, tally| {
             let mut tried = Tried { group, browser, tally, url: url.clone() };
             tried.all()?;
+            if group.title.contains("wide") {
+                return Ok(());
+            }
             tried.picture(&picture)?;
             tried.readings(&with_readings)
         })?;
@@ -85,6 +90,9 @@ impl<'a> Tried<'a> {
     /// Samples and names with signs of HTML are tried in every way, the others by the address and by a click.
     fn all(&mut self) -> Result<(), Lost> {
         let is_sample = self.group.title.starts_with("plans/");
+        if self.group.title.contains("wide") {
+            return self.wide();
+        }
         self.asked()?;
         if is_sample || self.group.title.contains("hostile") {
             self.open("")?;
@@ -93,6 +101,12 @@ impl<'a> Tried<'a> {
             self.clicks()?;
             self.typed()?;
             self.quiet();
+        }
+        if self.group.title.contains("hostile") || self.group.title.contains("story") {
+            self.taken_along()?;
+        }
+        if self.group.title.contains("story") {
+            self.table()?;
         }
         if is_sample {
             self.keys()?;
@@ -134,13 +148,18 @@ impl<'a> Tried<'a> {
     /// The page must show what the list holds for a question, on a busy machine after a while. Once one has failed, none is waited for.
     fn shows(&mut self, question: &Question, what: &str) -> Result<(), Lost> {
         let wanted = expected(self.group, question);
+        self.becomes(STATE, &wanted, what)
+    }
+
+    /// What an expression gives must become this.
+    fn becomes(&mut self, expression: &str, wanted: &Value, what: &str) -> Result<(), Lost> {
         let start = Instant::now();
-        let mut state = self.browser.evaluate(STATE)?;
-        while state != wanted && self.tally.failed == 0 && start.elapsed() < A_WHILE {
-            state = self.browser.evaluate(STATE)?;
+        let mut state = self.browser.evaluate(expression)?;
+        while state != *wanted && self.tally.failed == 0 && start.elapsed() < A_WHILE {
+            state = self.browser.evaluate(expression)?;
         }
         let title = &self.group.title;
-        self.tally.check(state == wanted, what, || format!("{} {:?}\n{:?}\n{:?}", title, question, state, wanted));
+        self.tally.check(state == *wanted, what, || format!("{}\n{:?}\n{:?}", title, state, wanted));
         Ok(())
     }
 
@@ -195,6 +214,9 @@ impl<'a> Tried<'a> {
         let cells = names("cell");
         let counted = cells.iter().filter(|name| name.as_str() == "up").count();
         self.check(counted == ups as usize, "the cells do not say up", &json!(counted));
+        let (fields, presses, choices) = (names("combobox"), names("radio"), names("checkbox"));
+        let is_named = fields == ["Question"] && presses == ["asks for it", "sorts by it", "hides it"] && choices == ["Columns by unit"];
+        self.check(is_named, "what asks, sorts and hides is not told by name", &json!([fields, presses, choices]));
         let buttons = names("button").iter().filter(|name| labels.contains(&name.as_str())).count();
         self.check(buttons == labels.len(), "a relay has no button", &json!(buttons));
         Ok(())
@@ -242,7 +264,7 @@ impl<'a> Tried<'a> {
             return Ok(());
         }
         self.open("")?;
-        for _ in 0..10 {
+        for _ in 0..16 {
             self.browser.press("Tab", 9, "")?;
             if self.browser.evaluate("document.activeElement === document.querySelector('#grid thead button')")? == Value::Bool(true) {
                 break;
@@ -269,8 +291,8 @@ impl<'a> Tried<'a> {
         self.browser.evaluate("document.getElementById('clear').click()")?;
         self.shows(&Vec::new(), "all positions again")?;
         self.browser.evaluate("location.hash = 'nobody'")?;
-        let told = self.browser.evaluate("document.getElementById('answer').textContent")?;
-        self.check(told.as_str().map_or(false, |text| text.ends_with("Not asked: no relay is called nobody")), "a relay that is not there", &told);
+        let told = self.browser.evaluate("document.getElementById('instead').textContent")?;
+        self.check(told.as_str().map_or(false, |text| text.starts_with("No relay is called nobody.")), "a relay that is not there", &told);
         Ok(())
     }
 
@@ -280,7 +302,7 @@ impl<'a> Tried<'a> {
         let told = self.browser.evaluate(PRINTED)?;
         let text = format!("{:?}", told);
         let parts: Vec<String> = items(&told).iter().map(|part| format!("{:?}", part)).collect();
-        let wanted = [(0, "table-header-group"), (1, "none"), (2, "visible"), (2, "none")];
+        let wanted = [(0, "table-header-group"), (1, "none"), (2, "visible"), (2, "none"), (3, "none"), (4, "none"), (5, "none")];
         let fits = wanted.iter().all(|&(place, word)| parts.get(place).map_or(false, |part| part.contains(word)));
         self.check(fits, "the page does not print well", &json!(text));
         self.browser.send("Emulation.setEmulatedMedia", "{\"media\":\"\"}").map(drop)
@@ -296,10 +318,11 @@ impl<'a> Tried<'a> {
             let found = browser.send("DOM.querySelectorAll", &format!("{{\"nodeId\":{},\"selector\":{}}}", root, json!(what)))?;
             Ok(items(&found["nodeIds"]).len())
         };
-        let rows = count(self.browser, "#grid tbody tr:not([hidden])")?;
-        let forms = count(self.browser, "form[hidden]")?;
+        let rows = count(self.browser, "#grid tbody:not([hidden]) tr[id]:not([hidden])")?;
+        let forms = count(self.browser, "form:not([hidden])")?;
+        let files = count(self.browser, "#csv[href^='data:text/csv']")?;
         self.browser.send("Emulation.setScriptExecutionDisabled", "{\"value\":false}")?;
-        self.check(rows == self.group.listing.positions.len() && forms == 1, "the list is not there without scripts", &json!(rows));
+        self.check(rows == self.group.listing.positions.len() && forms == 0 && files == 1, "the list is not there without scripts", &json!(rows));
         Ok(())
     }
 

@@ -1,15 +1,18 @@
 //! layout [COUNT] [SEED]: drawn groups through the layout and the proved library. No graph refusal comes, every edge is needed, the list is that
-//! of one unit, and circles that are told are circles.
+//! of one unit, and circles that are told are circles. A walk goes as the list does, whatever shows.
 
 #[path = "../../../tests/random.rs"]
 #[allow(dead_code)]
 mod random;
 mod tally;
 
+use lucarne::plan::group::{Group, Options, Origin};
 use lucarne::plan::layout::{Circles, Layout, Unit};
 use lucarne::plan::library::{self, Refusal};
 use lucarne::plan::bytes::Plan;
 use lucarne::plan::program::{Program, Rule, Table};
+use lucarne::plan::walk::Walk;
+use lucarne::read::reader::{Grounding, Turns};
 use random::Random;
 use tally::Tally;
 
@@ -18,12 +21,15 @@ fn main() {
     let (count, seed) = (numbers.next().unwrap_or(2000), numbers.next().unwrap_or(1));
     let mut tally = Tally::default();
     for case in 0..count {
-        let program = draw(&mut Random::for_case(seed, case));
-        if let Err(fault) = try_group(&program, &mut tally) {
+        let mut random = Random::for_case(seed, case);
+        let mut program = draw(&mut random);
+        let tried = try_group(&program, &mut tally);
+        program.hidden = (0..program.atoms.len()).filter(|_| random.chance(40)).collect();
+        if let Err(fault) = tried.and_then(|_| try_walk(program.clone(), &mut tally)) {
             tally.check(false, &format!("case {}: {}", case, fault), || told(&program));
         }
     }
-    for what in ["edges", "circles", "constraints moved", "lists with positions", "tables"] {
+    for what in ["edges", "circles", "constraints moved", "lists with positions", "tables", "positions alike in what shows"] {
         tally.must_have(what);
     }
     std::process::exit(tally.end());
@@ -112,6 +118,34 @@ fn try_group(program: &Program, tally: &mut Tally) -> Result<(), lucarne::fault:
         tally.count("circles", 1);
     }
     Ok(())
+}
+
+/// A walk goes as the list does, whatever shows, and one over whole positions has just the settled ones behind it.
+fn try_walk(program: Program, tally: &mut Tally) -> Result<(), lucarne::fault::Fault> {
+    let options = Options { paths: Vec::new(), grounding: Grounding::Never, circles: Circles::Join, one_unit: false, turns: Turns::default() };
+    let mut group = Group::of(String::new(), program, Origin::Ground(String::new()), &options)?;
+    group.list()?;
+    let list = group.listing.positions.clone();
+    let walked = walked(Walk::as_listed(&group)?)?;
+    tally.check(walked == list, "a walk goes otherwise than the list", || format!("{:x?}\n{:x?}\n{}", walked, list, told(&group.program)));
+    let shown = group.plan.word(&group.shown());
+    let mut wholes: Vec<u64> = self::walked(Walk::of_wholes(&group))?.into_iter().map(|whole| whole & shown).collect();
+    tally.count("positions alike in what shows", usize::from(wholes.len() > list.len()));
+    wholes.sort_unstable();
+    wholes.dedup();
+    tally.check(wholes == list, "whole positions show otherwise than the list", || told(&group.program));
+    Ok(())
+}
+
+fn walked(mut walk: Walk) -> Result<Vec<u64>, lucarne::fault::Fault> {
+    let mut all = Vec::new();
+    loop {
+        let found = walk.next(all.last().copied(), 5)?;
+        if found.is_empty() {
+            return Ok(all);
+        }
+        all.extend(found);
+    }
 }
 
 /// Every sheet a unit of its own, with all edges that its headed rules ask for, circles or not.

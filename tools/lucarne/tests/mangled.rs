@@ -7,8 +7,10 @@ mod random;
 mod tally;
 
 use lucarne::fault::{status, Fault};
+use lucarne::plan::bytes;
 use lucarne::plan::group::{Group, Options, Origin};
 use lucarne::plan::layout::Circles;
+use lucarne::plan::library;
 use lucarne::read::reader::{read_sheets, Grounding, Turns};
 use lucarne::read::text::statements::Sheets;
 use random::Random;
@@ -45,7 +47,7 @@ fn main() {
             try_sheet(&mut random, &mut tally);
         }
     }
-    for what in ["sheets listed", "sheets refused", "plans listed", "plans refused"] {
+    for what in ["sheets listed", "sheets refused", "plans listed", "plans refused", "unknown commands"] {
         tally.must_have(what);
     }
     std::process::exit(tally.end());
@@ -91,6 +93,23 @@ fn list(text: &str) -> Result<(), Fault> {
     Group::of(String::new(), program, Origin::Sheets(sheets), &options(Vec::new()))?.list()
 }
 
+/// Every byte of a plan that the library takes is accounted for. One that is not would be a fault of the tool, with a word.
+fn try_record(bytes: &[u8], path: &str, tally: &mut Tally) {
+    let record = bytes::decode(bytes);
+    let is_taken = library::next(bytes, None).is_ok();
+    tally.check(!is_taken || record.unread.is_none(), "a byte that is taken is not known", || format!("{}: {:02x?}", path, bytes));
+    if is_taken {
+        let (end, behind) = (bytes::decode(&bytes[..bytes.len() - 1]).unread, bytes::decode(&[bytes, &[0]].concat()).unread);
+        let fits = end == Some(bytes.len() - 1) && behind == Some(bytes.len());
+        tally.check(fits, "a plan is taken for whole without its END, or with more behind it", || format!("{:?} {:?}", end, behind));
+        let unknown = [&bytes[..bytes.len() - 1], &[0xee, 0]].concat();
+        let fault = bytes::decode(&unknown).account("x.plan", &unknown, true).err().map_or(String::new(), |fault| fault.to_string());
+        let told = format!("a fault of this tool: x.plan: the library takes the plan, and byte {}, ee, is nothing that this tool knows", bytes.len() - 1);
+        tally.check(fault.starts_with(&told), "an unknown command is passed over", || fault.clone());
+        tally.count("unknown commands", 1);
+    }
+}
+
 fn try_plan(random: &mut Random, folder: &str, tally: &mut Tally) {
     let path = random.pick(&PLANS);
     let mut bytes = fs::read(path).expect("the plan cannot be read");
@@ -105,6 +124,7 @@ fn try_plan(random: &mut Random, folder: &str, tally: &mut Tally) {
             break;
         }
     }
+    try_record(&bytes, path, tally);
     let copy = format!("{}/mangled.plan", folder);
     fs::write(&copy, &bytes).expect("the copy cannot be written");
     let listed = std::panic::catch_unwind(|| Group::open(&options(vec![PathBuf::from(&copy)])).map(|_| ()));

@@ -3,6 +3,7 @@
 use crate::tally::Tally;
 use lucarne::plan::group::Group;
 use lucarne::plan::library;
+use lucarne::show::csv::{self, Heads};
 use lucarne::show::digest::{base64, hex, sha256};
 use lucarne::show::page::{self, Readings};
 use lucarne::show::svg;
@@ -20,6 +21,9 @@ pub fn try_group(group: &Group, tally: &mut Tally) {
     let (digits, link) = (between(&html, "<pre id=\"bytes\"", "</pre>"), between(&html, "href=\"data:application/octet-stream,", "\""));
     check(digits.map(|text| text.replace('\n', "")) == Some(hex(&group.plan.bytes)), "the digits are not the plan");
     check(link.map(|text| text.replace('%', "")) == Some(hex(&group.plan.bytes)), "the link is not the plan");
+    let file = between(&html, "href=\"data:text/csv;charset=utf-8,", "\"").map(|text| unescaped(&text));
+    check(file == Some(csv::show(group, Heads::Labels)), "the file is not the list as CSV");
+    check((1..=group.listing.positions.len()).all(|place| html.matches(&format!("<tr id=\"{}\">", place)).count() == 1), "a position has no address");
     check(html.contains(&hex(&sha256(&group.plan.bytes))), "the plan's sum is not there");
     check(sheet_of(&html, group.listing.positions.len()).into_bytes() == library::sheet(&group.plan.bytes), "the words of the table are not the sheet");
     check(!svg::show(group).contains("<script"), "a script stands in the picture");
@@ -48,6 +52,17 @@ fn between(text: &str, start: &str, end: &str) -> Option<String> {
     let rest = &text[text.find(start)? + start.len()..];
     let rest = if start.starts_with('<') { &rest[rest.find('>')? + 1..] } else { rest };
     Some(rest[..rest.find(end)?].to_string())
+}
+
+/// Text of an address, whose signs may stand as hexadecimal digits.
+fn unescaped(text: &str) -> String {
+    let mut parts = text.split('%');
+    let mut bytes = parts.next().unwrap_or_default().as_bytes().to_vec();
+    for part in parts {
+        bytes.extend(u8::from_str_radix(&part[..2], 16));
+        bytes.extend(&part.as_bytes()[2..]);
+    }
+    String::from_utf8_lossy(&bytes).into_owned()
 }
 
 /// A reading for each position, but where there are some the first was not measured; those above the limit are all but two.

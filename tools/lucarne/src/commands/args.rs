@@ -2,6 +2,7 @@
 
 mod faults;
 mod line;
+mod manual;
 mod needs;
 
 use crate::fault::Fault;
@@ -9,6 +10,7 @@ use crate::near;
 use crate::plan::group::Options;
 use crate::plan::layout::Circles;
 use crate::read::reader::{Grounding, Turns};
+use crate::show::csv::Heads;
 use crate::show::{Form, FORMS};
 use clap::error::ErrorKind;
 use clap::ArgMatches;
@@ -53,6 +55,10 @@ pub struct Args {
     pub file: Option<PathBuf>,
     /// Whether all positions are wanted, one after the other.
     pub is_all: bool,
+    /// Whether whole positions are wanted, with what does not show.
+    pub is_whole: bool,
+    /// What stands above the columns of CSV.
+    pub heads: Heads,
     /// The keys that are gone through; none are all.
     pub over: Vec<String>,
     /// How many groups are worked at once.
@@ -77,7 +83,8 @@ pub fn parse(words: Vec<OsString>) -> Result<Asked, Fault> {
     let words = std::iter::once(OsString::from("lucarne")).chain(needs::shield_question(words));
     let matches = match line::lucarne().try_get_matches_from(words) {
         Ok(matches) => matches,
-        Err(error) if matches!(error.kind(), ErrorKind::DisplayHelp | ErrorKind::DisplayVersion) => return Ok(Asked::Text(error.to_string())),
+        Err(error) if error.kind() == ErrorKind::DisplayHelp => return Ok(Asked::Text(error.to_string())),
+        Err(error) if error.kind() == ErrorKind::DisplayVersion => return Ok(Asked::Text(format!("lucarne {}\n", crate::VERSION))),
         Err(error) => return Err(faults::of(&error)),
     };
     let (name, matches) = matches
@@ -85,6 +92,9 @@ pub fn parse(words: Vec<OsString>) -> Result<Asked, Fault> {
         .ok_or_else(|| Fault::new("no command is named").hint("lucarne list GROUP lists a folder of sheets; lucarne --help shows all"))?;
     if name == line::COMPLETIONS {
         return line::completions(matches).map(Asked::Text);
+    }
+    if name == line::MANUAL {
+        return Ok(Asked::Text(manual::page()));
     }
     let mut args = args_of(line::command(name)?, &Given { matches })?;
     needs::sort_words(&mut args)?;
@@ -113,6 +123,8 @@ fn args_of(command: Command, given: &Given) -> Result<Args, Fault> {
         position: None,
         file: given.one("file"),
         is_all: given.flag("all"),
+        is_whole: given.flag("whole"),
+        heads: if given.flag("names") { Heads::Names } else { Heads::Labels },
         over: given.all::<String>("over").iter().flat_map(|names| needs::names(names)).collect(),
         jobs: given.one::<String>("jobs").map(|text| needs::jobs(&text)).transpose()?,
         limit: given.one("limit"),

@@ -5,6 +5,7 @@ use crate::fault::{status, Fault};
 use crate::plan::group::Group;
 use crate::plan::library;
 use crate::plan::library::verdicts;
+use crate::show::html::counted;
 use crate::show::output;
 use crate::plan::bytes;
 use crate::read::sources::STANDARD_INPUT;
@@ -70,6 +71,8 @@ struct Comparison<'a> {
     wholes: BTreeMap<u64, u64>,
     /// Where each position stands first in theirs.
     first: BTreeMap<u64, &'a str>,
+    /// Whether the library's own search has looked for what they lack.
+    is_searched: bool,
     report: Report,
 }
 
@@ -80,7 +83,7 @@ impl<'a> Comparison<'a> {
             first.entry(line.up & theirs.told).or_insert(line.place.as_str());
         }
         let ours = group.listing.positions.iter().copied().collect();
-        Ok(Comparison { group, theirs, is_cut, ours, wholes: told::wholes(group)?, first, report: Report::default() })
+        Ok(Comparison { group, theirs, is_cut, ours, wholes: told::wholes(group)?, first, is_searched: false, report: Report::default() })
     }
 
     fn compare(&mut self) -> Result<(), Fault> {
@@ -103,9 +106,10 @@ impl<'a> Comparison<'a> {
         if repeats > 0 {
             self.report.lines.push(format!("{} of their lines are like others on the told relays", repeats));
         }
+        let proved = if self.is_searched { " (proved: the library's own search finds none that they lack)" } else { "" };
         self.report.lines.push(match self.report.differences {
-            0 if self.is_cut => "their list is the list on the relays that it tells of".to_string(),
-            0 => "their list is the list: nothing is missing, and every position is settled".to_string(),
+            0 if self.is_cut => format!("their list is the list on the relays that it tells of{}", proved),
+            0 => format!("their list is the list: nothing is missing, and every position is settled{}", proved),
             1 => "their list is not the list: 1 difference".to_string(),
             more => format!("their list is not the list: {} differences", more),
         });
@@ -170,27 +174,43 @@ impl<'a> Comparison<'a> {
         }
     }
 
-    /// The least position that they lack once more, by the library's own search, which must say the same. It goes by whole positions: theirs are
-    /// such where nothing of the plan is cut (SHOW).
-    fn search(&self, least: Option<u64>) -> Result<(), Fault> {
-        let is_whole = bytes::decode(&self.group.plan.bytes).show.is_none();
-        if !is_whole || self.theirs.lines.len() > library::MAX_POSITIONS {
-            return Ok(());
+    /// What they lack once more, by the library's own search, which must say the same: so that nothing is missing is proved, not worked out here. It goes by
+    /// whole positions: where some atoms do not show, all that stand behind their lines are given to it.
+    fn search(&mut self, missing: &[u64]) -> Result<(), Fault> {
+        let show = bytes::decode(&self.group.plan.bytes).show;
+        let known: Vec<u64> = match show {
+            None => self.first.keys().copied().filter(|position| self.ours.contains(position)).collect(),
+            Some(show) => match told::all_wholes(self.group)? {
+                Some(wholes) => wholes.into_iter().filter(|whole| self.first.contains_key(&(whole & show))).collect(),
+                None => {
+                    self.report.lines.push(format!(
+                        "note: that nothing else is missing is by the list alone: the library's search for it takes whole positions, at most {}, and more \
+                         stand behind the {} that show",
+                        library::MAX_POSITIONS,
+                        counted(show.count_ones() as usize, "relay", "relays")
+                    ));
+                    return Ok(());
+                }
+            },
+        };
+        let found = verdicts::missing(&self.group.plan.bytes, &known).map_err(|refusal| self.group.refused(refusal))?;
+        let fits = match (found, show) {
+            (Some(whole), Some(show)) => missing.contains(&(whole & show)),
+            (found, _) => found == missing.iter().copied().min(),
+        };
+        if !fits {
+            let told = |position: Option<u64>| position.map_or("none".to_string(), |position| format!("{:016x}", position));
+            let what = format!("they lack {}, and the list says {}", told(found), told(missing.iter().copied().min()));
+            return Err(Fault::of_the_tool(what));
         }
-        let lines = self.theirs.lines.iter().filter(|line| line.dropped_fact.is_none());
-        let positions: Vec<u64> = lines.map(|line| line.up & self.theirs.told).collect();
-        let found = verdicts::missing(&self.group.plan.bytes, &positions).map_err(|refusal| self.group.refused(refusal))?;
-        if found == least {
-            return Ok(());
-        }
-        let told = |position: Option<u64>| position.map_or("none".to_string(), |position| format!("{:016x}", position));
-        Err(Fault::of_the_tool(format!("the least position that they lack is {}, and the list says {}", told(found), told(least))))
+        self.is_searched = true;
+        Ok(())
     }
 
     fn missing(&mut self) -> Result<(), Fault> {
         let missing: Vec<u64> =
             self.group.listing.positions.iter().copied().filter(|position| !self.first.contains_key(position)).collect();
-        self.search(missing.iter().copied().min())?;
+        self.search(&missing)?;
         for position in missing {
             self.differ(format!("MISSING      {}   ({:016x})", self.group.told(position), position));
             if let Some(&whole) = self.wholes.get(&position) {

@@ -68,8 +68,7 @@ fn links(group: &Group) -> String {
 }
 
 fn changes(group: &Group) -> String {
-    let moves = group.layout.moved.iter().filter(|moved| !moved.closes_circle).map(|moved| group.layout.move_text(&group.program, moved));
-    group.notes.iter().cloned().chain(moves).map(|note| format!("note: {}\n", note)).collect()
+    group.all_notes().iter().map(|note| format!("note: {}\n", note)).collect()
 }
 
 /// Each helper with the rules that drive it.

@@ -8,7 +8,7 @@ use crate::show::output::{self, Stream};
 use crate::plan::bytes::Plan;
 use crate::plan::program::{Atom, Setting};
 use crate::show::progress::Progress;
-use crate::show::csv;
+use crate::show::csv::{self, Heads};
 use crate::show::Form;
 
 /// More keys have too many settings to go through.
@@ -20,7 +20,7 @@ pub fn run(args: &Args) -> Result<i32, Fault> {
     output::notes(&group.notes, args.is_quiet);
     let told = group.notes.len();
     let mut stream = Stream::to(args.output.as_deref())?;
-    stream.text(&header(&group, &keys, args.form))?;
+    stream.text(&header(&group, &keys, args.form, args.heads))?;
     let settings = 1u64 << keys.len();
     let mut progress = Progress::beside_output("settings", settings as usize);
     let mut worst = status::FINE;
@@ -106,14 +106,13 @@ fn relays(group: &Group, keys: &[Atom]) -> Vec<Atom> {
     group.shown().into_iter().filter(|atom| !keys.contains(atom)).collect()
 }
 
-fn header(group: &Group, keys: &[Atom], form: Form) -> String {
-    let names: Vec<&str> =
-        keys.iter().map(|&atom| if form == Form::Csv { group.program.name(atom) } else { group.program.label(atom) }).collect();
+fn header(group: &Group, keys: &[Atom], form: Form, heads: Heads) -> String {
     if form != Form::Csv {
-        return format!("{}  positions\n", names.join(" "));
+        let labels: Vec<&str> = keys.iter().map(|&atom| group.program.label(atom)).collect();
+        return format!("{}  positions\n", labels.join(" "));
     }
-    let names = names.into_iter().map(|name| csv::heading(name)).chain(Some("position".to_string()));
-    csv::line(names.chain(csv::headings(group, &relays(group, keys))))
+    let names = csv::headings(group, keys, heads).into_iter().chain(Some("position".to_string()));
+    csv::line(names.chain(csv::headings(group, &relays(group, keys), heads)))
 }
 
 /// The lines of a setting: its count, or a line for each position. One without any has a line too, so that it is not taken for forgotten.

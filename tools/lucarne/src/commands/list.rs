@@ -12,7 +12,7 @@ pub fn run(args: &Args) -> Result<i32, Fault> {
     if args.check_with_clingo {
         return check::check(&group, args);
     }
-    output::write(args.output.as_deref(), &show::show(&group, args.form))?;
+    output::write(args.output.as_deref(), &show::show(&group, args.form, args.heads))?;
     if group.listing.positions.is_empty() {
         let why = "there is no position; lucarne why GROUP names the few constraints that leave none";
         output::notes(&[why.to_string()], args.is_quiet);

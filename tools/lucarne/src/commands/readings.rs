@@ -6,7 +6,7 @@ use crate::plan::group::Group;
 use crate::plan::library::readings::{self, compare, largest, number};
 use crate::plan::library::Refusal;
 use crate::show::output;
-use crate::show::csv;
+use crate::show::csv::{self, Heads};
 use crate::show::page::{self, Readings};
 use crate::show::Form;
 use crate::read::sources;
@@ -103,7 +103,7 @@ pub fn run(args: &Args) -> Result<i32, Fault> {
     let run = Run::read(&group, Path::new(&args.subject), args.limit.as_deref())?;
     output::notes(&group.notes, args.is_quiet);
     let text = match args.form {
-        Form::Csv => table(&group, &run),
+        Form::Csv => table(&group, &run, args.heads),
         Form::Html => page::show(&group, Some(&run.beside(&args.subject.to_string_lossy()))),
         _ => text(&group, &run),
     };
@@ -137,10 +137,10 @@ fn places(places: &[usize]) -> String {
 }
 
 /// Milliseconds by position, then whether they are above the limit, then the relays.
-fn table(group: &Group, run: &Run) -> String {
+fn table(group: &Group, run: &Run, heads: Heads) -> String {
     let relays = group.shown();
     let first = ["position", "milliseconds", "above"].map(str::to_string);
-    let mut out = csv::line(first.into_iter().chain(csv::headings(group, &relays)));
+    let mut out = csv::line(first.into_iter().chain(csv::headings(group, &relays, heads)));
     for (place, &position) in group.listing.positions.iter().enumerate() {
         let reading = run.tenths[place].map_or(String::new(), milliseconds);
         let above = match (run.limit, run.tenths[place]) {

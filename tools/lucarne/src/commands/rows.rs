@@ -5,7 +5,7 @@ use crate::fault::{status, Fault};
 use crate::plan::group::Group;
 use crate::plan::library::questions;
 use crate::show::output;
-use crate::show::csv;
+use crate::show::csv::{self, Heads};
 use crate::show::Form;
 
 /// A space stands behind so many positions.
@@ -15,7 +15,7 @@ pub fn run(args: &Args) -> Result<i32, Fault> {
     let group = Group::open(&args.group)?;
     output::notes(&group.notes, args.is_quiet);
     let rows = questions::rows(&group.listing.positions).map_err(|refusal| group.refused(refusal))?;
-    let text = if args.form == Form::Csv { table(&group, &rows) } else { text(&group, &rows) };
+    let text = if args.form == Form::Csv { table(&group, &rows, args.heads) } else { text(&group, &rows) };
     output::write(args.output.as_deref(), text.as_bytes())?;
     Ok(if group.listing.positions.is_empty() { status::NOT_FINE } else { status::FINE })
 }
@@ -26,12 +26,12 @@ fn shown<'a>(group: &'a Group, rows: &'a [Vec<bool>]) -> Vec<(usize, &'a [bool])
     group.shown().into_iter().map(|atom| (atom, row(atom))).collect()
 }
 
-fn table(group: &Group, rows: &[Vec<bool>]) -> String {
+fn table(group: &Group, rows: &[Vec<bool>], heads: Heads) -> String {
     let numbers = (1..=group.listing.positions.len()).map(|place| place.to_string());
     let mut out = csv::line(["relay".to_string()].into_iter().chain(numbers));
     for (atom, row) in shown(group, rows) {
         let cells = row.iter().map(|&is_up| if is_up { "1" } else { "0" }.to_string());
-        out += &csv::line([csv::heading(group.program.name(atom))].into_iter().chain(cells));
+        out += &csv::line([csv::head(group, atom, heads)].into_iter().chain(cells));
     }
     out
 }

@@ -32,6 +32,23 @@ pub struct Record {
     pub show: Option<u64>,
     /// Where each command starts.
     pub offsets: Vec<usize>,
+    /// The first byte that is no part of a command that is known here, or that stands behind END; none where every byte is accounted for.
+    pub unread: Option<usize>,
+}
+
+impl Record {
+    /// A plan that the library takes has no byte that is not known here: it would be listed by half of what it says.
+    pub fn account(&self, path: &str, bytes: &[u8], is_taken: bool) -> Result<(), Fault> {
+        match self.unread.filter(|_| is_taken) {
+            Some(at) => Err(Fault::of_the_tool(format!(
+                "{}: the library takes the plan, and byte {}{} is nothing that this tool knows",
+                path,
+                at,
+                bytes.get(at).map_or(String::new(), |byte| format!(", {:02x},", byte))
+            ))),
+            None => Ok(()),
+        }
+    }
 }
 
 /// The bytes, and which atom each bit is.
@@ -59,7 +76,12 @@ impl Plan {
 
     /// The plan of a program with this layout. What it hands out was read back and found to say the same.
     pub fn of(program: &Program, layout: &Layout) -> Result<Plan, Fault> {
-        let mut plan = Plan { atoms: program.used_atoms(), bytes: Vec::new() };
+        Plan::in_order(program, layout, program.used_atoms())
+    }
+
+    /// The same with the bits in another order.
+    pub fn in_order(program: &Program, layout: &Layout, atoms: Vec<Atom>) -> Result<Plan, Fault> {
+        let mut plan = Plan { atoms, bytes: Vec::new() };
         plan.bytes = encode(&record(program, layout, &plan));
         match read_back(program, layout, &plan) {
             None => Ok(plan),
@@ -90,6 +112,7 @@ fn record(program: &Program, layout: &Layout, plan: &Plan) -> Record {
         edges: layout.edges.keys().map(|&(from, to)| [from as u8, to as u8]).collect(),
         show: Some(plan.word(&shown)).filter(|_| shown.len() < plan.atoms.len()),
         offsets: Vec::new(),
+        unread: None,
     }
 }
 
@@ -139,8 +162,8 @@ fn operands(command: u8) -> Option<(usize, usize)> {
 /// The commands of a plan up to END, or up to what cannot be read: whether that is allowed is the library's to say.
 pub fn decode(bytes: &[u8]) -> Record {
     let mut record = Record::default();
-    let mut at = 0;
-    while let Some((&command, rest)) = bytes.get(at..).and_then(|rest| rest.split_first()) {
+    let (mut at, mut is_ended) = (0, false);
+    while let Some((&command, rest)) = bytes.get(at..).filter(|_| !is_ended).and_then(|rest| rest.split_first()) {
         let (words, singles) = match operands(command) {
             Some(lengths) if rest.len() >= 8 * lengths.0 + lengths.1 => lengths,
             _ => break,
@@ -156,16 +179,21 @@ pub fn decode(bytes: &[u8]) -> Record {
             UNIT => record.units.push(word(0)),
             EDGE => record.edges.push([rest[0], rest[1]]),
             SHOW => record.show = Some(word(0)),
+            END => is_ended = true,
             _ => break,
         }
         at += 1 + 8 * words + singles;
     }
+    record.unread = Some(at).filter(|&at| !is_ended || at < bytes.len());
     record
 }
 
 /// Reads the bytes and holds them against the program by name; what differs, if anything does.
 pub fn read_back(program: &Program, layout: &Layout, plan: &Plan) -> Option<String> {
     let record = decode(&plan.bytes);
+    if let Some(at) = record.unread {
+        return Some(format!("byte {} cannot be read back", at));
+    }
     let named = |word: u64| plan.up(word).into_iter().collect::<BTreeSet<Atom>>();
     if record.rules.len() != program.rules.len() || record.tables.len() != program.tables.len() {
         return Some("another number of rules or tables".to_string());

@@ -3,7 +3,9 @@
 use crate::fault::Fault;
 use crate::plan::group::Group;
 use crate::plan::bytes::{self, Plan, Record};
+use crate::plan::library;
 use crate::plan::program::{Key, Program, Rule, Setting, Table};
+use crate::plan::words;
 use crate::read::sources;
 use std::collections::{BTreeMap, BTreeSet};
 use std::fs::{self, File};
@@ -174,6 +176,10 @@ fn add_rules(program: &mut Program, plan: &Plan, record: &Record, names: &Names)
 pub fn read(path: &Path, bytes: Vec<u8>) -> Result<(Program, Plan, Record, Names), Fault> {
     let names = Names::beside(path, &bytes)?;
     let record = bytes::decode(&bytes);
+    if record.unread.is_some() {
+        let taken = library::next(&bytes, None);
+        record.account(&path.to_string_lossy(), &bytes, taken.map_or_else(|refusal| !words::is_of_reading(refusal.number), |_| true))?;
+    }
     let (program, plan) = program_of(&record, &names);
     Ok((program, Plan { bytes, ..plan }, record, names))
 }

@@ -12,6 +12,7 @@ use crate::read::sources::{self, Source, STANDARD_INPUT};
 use crate::read::text::statements::Sheets;
 use crate::show::beside;
 use crate::plan::words::Refused;
+use std::collections::BTreeSet;
 use std::path::{Path, PathBuf};
 
 /// What the command line says about a group.
@@ -99,6 +100,7 @@ impl Group {
         notes.extend(Some(NOTHING_DRIVEN.to_string()).filter(|_| drives_nothing(&program)));
         notes.extend(layout.joins.iter().cloned());
         notes.extend(layout.moved.iter().filter(|moved| moved.closes_circle).map(|moved| layout.move_text(&program, moved)));
+        let notes = once(notes);
         let plan = Plan::of(&program, &layout)?;
         Ok(Group { title, program, layout, plan, listing: Listing::default(), origin, too_long: None, notes })
     }
@@ -173,6 +175,12 @@ impl Group {
         by_rule
     }
 
+    /// All notes, with the constraints that were moved, each once.
+    pub fn all_notes(&self) -> Vec<String> {
+        let moves = self.layout.moved.iter().filter(|moved| !moved.closes_circle).map(|moved| self.layout.move_text(&self.program, moved));
+        once(self.notes.iter().cloned().chain(moves))
+    }
+
     /// The relays of a position by label, or that all are dropped but those that are always up.
     pub fn told(&self, position: u64) -> String {
         let up: Vec<&str> = self
@@ -189,6 +197,12 @@ impl Group {
     }
 }
 
+/// Each note where it stands first.
+fn once(notes: impl IntoIterator<Item = String>) -> Vec<String> {
+    let mut seen = BTreeSet::new();
+    notes.into_iter().filter(|note| seen.insert(note.clone())).collect()
+}
+
 /// What the library refuses though it was laid out: a list that is too long, or a fault of this tool, whose plan is kept.
 fn refused(program: &Program, plan: &Plan, refusal: Refusal) -> Fault {
     if refusal.number == 15 {
@@ -198,7 +212,9 @@ fn refused(program: &Program, plan: &Plan, refusal: Refusal) -> Fault {
             MAX_POSITIONS,
             if cut { ", or so many that differ in what shows" } else { "" }
         );
-        return Fault::new(what).hint("turn or release keys (--turn, --release), show fewer relays (#show), or split the group");
+        let walk = "lucarne next GROUP --all goes through all of them";
+        let otherwise = "for a list turn or release keys (--turn, --release), show fewer relays (#show), or split the group";
+        return Fault::new(what).hint(format!("{}; {}", walk, otherwise));
     }
     let kept = beside::keep(&std::env::temp_dir(), "lucarne-refused-", ".plan", &plan.bytes);
     let kept = kept.map_or(String::new(), |path| format!("; the plan is kept as {}", path.display()));

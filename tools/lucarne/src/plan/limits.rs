@@ -4,6 +4,7 @@ use crate::read::aspif::Aspif;
 use crate::fault::Fault;
 use crate::plan::layout::Layout;
 use crate::plan::program::{Program, Rule};
+use crate::show::html::counted;
 use std::collections::BTreeSet;
 
 pub const MAX_ATOMS: usize = 64;
@@ -62,7 +63,8 @@ fn check_atoms(program: &Program) -> Result<(), Fault> {
         return Ok(());
     }
     let helpers = atoms.iter().filter(|&&atom| program.atoms[atom].is_helper).count();
-    let what = format!("the group has {} relays and {} helpers; a plan holds {} together", atoms.len() - helpers, helpers, MAX_ATOMS);
+    let (relays, helpers) = (counted(atoms.len() - helpers, "relay", "relays"), counted(helpers, "helper", "helpers"));
+    let what = format!("the group has {} and {}; a plan holds {} together", relays, helpers, MAX_ATOMS);
     let what = format!("{}: {}", what, atoms_by_sheet(program));
     let late: BTreeSet<usize> = atoms[MAX_ATOMS..].iter().copied().collect();
     let rule = program.rules.iter().find(|rule| !late.is_disjoint(&program.looks_at(rule)));

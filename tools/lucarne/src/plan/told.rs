@@ -2,7 +2,7 @@
 
 use crate::fault::Fault;
 use crate::plan::group::{Group, Origin};
-use crate::plan::library;
+use crate::plan::library::{self, MAX_POSITIONS};
 use crate::plan::bytes::{self, Plan};
 use crate::plan::program::Atom;
 use crate::plan::reason::{self, Position};
@@ -29,10 +29,9 @@ pub fn list_by(group: &mut Group, told: u64) -> Result<(), Fault> {
 
 /// A plan with this word of SHOW. One that cannot be read to its END stays as it is, for the library to refuse.
 fn with_show(bytes: &[u8], word: u64) -> Vec<u8> {
-    let offsets = bytes::decode(bytes).offsets;
-    let end = offsets.iter().copied().find(|&at| bytes[at] == bytes::SHOW || bytes[at] == bytes::END);
-    let is_whole = offsets.last().map_or(false, |&last| bytes[last] == bytes::END && last + 1 == bytes.len());
-    match end.filter(|_| is_whole) {
+    let record = bytes::decode(bytes);
+    let end = record.offsets.iter().copied().find(|&at| bytes[at] == bytes::SHOW || bytes[at] == bytes::END);
+    match end.filter(|_| record.unread.is_none()) {
         Some(end) => bytes[..end].iter().copied().chain([bytes::SHOW]).chain(word.to_le_bytes()).chain([bytes::END]).collect(),
         None => bytes.to_vec(),
     }
@@ -52,6 +51,17 @@ pub fn wholes(group: &Group) -> Result<BTreeMap<u64, u64>, Fault> {
     Ok(wholes)
 }
 
+/// All settled positions with all their atoms, where they are no more than a list takes.
+pub fn all_wholes(group: &Group) -> Result<Option<Vec<u64>>, Fault> {
+    let refused = |refusal| group.refused(refusal);
+    let wholes = library::next_positions(&group.plan.bytes, None, MAX_POSITIONS).map_err(refused)?;
+    let is_all = match wholes.last() {
+        Some(&last) if wholes.len() == MAX_POSITIONS => library::next(&group.plan.bytes, Some(last)).map_err(refused)?.is_none(),
+        _ => true,
+    };
+    Ok(Some(wholes).filter(|_| is_all))
+}
+
 /// A whole position behind one that tells what shows alone: a settled one, or else one filled in as the rules ask.
 pub fn whole_of(group: &Group, position: u64) -> Result<u64, Fault> {
     let shown = match bytes::decode(&group.plan.bytes).show {
@@ -68,7 +78,7 @@ pub fn whole_of(group: &Group, position: u64) -> Result<u64, Fault> {
         }
     }
     let what = format!("{:016x} tells what shows alone, and too many positions stand behind what shows", position);
-    Err(Fault::new(what).hint("give a whole position, as lucarne next writes it"))
+    Err(Fault::new(what).hint("give a whole position, as lucarne next --whole writes it"))
 }
 
 /// A whole position with the told relays as they are: the others are taken from a settled one, and then raised and dropped as the rules ask.

@@ -30,6 +30,11 @@ const COMMAND_FAULTS: [(u64, &str, &str); 12] = [
     (23, "the plan declares other numbers than it has", "send it again: a command was lost or doubled on the way"),
 ];
 
+/// Whether a refusal stops the library while it reads the plan's commands.
+pub fn is_of_reading(number: u64) -> bool {
+    COMMAND_FAULTS.iter().any(|fault| fault.0 == number)
+}
+
 /// A plan that was refused.
 pub struct Refused<'a> {
     pub path: &'a str,
@@ -52,12 +57,12 @@ impl<'a> Refused<'a> {
             15 if spot == self.record.units.len() => (
                 format!("the plan has more than {} positions that differ in what shows", MAX_POSITIONS),
                 String::new(),
-                "split the group, give keys, or show fewer atoms",
+                "lucarne next PLAN --all goes through all of them; for a list split the group, give keys, or show fewer atoms",
             ),
             15 => (
                 format!("unit {} has more than {} positions", self.unit(spot), MAX_POSITIONS),
                 String::new(),
-                "cut its choices, or put all rules into one unit",
+                "lucarne next PLAN --all goes through all of the plan; for a list cut its choices, or put all rules into one unit",
             ),
             _ => self.of_command(refusal),
         };

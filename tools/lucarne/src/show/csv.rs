@@ -7,17 +7,30 @@ use csv::{QuoteStyle, WriterBuilder};
 /// What parts a line in other programs; a cell with one of them stands between quotation marks.
 const PARTING: [char; 3] = [';', '\t', ' '];
 
-pub fn show(group: &Group) -> String {
+/// What stands above a relay's column.
+#[derive(Clone, Copy, Debug, PartialEq, Eq)]
+pub enum Heads {
+    /// Its label where it has one.
+    Labels,
+    Names,
+}
+
+pub fn show(group: &Group, heads: Heads) -> String {
     let relays = group.shown();
     let positions = group.listing.positions.iter().enumerate();
     let rows = positions.map(|(place, &position)| line([(place + 1).to_string()].into_iter().chain(cells(group, &relays, position))));
-    let heading = line(["position".to_string()].into_iter().chain(headings(group, &relays)));
+    let heading = line(["position".to_string()].into_iter().chain(headings(group, &relays, heads)));
     heading + &rows.collect::<String>()
 }
 
-/// The relays' names, as headings.
-pub fn headings(group: &Group, relays: &[Atom]) -> Vec<String> {
-    relays.iter().map(|&atom| heading(group.program.name(atom))).collect()
+pub fn headings(group: &Group, relays: &[Atom], heads: Heads) -> Vec<String> {
+    relays.iter().map(|&atom| head(group, atom, heads)).collect()
+}
+
+/// A relay's heading. A label with space around it could not be read back from a cell.
+pub fn head(group: &Group, atom: Atom, heads: Heads) -> String {
+    let (name, label) = (group.program.name(atom), group.program.label(atom));
+    heading(if heads == Heads::Labels && label.trim() == label { label } else { name })
 }
 
 /// 1 for each relay that is up in a position, and 0 for the others.

@@ -15,6 +15,7 @@ pub mod svg;
 pub mod table;
 
 use crate::plan::group::Group;
+use csv::Heads;
 use crate::plan::library;
 
 #[derive(Clone, Copy, Debug, PartialEq, Eq)]
@@ -44,11 +45,11 @@ pub const FORMS: [(&str, Form); 8] = [
     ("html", Form::Html),
 ];
 
-pub fn show(group: &Group, form: Form) -> Vec<u8> {
+pub fn show(group: &Group, form: Form, heads: Heads) -> Vec<u8> {
     match form {
         Form::Names => names::show(group).into_bytes(),
         Form::Table => table::show(group).into_bytes(),
-        Form::Csv => csv::show(group).into_bytes(),
+        Form::Csv => csv::show(group, heads).into_bytes(),
         Form::Json => json::show(group).into_bytes(),
         Form::Sheet => library::sheet(&group.plan.bytes),
         Form::Dot => dot::show(group).into_bytes(),

@@ -46,6 +46,8 @@ fn no_option(name: &str) -> Fault {
     let commands = options.iter().find(|known| known.name == name).map_or(&[] as &[&str], |known| &known.commands);
     let wrong = Fault::new(format!("{} does not go with this command", name));
     match commands {
+        // Letters alone are near to each other and mean nothing alike.
+        [] if !name.starts_with("--") => Fault::new(format!("{} is no option", name)).hint(ALL),
         [] => Fault::new(format!("{} is no option", name)).hint(near::hint(name, options.iter().map(|known| known.name.as_str()), ALL)),
         [_] if name == "--check-with" => Fault::new("--check-with goes with list").hint(usage(name)),
         [_] => wrong.hint(usage(name)),
@@ -60,6 +62,7 @@ fn usage(option: &str) -> &'static str {
         "--clingo-option" => "lucarne list GROUP --check-with clingo --clingo-option=--eq=0",
         "--file" => "lucarne ask --file QUESTIONS GROUP",
         "--all" => "lucarne next GROUP --all",
+        "--whole" => "lucarne next GROUP --whole",
         "--over" => "lucarne keys GROUP --over k1,k2",
         "-j" => "lucarne each GROUP.. -j 4",
         "--limit" => "lucarne readings RUN GROUP --limit 85.5",

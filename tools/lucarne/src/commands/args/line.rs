@@ -1,4 +1,4 @@
-//! What clap knows: the commands with their words and options. From it come the help of each command and the completions.
+//! What clap knows: the commands with their words and options. From it come the help of each command, the completions and the manual.
 
 use super::{one_of, Command};
 use crate::fault::Fault;
@@ -7,8 +7,27 @@ use clap::{value_parser, Arg, ArgAction, ArgMatches};
 use clap_complete::Shell;
 
 pub const COMPLETIONS: &str = "completions";
+pub const MANUAL: &str = "man";
 
-pub const USAGE: &str = "\
+/// What GROUP is, in the help and in the manual.
+macro_rules! group {
+    () => {
+        "GROUP is a folder of sheets (*.lp), sheets, a plan (X.plan), or - for the standard input: a sheet, or what gringo --output=intermediate writes."
+    };
+}
+
+/// The exit status, in the help and in the manual.
+macro_rules! status {
+    () => {
+        "0 fine; 1 answered, but there is no position, or lists differ; 2 the input is refused; 3 the tool's own trouble."
+    };
+}
+
+pub const GROUP: &str = group!();
+pub const STATUS: &str = status!();
+
+pub const USAGE: &str = concat!(
+    "\
 lucarne: every settled position of a relay group, by name
 
     lucarne list GROUP..      the positions
@@ -24,8 +43,9 @@ lucarne: every settled position of a relay group, by name
                               how many positions have a up and b dropped, and what is up in all of them
         --file QUESTIONS      a question a line
     lucarne next GROUP.. [POSITION]
-                              the first position, or the next one above a word of 16 digits, also where there are more than 256
+                              the first position, or the next one above a word of 16 digits, in the list's order, also where there are more than 256
         --all                 all from there on, one by one
+        --whole               whole positions, with what does not show, in the order of their own words
     lucarne why GROUP.. [POSITION]
                               the few constraints that leave no position, or why a position is not settled
     lucarne rows GROUP..      the list by relay
@@ -38,8 +58,11 @@ lucarne: every settled position of a relay group, by name
         --limit MS            those above so many milliseconds
     lucarne completions bash|zsh|fish
                               what a shell needs to complete commands and options
+    lucarne man               the manual page
 
-GROUP is a folder of sheets (*.lp), sheets, a plan (X.plan), or - for the standard input: a sheet, or what gringo --output=intermediate writes.
+",
+    group!(),
+    "
 
     -o FILE                   write to a file; never to one that is read
     --turn KEY, --release KEY set a key against what the sheets say
@@ -47,11 +70,16 @@ GROUP is a folder of sheets (*.lp), sheets, a plan (X.plan), or - for the standa
     --one-unit                work all sheets as one unit
     --ground auto|always|never
                               let gringo read sheets with variables, all, or none
+    --names                   head the columns of CSV by names, also where there are labels
     -q                        no notes on standard error
-    --help, --version         lucarne list --help tells of list alone
+    -h, --help, -V, --version lucarne list --help, or lucarne help list, tells of list alone
+    --                        what follows is no option, as a sheet whose name starts with -
 
-Exit status: 0 fine; 1 answered, but there is no position, or lists differ; 2 the input is refused; 3 the tool's own trouble.
-";
+Exit status: ",
+    status!(),
+    "
+"
+);
 
 /// A command: its name, the words it takes, what it is for, and the options that not all have.
 struct Known {
@@ -68,7 +96,7 @@ const KNOWN: [Known; 11] = [
         command: Command::List,
         words: "GROUP",
         about: "The positions",
-        own: &["as", "check-with", "clingo-option"],
+        own: &["as", "names", "check-with", "clingo-option"],
     },
     Known { name: "compile", command: Command::Compile, words: "GROUP", about: "The plan as bytes, and X.names beside it", own: &[] },
     Known {
@@ -90,8 +118,8 @@ const KNOWN: [Known; 11] = [
         name: "next",
         command: Command::Next,
         words: "GROUP [POSITION]",
-        about: "The first position, or the next one above a word of 16 digits",
-        own: &["as", "all"],
+        about: "The first position, or the next one above a word of 16 digits, in the list's order",
+        own: &["as", "names", "all", "whole"],
     },
     Known {
         name: "why",
@@ -100,13 +128,13 @@ const KNOWN: [Known; 11] = [
         about: "The few constraints that leave no position, or why a position is not settled",
         own: &["as"],
     },
-    Known { name: "rows", command: Command::Rows, words: "GROUP", about: "The list by relay", own: &["as"] },
+    Known { name: "rows", command: Command::Rows, words: "GROUP", about: "The list by relay", own: &["as", "names"] },
     Known {
         name: "keys",
         command: Command::Keys,
         words: "GROUP",
         about: "Each setting of the keys with its count; with --as csv its list",
-        own: &["as", "over"],
+        own: &["as", "names", "over"],
     },
     Known { name: "each", command: Command::Each, words: "GROUP", about: "Many groups, one line each", own: &["as", "jobs"] },
     Known {
@@ -114,12 +142,16 @@ const KNOWN: [Known; 11] = [
         command: Command::Readings,
         words: "RUN GROUP",
         about: "The panel's drop-away readings beside the positions",
-        own: &["as", "limit"],
+        own: &["as", "names", "limit"],
     },
 ];
 
 /// The options of all commands.
 const COMMON: [&str; 7] = ["output", "turn", "release", "strict", "one-unit", "ground", "quiet"];
+
+pub fn is_common(id: &str) -> bool {
+    COMMON.contains(&id)
+}
 
 pub fn command(name: &str) -> Result<Command, Fault> {
     one_of("command", name, &KNOWN.map(|known| (known.name, known.command)))
@@ -127,7 +159,7 @@ pub fn command(name: &str) -> Result<Command, Fault> {
 
 /// The names of all commands.
 pub fn names() -> Vec<&'static str> {
-    KNOWN.iter().map(|known| known.name).chain(["help", COMPLETIONS]).collect()
+    KNOWN.iter().map(|known| known.name).chain(["help", COMPLETIONS, MANUAL]).collect()
 }
 
 pub fn lucarne() -> clap::Command {
@@ -135,10 +167,12 @@ pub fn lucarne() -> clap::Command {
     let completions = clap::Command::new(COMPLETIONS).about("What a shell needs to complete commands and options").arg(shell);
     clap::Command::new("lucarne")
         .version(crate::VERSION)
+        .propagate_version(true)
         .about("Every settled position of a relay group, by name")
         .override_help(USAGE)
         .subcommands(KNOWN.iter().map(subcommand))
         .subcommand(completions)
+        .subcommand(clap::Command::new(MANUAL).about("The manual page"))
 }
 
 fn subcommand(known: &Known) -> clap::Command {
@@ -159,6 +193,7 @@ pub fn option(id: &'static str) -> Arg {
         "clingo-option" => value("X").action(ArgAction::Append).help("An option for clingo, as --clingo-option=--eq=0"),
         "file" => file("QUESTIONS").help("A file with a question a line"),
         "all" => flag().help("All from there on, one by one"),
+        "whole" => flag().help("Whole positions, with what does not show, in the order of their own words"),
         "over" => value("K1,K2").action(ArgAction::Append).help("These keys alone; the others stay as they are"),
         "jobs" => Arg::new(id).short('j').value_name("N").allow_hyphen_values(true).help("So many groups at once"),
         "limit" => value("MS").help("Mark those above so many milliseconds"),
@@ -168,6 +203,7 @@ pub fn option(id: &'static str) -> Arg {
         "strict" => flag().help("Refuse sheets that depend on each other in a circle, and files of a folder that are no sheets"),
         "one-unit" => flag().help("Work all sheets as one unit"),
         "ground" => value("WAY").help("auto, always or never: let gringo read sheets with variables, all, or none"),
+        "names" => flag().help("Head the columns of CSV by names, also where there are labels"),
         _ => flag().short('q').help("No notes on standard error"),
     }
 }

@@ -4,6 +4,7 @@ use super::line;
 use super::{Args, Command};
 use crate::fault::Fault;
 use crate::plan::file::names_path;
+use crate::show::csv::Heads;
 use crate::show::{Form, FORMS};
 use std::ffi::OsString;
 use std::path::{Path, PathBuf};
@@ -97,6 +98,9 @@ pub fn check(args: &Args) -> Result<(), Fault> {
         return Err(
             Fault::new("no group is named").hint("name a folder of sheets, sheets (*.lp), a plan (*.plan), or - for the standard input")
         );
+    }
+    if args.heads == Heads::Names && args.form != Form::Csv {
+        return Err(Fault::new("--names heads the columns of CSV, and another form is written").hint("write --as csv --names"));
     }
     if args.command == Command::Compile {
         plan_to_write(args.output.as_deref())?;

@@ -343,7 +343,9 @@ impl<'a> Reader<'a> {
     fn hint(&self, token: &Token) -> String {
         let before = &self.tokens[self.at.saturating_sub(1)];
         let in_head = !self.tokens[..self.at].iter().any(|token| token.kind == Kind::If);
+        let brace = self.tokens[..self.at].iter().rev().find(|token| token.is("{") || token.is("}"));
         match token.text.as_str() {
+            "," if brace.map_or(false, |brace| brace.is("{")) => "between braces relays stand apart by ; each of them up or dropped: { a; b }.".to_string(),
             "," if in_head => {
                 "a head lists its relays by ; and one of them is up; for relays that are driven together write a rule for each".to_string()
             }

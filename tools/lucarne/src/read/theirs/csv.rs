@@ -10,8 +10,8 @@ use crate::near;
 const NUMBERS: [&str; 8] = ["", "position", "positions", "pos", "no", "no.", "nr", "#"];
 /// The first heading of a list by relay, as `lucarne rows` writes it.
 const BY_RELAY: &str = "relay";
-const UP: [&str; 6] = ["1", "x", "up", "u", "true", "yes"];
-const DROPPED: [&str; 8] = ["0", ".", "", "dropped", "down", "d", "false", "no"];
+const UP: [&str; 8] = ["1", "1.0", "1,0", "x", "up", "u", "true", "yes"];
+const DROPPED: [&str; 10] = ["0", "0.0", "0,0", ".", "", "dropped", "down", "d", "false", "no"];
 
 /// A relay's heading with the cells of each position.
 struct Column {
@@ -42,15 +42,43 @@ pub fn read(list: &List, text: &str) -> Result<Theirs, Fault> {
     let (head, body) =
         rows.split_first().ok_or_else(|| Fault::new(format!("{} has no line", list.path)).hint("its first line names the relays"))?;
     let by_relay = head.cells[0].eq_ignore_ascii_case(BY_RELAY) && lookup::find(list.group, &head.cells[0]).is_none();
+    let (body, blank) = without_end(list, head, body, by_relay);
     let grid = if by_relay { by_rows(list, head, body)? } else { by_columns(list, head, body)? };
-    theirs(list, &grid)
+    let mut theirs = theirs(list, &grid)?;
+    theirs.notes.extend(blank);
+    Ok(theirs)
+}
+
+/// Lines of separators alone at the end, as spreadsheets write them, are none of the list, where every other line has its number, or its relay, or no other
+/// cell is empty and one of them says dropped. Elsewhere an empty cell may say that, and such a line stays.
+fn without_end<'a>(list: &List, head: &Row, body: &'a [Row], by_relay: bool) -> (&'a [Row], Option<String>) {
+    let blank = body.iter().rev().take_while(|row| is_blank(row)).count();
+    let (full, end) = body.split_at(body.len() - blank);
+    let filled = |place: usize| full.iter().all(|row| row.cells.get(place).map_or(false, |cell| !cell.is_empty()));
+    let is_numbered = (0..head.cells.len()).any(|place| filled(place) && (by_relay && place == 0 || is_number(list, &head.cells[place])));
+    let mut cells = full.iter().flat_map(|row| &row.cells);
+    let is_written = cells.clone().all(|cell| !cell.is_empty()) && cells.any(|cell| DROPPED.contains(&cell.to_lowercase().as_str()));
+    let is_certain = !full.is_empty() && (is_numbered || is_written);
+    match (end.first(), end.last()) {
+        (Some(first), Some(last)) if is_certain && first.line == last.line => {
+            (full, Some(format!("line {} has separators alone, and is no position", first.line)))
+        }
+        (Some(first), Some(last)) if is_certain => {
+            (full, Some(format!("lines {} to {} have separators alone, and are no positions", first.line, last.line)))
+        }
+        _ => (body, None),
+    }
+}
+
+fn is_blank(row: &Row) -> bool {
+    row.cells.iter().all(String::is_empty)
 }
 
 /// A line for each position.
 fn by_columns(list: &List, head: &Row, body: &[Row]) -> Result<Grid, Fault> {
     even(list, head, body)?;
     for row in body {
-        if row.cells.iter().all(String::is_empty) {
+        if is_blank(row) {
             return Err(list
                 .fault(row.line, 1, "this line has separators and nothing else: a position with all dropped, or none?")
                 .hint("write 0 for dropped on it, or take the line out"));

@@ -39,8 +39,38 @@ pub struct Theirs {
 pub fn read(group: &Group, path: &Path) -> Result<Theirs, Fault> {
     let bytes = sources::read_bytes(path).map_err(|fault| fault.hint("name a file with their list, or - for the standard input"))?;
     let name = path.to_string_lossy();
-    let text = sources::to_text(&name, bytes).map_err(|fault| fault.hint("save the list as UTF-8"))?;
-    of_text(group, &name, &text)
+    of_text(group, &name, &text(&name, bytes)?)
+}
+
+/// Packed files and the older workbooks, by their first bytes.
+const PACKED: [u8; 4] = *b"PK\x03\x04";
+const OLD_WORKBOOK: [u8; 4] = [0xd0, 0xcf, 0x11, 0xe0];
+
+/// The text of a list. Spreadsheets also write UTF-16, with a mark before it; their workbooks are no text.
+pub fn text(name: &str, bytes: Vec<u8>) -> Result<String, Fault> {
+    match bytes.as_slice() {
+        [0xff, 0xfe, rest @ ..] => utf16(name, rest, u16::from_le_bytes),
+        [0xfe, 0xff, rest @ ..] => utf16(name, rest, u16::from_be_bytes),
+        bytes if bytes.starts_with(&PACKED) || bytes.starts_with(&OLD_WORKBOOK) => Err(workbook(name, bytes)),
+        _ => sources::to_text(name, bytes).map_err(|fault| fault.hint("save the list as UTF-8")),
+    }
+}
+
+fn utf16(name: &str, bytes: &[u8], unit: fn([u8; 2]) -> u16) -> Result<String, Fault> {
+    let units: Vec<u16> = bytes.chunks_exact(2).map(|pair| unit([pair[0], pair[1]])).collect();
+    let text = String::from_utf16(&units).ok().filter(|_| bytes.len() % 2 == 0);
+    text.ok_or_else(|| Fault::new(format!("{} starts as UTF-16, and does not go on so", name)).hint("save the list as CSV in UTF-8"))
+}
+
+fn workbook(name: &str, bytes: &[u8]) -> Fault {
+    let has = |part: &[u8]| bytes.windows(part.len()).any(|some| some == part);
+    let kind = match () {
+        _ if bytes.starts_with(&OLD_WORKBOOK) => "a workbook of a spreadsheet (.xls)",
+        _ if has(b"xl/") => "a workbook of a spreadsheet (.xlsx)",
+        _ if has(b"opendocument.spreadsheet") => "a workbook of a spreadsheet (.ods)",
+        _ => "a packed file (.zip)",
+    };
+    Fault::new(format!("{} is {}, and no text", name, kind)).hint("open it, and save the sheet with the positions as CSV (UTF-8)")
 }
 
 pub fn of_text(group: &Group, path: &str, text: &str) -> Result<Theirs, Fault> {

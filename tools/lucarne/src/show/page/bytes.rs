@@ -2,6 +2,7 @@
 
 use super::super::digest::{hex, sha256};
 use super::super::html::escaped;
+use super::files;
 use crate::plan::group::Group;
 use crate::plan::file;
 
@@ -12,7 +13,7 @@ pub fn section(group: &Group) -> String {
     let bytes = &group.plan.bytes;
     let lines: Vec<String> = bytes.chunks(LINE).map(hex).collect();
     let url: String = bytes.iter().map(|byte| format!("%{:02x}", byte)).collect();
-    let file = file_name(&group.title);
+    let file = files::name(&group.title);
     format!(
         "<dl><dt>bytes<dd>{}<dt>SHA-256<dd><code id=\"sha256\">{}</code><dt>sum in X.names<dd><code>{:016x}</code></dl>\
          <p><a id=\"plan\" download=\"{file}.plan\" href=\"data:application/octet-stream,{}\">Save {file}.plan</a>, or copy the digits below. Then</p>\
@@ -26,16 +27,4 @@ pub fn section(group: &Group) -> String {
         lines.join("\n"),
         file = escaped(&file)
     )
-}
-
-/// A name for the plan's file: the title's last part, plain letters alone.
-fn file_name(title: &str) -> String {
-    let last = title.trim_end_matches('/').rsplit('/').next().unwrap_or_default();
-    let last = last.trim_end_matches(".lp").trim_end_matches(".plan");
-    let plain: String = last.chars().map(|sign| if sign.is_ascii_alphanumeric() || "-_".contains(sign) { sign } else { '-' }).collect();
-    let plain = plain.trim_matches('-').to_string();
-    if plain.is_empty() {
-        return "group".to_string();
-    }
-    plain
 }

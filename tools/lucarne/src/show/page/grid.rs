@@ -8,7 +8,8 @@ use crate::plan::program::Atom;
 pub fn table(group: &Group, readings: Option<&Readings>) -> String {
     let relays = group.shown();
     format!(
-        "<table id=\"grid\" data-first=\"{}\">\n<caption>{}</caption>\n<thead>{}</thead>\n<tbody>\n{}</tbody>\n<tfoot>{}</tfoot>\n</table>",
+        "<table id=\"grid\" data-first=\"{}\">\n<caption>{}</caption>\n<thead>{}</thead>\n<tbody>\n{}</tbody>\n\
+         <tbody id=\"instead\" aria-live=\"polite\" hidden><tr><td></tbody>\n<tfoot>{}</tfoot>\n</table>",
         1 + usize::from(readings.is_some()),
         caption(group, relays.len()),
         head(group, &relays, readings.is_some()),
@@ -34,11 +35,16 @@ fn head(group: &Group, relays: &[Atom], has_readings: bool) -> String {
 fn relay_head(group: &Group, atom: Atom) -> String {
     let (name, label) = (group.program.name(atom), group.program.label(atom));
     let driven = group.program.driver(atom).map_or(String::new(), |rule| format!(", driven at {}", rule.place()));
+    let unit = group.layout.units.iter().position(|unit| unit.rules.iter().any(|&rule| group.program.rules[rule].head.contains(&atom)));
+    let unit_name = unit.map_or("", |unit| group.layout.units[unit].name.as_str());
     let title = format!("{}{}", if name == label { name.to_string() } else { format!("{} ({})", label, name) }, driven);
     format!(
-        "<th scope=\"col\" class=\"r\" abbr=\"{label}\"><button type=\"button\" aria-pressed=\"false\" data-name=\"{}\" title=\"{}\">\
+        "<th scope=\"col\" class=\"r\" abbr=\"{label}\"><button type=\"button\" aria-pressed=\"false\" data-name=\"{}\" \
+         data-place=\"{}\" data-unit=\"{}\" title=\"{}\">\
          <span class=\"l\">{label}</span><i></i><span class=\"s\" aria-hidden=\"true\"></span></button>",
         escaped(name),
+        unit.unwrap_or(group.layout.units.len()),
+        escaped(unit_name),
         escaped(&title),
         label = escaped(label)
     )
@@ -49,7 +55,9 @@ fn body(group: &Group, relays: &[Atom], readings: Option<&Readings>) -> String {
     let row = |(place, &position): (usize, &u64)| {
         let reading = readings.map_or(String::new(), |readings| readings.cell(place));
         let cells: String = bits.iter().map(|bit| if position >> bit & 1 == 1 { "<td class=\"u\"><i>up</i>" } else { "<td><i>dropped</i>" }).collect();
-        format!("<tr><th scope=\"row\" class=\"n\">{}{}{}<td class=\"w\">{:016x}\n", place + 1, reading, cells, position)
+        // The number is its own address, without scripts too.
+        let number = format!("<th scope=\"row\" class=\"n\"><a href=\"#{0}\">{0}</a>", place + 1);
+        format!("<tr id=\"{}\">{}{}{}<td class=\"w\">{:016x}\n", place + 1, number, reading, cells, position)
     };
     group.listing.positions.iter().enumerate().map(row).collect()
 }

@@ -2,6 +2,7 @@
 //! script only asks questions of that table. Nothing but the page's own style and script is let in (its policy names them by their sums).
 
 mod bytes;
+mod files;
 mod grid;
 mod readings;
 mod rules;
@@ -41,7 +42,9 @@ pub fn show(group: &Group, readings: Option<&Readings>) -> String {
             ("ALWAYS", &always(group)),
             ("READINGS", &readings.map_or(String::new(), Readings::told)),
             ("EXAMPLE", &escaped(&example(group))),
+            ("COUNT", &group.listing.positions.len().to_string()),
             ("GRID", &grid::table(group, readings)),
+            ("CSV", &files::csv_link(group, readings)),
             ("GRAPH", &svg::element(group)),
             ("NOTES", &units::notes(group)),
             ("LINKS", &units::links(group)),

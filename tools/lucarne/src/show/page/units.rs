@@ -21,8 +21,7 @@ pub fn links(group: &Group) -> String {
 
 /// What a planner should know: sheets that were joined, constraints that were moved. A note's first line is its sentence, the others are rules.
 pub fn notes(group: &Group) -> String {
-    let moves = group.layout.moved.iter().filter(|moved| !moved.closes_circle).map(|moved| group.layout.move_text(&group.program, moved));
-    let notes: String = group.notes.iter().cloned().chain(moves).map(|note| item(&note)).collect();
+    let notes: String = group.all_notes().iter().map(|note| item(note)).collect();
     if notes.is_empty() {
         return notes;
     }
