@@ -25,7 +25,9 @@ type Shown = BTreeSet<String>;
 /// Compares and tells who misses what; each differing position is judged alone by the library.
 pub fn check(group: &Group, args: &Args) -> Result<i32, Fault> {
     let text = text_for_clingo(group, args)?;
-    let theirs = clingo(group, &text, &args.clingo_options)?;
+    let constants = args.group.turns.constants.iter().map(|constant| format!("--const={}", constant));
+    let options: Vec<String> = constants.chain(args.clingo_options.iter().cloned()).collect();
+    let theirs = clingo(group, &text, &options)?;
     let ours: BTreeMap<Shown, u64> = group.listing.positions.iter().map(|&position| (our_names(group, position), position)).collect();
     let name = std::iter::once("clingo").chain(args.clingo_options.iter().map(String::as_str)).collect::<Vec<_>>().join(" ");
     let missed: Vec<u64> = ours.iter().filter(|(shown, _)| !theirs.contains_key(*shown)).map(|(_, &position)| position).collect();

@@ -123,7 +123,7 @@ impl Known {
 
     fn named(&self, rule: &RawRule) -> Named<'_> {
         let term = |literal: Literal| self.terms.get(&literal.abs());
-        let summed = rule.body.sums.iter().flat_map(|(sum, _)| sum.parts.iter().map(|&(literal, _)| literal));
+        let summed = rule.body.sums.iter().flat_map(|sum| sum.parts.iter().map(|&(literal, _)| literal));
         Named {
             heads: rule.heads.iter().filter_map(|&head| term(head)).collect(),
             body: rule.body.literals.iter().filter_map(|&literal| Some((literal > 0, term(literal)?))).collect(),

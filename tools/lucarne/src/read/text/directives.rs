@@ -1,10 +1,12 @@
-//! What stands in comments for this tool alone (`%unit`, `%given`, `%name`, `%table`), `#show`, and the statements that no plan has.
+//! What stands in comments for this tool alone (`%unit`, `%given`, `%name`, `%table`), `#show` and `#include`, and the statements that no plan has.
 
 use super::ground;
 use super::statements::{cut, Statement};
 use super::tokens::{Kind, Token};
+use super::terms::split;
 use crate::fault::{Fault, Spot};
 use crate::near;
+use crate::read::aspif::{HEURISTICS, PROJECTION};
 
 const WORDS: [&str; 4] = ["unit", "given", "name", "table"];
 /// The most inputs of a contact table.
@@ -237,31 +239,93 @@ fn row_word(row: &str) -> u64 {
     (0..1 << row.len()).filter(|&j| fits(j)).fold(0, |word, j| word | 1 << j)
 }
 
-/// `#show name/number.`, or `#show.`, which names none.
-pub fn show(statement: &Statement) -> Result<Vec<(String, usize)>, Fault> {
+/// What a statement is to this tool.
+pub enum Special {
+    /// A rule, a key, or what gringo alone reads.
+    Rule,
+    /// `#show name/number.`, or `#show.`, which names none.
+    Show(Vec<(String, usize)>),
+    /// `#show term : condition.`, as a rule for a relay of our own.
+    Term(Vec<Token>),
+    Include(String),
+    /// It changes nothing in the list; with what to say of it.
+    Idle(Option<String>),
+}
+
+/// The predicate of what is shown as a term. No sheet has it: people do not write names so.
+pub const SHOWN: &str = "lucarne'shows";
+
+pub fn kind(statement: &Statement) -> Result<Special, Fault> {
+    let first = &statement.tokens[0];
+    if first.kind != Kind::Hash && first.kind != Kind::If {
+        return Ok(Special::Rule);
+    }
+    let idle = |what: &str| Special::Idle(Some(format!("{}: {} is passed over: {}", statement.spot(), first.text, what)));
+    match first.text.as_str() {
+        "#show" => show(statement),
+        "#include" => include(statement),
+        "#program" if statement.text() == "#program base." => Ok(Special::Idle(None)),
+        "#project" => Ok(idle(PROJECTION)),
+        "#heuristic" => Ok(idle(HEURISTICS)),
+        "#theory" => Ok(idle("it says nothing by itself, and theory atoms are no part of a plan")),
+        _ => no_part_of_a_plan(statement).map_or(Ok(Special::Rule), Err),
+    }
+}
+
+/// `#include "FILE".`
+fn include(statement: &Statement) -> Result<Special, Fault> {
+    match &statement.tokens[1..] {
+        [file, dot] if file.kind == Kind::Quoted && dot.kind == Kind::Dot => {
+            Ok(Special::Include(file.text.trim_matches('"').replace("\\\"", "\"").replace("\\\\", "\\")))
+        }
+        _ => Err(Fault::at(&statement.tokens[0].spot, "only a file by its name can be included")
+            .text(cut(&statement.text(), 100))
+            .hint("write: #include \"points.lp\".")),
+    }
+}
+
+/// `#show name/number.`, `#show.`, which names none, or a term with its condition.
+fn show(statement: &Statement) -> Result<Special, Fault> {
     let tokens = &statement.tokens[1..];
     let sign = usize::from(tokens[0].is("-"));
     let dash = if sign == 1 { "-" } else { "" };
     match &tokens[sign..] {
-        [dot] if dot.kind == Kind::Dot && sign == 0 => Ok(Vec::new()),
+        [dot] if dot.kind == Kind::Dot && sign == 0 => Ok(Special::Show(Vec::new())),
         [name, slash, number, dot]
             if name.kind == Kind::Name && slash.is("/") && dot.kind == Kind::Dot && number.text.parse::<usize>().is_ok() =>
         {
-            Ok(vec![(format!("{}{}", dash, name.text), number.text.parse().unwrap_or(0))])
+            Ok(Special::Show(vec![(format!("{}{}", dash, name.text), number.text.parse().unwrap_or(0))]))
         }
         [name, dot] if name.kind == Kind::Name && dot.kind == Kind::Dot => {
             Err(Fault::at(&name.spot, format!("#show {} would print a term of that name in every position", name.text))
                 .text(statement.text())
                 .hint(format!("to show the relay {0}, write: #show {0}/0.", name.text)))
         }
-        _ => Err(Fault::at(&tokens[0].spot, "only relays by name can be shown")
+        [name, slash, ..] if slash.is("/") || name.is("$") => Err(Fault::at(&tokens[0].spot, "only relays by name, and terms, can be shown")
             .text(cut(&statement.text(), 100))
             .hint("write the name and the number of its arguments: #show gr/0. #show lock/1.")),
+        _ => Ok(Special::Term(shown_rule(tokens))),
     }
 }
 
-/// Statements of clingo that say nothing of settled positions, or more than a plan can.
-pub fn no_part_of_a_plan(statement: &Statement) -> Option<Fault> {
+/// `term : body.` as the rule `lucarne'shows(term) :- body.`
+fn shown_rule(tokens: &[Token]) -> Vec<Token> {
+    let parts = split(&tokens[..tokens.len() - 1], &[":"]);
+    let (term, end) = (parts[0], &tokens[tokens.len() - 1]);
+    let word = |kind: Kind, text: &str, gap: bool| Token { kind, text: text.to_string(), gap, ..tokens[0].clone() };
+    let mut rule = vec![word(Kind::Name, SHOWN, false), word(Kind::Sign, "(", false)];
+    rule.extend(term.iter().cloned());
+    rule.push(word(Kind::Sign, ")", false));
+    if term.len() + 1 < tokens.len() {
+        rule.push(word(Kind::If, ":-", true));
+        rule.extend(tokens[term.len() + 1..tokens.len() - 1].iter().cloned());
+    }
+    rule.push(end.clone());
+    rule
+}
+
+/// Statements of clingo that say more than a plan can.
+fn no_part_of_a_plan(statement: &Statement) -> Option<Fault> {
     let (what, hint) = match statement.tokens[0].text.as_str() {
         "#minimize" | "#minimise" | "#maximize" | "#maximise" => {
             ("optimisation is", "list all positions and sort them: every settled position is wanted, not the best one")
@@ -270,12 +334,7 @@ pub fn no_part_of_a_plan(statement: &Statement) -> Option<Fault> {
             ("optimisation (a weak constraint) is", "list all positions and sort them: every settled position is wanted, not the best one")
         }
         "#script" => ("scripts are", "write out what the script makes, or run it before"),
-        "#program" => ("program parts are", "put each part into a file, and name the files that are wanted"),
-        "#heuristic" => ("heuristics are", "leave it out: the list does not depend on the search"),
-        "#edge" => ("edge statements are", "write rules for what can be reached, and a constraint against the circle"),
-        "#theory" => ("theory atoms are", "write out what the theory says as rules"),
-        "#project" => ("projection by #project is", "name the relays that are wanted by #show"),
-        "#include" => ("#include is", "name the file on the command line, as a sheet of its own"),
+        "#program" => ("program parts but base are", "put each part into a file, and name the files that are wanted"),
         _ => return None,
     };
     Some(Fault::at(statement.spot(), format!("{} no part of a plan", what)).text(cut(&statement.text(), 100)).hint(hint))
