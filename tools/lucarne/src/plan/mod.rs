@@ -12,4 +12,5 @@ pub mod limits;
 pub mod program;
 pub mod reason;
 pub mod told;
+pub mod unheard;
 pub mod words;

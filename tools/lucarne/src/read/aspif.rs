@@ -21,6 +21,8 @@ pub struct RawRule {
     pub is_choice: bool,
     pub heads: Vec<Literal>,
     pub body: Body,
+    /// Whether it says that a sum is not as a head wants it.
+    pub is_bound: bool,
     /// The statement that the rule comes from, where that is known.
     pub statement: Option<usize>,
     /// The line of the format, from 1.
@@ -92,7 +94,7 @@ impl Aspif {
                 literals.sort_unstable();
                 literals.dedup();
                 let body = Body { literals, sums: Vec::new() };
-                self.rules.push(RawRule { is_choice: false, heads: Vec::new(), body, statement: None, line: first.3 });
+                self.rules.push(RawRule { is_choice: false, heads: Vec::new(), body, is_bound: false, statement: None, line: first.3 });
                 continue;
             }
             // Each circle is gone from its lowest place on, and goes through a place once.
@@ -208,7 +210,7 @@ fn statement(aspif: &mut Aspif, line: &str, spot: &Spot) -> Result<(), Fault> {
     match kind {
         1 => aspif.rules.push(rule(&mut numbers)?),
         4 => output(aspif, line, spot)?,
-        5 => aspif.externals.push(external(&mut numbers)?),
+        5 => aspif.externals.extend(external(&mut numbers)?),
         10 => {}
         2 => return refused("optimisation is", "list all positions and sort them: every settled position is wanted, not the best one"),
         3 => aspif.pass_over("projection", PROJECTION),
@@ -230,7 +232,7 @@ fn rule(numbers: &mut Numbers) -> Result<RawRule, Fault> {
         return Err(numbers.wrong());
     }
     numbers.end()?;
-    Ok(RawRule { is_choice, heads, body, statement: None, line: numbers.spot.line })
+    Ok(RawRule { is_choice, heads, body, is_bound: false, statement: None, line: numbers.spot.line })
 }
 
 fn sum(numbers: &mut Numbers) -> Result<Body, Fault> {
@@ -272,17 +274,19 @@ fn edge(numbers: &mut Numbers) -> Result<(Literal, Literal, Vec<Literal>, usize)
     Ok((from, to, condition, numbers.spot.line))
 }
 
-fn external(numbers: &mut Numbers) -> Result<(Literal, Setting), Fault> {
+/// A key; one that is released is none any more.
+fn external(numbers: &mut Numbers) -> Result<Option<(Literal, Setting)>, Fault> {
     let atom = numbers.next()?;
     let setting = match numbers.next()? {
-        0 => Setting::Free,
-        1 => Setting::Turned,
-        2 | 3 => Setting::Released,
+        0 => Some(Setting::Free),
+        1 => Some(Setting::Turned),
+        2 => Some(Setting::Released),
+        3 => None,
         _ => return Err(numbers.wrong()),
     };
     if atom <= 0 {
         return Err(numbers.wrong());
     }
     numbers.end()?;
-    Ok((atom, setting))
+    Ok(setting.map(|setting| (atom, setting)))
 }

@@ -7,7 +7,7 @@ use crate::near;
 use crate::read::origins;
 use crate::plan::program::{signature, Atom, Key, Program, Rule, Table};
 use crate::read::run::{self, Output};
-use crate::read::simplify::simplify;
+use crate::read::simplify::{join_rules, simplify};
 use crate::read::text::shapes::{constants, Place, Shape};
 use crate::read::text::directives::SHOWN;
 use crate::read::text::statements::{written, Sheets, Statement};
@@ -52,6 +52,7 @@ pub fn ground(
     if lines == Lines::Find {
         origins::find(&mut aspif, &shapes);
     }
+    join_rules(&mut aspif);
     name_terms(program, &mut aspif, sheets)?;
     translate(program, &aspif, Origins::Statements(&sheets.statements))?;
     program.always.append(&mut aspif.always);

@@ -7,7 +7,7 @@ use crate::plan::held;
 use crate::plan::limits;
 use crate::near;
 use crate::plan::program::{signature, Atom, Key, Program, Rule, Setting, Table};
-use crate::read::simplify::simplify;
+use crate::read::simplify::{join_rules, simplify};
 use crate::read::text::ground::{self, Ground, GroundRule, Head, Stop};
 use crate::read::text::shapes::constants;
 use crate::read::text::statements::{Sheets, Statement};
@@ -99,6 +99,7 @@ pub fn read_aspif(file: &str, text: &str, turns: &Turns) -> Result<Program, Faul
     }
     limits::ground_rules(&aspif)?;
     simplify(&mut aspif);
+    join_rules(&mut aspif);
     let mut program = Program::new(vec!["input".to_string()]);
     translate(&mut program, &aspif, Origins::Lines(file))?;
     program.always.append(&mut aspif.always);

@@ -44,7 +44,7 @@ impl Body {
     fn join_sums(&mut self) {
         let mut joined: Vec<Sum> = Vec::new();
         for sum in self.sums.drain(..).filter(|sum| !sum.is_always()) {
-            match joined.iter_mut().find(|other| other.parts == sum.parts) {
+            match joined.iter_mut().find(|other| other.key() == sum.key()) {
                 Some(other) => *other = other.and(&sum),
                 None => joined.push(sum),
             }
@@ -90,7 +90,10 @@ pub fn simplify(aspif: &mut Aspif) {
     while fold_undriven(aspif) {}
     fold_conditions(aspif);
     aspif.rules.iter_mut().for_each(|rule| rule.body.join_sums());
-    while write_out_one(aspif) || join_rules(aspif) {}
+    let is_nameless = |aspif: &Aspif, one: &RawRule, _: &RawRule| {
+        !one.heads.is_empty() && one.heads.iter().all(|head| !aspif.names.contains_key(head))
+    };
+    while write_out_one(aspif) || join_one(aspif, is_nameless) {}
     aspif.rules.retain(|rule| !rule.body.is_contradictory());
     just_one(aspif);
 }
@@ -196,7 +199,10 @@ fn write_out_one(aspif: &mut Aspif) -> bool {
     };
     let definition = aspif.rules.remove(number).body;
     aspif.rules.retain(|rule| !(definition.is_empty() && rule.body.literals.contains(&-atom)));
-    aspif.rules.iter_mut().for_each(|rule| write_out(&mut rule.body, atom, &definition));
+    for rule in &mut aspif.rules {
+        rule.is_bound |= rule.heads.is_empty() && !definition.sums.is_empty() && rule.body.literals.contains(&-atom);
+        write_out(&mut rule.body, atom, &definition);
+    }
     true
 }
 
@@ -227,14 +233,19 @@ fn write_out(body: &mut Body, atom: Literal, definition: &Body) {
     }
 }
 
+/// Joins rules of one statement, where statements are known: what several say stays apart.
+pub fn join_rules(aspif: &mut Aspif) {
+    while join_one(aspif, |_, one, other| one.statement == other.statement) {}
+}
+
 /// Two rules that are alike but for the values of one sum, which hangs on nothing that they drive, are one.
-fn join_rules(aspif: &mut Aspif) -> bool {
+fn join_one(aspif: &mut Aspif, may_join: impl Fn(&Aspif, &RawRule, &RawRule) -> bool) -> bool {
     let mut loops = None;
     let with_sums: Vec<usize> = (0..aspif.rules.len()).filter(|&rule| !aspif.rules[rule].body.sums.is_empty()).collect();
     for (place, &one) in with_sums.iter().enumerate() {
         for &other in &with_sums[place + 1..] {
             let (first, second) = (&aspif.rules[one], &aspif.rules[other]);
-            let number = match joint(first, second) {
+            let number = match joint(first, second).filter(|_| may_join(aspif, first, second)) {
                 Some(number) => number,
                 None => continue,
             };
@@ -243,7 +254,7 @@ fn join_rules(aspif: &mut Aspif) -> bool {
             if !first.heads.is_empty() && loops.get_or_insert_with(|| Loops::of(aspif)).hang_on(summed, &first.heads) {
                 continue;
             }
-            let same = second.body.sums.iter().find(|other| other.parts == sum.parts);
+            let same = second.body.sums.iter().find(|other| other.key() == sum.key());
             let joined = same.map_or(sum.clone(), |other| sum.or(other));
             aspif.rules[one].body.sums[number] = joined;
             aspif.rules[one].body.join_sums();
@@ -265,7 +276,7 @@ fn joint(one: &RawRule, other: &RawRule) -> Option<usize> {
     let differing: Vec<usize> = (0..sums.len()).filter(|&number| !others.contains(&sums[number])).collect();
     match differing.as_slice() {
         [] => Some(0),
-        [number] => Some(*number).filter(|_| others.iter().any(|sum| sum.parts == sums[*number].parts)),
+        [number] => Some(*number).filter(|_| others.iter().any(|sum| sum.key() == sums[*number].key())),
         _ => None,
     }
 }
@@ -305,12 +316,11 @@ fn bounds_of(aspif: &Aspif, number: usize) -> Option<(usize, bool)> {
     }
     let literals = |rule: &RawRule| rule.body.literals.iter().copied().collect::<BTreeSet<_>>();
     let bounded = |bound: &Sum| {
-        let mut wanted: Vec<&Sum> = rule.body.sums.iter().chain(Some(bound)).collect();
-        wanted.sort();
+        let sorted = |sums: Vec<&Sum>| sums.iter().map(|sum| (sum.key(), sum.values.clone())).collect::<BTreeSet<_>>();
+        let wanted = sorted(rule.body.sums.iter().chain(Some(bound)).collect());
         aspif.rules.iter().position(|other| {
-            let mut sums: Vec<&Sum> = other.body.sums.iter().collect();
-            sums.sort();
-            other.heads.is_empty() && !other.is_choice && sums == wanted && literals(other) == literals(rule)
+            let sums = sorted(other.body.sums.iter().collect());
+            other.is_bound && !other.is_choice && sums == wanted && literals(other) == literals(rule)
         })
     };
     let just_one = Sum::new(&parts, &[(1, 2)]).negated();

@@ -82,7 +82,7 @@ impl<'a> Translator<'a> {
     fn ask(&mut self, raw: &RawRule) {
         for sum in raw.body.sums.iter().filter(|sum| sum.parts.len() > MAX_INPUTS) {
             if !self.is_circular(sum, &raw.heads) {
-                let asked = self.questions.entry((self.origin(raw).sheet, sum.parts.clone())).or_default();
+                let asked = self.questions.entry((self.origin(raw).sheet, sum.key())).or_default();
                 asked.extend(Some(sum.values.clone()).filter(|values| !asked.contains(values)));
             }
         }
@@ -204,7 +204,7 @@ impl<'a> Translator<'a> {
         if relays.len() > MAX_INPUTS && is_circular {
             return self.circular_sum(sum, &relays, rule);
         }
-        let key = (rule.sheet, sum.parts.clone());
+        let key = (rule.sheet, sum.key());
         let questions = self.questions.get(&key).filter(|_| relays.len() > MAX_INPUTS).cloned().unwrap_or_default();
         let alone = sums::network(&relays, &[sum.values.clone()], Code::Binary).ok_or_else(|| too_large(relays.len(), rule))?;
         let cost = |values: &Values| sums::network(&relays, &[values.clone()], Code::Binary).map_or(0, |network| network.cost());
@@ -314,7 +314,7 @@ impl<'a> Translator<'a> {
     /// A second name of an atom, and a term that is shown under a condition, is a relay of its own.
     fn shown(&mut self, name: &str, condition: &[Literal]) -> Result<(), Fault> {
         let body = Body { literals: condition.to_vec(), sums: Vec::new() };
-        let raw = RawRule { is_choice: false, heads: Vec::new(), body, statement: None, line: 0 };
+        let raw = RawRule { is_choice: false, heads: Vec::new(), body, is_bound: false, statement: None, line: 0 };
         let head = self.program.atom(name);
         let mut rule = Rule { head: Some(head).into_iter().collect(), ..Rule::default() };
         if self.body(&raw, &mut rule)? {

@@ -5,7 +5,7 @@ use std::collections::BTreeMap;
 
 /// A sum over literals, each once and with a positive weight, and the values at which it holds: runs from the first on and below the second, rising,
 /// with gaps between them, and none outside what the sum can be.
-#[derive(Clone, Debug, PartialEq, Eq, PartialOrd, Ord)]
+#[derive(Clone, Debug, PartialEq, Eq)]
 pub struct Sum {
     pub parts: Vec<(Literal, i64)>,
     pub values: Values,
@@ -22,9 +22,17 @@ impl Sum {
     pub fn new(parts: &[(Literal, i64)], values: &[(i64, i64)]) -> Sum {
         let mut weights: BTreeMap<Literal, i64> = BTreeMap::new();
         parts.iter().for_each(|&(literal, weight)| *weights.entry(literal).or_default() += weight);
-        let parts: Vec<(Literal, i64)> = weights.into_iter().filter(|&(_, weight)| weight != 0).collect();
+        let each = parts.iter().filter_map(|&(literal, _)| Some((literal, weights.remove(&literal)?)));
+        let parts: Vec<(Literal, i64)> = each.filter(|&(_, weight)| weight != 0).collect();
         let end = parts.iter().map(|part| part.1).sum::<i64>() + 1;
         Sum { parts, values: common(values, &[(0, end)]) }
+    }
+
+    /// The parts in an order of their own.
+    pub fn key(&self) -> Vec<(Literal, i64)> {
+        let mut parts = self.parts.clone();
+        parts.sort_unstable();
+        parts
     }
 
     /// One more than the most that the sum can be.

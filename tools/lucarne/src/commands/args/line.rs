@@ -12,7 +12,8 @@ pub const USAGE: &str = "\
 lucarne: every settled position of a relay group, by name
 
     lucarne list GROUP..      the positions
-        --as names|table|csv|json|sheet|dot|svg|html
+        --as names|table|csv|json|sheet|dot|svg|html|lp
+                              lp is the group for clingo, keys and tables included
         --check-with clingo   hold the list against clingo's on the same sheets
         --clingo-option X     an option for clingo, as --clingo-option=--eq=0
     lucarne compile GROUP.. -o X.plan
@@ -155,7 +156,7 @@ pub fn option(id: &'static str) -> Arg {
     let file = |name: &'static str| value(name).value_parser(value_parser!(std::path::PathBuf));
     let flag = || Arg::new(id).long(id).action(ArgAction::SetTrue).overrides_with(id);
     match id {
-        "as" => value("FORM").help("names, table, csv, json, sheet, dot, svg or html; not every command writes all"),
+        "as" => value("FORM").help("names, table, csv, json, sheet, dot, svg, html or lp; not every command writes all"),
         "check-with" => value("PROGRAM").help("Hold the list against clingo's on the same sheets: --check-with clingo"),
         "clingo-option" => value("X").action(ArgAction::Append).help("An option for clingo, as --clingo-option=--eq=0"),
         "file" => file("QUESTIONS").help("A file with a question a line"),

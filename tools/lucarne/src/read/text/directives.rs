@@ -60,7 +60,7 @@ fn word_of(comment: &str) -> &str {
 }
 
 pub fn is_directive(comment: &Token) -> bool {
-    WORDS.contains(&word_of(&comment.text))
+    !matches!(read(comment), Ok(Directive::None | Directive::Doubtful(_)))
 }
 
 /// What a comment says to this tool.
@@ -74,6 +74,11 @@ pub fn read(comment: &Token) -> Result<Directive, Fault> {
     let all = Operands { text: &comment.text, spot: comment.spot.clone() };
     let mut operands = all.part(start, end);
     operands.text = operands.text.trim_end_matches('.').trim_end();
+    if !comment.text[start..].starts_with(&[' ', '\t'][..]) || !is_meant(word, operands.text) {
+        let form = "%unit points, %given annett, f1, %name tr1 \"101 TR\", %table made(f1,f2) 11";
+        let form = form.split(", %").find(|form| form.trim_start_matches('%').starts_with(word)).unwrap_or("").trim_start_matches('%');
+        return Ok(Directive::Doubtful(format!("{}: %{} is read as a comment: the directive is written %{}", comment.spot, word, form)));
+    }
     let read = match word {
         "unit" => unit(&operands),
         "given" => given(&operands),
@@ -81,6 +86,35 @@ pub fn read(comment: &Token) -> Result<Directive, Fault> {
         _ => table(&operands),
     };
     read.map_err(|fault| if fault.text.is_empty() { fault.text(comment.text.trim_end()) } else { fault })
+}
+
+/// Whether operands have the form of the directive; what has it and is wrong is refused. All else is somebody's comment.
+fn is_meant(word: &str, operands: &str) -> bool {
+    let name = |text: &str| text.starts_with(|sign: char| sign.is_alphabetic() || sign == '-' || sign == '_');
+    let words = |text: &str| text.split_whitespace().count();
+    match word {
+        "unit" => words(operands) == 1 && !operands.contains(&['(', '"'][..]),
+        "given" => !operands.is_empty() && outside_brackets(operands).split(',').all(|part| words(part) <= 1),
+        "name" => operands.contains('"'),
+        _ => {
+            let open = operands.find('(').filter(|&open| name(operands) && words(&operands[..open]) == 1);
+            let rows = open.and_then(|open| closing(operands, open)).map(|close| &operands[close + 1..]);
+            rows.map_or(false, |rows| rows.split_whitespace().all(|row| row.chars().any(|sign| "01-".contains(sign))))
+        }
+    }
+}
+
+/// A text without what stands in brackets.
+fn outside_brackets(text: &str) -> String {
+    let mut depth = 0;
+    text.chars()
+        .filter(|&sign| {
+            depth += i32::from(sign == '(');
+            let is_outside = depth == 0;
+            depth -= i32::from(sign == ')');
+            is_outside
+        })
+        .collect()
 }
 
 /// A word right behind % that is nearly a directive is told, since a slip there would be passed over as a comment.

@@ -123,7 +123,8 @@ impl<'a> Reader<'a> {
         let value = self.ahead(1);
         let setting = match value.text.as_str() {
             "true" => Setting::Turned,
-            "false" | "release" => Setting::Released,
+            "false" => Setting::Released,
+            "release" => return Err(large(value)),
             "free" => Setting::Free,
             _ => {
                 return Err(Fault::at(&value.spot, format!("{} is no setting of a key", value.text))
