@@ -60,7 +60,7 @@ fn unheard_of(group: &Group, theirs: &Theirs) -> Option<String> {
     let names = |word: u64| -> BTreeSet<String> { group.plan.up(word).into_iter().map(|atom| group.program.name(atom).to_string()).collect() };
     let positions = theirs.lines.iter().map(|line| names(line.up & theirs.told)).collect();
     let without = unheard::explains(group, &names(theirs.told), &positions)?;
-    Some(format!("their list is that of the sheets {}: to clingo these are comments; lucarne list GROUP --as lp writes them out for it", without))
+    Some(format!("their list is that of the sheets {}: of these clingo does not hear; lucarne list GROUP --as lp writes them out for it", without))
 }
 
 /// Labels of the relays that the group shows and the list does not tell of.

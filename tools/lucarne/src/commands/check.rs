@@ -102,7 +102,7 @@ fn clingo(group: &Group, text: &str, options: &[String]) -> Result<BTreeMap<Show
         .collect())
 }
 
-/// The name of a relay that clingo lists, if it is one. Plans of bytes go to clingo by number: tables are t0 and so on there.
+/// The name of a relay that clingo lists, if it is one. Plans of bytes go to clingo by number: tables are t'0 and so on there.
 fn name_of(group: &Group, name: &str) -> Option<String> {
     if !matches!(group.origin, Origin::Bytes) {
         return Some(name.to_string());

@@ -75,7 +75,8 @@ fn check_tables(program: &Program) -> Result<(), Fault> {
         let written: Vec<&str> = program.tables.iter().filter(|table| table.is_written).map(|table| table.name.as_str()).collect();
         let sums = program.tables.len() - written.len();
         let what = format!("the group has {} contact tables; a plan holds {}: ", program.tables.len(), MAX_TABLES);
-        let what = format!("{}{} from sums, and {} ({})", what, sums, written.len(), written.join(", "));
+        let own = if written.is_empty() { String::new() } else { format!(", and {} ({})", written.len(), written.join(", ")) };
+        let what = format!("{}{} from sums{}", what, sums, own);
         return Err(Fault::new(what).hint("split the group, or write some of them out as rules"));
     }
     let uses: usize = program.rules.iter().map(|rule| rule.uses.len()).sum();

@@ -261,7 +261,8 @@ fn home(program: &Program, rule: &Rule) -> Option<usize> {
 
 /// The sheet of a statement that drives the same.
 fn written_home(program: &Program, rule: &Rule, sheets: &Sheets, shapes: &[Shape]) -> Option<usize> {
-    let heads: Vec<Term> = rule.head.iter().map(|&atom| origins::ground_term(program.name(atom))).collect();
+    let written = |name: &str| if program.terms.contains(name) { format!("{}({})", SHOWN, name) } else { name.to_string() };
+    let heads: Vec<Term> = rule.head.iter().map(|&atom| origins::ground_term(&written(program.name(atom)))).collect();
     let drives = |shape: &Shape| shape.driven().any(|place| heads.iter().any(|head| place.term.fits(head, &mut Vec::new())));
     let number = shapes.iter().position(|shape| !shape.is_external && drives(shape))?;
     Some(sheets.statements[number].sheet)

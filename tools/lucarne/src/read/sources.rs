@@ -83,7 +83,8 @@ fn sheets(texts: Vec<(String, String)>, notes: Vec<String>) -> Result<Source, Fa
         let text = read_bytes(&path).and_then(|bytes| to_text(&path.to_string_lossy(), bytes));
         match text {
             Ok(text) => add(&mut sheets, &path.to_string_lossy(), &text, &mut faults),
-            Err(fault) => faults.push(if fault.spot.is_some() { fault } else { fault.spot(Some(&spot)) }),
+            Err(fault) if fault.spot.is_some() => faults.push(fault),
+            Err(fault) => faults.push(fault.spot(Some(&spot)).hint("#include names a file from here on, or beside its sheet")),
         }
     }
     faults.extend(sheets.statements.iter().filter_map(too_deep));

@@ -77,7 +77,7 @@ fn rows_as_rules(table: &Table, name: &str, call: &dyn Fn(Atom) -> String) -> Ve
     .collect()
 }
 
-/// A plan of bytes by numbers: atom i is ai, and table k is tk.
+/// A plan of bytes by numbers: atom i is ai, and table k is t'k.
 pub fn plan_text(group: &Group) -> Result<String, Fault> {
     text_by(group, &|atom| format!("a{}", group.plan.bit(atom).unwrap_or(0)))
 }
@@ -110,13 +110,13 @@ fn text_by(group: &Group, call: &dyn Fn(Atom) -> String) -> Result<String, Fault
     refuse_loops(program)?;
     let mut lines: Vec<String> = bytes::given(program).iter().map(|&atom| format!("{}.", call(atom))).collect();
     for (number, table) in program.tables.iter().enumerate() {
-        lines.extend(rows_as_rules(table, &format!("t{}", number), call));
+        lines.extend(rows_as_rules(table, &format!("t'{}", number), call));
     }
     for rule in &program.rules {
         let heads: Vec<String> = rule.head.iter().map(|&atom| call(atom)).collect();
         let pos = rule.pos.iter().map(|&atom| call(atom));
         let neg = rule.neg.iter().map(|&atom| format!("not {}", call(atom)));
-        let uses = rule.uses.iter().map(|&(table, wanted)| format!("{}t{}", if wanted { "" } else { "not " }, table));
+        let uses = rule.uses.iter().map(|&(table, wanted)| format!("{}t'{}", if wanted { "" } else { "not " }, table));
         let body: Vec<String> = pos.chain(neg).chain(uses).collect();
         lines.push(format!("{}{}{}.", heads.join(" ; "), if body.is_empty() { "" } else { " :- " }, body.join(", ")));
     }

@@ -121,7 +121,7 @@ const KNOWN: [Known; 11] = [
 ];
 
 /// The options of all commands.
-const COMMON: [&str; 8] = ["output", "turn", "release", "const", "strict", "one-unit", "ground", "quiet"];
+const COMMON: [&str; 8] = ["output", "turn", "release", "constant", "strict", "one-unit", "ground", "quiet"];
 
 pub fn command(name: &str) -> Result<Command, Fault> {
     one_of("command", name, &KNOWN.map(|known| (known.name, known.command)))
@@ -167,7 +167,7 @@ pub fn option(id: &'static str) -> Arg {
         "output" => file("FILE").short('o').help("Write to a file; never to one that is read"),
         "turn" => value("KEY").action(ArgAction::Append).help("Turn a key against what the sheets say"),
         "release" => value("KEY").action(ArgAction::Append).help("Release a key against what the sheets say"),
-        "const" => value("NAME=VALUE").short('c').action(ArgAction::Append).help("Set a constant of the sheets, as -c n=2"),
+        "constant" => value("NAME=VALUE").short('c').alias("const").action(ArgAction::Append).help("Set a constant of the sheets, as -c n=2"),
         "strict" => flag().help("Refuse sheets that depend on each other in a circle, and files of a folder that are no sheets"),
         "one-unit" => flag().help("Work all sheets as one unit"),
         "ground" => value("WAY").help("auto, always or never: let gringo read sheets with variables, all, or none"),

@@ -127,9 +127,8 @@ impl<'a> Reader<'a> {
             "release" => return Err(large(value)),
             "free" => Setting::Free,
             _ => {
-                return Err(Fault::at(&value.spot, format!("{} is no setting of a key", value.text))
-                    .hint("write [true], [false] or [free]")
-                    .into())
+                let what = format!("{} is no setting of a key", value.text);
+                return Err(Stop::Wrong(Fault::at(&value.spot, what).hint("write [true], [false] or [free]")));
             }
         };
         if !self.ahead(2).is("]") {
