@@ -1,6 +1,6 @@
 //! What a plan holds, said before the library would refuse it, with names and counts.
 
-use crate::read::aspif::Aspif;
+use crate::read::aspif::{Aspif, RawRule};
 use crate::fault::Fault;
 use crate::plan::layout::Layout;
 use crate::plan::program::{Program, Rule};
@@ -16,6 +16,11 @@ const MAX_GROUND_RULES: usize = 1000;
 
 /// A ground program that is far too large is refused before it is worked on.
 pub fn ground_rules(aspif: &Aspif) -> Result<(), Fault> {
+    let width = |rule: &RawRule| rule.body.literals.len().max(rule.body.sums.iter().map(|sum| sum.parts.len()).max().unwrap_or(0));
+    if let Some(width) = aspif.rules.iter().map(width).find(|&width| width > MAX_GROUND_RULES) {
+        return Err(Fault::new(format!("written out, a rule looks at {} relays; a plan holds {}", width, MAX_ATOMS))
+            .hint("narrow the range of a condition or a sum"));
+    }
     // Facts stand outside the plan, and a choice takes a rule for each relay.
     let rules = aspif.rules.iter().filter(|rule| !rule.is_fact());
     written_rules(rules.map(|rule| if rule.is_choice { rule.heads.len() } else { 1 }).sum())

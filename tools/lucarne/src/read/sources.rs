@@ -2,7 +2,7 @@
 
 use super::aspif;
 use super::folder::Folder;
-use super::text::statements::{Sheets, Statement};
+use super::text::statements::{cut, Sheets, Statement};
 use crate::fault::{Fault, Spot};
 use std::fs::{self, File};
 use std::io::{self, Read};
@@ -23,6 +23,8 @@ pub const STANDARD_INPUT: &str = "-";
 const MOST_BYTES: u64 = 1 << 20;
 /// Nothing that people write is nested deeper, and programs that read it in turn would run out of stack.
 const MOST_NESTED: usize = 100;
+/// Nor so long.
+const MOST_WORDS: usize = 20_000;
 const WHAT_TO_NAME: &str = "name a folder of sheets, sheets (*.lp), a plan (*.plan), or - for the standard input";
 
 /// What the paths name. Where the reading is strict, a folder holds nothing but sheets.
@@ -87,7 +89,7 @@ fn sheets(texts: Vec<(String, String)>, notes: Vec<String>) -> Result<Source, Fa
             Err(fault) => faults.push(fault.spot(Some(&spot)).hint("#include names a file from here on, or beside its sheet")),
         }
     }
-    faults.extend(sheets.statements.iter().filter_map(too_deep));
+    faults.extend(sheets.statements.iter().filter_map(|statement| too_long(statement).or_else(|| too_deep(statement))));
     Fault::all(faults)?;
     Ok(Source::Sheets(sheets))
 }
@@ -126,6 +128,16 @@ pub fn with_included(files: Vec<PathBuf>) -> Vec<PathBuf> {
         found.into_iter().for_each(|file| all.extend(Some(file).filter(|file| !all.contains(file))));
     }
     all
+}
+
+/// A statement of more words than any plan has use for.
+fn too_long(statement: &Statement) -> Option<Fault> {
+    let words = statement.tokens.len();
+    if words <= MOST_WORDS {
+        return None;
+    }
+    let what = format!("this statement has {} words, and so many are not read", words);
+    Some(Fault::at(statement.spot(), what).text(cut(&statement.text(), 100)).hint("a plan holds 64 relays: is it another file?"))
 }
 
 /// The bracket of a statement that opens one level too many.
