@@ -195,7 +195,7 @@ with_mistake "rules that hang on their own sum are joined" read/simplify.rs \
 with_mistake "sums of a block that others tell apart are one" read/sums.rs \
     'flat_map(|values| outer.iter().map(' 'flat_map(|values| outer.iter().take(2).map('
 with_mistake "a class more than its helpers tell" read/sums.rs '1usize << bits >= count)' '1usize << bits >= count - 1)'
-with_mistake "the last sum of a class stands for it" read/sums.rs \
+with_mistake "a helper that rises is up a class too early" read/sums.rs \
     'Code::Rising => class > bit,' 'Code::Rising => class >= bit,'
 with_mistake "just one and at most one are the same" read/simplify.rs 'Some(fresh).filter(|_| !needs_one)' 'Some(fresh).filter(|_| needs_one)'
 with_mistake "a row by literals is turned" read/translate.rs 'if row >> k & 1 == 1 { &mut rule.pos }' 'if row >> k & 1 == 0 { &mut rule.pos }'

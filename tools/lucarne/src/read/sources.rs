@@ -121,7 +121,8 @@ pub fn with_included(files: Vec<PathBuf>) -> Vec<PathBuf> {
     while let Some(path) = all.get(next).cloned() {
         next += 1;
         let is_file = fs::metadata(&path).map_or(false, |known| known.is_file());
-        let text = Some(&path).filter(|_| is_file).and_then(|path| read_bytes(path).ok()).map(|bytes| String::from_utf8_lossy(&bytes).into_owned()).filter(|text| text.contains("#include"));
+        let bytes = Some(&path).filter(|_| is_file).and_then(|path| read_bytes(path).ok());
+        let text = bytes.map(|bytes| String::from_utf8_lossy(&bytes).into_owned()).filter(|text| text.contains("#include"));
         let mut sheets = Sheets::default();
         text.iter().for_each(|text| sheets.add_file(&path.to_string_lossy(), text, &mut Vec::new()));
         let found = sheets.includes.iter().map(|(name, _)| included(name, &path)).collect::<Vec<_>>();
