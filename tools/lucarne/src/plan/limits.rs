@@ -13,6 +13,8 @@ pub const MAX_USES: usize = 256;
 pub const MAX_UNITS: usize = 16;
 /// So many ground rules are looked at: simplifying never makes 64 of more.
 const MAX_GROUND_RULES: usize = 1000;
+/// So often they may look at relays.
+const MAX_GROUND_PLACES: usize = 20_000;
 
 /// A ground program that is far too large is refused before it is worked on.
 pub fn ground_rules(aspif: &Aspif) -> Result<(), Fault> {
@@ -20,6 +22,11 @@ pub fn ground_rules(aspif: &Aspif) -> Result<(), Fault> {
     if let Some(width) = aspif.rules.iter().map(width).find(|&width| width > MAX_GROUND_RULES) {
         return Err(Fault::new(format!("written out, a rule looks at {} relays; a plan holds {}", width, MAX_ATOMS))
             .hint("narrow the range of a condition or a sum"));
+    }
+    let places: usize = aspif.rules.iter().map(width).sum();
+    if places > MAX_GROUND_PLACES {
+        return Err(Fault::new(format!("written out, the rules look at relays {} times; a plan holds {} rules", places, MAX_RULES))
+            .hint("split the group, or narrow the ranges of variables"));
     }
     // Facts stand outside the plan, and a choice takes a rule for each relay.
     let rules = aspif.rules.iter().filter(|rule| !rule.is_fact());

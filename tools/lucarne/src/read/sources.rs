@@ -24,7 +24,7 @@ const MOST_BYTES: u64 = 1 << 20;
 /// Nothing that people write is nested deeper, and programs that read it in turn would run out of stack.
 const MOST_NESTED: usize = 100;
 /// Nor so long.
-const MOST_WORDS: usize = 20_000;
+const MOST_WORDS: usize = 300_000;
 const WHAT_TO_NAME: &str = "name a folder of sheets, sheets (*.lp), a plan (*.plan), or - for the standard input";
 
 /// What the paths name. Where the reading is strict, a folder holds nothing but sheets.
@@ -89,7 +89,7 @@ fn sheets(texts: Vec<(String, String)>, notes: Vec<String>) -> Result<Source, Fa
             Err(fault) => faults.push(fault.spot(Some(&spot)).hint("#include names a file from here on, or beside its sheet")),
         }
     }
-    faults.extend(sheets.statements.iter().filter_map(|statement| too_long(statement).or_else(|| too_deep(statement))));
+    faults.extend(sheets.statements.iter().filter_map(|statement| too_deep(statement).or_else(|| too_long(statement))));
     Fault::all(faults)?;
     Ok(Source::Sheets(sheets))
 }

@@ -2,6 +2,7 @@
 
 use crate::read::aspif::{Aspif, Body, Literal, RawRule};
 use crate::fault::{Fault, Spot};
+use crate::plan::limits::MAX_ATOMS;
 use crate::plan::program::{Atom, Program, Rule, Table};
 use crate::read::simplify::Loops;
 use crate::read::sums::{self, Code, Network, MAX_INPUTS};
@@ -201,6 +202,10 @@ impl<'a> Translator<'a> {
         let is_circular = self.is_circular(sum, heads);
         let parts: Vec<sums::Part> = sum.parts.iter().map(|&(literal, weight)| self.part(literal, weight, heads, rule)).collect();
         let relays = sums::relays(&parts);
+        if relays.len() > MAX_ATOMS {
+            let what = format!("this sum looks at {} relays; a plan holds {}", relays.len(), MAX_ATOMS);
+            return Err(Fault::new(what).spot(rule.spot.as_ref()).text(cut(&rule.text, 100)).hint("split the group, or narrow the range"));
+        }
         if relays.len() > MAX_INPUTS && is_circular {
             return self.circular_sum(sum, &relays, rule);
         }

@@ -4,7 +4,7 @@ use super::statements::Statement;
 use super::tokens::{tokens, Kind, Token};
 use crate::fault::{Fault, Spot};
 use crate::plan::program::Setting;
-use std::collections::HashSet;
+use std::collections::{HashMap, HashSet};
 
 /// Why a statement was not read: it is gringo's, it may be gringo's or a slip, or it is wrong in any case.
 pub enum Stop {
@@ -217,8 +217,9 @@ impl<'a> Reader<'a> {
         if self.peek().kind == Kind::Dot {
             return Ok(());
         }
+        let mut seen = HashMap::new();
         loop {
-            self.literal(rule, is_table)?;
+            self.literal(rule, is_table, &mut seen)?;
             if self.peek().kind == Kind::Dot {
                 return Ok(());
             }
@@ -226,7 +227,8 @@ impl<'a> Reader<'a> {
         }
     }
 
-    fn literal(&mut self, rule: &mut GroundRule, is_table: &dyn Fn(&str) -> bool) -> Result<(), Stop> {
+    /// A literal of a body; `seen` tells the relays before it, each with whether it is wanted up.
+    fn literal(&mut self, rule: &mut GroundRule, is_table: &dyn Fn(&str) -> bool, seen: &mut HashMap<String, bool>) -> Result<(), Stop> {
         let is_up = !self.takes("not");
         if !is_up && self.peek().is("not") {
             return Err(large(self.peek()));
@@ -242,11 +244,10 @@ impl<'a> Reader<'a> {
             rule.uses.push((atom, is_up));
             return Ok(());
         }
-        let (own, other) = if is_up { (&mut rule.pos, &rule.neg) } else { (&mut rule.neg, &rule.pos) };
-        if other.contains(&atom) {
+        if *seen.entry(atom.clone()).or_insert(is_up) != is_up {
             return Err(never_acts(&spot, &atom, "up and dropped"));
         }
-        own.push(atom);
+        (if is_up { &mut rule.pos } else { &mut rule.neg }).push(atom);
         Ok(())
     }
 
