@@ -33,6 +33,10 @@ cp -r "$here/.cargo" "$package/.cargo"
 ln -s "$source" "$package/src"
 from=
 if have_crates; then from="--offline --config $here/debian.toml"; fi
+# A program at fixed addresses starts sooner: there is nothing to relocate. The tests' own programs are linked otherwise.
+if [ "$profile" = release ]; then
+    export RUSTFLAGS="-C target-feature=+crt-static -C relocation-model=static"
+fi
 # shellcheck disable=SC2086 # the options are several words
 (cd "$package" && ${CARGO:-cargo} build --quiet --profile "$profile" $from)
 

@@ -100,9 +100,9 @@ with_mistake "a key's setting is ignored" read/text/ground.rs '"true" => Setting
 with_mistake "a bare constraint is left out" read/reader.rs 'rule.pos.insert(up);' 'rule.neg.insert(up);'
 with_mistake "a unit that is too long is the end" plan/group.rs 'Refusal { number: 15, spot }) if spot' 'Refusal { number: 15, spot }) if 99 + spot'
 with_mistake "just one of relays that others drive" read/reader.rs 'driven[atom.as_str()] > 1' 'driven[atom.as_str()] > 9'
-with_mistake "not in a sum is asked anew" read/translate.rs 'literal > 0 || !self.loops.hangs_on(-literal, heads)' 'literal > 0 || heads.is_empty() || true'
-with_mistake "a sum's bound is missed by one" read/sums.rs 'reached(j) >= bound' 'reached(j) > bound'
-with_mistake "a sheet that gringo reads is marked" read/gringo.rs 'statement.text() + "\n"' 'if statement.tokens[0].text.starts_with("#") {
+with_mistake "not in a sum is asked anew" read/translate.rs 'literal > 0 || !self.loops.hang_on(Some(-literal).into_iter(), heads)' 'literal > 0 || heads.is_empty() || true'
+with_mistake "a sum's bound is missed by one" read/values.rs 'Sum::new(parts, &[(bound, i64::MAX)])' 'Sum::new(parts, &[(bound + 1, i64::MAX)])'
+with_mistake "a sheet that gringo reads is marked" read/gringo.rs 'written(statement.rule()) + "\n"' 'if statement.tokens[0].text.starts_with("#") {
         statement.text() + "\n"
     } else {
         let join = if statement.text().contains(":-") { "; " } else { " :- " };
@@ -199,9 +199,50 @@ with_mistake "a group that drives nothing is not told" plan/group.rs 'filter(|_|
 with_mistake "an empty ground program is listed" read/reader.rs 'if aspif.is_empty() {' 'if aspif.is_empty() && text.is_empty() {'
 with_mistake "a file is cut where it is too long" read/sources.rs 'if bytes.len() as u64 > MOST_BYTES {' 'if bytes.len() as u64 > 2 * MOST_BYTES {'
 with_mistake "brackets go on" read/sources.rs 'if depth > MOST_NESTED {' 'if depth > 9999 * MOST_NESTED {'
-with_mistake "each name is looked for among all" read/aspif.rs '!aspif.shown.insert(name.clone())' 'aspif.names.values().any(|known| *known == name)'
+with_mistake "each name is looked for among all" read/aspif.rs \
+    'aspif.named.insert(name.clone())' '!aspif.names.values().any(|known| *known == name)'
 with_mistake "rules are counted when they are written out" plan/limits.rs 'if count <= MAX_GROUND_RULES {' 'if count < usize::MAX {'
 with_mistake "file names are text" commands/args/line.rs 'ValueParser::os_string()' 'ValueParser::string()'
+
+# The language, with gringo beside.
+with_mistake "what the own reader does not know is refused" read/reader.rs \
+    'Err(Stop::Doubtful(fault)) => doubts.push(fault)' 'Err(Stop::Doubtful(fault)) => faults.push(fault)' gate
+with_mistake "gringo's own word is not told" read/gringo.rs 'if fault.status == status::REFUSED {' 'if fault.status == status::TROUBLE {'
+with_mistake "the second line of gringo's word is not told" read/gringo.rs "line.starts_with(' ')" 'line.is_empty()'
+with_mistake "a term that is shown does not show" read/gringo.rs 'program.terms.extend(terms);' ''
+with_mistake "a term is taken for the relay of its name" read/gringo.rs 'terms.iter().find(|term| known.contains(*term))' 'terms.iter().find(|term| term.is_empty())'
+with_mistake "a name under two conditions has one of them" read/aspif.rs 'aspif.one_name_each();' ''
+with_mistake "a constant of the command line is not set" read/gringo.rs 'format!("--const={}", constant)' 'format!("--const={}x", constant)'
+with_mistake "an included file is written over" commands/guard.rs 'if is_file {' 'if is_file && outputs.is_empty() {'
+with_mistake "edges may have circles" read/aspif.rs 'aspif.forbid_circles()?;' ''
+with_mistake "a circle of edges goes through a place twice" read/aspif.rs '|| to > first.0 &&' '|| to > first.0 + 1 &&'
+with_mistake "NOT is a variable" read/text/traps.rs 'token.text.eq_ignore_ascii_case("not")' 'token.text.is_empty()'
+with_mistake "a name that begins with a digit is gringo's" read/text/traps.rs 'if token.kind != Kind::Number || is_number {' 'if token.kind != Kind::Variable || is_number {'
+with_mistake "what is doubly dropped must be driven where it hangs on itself" read/simplify.rs \
+    'heads.is_empty() || !loops.get_or_insert_with(|| Loops::of(aspif)).hang_on(body.atoms(), heads)' 'heads.is_empty() || loops.is_none()'
+
+# Sums.
+with_mistake "a sum over what it drives is told by its bits" read/translate.rs \
+    'relays.len() > MAX_INPUTS && is_circular {' 'relays.len() > MAX_INPUTS && is_circular && heads.is_empty() {' gate
+with_mistake "rules that hang on their own sum are joined" read/simplify.rs \
+    'if !first.heads.is_empty() && loops' 'if first.heads.len() > 9 && loops'
+with_mistake "sums of a block that others tell apart are one" read/sums.rs \
+    'flat_map(|values| outer.iter().map(' 'flat_map(|values| outer.iter().take(2).map('
+with_mistake "a class more than its helpers tell" read/sums.rs '1usize << bits >= count)' '1usize << bits >= count - 1)'
+with_mistake "a helper that rises is up a class too early" read/sums.rs \
+    'Code::Rising => class > bit,' 'Code::Rising => class >= bit,'
+with_mistake "just one and at most one are the same" read/simplify.rs 'Some(fresh).filter(|_| !needs_one)' 'Some(fresh).filter(|_| needs_one)'
+with_mistake "a row by literals is turned" read/translate.rs 'if row >> k & 1 == 1 { &mut rule.pos }' 'if row >> k & 1 == 0 { &mut rule.pos }'
+with_mistake "of several questions the first is answered" read/translate.rs '(Some(joint), Some(number)) => (joint, number)' '(Some(joint), Some(_)) => (joint, 0)'
+
+# What stands in comments, and what clingo hears of it.
+with_mistake "somebody's comment is a directive" read/text/directives.rs '|| !is_meant(word, operands.text) {' '|| !is_meant(word, "k") && word.is_empty() {'
+with_mistake "a bracket behind its word makes a directive" read/text/directives.rs \
+    "if !comment.text[start..].starts_with(&[' ', '\t'][..]) ||" 'if'
+with_mistake "what clingo does not hear of is not told" commands/audit.rs 'report.lines.extend(unheard_of(group, theirs));' 'drop(unheard_of(group, theirs));'
+with_mistake "a key that clingo hears of is left out" plan/unheard.rs 'token.is("true")' 'token.is("false")'
+with_mistake "keys are not written out for clingo" show/lp.rs 'Setting::Turned => lines.push(' 'Setting::Turned if lines.is_empty() => lines.push(' gate
+with_mistake "contact tables show for clingo" show/lp.rs '.any(|table| table.is_written)' '.any(|table| !table.is_written)'
 
 echo "$tried wrong tools, $unnoticed not noticed"
 [ "$unnoticed" = 0 ]

@@ -3,7 +3,8 @@
 
 The suites are fetched by apt-get source with settings of their own, so that nothing of the machine's is changed; none of their text is kept here. Each
 program is listed as a sheet and as gringo's ground program, and each list is held against `clingo --eq=0 --no-gamma` and, where the suite prints the
-answers itself, against these. The last lines are the figures; the exit status is 1 where a list differs, a run has no end, or the tool has trouble.
+answers itself, against these. The last lines are the figures, among them those of the programs within 64 atoms that clingo takes; -v tells why others are
+refused. The exit status is 1 where a list differs, a run has no end, or the tool has trouble.
 """
 import json
 import os
@@ -180,8 +181,24 @@ def compare(text, wanted, ground):
     return "the same", ""
 
 
+def atoms(ground):
+    """How many atoms a ground program has beside its facts."""
+    found = set()
+    for line in ground.split("\n"):
+        kind, *numbers = (int(word) for word in line.split()) if line.startswith(("1 ", "5 ")) else (0,)
+        if kind == 5:
+            found.add(numbers[0])
+        if kind == 1:
+            choice, count = numbers[:2]
+            heads, body = numbers[2 : 2 + count], numbers[2 + count :]
+            literals = body[3::2] if body[0] else body[2:]
+            if choice or count != 1 or literals:
+                found.update(abs(literal) for literal in heads + literals)
+    return len(found)
+
+
 def main():
-    count, reasons = {}, {}
+    count, reasons, within, refused = {}, {}, 0, 0
     for name, text, wanted in programs(fetch()):
         status, ground, _ = run(["gringo", "--output=intermediate", "--warn=none"], text)
         ways = [("sheet", None)] + ([("ground program", ground)] if status == 0 else [])
@@ -190,6 +207,10 @@ def main():
             count[way, how] = count.get((way, how), 0) + 1
             if how in ("different", "without end", "trouble", "not listed by clingo"):
                 print(f"{how} as {way}: {name}: {told}\n{text}\n")
+            is_small = way == "sheet" and status == 0 and atoms(ground) <= 64
+            if is_small and (how.startswith("the same") or run(CLINGO, text)[0] in (10, 20, 30)):
+                within += 1
+                refused += how == "refused"
             if how == "refused" and way == "sheet":
                 reason = re.sub(r"^-:\d+:\d+: |\d+|\"[^\"]*\"|^[^:]* is (?=shown|driven)", "", told)
                 reasons[reason] = reasons.get(reason, 0) + 1
@@ -198,6 +219,7 @@ def main():
             print(f"{number:5} {reason}")
     for (way, how), number in sorted(count.items()):
         print(f"{way}: {number} {how}")
+    print(f"within 64 atoms and taken by clingo: {within}, of which {refused} are refused")
     bad = sum(number for (_, how), number in count.items() if how in ("different", "without end", "trouble"))
     print(f"{sum(count.values()) - bad} passed, {bad} failed")
     return bad > 0 or not count

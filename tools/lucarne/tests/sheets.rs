@@ -47,13 +47,14 @@ fn main() {
     ] {
         tally.must_have(what);
     }
-    LARGE.iter().chain(&HEADS).for_each(|what| tally.must_have(what));
+    LARGE.iter().chain(&HEADS).chain(&WHOLE).for_each(|what| tally.must_have(what));
+    tally.must_have("sums by helpers");
     std::process::exit(tally.end());
 }
 
 const ATOMS: [&str; 9] = ["p(1)", "p(2)", "p(3)", "q", "r", "s", "-q", "t(a,b)", "-g"];
 /// What only gringo reads, in bodies; `d` has three facts, and n is 2.
-const LARGE: [&str; 28] = [
+const LARGE: [&str; 39] = [
     "#count{X:p(X)} > 1",
     "#sum{2,q:q;1,r:r;1,s:not s} >= 2",
     "p(X) : d(X)",
@@ -82,9 +83,20 @@ const LARGE: [&str; 28] = [
     "not e(n)",
     "#true, not last(1)",
     "last(X), p(X)",
+    "p(2**(n-1))",
+    "not not q",
+    "#count{X:p(X);q:q;r:r;s:s;t:t(a,b);m: -q} = 4",
+    "#count{X:p(X);q:q;r:r;s:s;t:t(a,b)} >= 3",
+    "not #count{X:p(X);q:q;r:r;s:s;t:t(a,b)} = 3",
+    "#sum{X,X:p(X);2,q:q;1,r:r;3,s:s;1,t:t(a,b)} != 5",
+    "#sum{X,X:p(X);2,q:q;1,r:r;-3,s:s;1,t:t(a,b)} < 4",
+    "N = #count{X:p(X);q:q;r:r;s:s;t:t(a,b)}, N\\2 = 1",
+    "2 {not p(1); not p(2); p(3); q; not r; s; t(a,b)} 5",
+    "not not 4 {p(1..3); q; r; s; t(a,b)}",
+    "3 {k; m; p(1..3); q; u; v; s} 6",
 ];
 /// Heads that only gringo reads.
-const HEADS: [&str; 9] = [
+const HEADS: [&str; 15] = [
     "1 { p(X) : d(X) } 1",
     "1 { p(X) : d(X) } 2",
     "p(X) : d(X), X < 3",
@@ -94,6 +106,19 @@ const HEADS: [&str; 9] = [
     "t(a,b) ; p(X) : d(X), X >= n",
     "p(1..n)",
     "p(n;3)",
+    "not p(1) ; q",
+    "not r",
+    "not not s",
+    "{ p(1..3); q; r; s; t(a,b) } = 3",
+    "1 { p(1..3); q; r; s; t(a,b) } 4",
+    "{ p(1..3); q } 1",
+];
+/// Statements that only gringo reads.
+const WHOLE: [&str; 4] = [
+    "#edge (1,2) : p(1). #edge (2,1) : q, not r. #edge (2,3) : s. #edge (3,1) : not k.",
+    "#show sh(X) : p(X), not q. #show sh(1) : r. #show both : q, 2 { r; s; u }.",
+    "#program base.",
+    "#project q. #heuristic q. [1,true]",
 ];
 
 /// One to three sheets, a text each. A table stands on a sheet of its own relays, so that clingo has a form for it.
@@ -106,6 +131,9 @@ fn draw(random: &mut Random, is_ground: bool) -> Vec<String> {
         // `last` is facts in part, as a predicate that gringo knows and marks would hide from it.
         texts[0] += "d(1..3).\n#const n = 2.\nlast(3). last(X) :- p(X), X < 3.\n#defined t/2.\n";
         texts[0] += &format!("#external e(X) : d(X), X > 1. [{}]\n", random.pick(&["true", "false", "free"]));
+    }
+    if !is_ground && random.chance(40) {
+        texts[0] += &format!("{}\n", random.pick(&WHOLE));
     }
     if random.chance(15) {
         texts[0] += SHOW;
@@ -203,14 +231,15 @@ fn try_group(texts: &[String], tally: &mut Tally) {
     tally.count("given relays", all.matches(GIVEN).count());
     tally.count("free keys", all.matches("[free]").count());
     tally.count("shown", all.matches(SHOW).count());
-    LARGE.iter().chain(&HEADS).for_each(|what| tally.count(what, all.matches(what).count()));
+    tally.count("sums by helpers", group.program.atoms.iter().filter(|atom| atom.name.starts_with("~sum")).count());
+    LARGE.iter().chain(&HEADS).chain(&WHOLE).for_each(|what| tally.count(what, all.matches(what).count()));
     let is_lost = |rule: &&lucarne::plan::program::Rule| rule.line_unknown;
     tally.count("rules without a line", group.program.rules.iter().filter(is_lost).count());
     tally.count("positions", ours.len());
 }
 
 fn is_too_large(fault: &Fault) -> bool {
-    ["more than 256", "a plan holds", "would need more than"].iter().any(|what| fault.what.contains(what))
+    ["more than 256", "a plan holds", "has too many values"].iter().any(|what| fault.what.contains(what))
 }
 
 /// The same rules by name on the same lines, and the same list.

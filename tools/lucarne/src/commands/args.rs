@@ -109,7 +109,7 @@ fn args_of(command: Command, given: &Given) -> Result<Args, Fault> {
         grounding: given.choice("ground", "way", &WAYS)?.unwrap_or(Grounding::Auto),
         circles,
         one_unit: given.flag("one-unit"),
-        turns: Turns { turn: given.all("turn"), release: given.all("release") },
+        turns: Turns { turn: given.all("turn"), release: given.all("release"), constants: needs::constants(given.all("constant"))? },
     };
     Ok(Args {
         command,

@@ -11,6 +11,7 @@ use crate::plan::bytes;
 use crate::read::sources::STANDARD_INPUT;
 use crate::read::theirs::{self, Line, Theirs};
 use crate::plan::told;
+use crate::plan::unheard;
 use crate::plan::reason;
 use std::collections::{BTreeMap, BTreeSet};
 use std::path::Path;
@@ -48,7 +49,19 @@ pub fn report(group: &mut Group, theirs: &Theirs) -> Result<Report, Fault> {
     comparison.report.lines.push(count + if untold.is_empty() { "" } else { &cut });
     comparison.report.lines.extend(theirs.notes.iter().map(|note| format!("note: {}", note)));
     comparison.compare()?;
-    Ok(comparison.report)
+    let mut report = comparison.report;
+    if report.differences > 0 {
+        report.lines.extend(unheard_of(group, theirs));
+    }
+    Ok(report)
+}
+
+/// What to say where they list what the sheets say to clingo, for which directives are comments.
+fn unheard_of(group: &Group, theirs: &Theirs) -> Option<String> {
+    let names = |word: u64| -> BTreeSet<String> { group.plan.up(word).into_iter().map(|atom| group.program.name(atom).to_string()).collect() };
+    let positions = theirs.lines.iter().map(|line| names(line.up & theirs.told)).collect();
+    let without = unheard::explains(group, &names(theirs.told), &positions)?;
+    Some(format!("their list is that of the sheets {}: of these clingo does not hear; lucarne list GROUP --as lp writes them out for it", without))
 }
 
 /// Labels of the relays that the group shows and the list does not tell of.

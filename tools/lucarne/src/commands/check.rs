@@ -4,14 +4,12 @@ use super::args::Args;
 use crate::fault::{status, Fault};
 use crate::plan::group::{Group, Origin};
 use crate::plan::library;
-use crate::show::output;
+use crate::show::{lp, output};
 use crate::plan::bytes;
-use crate::plan::program::{Atom, Program, Rule, Setting, Table};
+use crate::plan::program::Program;
 use crate::show::progress::Progress;
 use crate::read::run;
 use crate::read::theirs::clingo::{items, witnesses};
-use crate::read::text::statements::{Sheets, Statement};
-use crate::read::text::tokens::Kind;
 use crate::plan::reason::{self, Position};
 use serde_json::Value;
 use std::collections::{BTreeMap, BTreeSet};
@@ -25,7 +23,9 @@ type Shown = BTreeSet<String>;
 /// Compares and tells who misses what; each differing position is judged alone by the library.
 pub fn check(group: &Group, args: &Args) -> Result<i32, Fault> {
     let text = text_for_clingo(group, args)?;
-    let theirs = clingo(group, &text, &args.clingo_options)?;
+    let constants = args.group.turns.constants.iter().map(|constant| format!("--const={}", constant));
+    let options: Vec<String> = constants.chain(args.clingo_options.iter().cloned()).collect();
+    let theirs = clingo(group, &text, &options)?;
     let ours: BTreeMap<Shown, u64> = group.listing.positions.iter().map(|&position| (our_names(group, position), position)).collect();
     let name = std::iter::once("clingo").chain(args.clingo_options.iter().map(String::as_str)).collect::<Vec<_>>().join(" ");
     let missed: Vec<u64> = ours.iter().filter(|(shown, _)| !theirs.contains_key(*shown)).map(|(_, &position)| position).collect();
@@ -102,7 +102,7 @@ fn clingo(group: &Group, text: &str, options: &[String]) -> Result<BTreeMap<Show
         .collect())
 }
 
-/// The name of a relay that clingo lists, if it is one. Plans of bytes go to clingo by number: tables are t0 and so on there.
+/// The name of a relay that clingo lists, if it is one. Plans of bytes go to clingo by number: tables are t'0 and so on there.
 fn name_of(group: &Group, name: &str) -> Option<String> {
     if !matches!(group.origin, Origin::Bytes) {
         return Some(name.to_string());
@@ -119,102 +119,12 @@ fn shows(program: &Program, name: &str) -> bool {
 fn text_for_clingo(group: &Group, args: &Args) -> Result<String, Fault> {
     let turned = !args.group.turns.turn.is_empty() || !args.group.turns.release.is_empty();
     match &group.origin {
-        Origin::Sheets(sheets) => sheets_text(group, sheets),
+        Origin::Sheets(sheets) => lp::sheets_text(group, sheets),
         Origin::Ground(_) if turned => {
             Err(Fault::new("a ground program from the standard input goes to clingo as it is, with its keys as they are")
                 .hint("leave out --turn and --release"))
         }
         Origin::Ground(text) => Ok(text.clone()),
-        Origin::Bytes => plan_text(group),
+        Origin::Bytes => lp::plan_text(group),
     }
-}
-
-/// The sheets' own text, with keys as facts and the rows of contact tables as rules. `#show` is left out: clingo shows all, and it is cut here.
-fn sheets_text(group: &Group, sheets: &Sheets) -> Result<String, Fault> {
-    let program = &group.program;
-    refuse_loops(program)?;
-    let mut lines: Vec<String> = sheets.statements.iter().map(statement_text).collect();
-    for (&atom, key) in program.keys.iter().filter(|(&atom, _)| !program.atoms[atom].is_helper) {
-        let is_free = |statement: &Statement| statement.tokens[0].is("#external") && statement.text().contains("free");
-        match key.setting {
-            Setting::Turned => lines.push(format!("{}.", program.name(atom))),
-            _ if sheets.statements.iter().any(is_free) => lines.push(format!(":- {}.", program.name(atom))),
-            _ => {}
-        }
-    }
-    for table in program.tables.iter().filter(|table| table.is_written) {
-        lines.extend(rows_as_rules(table, &table.name, &|atom| program.name(atom).to_string()));
-    }
-    Ok(lines.join("\n") + "\n")
-}
-
-/// A key's setting is taken off, but for free ones: turned keys are facts behind.
-fn statement_text(statement: &Statement) -> String {
-    let is_setting = statement.tokens[0].is("#external") && !statement.tokens.iter().any(|token| token.is("free"));
-    let end = statement.tokens.iter().position(|token| token.kind == Kind::Dot).filter(|_| is_setting);
-    let tokens = end.map_or(statement.tokens.clone(), |end| statement.tokens[..=end].to_vec());
-    Statement { tokens, ..statement.clone() }.text()
-}
-
-fn rows_as_rules(table: &Table, name: &str, call: &dyn Fn(Atom) -> String) -> Vec<String> {
-    let rows = (0..1u64 << table.inputs.len()).filter(|&row| table.rows >> row & 1 == 1);
-    rows.map(|row| {
-        let body: Vec<String> = table
-            .inputs
-            .iter()
-            .enumerate()
-            .map(|(k, &atom)| format!("{}{}", if row >> k & 1 == 1 { "" } else { "not " }, call(atom)))
-            .collect();
-        format!("{}{}{}.", name, if body.is_empty() { "" } else { " :- " }, body.join(", "))
-    })
-    .collect()
-}
-
-/// A plan of bytes by numbers: atom i is ai, and table k is tk.
-fn plan_text(group: &Group) -> Result<String, Fault> {
-    let program = &group.program;
-    refuse_loops(program)?;
-    let call = |atom: Atom| format!("a{}", group.plan.bit(atom).unwrap_or(0));
-    let mut lines: Vec<String> = bytes::given(program).iter().map(|&atom| format!("{}.", call(atom))).collect();
-    for (number, table) in program.tables.iter().enumerate() {
-        lines.extend(rows_as_rules(table, &format!("t{}", number), &call));
-    }
-    for rule in &program.rules {
-        let heads: Vec<String> = rule.head.iter().map(|&atom| call(atom)).collect();
-        let pos = rule.pos.iter().map(|&atom| call(atom));
-        let neg = rule.neg.iter().map(|&atom| format!("not {}", call(atom)));
-        let uses = rule.uses.iter().map(|&(table, wanted)| format!("{}t{}", if wanted { "" } else { "not " }, table));
-        let body: Vec<String> = pos.chain(neg).chain(uses).collect();
-        lines.push(format!("{}{}{}.", heads.join(" ; "), if body.is_empty() { "" } else { " :- " }, body.join(", ")));
-    }
-    Ok(lines.join("\n") + "\n")
-}
-
-/// Rows written out as rules say the same only where no input of a table hangs on what a rule with it drives.
-fn refuse_loops(program: &Program) -> Result<(), Fault> {
-    for rule in program.rules.iter().filter(|rule| !rule.head.is_empty()) {
-        let written = rule.uses.iter().filter(|&&(table, _)| program.tables[table].is_written);
-        if written.flat_map(|&(table, _)| &program.tables[table].inputs).any(|&input| hangs_on(program, input, rule)) {
-            let what = "clingo has no form for a contact table that reads what it drives";
-            return Err(Fault::new(what)
-                .spot(rule.spot.as_ref())
-                .text(&rule.text)
-                .hint("this group can be listed, and not compared: written out as rules such a table says something else"));
-        }
-    }
-    Ok(())
-}
-
-fn hangs_on(program: &Program, atom: Atom, rule: &Rule) -> bool {
-    let (mut seen, mut open) = (BTreeSet::new(), vec![atom]);
-    while let Some(next) = open.pop() {
-        if rule.head.contains(&next) {
-            return true;
-        }
-        if seen.insert(next) {
-            let drivers = program.rules.iter().filter(|rule| rule.head.contains(&next));
-            open.extend(drivers.flat_map(|rule| program.looks_at(rule)));
-        }
-    }
-    false
 }

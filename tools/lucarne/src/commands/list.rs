@@ -4,9 +4,12 @@ use super::args::Args;
 use super::check;
 use crate::fault::{status, Fault};
 use crate::plan::group::Group;
-use crate::show::{self, output};
+use crate::show::{self, lp, output, Form};
 
 pub fn run(args: &Args) -> Result<i32, Fault> {
+    if args.form == Form::Lp && !args.check_with_clingo {
+        return written_out(args);
+    }
     let group = Group::open(&args.group)?;
     output::notes(&group.notes, args.is_quiet);
     if args.check_with_clingo {
@@ -18,5 +21,13 @@ pub fn run(args: &Args) -> Result<i32, Fault> {
         output::notes(&[why.to_string()], args.is_quiet);
         return Ok(status::NOT_FINE);
     }
+    Ok(status::FINE)
+}
+
+/// The group for clingo. It need not be listed: it may have more positions than a list takes.
+fn written_out(args: &Args) -> Result<i32, Fault> {
+    let group = Group::prepare(&args.group)?;
+    output::notes(&group.notes, args.is_quiet);
+    output::write(args.output.as_deref(), lp::show(&group, &args.group.turns.constants)?.as_bytes())?;
     Ok(status::FINE)
 }

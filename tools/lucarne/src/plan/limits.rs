@@ -1,6 +1,6 @@
 //! What a plan holds, said before the library would refuse it, with names and counts.
 
-use crate::read::aspif::Aspif;
+use crate::read::aspif::{Aspif, RawRule};
 use crate::fault::Fault;
 use crate::plan::layout::Layout;
 use crate::plan::program::{Program, Rule};
@@ -14,9 +14,21 @@ pub const MAX_USES: usize = 256;
 pub const MAX_UNITS: usize = 16;
 /// So many ground rules are looked at: simplifying never makes 64 of more.
 const MAX_GROUND_RULES: usize = 1000;
+/// So often they may look at relays.
+const MAX_GROUND_PLACES: usize = 20_000;
 
 /// A ground program that is far too large is refused before it is worked on.
 pub fn ground_rules(aspif: &Aspif) -> Result<(), Fault> {
+    let width = |rule: &RawRule| rule.body.literals.len().max(rule.body.sums.iter().map(|sum| sum.parts.len()).max().unwrap_or(0));
+    if let Some(width) = aspif.rules.iter().map(width).find(|&width| width > MAX_GROUND_RULES) {
+        return Err(Fault::new(format!("written out, a rule looks at {} relays; a plan holds {}", width, MAX_ATOMS))
+            .hint("narrow the range of a condition or a sum"));
+    }
+    let places: usize = aspif.rules.iter().map(width).sum();
+    if places > MAX_GROUND_PLACES {
+        return Err(Fault::new(format!("written out, the rules look at relays {} times; a plan holds {} rules", places, MAX_RULES))
+            .hint("split the group, or narrow the ranges of variables"));
+    }
     // Facts stand outside the plan, and a choice takes a rule for each relay.
     let rules = aspif.rules.iter().filter(|rule| !rule.is_fact());
     written_rules(rules.map(|rule| if rule.is_choice { rule.heads.len() } else { 1 }).sum())
@@ -77,7 +89,8 @@ fn check_tables(program: &Program) -> Result<(), Fault> {
         let written: Vec<&str> = program.tables.iter().filter(|table| table.is_written).map(|table| table.name.as_str()).collect();
         let sums = program.tables.len() - written.len();
         let what = format!("the group has {} contact tables; a plan holds {}: ", program.tables.len(), MAX_TABLES);
-        let what = format!("{}{} from sums, and {} ({})", what, sums, written.len(), written.join(", "));
+        let own = if written.is_empty() { String::new() } else { format!(", and {} ({})", written.len(), written.join(", ")) };
+        let what = format!("{}{} from sums{}", what, sums, own);
         return Err(Fault::new(what).hint("split the group, or write some of them out as rules"));
     }
     let uses: usize = program.rules.iter().map(|rule| rule.uses.len()).sum();

@@ -12,5 +12,6 @@ pub mod limits;
 pub mod program;
 pub mod reason;
 pub mod told;
+pub mod unheard;
 pub mod walk;
 pub mod words;

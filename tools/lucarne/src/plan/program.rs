@@ -87,6 +87,8 @@ pub struct Program {
     pub always: Vec<String>,
     pub labels: BTreeMap<String, String>,
     pub shows: Shows,
+    /// Terms that `#show` names with a condition: they show in any case.
+    pub terms: BTreeSet<String>,
     /// Atoms that a plan, which came as bytes, does not show.
     pub hidden: BTreeSet<Atom>,
     /// What a reader should know of the sheets, in words.
@@ -202,7 +204,7 @@ impl Program {
     }
 
     pub fn is_shown_name(&self, name: &str) -> bool {
-        self.shows.as_ref().map_or(true, |shows| shows.contains(&signature(name)))
+        self.shows.as_ref().map_or(true, |shows| shows.contains(&signature(name)) || self.terms.contains(name))
     }
 }
 

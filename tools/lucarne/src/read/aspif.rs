@@ -2,24 +2,18 @@
 
 use crate::fault::{Fault, Spot};
 use crate::plan::program::Setting;
+use crate::read::values::Sum;
 use std::collections::{BTreeMap, BTreeSet, HashSet};
 use std::sync::Arc;
 
 /// An atom's number, negative where `not` stands before it.
 pub type Literal = i64;
 
-/// A sum over literals that must reach a bound; weights are positive.
-#[derive(Clone, Debug, PartialEq, Eq)]
-pub struct Sum {
-    pub bound: i64,
-    pub parts: Vec<(Literal, i64)>,
-}
-
-/// Literals that must all hold, and sums with the answer that is wanted.
+/// Literals and sums that must all hold.
 #[derive(Clone, Debug, Default, PartialEq, Eq)]
 pub struct Body {
     pub literals: Vec<Literal>,
-    pub sums: Vec<(Sum, bool)>,
+    pub sums: Vec<Sum>,
 }
 
 #[derive(Clone, Debug)]
@@ -27,6 +21,8 @@ pub struct RawRule {
     pub is_choice: bool,
     pub heads: Vec<Literal>,
     pub body: Body,
+    /// Whether it says that a sum is not as a head wants it.
+    pub is_bound: bool,
     /// The statement that the rule comes from, where that is known.
     pub statement: Option<usize>,
     /// The line of the format, from 1.
@@ -40,7 +36,7 @@ impl RawRule {
 
     /// The atoms of head and body.
     pub fn atoms(&self) -> BTreeSet<Literal> {
-        let summed = self.body.sums.iter().flat_map(|(sum, _)| sum.parts.iter().map(|(literal, _)| literal));
+        let summed = self.body.sums.iter().flat_map(|sum| sum.parts.iter().map(|(literal, _)| literal));
         self.heads.iter().chain(&self.body.literals).chain(summed).map(|literal| literal.abs()).collect()
     }
 }
@@ -49,20 +45,79 @@ impl RawRule {
 pub struct Aspif {
     pub rules: Vec<RawRule>,
     pub names: BTreeMap<Literal, String>,
-    /// Further names of an atom that has one already.
-    pub aliases: Vec<(String, Literal)>,
+    /// What is shown where literals hold: further names of an atom, and terms under conditions.
+    pub shown: Vec<(String, Vec<Literal>)>,
     pub always: Vec<String>,
     pub externals: Vec<(Literal, Setting)>,
-    /// All names that are shown, to find one that is shown twice.
-    shown: HashSet<String>,
+    /// Arrows between places, each with the literals under which it stands: they must have no circle.
+    edges: Vec<(Literal, Literal, Vec<Literal>, usize)>,
+    /// Contact tables, which stand as externals here, each with its inputs.
+    pub tables: Vec<(Literal, Vec<Literal>)>,
+    /// What is passed over, since the list does not hang on it.
+    pub notes: Vec<String>,
+    /// All names of atoms, to find one that stands a second time.
+    named: HashSet<String>,
 }
 
 impl Aspif {
     /// Whether nothing is said at all, as where gringo stopped before it wrote a rule.
     pub fn is_empty(&self) -> bool {
-        self.rules.is_empty() && self.externals.is_empty() && self.names.is_empty() && self.always.is_empty()
+        self.rules.is_empty() && self.externals.is_empty() && self.names.is_empty() && self.always.is_empty() && self.shown.is_empty()
+    }
+
+    fn pass_over(&mut self, what: &str, why: &str) {
+        let note = format!("{}: passed over: {}", what, why);
+        if !self.notes.contains(&note) {
+            self.notes.push(note);
+        }
+    }
+
+    /// A name that is shown under several conditions is that of no atom: it is up where one of them holds.
+    fn one_name_each(&mut self) {
+        let shared: HashSet<String> = self.shown.iter().map(|(name, _)| name.clone()).collect();
+        let atoms: Vec<Literal> = self.names.iter().filter(|(_, name)| shared.contains(*name)).map(|(&atom, _)| atom).collect();
+        for atom in atoms {
+            self.shown.extend(self.names.remove(&atom).map(|name| (name, vec![atom])));
+        }
+        let always: HashSet<&String> = self.always.iter().collect();
+        self.shown.retain(|(name, _)| !always.contains(name));
+    }
+
+    /// A constraint for each circle of edges: their conditions do not all hold.
+    fn forbid_circles(&mut self) -> Result<(), Fault> {
+        let edges = std::mem::take(&mut self.edges);
+        let mut paths: Vec<Vec<usize>> = (0..edges.len()).map(|edge| vec![edge]).collect();
+        while let Some(path) = paths.pop() {
+            let (first, last) = (&edges[path[0]], &edges[path[path.len() - 1]]);
+            if last.1 == first.0 {
+                let mut literals: Vec<Literal> = path.iter().flat_map(|&edge| edges[edge].2.iter().copied()).collect();
+                literals.sort_unstable();
+                literals.dedup();
+                let body = Body { literals, sums: Vec::new() };
+                self.rules.push(RawRule { is_choice: false, heads: Vec::new(), body, is_bound: false, statement: None, line: first.3 });
+                continue;
+            }
+            // Each circle is gone from its lowest place on, and goes through a place once.
+            let is_next = |edge: &usize| {
+                let (from, to) = (edges[*edge].0, edges[*edge].1);
+                from == last.1 && (to == first.0 || to > first.0 && path.iter().all(|&before| edges[before].1 != to))
+            };
+            let longer = (0..edges.len()).filter(is_next).filter(|_| last.1 > first.0);
+            paths.extend(longer.map(|edge| path.iter().copied().chain(Some(edge)).collect()));
+            if self.rules.len() + paths.len() > MOST_CIRCLES {
+                return Err(Fault::new(format!("the edges (#edge) have more than {} circles", MOST_CIRCLES))
+                    .hint("a plan holds 64 rules, and each circle asks for one"));
+            }
+        }
+        Ok(())
     }
 }
+
+/// Why a statement that clingo reads changes nothing in the list.
+pub const PROJECTION: &str = "clingo heeds it with --project alone; what shows is named by #show";
+pub const HEURISTICS: &str = "the list does not depend on the search";
+/// So many circles of edges are looked for, the rules among them.
+const MOST_CIRCLES: usize = 4096;
 
 /// Whether a text is in this format.
 pub fn is_aspif(text: &str) -> bool {
@@ -89,6 +144,8 @@ pub fn read(file: &str, text: &str) -> Result<Aspif, Fault> {
         let spot = Spot { file, line: text.lines().count(), column: 1 };
         return Err(Fault::at(&spot, "the ground program is cut short: its last line is not 0").hint("did gringo stop with an error?"));
     }
+    aspif.one_name_each();
+    aspif.forbid_circles()?;
     Ok(aspif)
 }
 
@@ -153,13 +210,13 @@ fn statement(aspif: &mut Aspif, line: &str, spot: &Spot) -> Result<(), Fault> {
     match kind {
         1 => aspif.rules.push(rule(&mut numbers)?),
         4 => output(aspif, line, spot)?,
-        5 => aspif.externals.push(external(&mut numbers)?),
+        5 => aspif.externals.extend(external(&mut numbers)?),
         10 => {}
         2 => return refused("optimisation is", "list all positions and sort them: every settled position is wanted, not the best one"),
-        3 => return refused("projection is", "name the relays that are wanted by #show"),
+        3 => aspif.pass_over("projection", PROJECTION),
         6 => return refused("assumptions are", "write them as constraints"),
-        7 => return refused("heuristics are", "leave them out: the list does not depend on the search"),
-        8 => return refused("edge statements are", "write rules for what can be reached, and a constraint against the circle"),
+        7 => aspif.pass_over("heuristics", HEURISTICS),
+        8 => aspif.edges.push(edge(&mut numbers)?),
         9 => return refused("theory atoms are", "write out what the theory says as rules"),
         _ => return Err(numbers.wrong()),
     }
@@ -170,21 +227,22 @@ fn rule(numbers: &mut Numbers) -> Result<RawRule, Fault> {
     let is_choice = numbers.flag()?;
     let heads = numbers.many()?;
     let body = if numbers.flag()? { sum(numbers)? } else { Body { literals: numbers.many()?, sums: Vec::new() } };
-    let mut parts = body.sums.iter().flat_map(|(sum, _)| &sum.parts);
-    let is_wrong =
-        heads.iter().any(|&head| head <= 0) || body.literals.contains(&0) || parts.any(|&(literal, weight)| literal == 0 || weight < 0);
+    let is_wrong = heads.iter().any(|&head| head <= 0) || body.literals.contains(&0);
     if is_wrong {
         return Err(numbers.wrong());
     }
     numbers.end()?;
-    Ok(RawRule { is_choice, heads, body, statement: None, line: numbers.spot.line })
+    Ok(RawRule { is_choice, heads, body, is_bound: false, statement: None, line: numbers.spot.line })
 }
 
 fn sum(numbers: &mut Numbers) -> Result<Body, Fault> {
     let bound = numbers.next()?;
     let count = numbers.count()?;
-    let parts = (0..count).map(|_| Ok((numbers.next()?, numbers.next()?))).collect::<Result<_, Fault>>()?;
-    Ok(Body { literals: Vec::new(), sums: vec![(Sum { bound, parts }, true)] })
+    let parts = (0..count).map(|_| Ok((numbers.next()?, numbers.next()?))).collect::<Result<Vec<_>, Fault>>()?;
+    if parts.iter().any(|&(literal, weight)| literal == 0 || weight < 0) {
+        return Err(numbers.wrong());
+    }
+    Ok(Body { literals: Vec::new(), sums: vec![Sum::at_least(bound, &parts)] })
 }
 
 /// `4 LENGTH NAME COUNT CONDITION..`: the name has so many bytes, and may have spaces.
@@ -198,35 +256,37 @@ fn output(aspif: &mut Aspif, line: &str, spot: &Spot) -> Result<(), Fault> {
     let mut rest = Numbers { words: behind.split_ascii_whitespace(), spot, line };
     let condition = rest.many()?;
     rest.end()?;
-    if !aspif.shown.insert(name.clone()) {
-        return Err(Fault::at(spot, format!("{} is shown a second time; only relays by name can be shown", name))
-            .hint("write the name and the number of its arguments: #show lock/1."));
-    }
+    let is_new = aspif.named.insert(name.clone());
     match condition.as_slice() {
         [] => aspif.always.push(name),
-        [atom] if *atom > 0 => match aspif.names.get(atom) {
-            Some(_) => aspif.aliases.push((name, *atom)),
-            None => drop(aspif.names.insert(*atom, name)),
-        },
-        _ => {
-            return Err(Fault::at(spot, format!("{} is shown under a condition; only relays by name can be shown", name))
-                .hint("write the name and the number of its arguments: #show lock/1."))
-        }
+        [atom] if *atom > 0 && is_new && !aspif.names.contains_key(atom) => drop(aspif.names.insert(*atom, name)),
+        _ => aspif.shown.push((name, condition)),
     }
     Ok(())
 }
 
-fn external(numbers: &mut Numbers) -> Result<(Literal, Setting), Fault> {
+fn edge(numbers: &mut Numbers) -> Result<(Literal, Literal, Vec<Literal>, usize), Fault> {
+    let (from, to, condition) = (numbers.next()?, numbers.next()?, numbers.many()?);
+    if condition.contains(&0) {
+        return Err(numbers.wrong());
+    }
+    numbers.end()?;
+    Ok((from, to, condition, numbers.spot.line))
+}
+
+/// A key; one that is released is none any more.
+fn external(numbers: &mut Numbers) -> Result<Option<(Literal, Setting)>, Fault> {
     let atom = numbers.next()?;
     let setting = match numbers.next()? {
-        0 => Setting::Free,
-        1 => Setting::Turned,
-        2 | 3 => Setting::Released,
+        0 => Some(Setting::Free),
+        1 => Some(Setting::Turned),
+        2 => Some(Setting::Released),
+        3 => None,
         _ => return Err(numbers.wrong()),
     };
     if atom <= 0 {
         return Err(numbers.wrong());
     }
     numbers.end()?;
-    Ok((atom, setting))
+    Ok(setting.map(|setting| (atom, setting)))
 }

@@ -1,15 +1,16 @@
 //! Grounding by gringo, of the sheets as they are written. Which line a ground rule comes from is found beside that (`origins`).
 
-use crate::read::aspif::{self, Aspif};
-use crate::fault::Fault;
+use crate::read::aspif::{self, Aspif, Literal};
+use crate::fault::{status, Fault};
 use crate::plan::limits;
 use crate::near;
 use crate::read::origins;
-use crate::plan::program::{signature, Atom, Key, Program, Rule};
+use crate::plan::program::{signature, Atom, Key, Program, Rule, Table};
 use crate::read::run::{self, Output};
-use crate::read::simplify::simplify;
+use crate::read::simplify::{join_rules, simplify};
 use crate::read::text::shapes::{constants, Place, Shape};
-use crate::read::text::statements::{Sheets, Statement};
+use crate::read::text::directives::SHOWN;
+use crate::read::text::statements::{written, Sheets, Statement};
 use crate::read::text::terms::Term;
 use crate::read::text::tokens::Token;
 use crate::read::translate::{translate, Origins};
@@ -26,22 +27,33 @@ pub enum Lines {
 }
 
 /// Puts the rules of all statements into the program, written out by gringo. It must not fold away tables, nor what is given outside rules.
-pub fn ground(program: &mut Program, sheets: &Sheets, given: &[String], lines: Lines) -> Result<(), Fault> {
+pub fn ground(
+    program: &mut Program,
+    sheets: &Sheets,
+    given: &[String],
+    lines: Lines,
+    set: &[String],
+    doubts: Vec<Fault>,
+) -> Result<(), Fault> {
     let kept = program.tables.iter().map(|table| &table.name).chain(given);
     let externals: String = kept.map(|name| format!("#external {}.\n", name)).collect();
-    let plain: String = sheets.statements.iter().map(|statement| statement.text() + "\n").collect();
-    let written = call(sheets, &(plain + &externals))?;
+    let plain: String = sheets.statements.iter().map(|statement| written(statement.rule()) + "\n").collect();
+    let written = call(sheets, &(plain + &externals), set).map_err(|fault| with_doubts(doubts, fault))?;
     program.notes.extend(told_by_gringo(&written.errors, sheets));
     let mut aspif = aspif::read("gringo's output", &written.text)?;
     limits::ground_rules(&aspif)?;
-    let names = constants(&sheets.statements);
+    let names = constants(&sheets.statements, set);
     let shapes: Vec<Shape> = sheets.statements.iter().map(|statement| Shape::of(statement, &names)).collect();
+    aspif.tables = links(program, &aspif);
+    program.notes.append(&mut aspif.notes);
     let keys = keys(program, &aspif, sheets, &shapes)?;
     program.notes.extend(undriven(program, &aspif, sheets, &shapes));
     simplify(&mut aspif);
     if lines == Lines::Find {
         origins::find(&mut aspif, &shapes);
     }
+    join_rules(&mut aspif);
+    name_terms(program, &mut aspif, sheets)?;
     translate(program, &aspif, Origins::Statements(&sheets.statements))?;
     program.always.append(&mut aspif.always);
     keys.into_iter().for_each(|(name, key)| program.add_key(&name, key));
@@ -49,9 +61,43 @@ pub fn ground(program: &mut Program, sheets: &Sheets, given: &[String], lines: L
     Ok(())
 }
 
-fn call(sheets: &Sheets, text: &str) -> Result<Output, Fault> {
+/// Contact tables with their inputs, by gringo's numbers.
+fn links(program: &Program, aspif: &Aspif) -> Vec<(Literal, Vec<Literal>)> {
+    let atom = |name: &str| aspif.names.iter().find(|(_, other)| other.as_str() == name).map(|(&atom, _)| atom);
+    let inputs = |table: &Table| table.inputs.iter().filter_map(|&input| atom(program.name(input))).collect();
+    program.tables.iter().filter_map(|table| Some((atom(&table.name)?, inputs(table)))).collect()
+}
+
+/// What the own reader does not know, and gringo neither: first what we say of it, then what gringo says.
+fn with_doubts(mut doubts: Vec<Fault>, fault: Fault) -> Fault {
+    if doubts.is_empty() {
+        return fault;
+    }
+    if fault.status == status::REFUSED {
+        doubts.push(Fault { text: String::new(), hint: String::new(), ..fault });
+    }
+    Fault::all(doubts).err().unwrap_or_else(|| Fault::new("gringo refuses the sheets"))
+}
+
+/// Terms that are shown get their own names, which show whatever `#show` names.
+fn name_terms(program: &mut Program, aspif: &mut Aspif, sheets: &Sheets) -> Result<(), Fault> {
+    let term = |name: &str| name.strip_prefix(SHOWN)?.strip_prefix('(')?.strip_suffix(')').map(str::to_string);
+    let known: BTreeSet<String> = aspif.names.values().chain(&aspif.always).chain(aspif.shown.iter().map(|(name, _)| name)).cloned().collect();
+    let terms: Vec<String> = known.iter().filter_map(|name| term(name)).collect();
+    if let Some(relay) = terms.iter().find(|term| known.contains(*term)) {
+        let statement = sheets.statements.iter().find(|statement| statement.rule.is_some());
+        let fault = Fault::new(format!("#show would print {} where the relay {} may be dropped", relay, relay));
+        return Err(fault.spot(statement.map(Statement::spot)).hint("show a term that is no relay: #show is(X) : p(X)."));
+    }
+    aspif.names.values_mut().chain(&mut aspif.always).for_each(|name| *name = term(name).unwrap_or_else(|| name.clone()));
+    program.terms.extend(terms);
+    Ok(())
+}
+
+fn call(sheets: &Sheets, text: &str, set: &[String]) -> Result<Output, Fault> {
     let missing = "the sheets have variables, sums or conditions, and gringo, which writes them out, is not there";
-    let options = ["--output=intermediate", "--warn=no-atom-undefined"];
+    let set: Vec<String> = set.iter().map(|constant| format!("--const={}", constant)).collect();
+    let options: Vec<&str> = ["--output=intermediate", "--warn=no-atom-undefined"].into_iter().chain(set.iter().map(String::as_str)).collect();
     let output = run::run_at_most("gringo", &options, text, missing, MOST_BYTES)?;
     if output.is_cut {
         return Err(Fault::new(format!("gringo writes more than {} MB for the sheets: does a rule go on without end?", MOST_BYTES >> 20))
@@ -66,6 +112,8 @@ fn call(sheets: &Sheets, text: &str) -> Result<Output, Fault> {
 /// gringo's first error at the token that it names: statements stand one to a line, with the text of the sheet.
 fn error(sheets: &Sheets, errors: &str) -> Fault {
     let first = errors.lines().find(|line| line.contains(": error: "));
+    let second = first.and_then(|first| errors.lines().skip_while(|line| *line != first).nth(1));
+    let second = second.filter(|line| line.starts_with(' ')).map_or(String::new(), |line| format!(" {}", line.trim()));
     let told = first.and_then(|line| line.split_once(": error: ")).map_or(errors.trim(), |(_, told)| told);
     let note = errors.lines().find(|line| line.contains(": note: '"));
     let unsafe_name = note.and_then(|line| line.split_once(": note: '")).and_then(|(_, rest)| rest.split_once('\''));
@@ -75,7 +123,8 @@ fn error(sheets: &Sheets, errors: &str) -> Fault {
         Some((name, _)) => Fault::new(format!("the variable {} gets no value", name))
             .hint("each variable must stand in a body atom without not, or in a range: p(X) :- track(X), not q(X)."),
         None => {
-            Fault::new(format!("gringo says: {}", told)).hint("the sheet is read by gringo, since it has variables, sums or conditions")
+            let hint = "the sheet is read by gringo, since it has variables, sums or conditions";
+            Fault::new(format!("gringo says: {}{}", told, second)).hint(hint)
         }
     };
     match (statement, place) {
@@ -92,7 +141,7 @@ fn place(message: &str) -> Option<(usize, usize)> {
 
 fn token_at(statement: &Statement, column: usize) -> &Token {
     let mut end = 0;
-    for (place, token) in statement.tokens.iter().enumerate() {
+    for (place, token) in statement.rule().iter().enumerate() {
         end += usize::from(place > 0 && token.gap) + token.text.len();
         if end >= column {
             return token;
@@ -212,7 +261,8 @@ fn home(program: &Program, rule: &Rule) -> Option<usize> {
 
 /// The sheet of a statement that drives the same.
 fn written_home(program: &Program, rule: &Rule, sheets: &Sheets, shapes: &[Shape]) -> Option<usize> {
-    let heads: Vec<Term> = rule.head.iter().map(|&atom| origins::ground_term(program.name(atom))).collect();
+    let written = |name: &str| if program.terms.contains(name) { format!("{}({})", SHOWN, name) } else { name.to_string() };
+    let heads: Vec<Term> = rule.head.iter().map(|&atom| origins::ground_term(&written(program.name(atom)))).collect();
     let drives = |shape: &Shape| shape.driven().any(|place| heads.iter().any(|head| place.term.fits(head, &mut Vec::new())));
     let number = shapes.iter().position(|shape| !shape.is_external && drives(shape))?;
     Some(sheets.statements[number].sheet)

@@ -13,3 +13,4 @@ pub mod sums;
 pub mod text;
 pub mod theirs;
 pub mod translate;
+pub mod values;

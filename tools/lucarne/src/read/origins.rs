@@ -29,7 +29,11 @@ pub fn find(aspif: &mut Aspif, shapes: &[Shape]) {
     let known = Known::of(aspif, shapes);
     let finder = Finder { shapes, by_head: by_head(shapes), known: &known };
     let rules: Vec<Named> = aspif.rules.iter().map(|rule| known.named(rule)).collect();
-    let fitting: Vec<Option<Vec<usize>>> = rules.iter().map(|rule| finder.fitting(rule)).collect();
+    let mut fitting: Vec<Option<Vec<usize>>> = rules.iter().map(|rule| finder.fitting(rule)).collect();
+    // `:- a, -a.` is gringo's own, unless a plain constraint says so: a choice that has both does not.
+    for (_, fitting) in aspif.rules.iter().zip(&mut fitting).filter(|(rule, _)| is_opposite(rule, &aspif.names)) {
+        fitting.iter_mut().for_each(|fitting| fitting.retain(|&number| !shapes[number].is_complex));
+    }
     let mut seen: BTreeMap<Vec<&Term>, usize> = BTreeMap::new();
     let mut found: Vec<Option<usize>> = vec![None; rules.len()];
     for cluster in clusters(aspif) {
@@ -48,6 +52,15 @@ pub fn find(aspif: &mut Aspif, shapes: &[Shape]) {
         *before += 1;
     }
     aspif.rules.iter_mut().zip(found).for_each(|(rule, statement)| rule.statement = statement);
+}
+
+/// Whether a rule says that a relay and its opposite are never up together.
+fn is_opposite(rule: &RawRule, names: &BTreeMap<Literal, String>) -> bool {
+    let name = |literal: &Literal| names.get(literal).map_or("", String::as_str);
+    let is_pair = |one: &Literal, other: &Literal| name(one).strip_prefix('-').map_or(false, |relay| relay == name(other));
+    matches!(rule.body.literals.as_slice(), [one, other] if is_pair(one, other) || is_pair(other, one))
+        && rule.heads.is_empty()
+        && rule.body.sums.is_empty()
 }
 
 /// The statements that fit every rule of a cluster.
@@ -123,7 +136,7 @@ impl Known {
 
     fn named(&self, rule: &RawRule) -> Named<'_> {
         let term = |literal: Literal| self.terms.get(&literal.abs());
-        let summed = rule.body.sums.iter().flat_map(|(sum, _)| sum.parts.iter().map(|&(literal, _)| literal));
+        let summed = rule.body.sums.iter().flat_map(|sum| sum.parts.iter().map(|&(literal, _)| literal));
         Named {
             heads: rule.heads.iter().filter_map(|&head| term(head)).collect(),
             body: rule.body.literals.iter().filter_map(|&literal| Some((literal > 0, term(literal)?))).collect(),

@@ -7,7 +7,7 @@ use crate::plan::held;
 use crate::plan::limits;
 use crate::near;
 use crate::plan::program::{signature, Atom, Key, Program, Rule, Setting, Table};
-use crate::read::simplify::simplify;
+use crate::read::simplify::{join_rules, simplify};
 use crate::read::text::ground::{self, Ground, GroundRule, Head, Stop};
 use crate::read::text::shapes::constants;
 use crate::read::text::statements::{Sheets, Statement};
@@ -26,11 +26,12 @@ pub enum Grounding {
     Lineless,
 }
 
-/// Keys that are set on the command line, by name or label, against what the sheets say.
+/// What the command line sets: keys, by name or label, against what the sheets say, and constants (NAME=VALUE).
 #[derive(Clone, Debug, Default)]
 pub struct Turns {
     pub turn: Vec<String>,
     pub release: Vec<String>,
+    pub constants: Vec<String>,
 }
 
 /// The program of all sheets.
@@ -40,17 +41,18 @@ pub fn read_sheets(sheets: &Sheets, grounding: Grounding, turns: &Turns) -> Resu
     program.notes = sheets.notes.clone();
     program.notes.extend(traps::semicolons(sheets));
     add_tables(&mut program, sheets)?;
-    let read = read_ground(sheets, &program)?;
+    let read = read_ground(sheets, &program, turns)?;
     let is_own = match (read, grounding) {
         (Ok(rules), Grounding::Auto | Grounding::Never) => {
             limits::written_rules(rules.iter().map(|(_, ground)| rules_of(ground)).sum())?;
             add_ground(&mut program, rules);
             true
         }
-        (Err(fault), Grounding::Never) => return Err(fault),
-        _ => {
+        (Err(asked), Grounding::Never) => return Err(asked.fault()),
+        (read, _) => {
             let lines = if grounding == Grounding::Lineless { Lines::Leave } else { Lines::Find };
-            gringo::ground(&mut program, sheets, &given(sheets, turns), lines)?;
+            let doubts = read.err().map_or(Vec::new(), |asked| asked.doubts);
+            gringo::ground(&mut program, sheets, &given(sheets, turns), lines, &turns.constants, doubts)?;
             false
         }
     };
@@ -63,6 +65,22 @@ pub fn read_sheets(sheets: &Sheets, grounding: Grounding, turns: &Turns) -> Resu
     note_undriven(&mut program);
     held::note(&mut program);
     Ok(program)
+}
+
+/// Why gringo is asked: a statement that is its own, and statements that it may know or that have a slip.
+struct Asked {
+    larger: Option<Fault>,
+    doubts: Vec<Fault>,
+}
+
+impl Asked {
+    /// What to say where gringo is not to be asked.
+    fn fault(self) -> Fault {
+        let larger = self.larger.filter(|_| self.doubts.is_empty());
+        larger.or_else(|| Fault::all(self.doubts).err()).unwrap_or_else(|| {
+            Fault::new("a constant that is set on the command line asks for grounding").hint("let gringo do it: leave out --ground never")
+        })
+    }
 }
 
 /// What directives and the command line give, by name: no rule needs to drive it.
@@ -81,9 +99,11 @@ pub fn read_aspif(file: &str, text: &str, turns: &Turns) -> Result<Program, Faul
     }
     limits::ground_rules(&aspif)?;
     simplify(&mut aspif);
+    join_rules(&mut aspif);
     let mut program = Program::new(vec!["input".to_string()]);
     translate(&mut program, &aspif, Origins::Lines(file))?;
     program.always.append(&mut aspif.always);
+    program.notes.append(&mut aspif.notes);
     for (atom, setting) in &aspif.externals {
         match aspif.names.get(atom) {
             Some(name) => program.add_key(name, Key { setting: *setting, sheet: Some(0), spot: None }),
@@ -125,21 +145,26 @@ fn add_tables(program: &mut Program, sheets: &Sheets) -> Result<(), Fault> {
 
 type Read<'a> = Vec<(&'a Statement, Ground)>;
 
-/// All statements by the ground reader, or the first that asks for gringo. What is wrong in any case is told at once, all of it.
-fn read_ground<'a>(sheets: &'a Sheets, program: &Program) -> Result<Result<Read<'a>, Fault>, Fault> {
+/// All statements by the ground reader, or why gringo is asked. What is wrong in any case is told at once, all of it.
+fn read_ground<'a>(sheets: &'a Sheets, program: &Program, turns: &Turns) -> Result<Result<Read<'a>, Asked>, Fault> {
     let is_larger = |statement: &Statement| statement.tokens.iter().any(|token| matches!(token.kind, Kind::Variable | Kind::Range));
     // Where gringo reads the sheets, nothing is wrong in a fact but that it drives a table.
     let passes_facts = program.tables.is_empty() && sheets.statements.iter().any(is_larger);
-    match read_statements(sheets, program, passes_facts)? {
-        Ok(_) if passes_facts => read_statements(sheets, program, false),
+    match read_statements(sheets, program, passes_facts, turns)? {
+        Ok(_) if passes_facts => read_statements(sheets, program, false, turns),
         read => Ok(read),
     }
 }
 
-fn read_statements<'a>(sheets: &'a Sheets, program: &Program, passes_facts: bool) -> Result<Result<Read<'a>, Fault>, Fault> {
+fn read_statements<'a>(
+    sheets: &'a Sheets,
+    program: &Program,
+    passes_facts: bool,
+    turns: &Turns,
+) -> Result<Result<Read<'a>, Asked>, Fault> {
     let is_table = |name: &str| program.tables.iter().any(|table| table.name == name);
-    let (mut read, mut larger, mut faults) = (Vec::new(), None, Vec::new());
-    let constants = constants(&sheets.statements);
+    let (mut read, mut larger, mut faults, mut doubts) = (Vec::new(), None, Vec::new(), Vec::new());
+    let constants = constants(&sheets.statements, &turns.constants);
     for statement in sheets.statements.iter().filter(|statement| !(passes_facts && statement.is_plain_fact())) {
         if let Some(fault) = traps::misread(statement, &constants) {
             faults.push(fault);
@@ -148,6 +173,7 @@ fn read_statements<'a>(sheets: &'a Sheets, program: &Program, passes_facts: bool
         match ground::read(statement, &is_table) {
             Ok(ground) => read.push((statement, ground)),
             Err(Stop::Wrong(fault)) => faults.push(fault),
+            Err(Stop::Doubtful(fault)) => doubts.push(fault),
             Err(Stop::Large(spot, what)) => {
                 let fault = Fault::at(&spot, format!("{} asks for grounding", what)).text(statement.text());
                 larger.get_or_insert_with(|| fault.hint("write the rules out, or let gringo do it: leave out --ground never"));
@@ -155,9 +181,14 @@ fn read_statements<'a>(sheets: &'a Sheets, program: &Program, passes_facts: bool
         }
     }
     faults.extend(set_twice(&read));
+    if !faults.is_empty() {
+        faults.append(&mut doubts);
+        faults.sort_by(|one, other| one.spot.cmp(&other.spot));
+    }
     Fault::all(faults)?;
     let larger = larger.or_else(|| shared_choice(&read));
-    Ok(larger.map_or(Ok(read), Err))
+    let is_read = larger.is_none() && doubts.is_empty() && turns.constants.is_empty();
+    Ok(if is_read { Ok(read) } else { Err(Asked { larger, doubts }) })
 }
 
 /// Two settings of one key.

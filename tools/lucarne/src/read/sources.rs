@@ -2,7 +2,7 @@
 
 use super::aspif;
 use super::folder::Folder;
-use super::text::statements::{Sheets, Statement};
+use super::text::statements::{cut, Sheets, Statement};
 use crate::fault::{Fault, Spot};
 use std::fs::{self, File};
 use std::io::{self, Read};
@@ -23,6 +23,8 @@ pub const STANDARD_INPUT: &str = "-";
 const MOST_BYTES: u64 = 1 << 20;
 /// Nothing that people write is nested deeper, and programs that read it in turn would run out of stack.
 const MOST_NESTED: usize = 100;
+/// Nor so long.
+const MOST_WORDS: usize = 300_000;
 const WHAT_TO_NAME: &str = "name a folder of sheets, sheets (*.lp), a plan (*.plan), or - for the standard input";
 
 /// What the paths name. Where the reading is strict, a folder holds nothing but sheets.
@@ -68,14 +70,75 @@ fn sheets(texts: Vec<(String, String)>, notes: Vec<String>) -> Result<Source, Fa
     let (mut sheets, mut faults) = (Sheets::default(), Vec::new());
     sheets.notes = notes;
     for (path, text) in &texts {
-        let before = sheets.statements.len();
-        sheets.add_file(path, text, &mut faults);
-        let note = without_rules(path, text, &sheets.statements[before..]);
-        sheets.notes.extend(note);
+        add(&mut sheets, path, text, &mut faults);
     }
-    faults.extend(sheets.statements.iter().filter_map(too_deep));
+    let mut files: Vec<PathBuf> = texts.iter().map(|(path, _)| whole(Path::new(path))).collect();
+    let mut next = 0;
+    while let Some((name, spot)) = sheets.includes.get(next).cloned() {
+        next += 1;
+        let path = included(&name, Path::new(&*spot.file));
+        if files.contains(&whole(&path)) {
+            sheets.notes.push(format!("{}: {} is read already", spot, path.display()));
+            continue;
+        }
+        files.push(whole(&path));
+        let text = read_bytes(&path).and_then(|bytes| to_text(&path.to_string_lossy(), bytes));
+        match text {
+            Ok(text) => add(&mut sheets, &path.to_string_lossy(), &text, &mut faults),
+            Err(fault) if fault.spot.is_some() => faults.push(fault),
+            Err(fault) => faults.push(fault.spot(Some(&spot)).hint("#include names a file from here on, or beside its sheet")),
+        }
+    }
+    faults.extend(sheets.statements.iter().filter_map(|statement| too_deep(statement).or_else(|| too_long(statement))));
     Fault::all(faults)?;
     Ok(Source::Sheets(sheets))
+}
+
+fn add(sheets: &mut Sheets, path: &str, text: &str, faults: &mut Vec<Fault>) {
+    let (before, includes) = (sheets.statements.len(), sheets.includes.len());
+    sheets.add_file(path, text, faults);
+    let note = without_rules(path, text, &sheets.statements[before..]).filter(|_| sheets.includes.len() == includes);
+    sheets.notes.extend(note);
+}
+
+/// The file that `#include` names: as it stands, else beside the sheet, as gringo looks for it.
+fn included(name: &str, sheet: &Path) -> PathBuf {
+    let beside = sheet.parent().map_or_else(|| PathBuf::from(name), |folder| folder.join(name));
+    if Path::new(name).exists() || !beside.exists() {
+        PathBuf::from(name)
+    } else {
+        beside
+    }
+}
+
+fn whole(path: &Path) -> PathBuf {
+    fs::canonicalize(path).unwrap_or_else(|_| path.to_path_buf())
+}
+
+/// These files and all that they include, however indirectly; what cannot be read includes nothing.
+pub fn with_included(files: Vec<PathBuf>) -> Vec<PathBuf> {
+    let (mut all, mut next) = (files, 0);
+    while let Some(path) = all.get(next).cloned() {
+        next += 1;
+        let is_file = fs::metadata(&path).map_or(false, |known| known.is_file());
+        let bytes = Some(&path).filter(|_| is_file).and_then(|path| read_bytes(path).ok());
+        let text = bytes.map(|bytes| String::from_utf8_lossy(&bytes).into_owned()).filter(|text| text.contains("#include"));
+        let mut sheets = Sheets::default();
+        text.iter().for_each(|text| sheets.add_file(&path.to_string_lossy(), text, &mut Vec::new()));
+        let found = sheets.includes.iter().map(|(name, _)| included(name, &path)).collect::<Vec<_>>();
+        found.into_iter().for_each(|file| all.extend(Some(file).filter(|file| !all.contains(file))));
+    }
+    all
+}
+
+/// A statement of more words than any plan has use for.
+fn too_long(statement: &Statement) -> Option<Fault> {
+    let words = statement.tokens.len();
+    if words <= MOST_WORDS {
+        return None;
+    }
+    let what = format!("this statement has {} words, and so many are not read", words);
+    Some(Fault::at(statement.spot(), what).text(cut(&statement.text(), 100)).hint("a plan holds 64 relays: is it another file?"))
 }
 
 /// The bracket of a statement that opens one level too many.
@@ -97,7 +160,7 @@ fn too_deep(statement: &Statement) -> Option<Fault> {
 
 /// What to say of a sheet that drives nothing and forbids nothing: was it saved?
 fn without_rules(path: &str, text: &str, statements: &[Statement]) -> Option<String> {
-    let is_rule = |statement: &Statement| !["#external", "#const", "#defined"].iter().any(|word| statement.tokens[0].is(word));
+    let is_rule = |statement: &Statement| !["#external", "#const", "#defined", "#show"].iter().any(|word| statement.tokens[0].is(word));
     if statements.iter().any(is_rule) {
         return None;
     }

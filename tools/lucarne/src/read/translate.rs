@@ -1,11 +1,14 @@
 //! Ground rules over numbered atoms (aspif) to the rules of a plan by name: choices, sums and contact tables as a plan has them.
 
-use crate::read::aspif::{Aspif, Body, Literal, RawRule, Sum};
+use crate::read::aspif::{Aspif, Body, Literal, RawRule};
 use crate::fault::{Fault, Spot};
+use crate::plan::limits::MAX_ATOMS;
 use crate::plan::program::{Atom, Program, Rule, Table};
-use crate::read::sums;
-use crate::read::text::statements::Statement;
-use std::collections::{BTreeMap, BTreeSet};
+use crate::read::simplify::Loops;
+use crate::read::sums::{self, Code, Network, MAX_INPUTS};
+use crate::read::text::statements::{cut, Statement};
+use crate::read::values::{Sum, Values};
+use std::collections::BTreeMap;
 use std::sync::Arc;
 
 /// Where the rules of a statement stand: sheet, spot and text.
@@ -34,12 +37,13 @@ pub enum Origins<'a> {
 pub fn translate(program: &mut Program, aspif: &Aspif, origins: Origins) -> Result<(), Fault> {
     let tables = program.tables.iter().enumerate().map(|(number, table)| (table.name.clone(), number)).collect();
     let (names, always, homes, loops) = (&aspif.names, &aspif.always, homes(aspif), Loops::of(aspif));
-    let mut translator = Translator { program, names, always, origins, tables, atoms: BTreeMap::new(), homes, loops };
+    let (atoms, helpers, questions) = (BTreeMap::new(), BTreeMap::new(), BTreeMap::new());
+    let mut translator = Translator { program, names, always, origins, tables, atoms, homes, loops, helpers, questions };
     let mut rules: Vec<&RawRule> = aspif.rules.iter().collect();
     rules.sort_by_key(|rule| rule.statement.unwrap_or(usize::MAX));
+    rules.iter().for_each(|rule| translator.ask(rule));
     rules.into_iter().try_for_each(|rule| translator.rule(rule))?;
-    aspif.aliases.iter().for_each(|(name, atom)| translator.alias(name, *atom));
-    Ok(())
+    aspif.shown.iter().try_for_each(|(name, condition)| translator.shown(name, condition))
 }
 
 /// The statement to which each nameless atom belongs: that of the first rule that has it.
@@ -55,36 +59,6 @@ fn homes(aspif: &Aspif) -> BTreeMap<Literal, usize> {
     homes
 }
 
-/// What each atom hangs on: all atoms of the rules that have it in the head, other heads among them.
-struct Loops {
-    looks_at: BTreeMap<Literal, BTreeSet<Literal>>,
-}
-
-impl Loops {
-    fn of(aspif: &Aspif) -> Loops {
-        let mut looks_at: BTreeMap<Literal, BTreeSet<Literal>> = BTreeMap::new();
-        for rule in &aspif.rules {
-            let atoms = rule.atoms();
-            rule.heads.iter().for_each(|&head| looks_at.entry(head).or_default().extend(&atoms));
-        }
-        Loops { looks_at }
-    }
-
-    /// Whether the atom hangs on one of these, however indirectly.
-    fn hangs_on(&self, atom: Literal, heads: &[Literal]) -> bool {
-        let (mut seen, mut open) = (BTreeSet::new(), vec![atom]);
-        while let Some(next) = open.pop() {
-            if heads.contains(&next) {
-                return true;
-            }
-            if seen.insert(next) {
-                open.extend(self.looks_at.get(&next).into_iter().flatten());
-            }
-        }
-        false
-    }
-}
-
 struct Translator<'a> {
     program: &'a mut Program,
     names: &'a BTreeMap<Literal, String>,
@@ -94,9 +68,27 @@ struct Translator<'a> {
     atoms: BTreeMap<Literal, Atom>,
     homes: BTreeMap<Literal, usize>,
     loops: Loops,
+    /// Helpers by what drives them: sheet, inputs and the rows in which they are up.
+    helpers: BTreeMap<(Option<usize>, Vec<Atom>, u64), Atom>,
+    /// What is asked of each large sum that hangs on nothing that its rule drives, by sheet: such questions may share helpers.
+    questions: BTreeMap<(Option<usize>, Vec<(Literal, i64)>), Vec<Values>>,
 }
 
 impl<'a> Translator<'a> {
+    /// Whether a sum hangs on what its rule drives.
+    fn is_circular(&self, sum: &Sum, heads: &[Literal]) -> bool {
+        !heads.is_empty() && self.loops.hang_on(sum.parts.iter().map(|part| part.0.abs()), heads)
+    }
+
+    fn ask(&mut self, raw: &RawRule) {
+        for sum in raw.body.sums.iter().filter(|sum| sum.parts.len() > MAX_INPUTS) {
+            if !self.is_circular(sum, &raw.heads) {
+                let asked = self.questions.entry((self.origin(raw).sheet, sum.key())).or_default();
+                asked.extend(Some(sum.values.clone()).filter(|values| !asked.contains(values)));
+            }
+        }
+    }
+
     fn rule(&mut self, raw: &RawRule) -> Result<(), Fault> {
         if raw.is_choice && raw.heads.is_empty() {
             return Ok(());
@@ -151,11 +143,7 @@ impl<'a> Translator<'a> {
     fn written(&self, raw: &RawRule) -> String {
         let name = |atom: Literal| self.names.get(&atom).cloned().unwrap_or_else(|| format!("x{}", atom));
         let sign = |literal: Literal| format!("{}{}", if literal < 0 { "not " } else { "" }, name(literal.abs()));
-        let sums = raw.body.sums.iter().map(|(sum, wanted)| {
-            let parts: Vec<String> =
-                sum.parts.iter().map(|&(literal, weight)| format!("{},{}:{}", weight, name(literal.abs()), sign(literal))).collect();
-            format!("{}{} <= #sum{{{}}}", if *wanted { "" } else { "not " }, sum.bound, parts.join("; "))
-        });
+        let sums = raw.body.sums.iter().map(|sum| sum.told(&name));
         let heads: Vec<String> = raw.heads.iter().map(|&head| name(head)).collect();
         let heads = if raw.is_choice { format!("{{{}}}", heads.join("; ")) } else { heads.join(" ; ") };
         let body: Vec<String> = raw.body.literals.iter().map(|&literal| sign(literal)).chain(sums).collect();
@@ -199,61 +187,113 @@ impl<'a> Translator<'a> {
                 None => drop(rule.neg.insert(self.atom(-literal))),
             }
         }
-        for (sum, wanted) in sums {
-            if !self.sum(sum, *wanted, &raw.heads, rule)? {
+        for sum in sums {
+            if sum.is_never() {
                 return Ok(false);
             }
+            self.sum(sum, &raw.heads, rule)?;
         }
         let is_idle = rule.uses.iter().any(|&(table, wanted)| rule.uses.contains(&(table, !wanted)));
         Ok(!is_idle && rule.pos.is_disjoint(&rule.neg))
     }
 
-    /// Puts a sum into the body: as a contact table, or written out where it has too many relays. False if it can never be as wanted.
-    fn sum(&mut self, sum: &Sum, wanted: bool, heads: &[Literal], rule: &mut Rule) -> Result<bool, Fault> {
-        let total: i64 = sum.parts.iter().map(|&(_, weight)| weight).sum();
-        if sum.bound <= 0 || total < sum.bound {
-            return Ok((sum.bound <= 0) == wanted);
+    /// Puts a sum into the body: as literals where one setting of its relays is wanted, as a contact table, or as several with helpers.
+    fn sum(&mut self, sum: &Sum, heads: &[Literal], rule: &mut Rule) -> Result<(), Fault> {
+        let is_circular = self.is_circular(sum, heads);
+        let parts: Vec<sums::Part> = sum.parts.iter().map(|&(literal, weight)| self.part(literal, weight, heads, rule)).collect();
+        let relays = sums::relays(&parts);
+        if relays.len() > MAX_ATOMS {
+            let what = format!("this sum looks at {} relays; a plan holds {}", relays.len(), MAX_ATOMS);
+            return Err(Fault::new(what).spot(rule.spot.as_ref()).text(cut(&rule.text, 100)).hint("split the group, or narrow the range"));
         }
-        let parts: Vec<(Atom, bool, i64)> = sum.parts.iter().map(|&(literal, weight)| self.part(literal, weight, heads, rule)).collect();
-        let inputs = sums::inputs(&parts);
-        if inputs.len() <= sums::MAX_INPUTS {
-            let table = self.table(inputs.clone(), sums::rows(&inputs, &parts, sum.bound));
-            rule.uses.insert((table, wanted));
-            return Ok(true);
+        if relays.len() > MAX_INPUTS && is_circular {
+            return self.circular_sum(sum, &relays, rule);
+        }
+        let key = (rule.sheet, sum.key());
+        let questions = self.questions.get(&key).filter(|_| relays.len() > MAX_INPUTS).cloned().unwrap_or_default();
+        let alone = sums::network(&relays, &[sum.values.clone()], Code::Binary).ok_or_else(|| too_large(relays.len(), rule))?;
+        let cost = |values: &Values| sums::network(&relays, &[values.clone()], Code::Binary).map_or(0, |network| network.cost());
+        let joint = sums::network(&relays, &questions, Code::Binary).filter(|joint| joint.cost() <= questions.iter().map(cost).sum());
+        let number = questions.iter().position(|values| *values == sum.values).filter(|_| questions.len() > 1);
+        let (network, answer) = match (joint, number) {
+            (Some(joint), Some(number)) => (joint, number),
+            _ => (alone, 0),
+        };
+        let inputs = self.wires(&network, &relays, rule);
+        self.answer(&inputs, network.answers[answer], true, rule);
+        Ok(())
+    }
+
+    /// A sum over what its rule drives: from one value on and below another, each by helpers that only rise.
+    fn circular_sum(&mut self, sum: &Sum, relays: &[(Atom, i64, i64)], rule: &mut Rule) -> Result<(), Fault> {
+        let end = sum.end();
+        for &(low, high) in &sum.values {
+            for (bound, wanted) in [(low, true), (high, false)].into_iter().filter(|(bound, _)| *bound > 0 && *bound < end) {
+                let network = sums::network(relays, &[vec![(bound, end)]], Code::Rising).ok_or_else(|| too_large(relays.len(), rule))?;
+                let inputs = self.wires(&network, relays, rule);
+                self.answer(&inputs, network.answers[0], wanted, rule);
+            }
+        }
+        Ok(())
+    }
+
+    /// The atoms of the wires that are left, with helpers for all steps.
+    fn wires(&mut self, network: &Network, relays: &[(Atom, i64, i64)], rule: &Rule) -> Vec<Atom> {
+        let mut atoms: Vec<Atom> = relays.iter().map(|relay| relay.0).collect();
+        for (inputs, rows) in &network.steps {
+            let inputs = inputs.iter().map(|&wire| atoms[wire]).collect();
+            atoms.push(self.block(inputs, *rows, rule));
+        }
+        network.inputs.iter().map(|&wire| atoms[wire]).collect()
+    }
+
+    /// A helper that is up in these rows; equal ones of a sheet are one.
+    fn block(&mut self, inputs: Vec<Atom>, rows: u64, rule: &Rule) -> Atom {
+        let key = (rule.sheet, inputs, rows);
+        if let Some(&helper) = self.helpers.get(&key) {
+            return helper;
         }
         let helper = self.program.helper(&rule.spot.as_ref().map_or("sum".to_string(), |spot| format!("sum{}", spot.line)));
-        for set in sums::least_sets(&parts, sum.bound, rule)? {
-            let side = |up: bool| set.iter().filter(|part| part.1 == up).map(|part| part.0).collect();
-            self.program.rules.push(Rule {
-                head: Some(helper).into_iter().collect(),
-                pos: side(true),
-                neg: side(false),
-                ..origin_of(rule)
-            });
+        let mut driver = Rule { head: Some(helper).into_iter().collect(), ..origin_of(rule) };
+        self.answer(&key.1, rows, true, &mut driver);
+        self.program.rules.push(driver);
+        self.helpers.insert(key, helper);
+        helper
+    }
+
+    /// Asks in a body for one of these rows: by literals where there is one row, else by a contact table.
+    fn answer(&mut self, inputs: &[Atom], rows: u64, wanted: bool, rule: &mut Rule) {
+        if rows.count_ones() == 1 && wanted {
+            let row = rows.trailing_zeros();
+            for (k, &input) in inputs.iter().enumerate() {
+                let side = if row >> k & 1 == 1 { &mut rule.pos } else { &mut rule.neg };
+                side.insert(input);
+            }
+            return;
         }
-        if wanted {
-            rule.pos.insert(helper)
-        } else {
-            rule.neg.insert(helper)
-        };
-        Ok(true)
+        let table = self.table(inputs.to_vec(), rows);
+        rule.uses.insert((table, wanted));
     }
 
     /// One relay of a sum. A contact table, or `not x` where x hangs on what the rule drives, gets a helper: a table is asked anew below a
     /// position, and clingo's `not` is not.
-    fn part(&mut self, literal: Literal, weight: i64, heads: &[Literal], rule: &Rule) -> (Atom, bool, i64) {
+    fn part(&mut self, literal: Literal, weight: i64, heads: &[Literal], rule: &Rule) -> sums::Part {
         let table = self.names.get(&literal.abs()).and_then(|name| self.tables.get(name)).copied();
         if let Some(table) = table {
-            let helper = self.program.helper(&self.program.tables[table].name.clone());
-            self.program.rules.push(Rule {
-                head: Some(helper).into_iter().collect(),
-                uses: Some((table, literal > 0)).into_iter().collect(),
-                ..origin_of(rule)
+            let Table { inputs, rows, name, .. } = self.program.tables[table].clone();
+            let key = (rule.sheet, inputs, if literal > 0 { rows } else { !rows });
+            let same = self.helpers.get(&key).copied();
+            let helper = same.unwrap_or_else(|| {
+                let helper = self.program.helper(&name);
+                let uses = Some((table, literal > 0)).into_iter().collect();
+                self.program.rules.push(Rule { head: Some(helper).into_iter().collect(), uses, ..origin_of(rule) });
+                helper
             });
+            self.helpers.insert(key, helper);
             return (helper, true, weight);
         }
         let atom = self.atom(literal.abs());
-        if literal > 0 || !self.loops.hangs_on(-literal, heads) {
+        if literal > 0 || !self.loops.hang_on(Some(-literal).into_iter(), heads) {
             return (atom, literal > 0, weight);
         }
         let helper = self.program.helper(&format!("not_{}", self.program.name(atom)));
@@ -276,22 +316,31 @@ impl<'a> Translator<'a> {
         number
     }
 
-    /// A second name of an atom is a relay of its own that repeats it.
-    fn alias(&mut self, name: &str, atom: Literal) {
-        let (head, pos) = (self.program.atom(name), self.atom(atom));
-        let text = format!("{} :- {}.", name, self.program.name(pos));
-        self.program.rules.push(Rule {
-            head: Some(head).into_iter().collect(),
-            pos: Some(pos).into_iter().collect(),
-            text,
-            ..Rule::default()
-        });
+    /// A second name of an atom, and a term that is shown under a condition, is a relay of its own.
+    fn shown(&mut self, name: &str, condition: &[Literal]) -> Result<(), Fault> {
+        let body = Body { literals: condition.to_vec(), sums: Vec::new() };
+        let raw = RawRule { is_choice: false, heads: Vec::new(), body, is_bound: false, statement: None, line: 0 };
+        let head = self.program.atom(name);
+        let mut rule = Rule { head: Some(head).into_iter().collect(), ..Rule::default() };
+        if self.body(&raw, &mut rule)? {
+            rule.text = self.program.written(&rule);
+            self.program.rules.push(rule);
+        }
+        Ok(())
     }
 }
 
 /// The name of the relay that is never up together with this one.
 fn opposite(name: &str) -> String {
     name.strip_prefix('-').map_or_else(|| format!("-{}", name), str::to_string)
+}
+
+/// A sum whose relays cannot be told apart by few enough helpers.
+fn too_large(relays: usize, rule: &Rule) -> Fault {
+    Fault::new(format!("this sum over {} relays has too many values for contact tables of {} inputs", relays, MAX_INPUTS))
+        .spot(rule.spot.as_ref())
+        .text(cut(&rule.text, 100))
+        .hint("split it: a helper for the sum over each six relays")
 }
 
 /// An empty rule that stands where this one does.

@@ -7,6 +7,7 @@ pub mod dot;
 pub mod graph;
 pub mod html;
 pub mod json;
+pub mod lp;
 pub mod names;
 pub mod output;
 pub mod page;
@@ -28,13 +29,14 @@ pub enum Form {
     Dot,
     Svg,
     Html,
+    Lp,
 }
 
 /// How full every list is, for those who read one.
 pub const FULL: &str = "every settled position of the plan, proved to leave none out";
 
 /// Each form with its name on the command line.
-pub const FORMS: [(&str, Form); 8] = [
+pub const FORMS: [(&str, Form); 9] = [
     ("names", Form::Names),
     ("table", Form::Table),
     ("csv", Form::Csv),
@@ -43,6 +45,7 @@ pub const FORMS: [(&str, Form); 8] = [
     ("dot", Form::Dot),
     ("svg", Form::Svg),
     ("html", Form::Html),
+    ("lp", Form::Lp),
 ];
 
 pub fn show(group: &Group, form: Form, heads: Heads) -> Vec<u8> {
@@ -55,5 +58,6 @@ pub fn show(group: &Group, form: Form, heads: Heads) -> Vec<u8> {
         Form::Dot => dot::show(group).into_bytes(),
         Form::Svg => svg::show(group).into_bytes(),
         Form::Html => page::show(group, None).into_bytes(),
+        Form::Lp => lp::show(group, &[]).unwrap_or_default().into_bytes(),
     }
 }

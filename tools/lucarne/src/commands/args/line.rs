@@ -31,7 +31,8 @@ pub const USAGE: &str = concat!(
 lucarne: every settled position of a relay group, by name
 
     lucarne list GROUP..      the positions
-        --as names|table|csv|json|sheet|dot|svg|html
+        --as names|table|csv|json|sheet|dot|svg|html|lp
+                              lp is the group for clingo, keys and tables included
         --check-with clingo   hold the list against clingo's on the same sheets
         --clingo-option X     an option for clingo, as --clingo-option=--eq=0
     lucarne compile GROUP.. -o X.plan
@@ -66,6 +67,7 @@ lucarne: every settled position of a relay group, by name
 
     -o FILE                   write to a file; never to one that is read
     --turn KEY, --release KEY set a key against what the sheets say
+    -c NAME=VALUE             set a constant (#const) of the sheets, as -c n=2
     --strict                  refuse sheets that depend on each other in a circle, and files of a folder that are no sheets
     --one-unit                work all sheets as one unit
     --ground auto|always|never
@@ -147,7 +149,7 @@ const KNOWN: [Known; 11] = [
 ];
 
 /// The options of all commands.
-const COMMON: [&str; 7] = ["output", "turn", "release", "strict", "one-unit", "ground", "quiet"];
+const COMMON: [&str; 8] = ["output", "turn", "release", "constant", "strict", "one-unit", "ground", "quiet"];
 
 pub fn is_common(id: &str) -> bool {
     COMMON.contains(&id)
@@ -188,7 +190,7 @@ pub fn option(id: &'static str) -> Arg {
     let file = |name: &'static str| value(name).value_parser(value_parser!(std::path::PathBuf));
     let flag = || Arg::new(id).long(id).action(ArgAction::SetTrue).overrides_with(id);
     match id {
-        "as" => value("FORM").help("names, table, csv, json, sheet, dot, svg or html; not every command writes all"),
+        "as" => value("FORM").help("names, table, csv, json, sheet, dot, svg, html or lp; not every command writes all"),
         "check-with" => value("PROGRAM").help("Hold the list against clingo's on the same sheets: --check-with clingo"),
         "clingo-option" => value("X").action(ArgAction::Append).help("An option for clingo, as --clingo-option=--eq=0"),
         "file" => file("QUESTIONS").help("A file with a question a line"),
@@ -200,6 +202,7 @@ pub fn option(id: &'static str) -> Arg {
         "output" => file("FILE").short('o').help("Write to a file; never to one that is read"),
         "turn" => value("KEY").action(ArgAction::Append).help("Turn a key against what the sheets say"),
         "release" => value("KEY").action(ArgAction::Append).help("Release a key against what the sheets say"),
+        "constant" => value("NAME=VALUE").short('c').alias("const").action(ArgAction::Append).help("Set a constant of the sheets, as -c n=2"),
         "strict" => flag().help("Refuse sheets that depend on each other in a circle, and files of a folder that are no sheets"),
         "one-unit" => flag().help("Work all sheets as one unit"),
         "ground" => value("WAY").help("auto, always or never: let gringo read sheets with variables, all, or none"),

@@ -13,6 +13,15 @@ use std::path::{Path, PathBuf};
 const MOST_JOBS: usize = 256;
 const DIGITS: usize = 16;
 
+/// Constants as NAME=VALUE.
+pub fn constants(words: Vec<String>) -> Result<Vec<String>, Fault> {
+    let is_name = |name: &str| name.starts_with(|sign: char| sign.is_ascii_lowercase() || sign == '_');
+    match words.iter().find(|word| !word.split_once('=').map_or(false, |(name, value)| is_name(name) && !value.is_empty())) {
+        Some(word) => Err(Fault::new(format!("{} sets no constant", word)).hint("write -c n=2")),
+        None => Ok(words),
+    }
+}
+
 /// A question of `ask` may start with a sign, as -t1_tr, and is no option then: a space before it tells clap so.
 pub fn shield_question(mut words: Vec<OsString>) -> Vec<OsString> {
     if words.first().map_or(false, |word| word == "ask") {

@@ -1,10 +1,12 @@
-//! What stands in comments for this tool alone (`%unit`, `%given`, `%name`, `%table`), `#show`, and the statements that no plan has.
+//! What stands in comments for this tool alone (`%unit`, `%given`, `%name`, `%table`), `#show` and `#include`, and the statements that no plan has.
 
 use super::ground;
 use super::statements::{cut, Statement};
 use super::tokens::{Kind, Token};
+use super::terms::split;
 use crate::fault::{Fault, Spot};
 use crate::near;
+use crate::read::aspif::{HEURISTICS, PROJECTION};
 
 const WORDS: [&str; 4] = ["unit", "given", "name", "table"];
 /// The most inputs of a contact table.
@@ -58,7 +60,7 @@ fn word_of(comment: &str) -> &str {
 }
 
 pub fn is_directive(comment: &Token) -> bool {
-    WORDS.contains(&word_of(&comment.text))
+    !matches!(read(comment), Ok(Directive::None | Directive::Doubtful(_)))
 }
 
 /// What a comment says to this tool.
@@ -72,6 +74,11 @@ pub fn read(comment: &Token) -> Result<Directive, Fault> {
     let all = Operands { text: &comment.text, spot: comment.spot.clone() };
     let mut operands = all.part(start, end);
     operands.text = operands.text.trim_end_matches('.').trim_end();
+    if !comment.text[start..].starts_with(&[' ', '\t'][..]) || !is_meant(word, operands.text) {
+        let form = "%unit points, %given annett, f1, %name tr1 \"101 TR\", %table made(f1,f2) 11";
+        let form = form.split(", %").find(|form| form.trim_start_matches('%').starts_with(word)).unwrap_or("").trim_start_matches('%');
+        return Ok(Directive::Doubtful(format!("{}: %{} is read as a comment: the directive is written %{}", comment.spot, word, form)));
+    }
     let read = match word {
         "unit" => unit(&operands),
         "given" => given(&operands),
@@ -79,6 +86,35 @@ pub fn read(comment: &Token) -> Result<Directive, Fault> {
         _ => table(&operands),
     };
     read.map_err(|fault| if fault.text.is_empty() { fault.text(comment.text.trim_end()) } else { fault })
+}
+
+/// Whether operands have the form of the directive; what has it and is wrong is refused. All else is somebody's comment.
+fn is_meant(word: &str, operands: &str) -> bool {
+    let name = |text: &str| text.starts_with(|sign: char| sign.is_alphabetic() || sign == '-' || sign == '_');
+    let words = |text: &str| text.split_whitespace().count();
+    match word {
+        "unit" => words(operands) == 1 && !operands.contains(&['(', '"'][..]),
+        "given" => !operands.is_empty() && outside_brackets(operands).split(',').all(|part| words(part) <= 1),
+        "name" => operands.contains('"'),
+        _ => {
+            let open = operands.find('(').filter(|&open| name(operands) && words(&operands[..open]) == 1);
+            let rows = open.and_then(|open| closing(operands, open)).map(|close| &operands[close + 1..]);
+            rows.map_or(false, |rows| rows.split_whitespace().all(|row| row.chars().any(|sign| "01-".contains(sign))))
+        }
+    }
+}
+
+/// A text without what stands in brackets.
+fn outside_brackets(text: &str) -> String {
+    let mut depth = 0;
+    text.chars()
+        .filter(|&sign| {
+            depth += i32::from(sign == '(');
+            let is_outside = depth == 0;
+            depth -= i32::from(sign == ')');
+            is_outside
+        })
+        .collect()
 }
 
 /// A word right behind % that is nearly a directive is told, since a slip there would be passed over as a comment.
@@ -237,31 +273,93 @@ fn row_word(row: &str) -> u64 {
     (0..1 << row.len()).filter(|&j| fits(j)).fold(0, |word, j| word | 1 << j)
 }
 
-/// `#show name/number.`, or `#show.`, which names none.
-pub fn show(statement: &Statement) -> Result<Vec<(String, usize)>, Fault> {
+/// What a statement is to this tool.
+pub enum Special {
+    /// A rule, a key, or what gringo alone reads.
+    Rule,
+    /// `#show name/number.`, or `#show.`, which names none.
+    Show(Vec<(String, usize)>),
+    /// `#show term : condition.`, as a rule for a relay of our own.
+    Term(Vec<Token>),
+    Include(String),
+    /// It changes nothing in the list; with what to say of it.
+    Idle(Option<String>),
+}
+
+/// The predicate of what is shown as a term. No sheet has it: people do not write names so.
+pub const SHOWN: &str = "lucarne'shows";
+
+pub fn kind(statement: &Statement) -> Result<Special, Fault> {
+    let first = &statement.tokens[0];
+    if first.kind != Kind::Hash && first.kind != Kind::If {
+        return Ok(Special::Rule);
+    }
+    let idle = |what: &str| Special::Idle(Some(format!("{}: {} is passed over: {}", statement.spot(), first.text, what)));
+    match first.text.as_str() {
+        "#show" => show(statement),
+        "#include" => include(statement),
+        "#program" if statement.text() == "#program base." => Ok(Special::Idle(None)),
+        "#project" => Ok(idle(PROJECTION)),
+        "#heuristic" => Ok(idle(HEURISTICS)),
+        "#theory" => Ok(idle("it says nothing by itself, and theory atoms are no part of a plan")),
+        _ => no_part_of_a_plan(statement).map_or(Ok(Special::Rule), Err),
+    }
+}
+
+/// `#include "FILE".`
+fn include(statement: &Statement) -> Result<Special, Fault> {
+    match &statement.tokens[1..] {
+        [file, dot] if file.kind == Kind::Quoted && dot.kind == Kind::Dot => {
+            Ok(Special::Include(file.text.trim_matches('"').replace("\\\"", "\"").replace("\\\\", "\\")))
+        }
+        _ => Err(Fault::at(&statement.tokens[0].spot, "only a file by its name can be included")
+            .text(cut(&statement.text(), 100))
+            .hint("write: #include \"points.lp\".")),
+    }
+}
+
+/// `#show name/number.`, `#show.`, which names none, or a term with its condition.
+fn show(statement: &Statement) -> Result<Special, Fault> {
     let tokens = &statement.tokens[1..];
     let sign = usize::from(tokens[0].is("-"));
     let dash = if sign == 1 { "-" } else { "" };
     match &tokens[sign..] {
-        [dot] if dot.kind == Kind::Dot && sign == 0 => Ok(Vec::new()),
+        [dot] if dot.kind == Kind::Dot && sign == 0 => Ok(Special::Show(Vec::new())),
         [name, slash, number, dot]
             if name.kind == Kind::Name && slash.is("/") && dot.kind == Kind::Dot && number.text.parse::<usize>().is_ok() =>
         {
-            Ok(vec![(format!("{}{}", dash, name.text), number.text.parse().unwrap_or(0))])
+            Ok(Special::Show(vec![(format!("{}{}", dash, name.text), number.text.parse().unwrap_or(0))]))
         }
         [name, dot] if name.kind == Kind::Name && dot.kind == Kind::Dot => {
             Err(Fault::at(&name.spot, format!("#show {} would print a term of that name in every position", name.text))
                 .text(statement.text())
                 .hint(format!("to show the relay {0}, write: #show {0}/0.", name.text)))
         }
-        _ => Err(Fault::at(&tokens[0].spot, "only relays by name can be shown")
+        [name, slash, ..] if slash.is("/") || name.is("$") => Err(Fault::at(&tokens[0].spot, "only relays by name, and terms, can be shown")
             .text(cut(&statement.text(), 100))
             .hint("write the name and the number of its arguments: #show gr/0. #show lock/1.")),
+        _ => Ok(Special::Term(shown_rule(tokens))),
     }
 }
 
-/// Statements of clingo that say nothing of settled positions, or more than a plan can.
-pub fn no_part_of_a_plan(statement: &Statement) -> Option<Fault> {
+/// `term : body.` as the rule `lucarne'shows(term) :- body.`
+fn shown_rule(tokens: &[Token]) -> Vec<Token> {
+    let parts = split(&tokens[..tokens.len() - 1], &[":"]);
+    let (term, end) = (parts[0], &tokens[tokens.len() - 1]);
+    let word = |kind: Kind, text: &str, gap: bool| Token { kind, text: text.to_string(), gap, ..tokens[0].clone() };
+    let mut rule = vec![word(Kind::Name, SHOWN, false), word(Kind::Sign, "(", false)];
+    rule.extend(term.iter().cloned());
+    rule.push(word(Kind::Sign, ")", false));
+    if term.len() + 1 < tokens.len() {
+        rule.push(word(Kind::If, ":-", true));
+        rule.extend(tokens[term.len() + 1..tokens.len() - 1].iter().cloned());
+    }
+    rule.push(end.clone());
+    rule
+}
+
+/// Statements of clingo that say more than a plan can.
+fn no_part_of_a_plan(statement: &Statement) -> Option<Fault> {
     let (what, hint) = match statement.tokens[0].text.as_str() {
         "#minimize" | "#minimise" | "#maximize" | "#maximise" => {
             ("optimisation is", "list all positions and sort them: every settled position is wanted, not the best one")
@@ -270,12 +368,7 @@ pub fn no_part_of_a_plan(statement: &Statement) -> Option<Fault> {
             ("optimisation (a weak constraint) is", "list all positions and sort them: every settled position is wanted, not the best one")
         }
         "#script" => ("scripts are", "write out what the script makes, or run it before"),
-        "#program" => ("program parts are", "put each part into a file, and name the files that are wanted"),
-        "#heuristic" => ("heuristics are", "leave it out: the list does not depend on the search"),
-        "#edge" => ("edge statements are", "write rules for what can be reached, and a constraint against the circle"),
-        "#theory" => ("theory atoms are", "write out what the theory says as rules"),
-        "#project" => ("projection by #project is", "name the relays that are wanted by #show"),
-        "#include" => ("#include is", "name the file on the command line, as a sheet of its own"),
+        "#program" => ("program parts but base are", "put each part into a file, and name the files that are wanted"),
         _ => return None,
     };
     Some(Fault::at(statement.spot(), format!("{} no part of a plan", what)).text(cut(&statement.text(), 100)).hint(hint))

@@ -4,17 +4,18 @@ use super::statements::Statement;
 use super::tokens::{tokens, Kind, Token};
 use crate::fault::{Fault, Spot};
 use crate::plan::program::Setting;
-use std::collections::HashSet;
+use std::collections::{HashMap, HashSet};
 
-/// Why a statement was not read: it may be gringo's, or it is wrong in any case.
+/// Why a statement was not read: it is gringo's, it may be gringo's or a slip, or it is wrong in any case.
 pub enum Stop {
     Large(Spot, String),
+    Doubtful(Fault),
     Wrong(Fault),
 }
 
 impl From<Fault> for Stop {
     fn from(fault: Fault) -> Stop {
-        Stop::Wrong(fault)
+        Stop::Doubtful(fault)
     }
 }
 
@@ -51,6 +52,7 @@ pub fn read(statement: &Statement, is_table: &dyn Fn(&str) -> bool) -> Result<Gr
     };
     read.map_err(|stop| match stop {
         Stop::Wrong(fault) if fault.text.is_empty() => Stop::Wrong(fault.text(statement.text())),
+        Stop::Doubtful(fault) if fault.text.is_empty() => Stop::Doubtful(fault.text(statement.text())),
         stop => stop,
     })
 }
@@ -71,7 +73,7 @@ pub fn atom_of(text: &str, spot: &Spot) -> Result<String, Fault> {
     };
     match reader.atom() {
         Ok((atom, _)) if reader.peek().kind == Kind::Dot => Ok(atom),
-        Err(Stop::Wrong(fault)) if !text.is_empty() => Err(fault),
+        Err(Stop::Wrong(fault) | Stop::Doubtful(fault)) if !text.is_empty() => Err(fault),
         _ => Err(wrong()),
     }
 }
@@ -109,7 +111,8 @@ impl<'a> Reader<'a> {
         self.at += 1;
         let (atom, spot) = self.atom()?;
         if is_table(&atom) {
-            return Err(Fault::at(&spot, format!("{} is a contact table, and no key", atom)).hint("give its inputs instead").into());
+            let what = format!("{} is a contact table, and no key", atom);
+            return Err(Stop::Wrong(Fault::at(&spot, what).hint("give its inputs instead")));
         }
         if !self.takes(".") {
             return Err(self.unexpected(&["."]));
@@ -121,11 +124,11 @@ impl<'a> Reader<'a> {
         let setting = match value.text.as_str() {
             "true" => Setting::Turned,
             "false" => Setting::Released,
+            "release" => return Err(large(value)),
             "free" => Setting::Free,
             _ => {
-                return Err(Fault::at(&value.spot, format!("{} is no setting of a key", value.text))
-                    .hint("write [true], [false] or [free]")
-                    .into())
+                let what = format!("{} is no setting of a key", value.text);
+                return Err(Stop::Wrong(Fault::at(&value.spot, what).hint("write [true], [false] or [free]")));
             }
         };
         if !self.ahead(2).is("]") {
@@ -151,12 +154,11 @@ impl<'a> Reader<'a> {
         };
         if let Some(table) = atoms.iter().find(|atom| is_table(atom)) {
             let what = format!("{} is a contact table, and no rule can drive it", table);
-            return Err(Fault::at(&self.tokens[0].spot, what).hint("give the relay another name than the table").into());
+            return Err(Stop::Wrong(Fault::at(&self.tokens[0].spot, what).hint("give the relay another name than the table")));
         }
         if rule.head == Head::AnyOf(Vec::new()) && rule.pos.is_empty() && rule.neg.is_empty() && rule.uses.is_empty() {
-            return Err(Fault::at(&self.tokens[0].spot, "a rule without head and body leaves no position at all")
-                .hint("leave it out")
-                .into());
+            let what = "a rule without head and body leaves no position at all";
+            return Err(Stop::Wrong(Fault::at(&self.tokens[0].spot, what).hint("leave it out")));
         }
         Ok(rule)
     }
@@ -187,9 +189,7 @@ impl<'a> Reader<'a> {
         let mut atoms = Vec::new();
         loop {
             if self.peek().is("not") {
-                return Err(Fault::at(&self.peek().spot, "a head cannot say that a relay is dropped")
-                    .hint("put it into the body: for \"not a :- b.\" write \":- a, b.\"")
-                    .into());
+                return Err(large(self.peek()));
             }
             atoms.push(self.atom()?.0);
             if matches!(self.peek().kind, Kind::If | Kind::Dot) {
@@ -217,8 +217,9 @@ impl<'a> Reader<'a> {
         if self.peek().kind == Kind::Dot {
             return Ok(());
         }
+        let mut seen = HashMap::new();
         loop {
-            self.literal(rule, is_table)?;
+            self.literal(rule, is_table, &mut seen)?;
             if self.peek().kind == Kind::Dot {
                 return Ok(());
             }
@@ -226,11 +227,11 @@ impl<'a> Reader<'a> {
         }
     }
 
-    fn literal(&mut self, rule: &mut GroundRule, is_table: &dyn Fn(&str) -> bool) -> Result<(), Stop> {
+    /// A literal of a body; `seen` tells the relays before it, each with whether it is wanted up.
+    fn literal(&mut self, rule: &mut GroundRule, is_table: &dyn Fn(&str) -> bool, seen: &mut HashMap<String, bool>) -> Result<(), Stop> {
         let is_up = !self.takes("not");
         if !is_up && self.peek().is("not") {
-            let hint = "name the dropped relay by a helper, n :- not a, and write not n";
-            return Err(Fault::at(&self.peek().spot, "double negation has no place in a plan").hint(hint).into());
+            return Err(large(self.peek()));
         }
         let (atom, spot) = self.atom()?;
         if !matches!(self.peek().kind, Kind::Dot) && !self.peek().is(",") && !self.peek().is(";") {
@@ -243,11 +244,10 @@ impl<'a> Reader<'a> {
             rule.uses.push((atom, is_up));
             return Ok(());
         }
-        let (own, other) = if is_up { (&mut rule.pos, &rule.neg) } else { (&mut rule.neg, &rule.pos) };
-        if other.contains(&atom) {
+        if *seen.entry(atom.clone()).or_insert(is_up) != is_up {
             return Err(never_acts(&spot, &atom, "up and dropped"));
         }
-        own.push(atom);
+        (if is_up { &mut rule.pos } else { &mut rule.neg }).push(atom);
         Ok(())
     }
 
@@ -331,22 +331,30 @@ impl<'a> Reader<'a> {
     fn unexpected(&self, wanted: &[&str]) -> Stop {
         let token = self.peek();
         let is_larger = matches!(token.kind, Kind::Range | Kind::Number | Kind::Quoted | Kind::Variable | Kind::Hash)
-            || ["+", "*", "/", "=", "<", ">", "<=", ">=", "!=", "==", "@", ":", "\\", "^", "?", "{"].contains(&token.text.as_str());
+            || ["+", "*", "**", "/", "=", "<", ">", "<=", ">=", "!=", "==", "@", ":", "\\", "^", "?", "{", "$"].contains(&token.text.as_str());
         if is_larger {
             return large(token);
         }
         let wanted: Vec<String> = wanted.iter().map(|sign| format!("\"{}\"", sign)).collect();
         let what = format!("here stands \"{}\", where {} should stand", token.text, wanted.join(" or "));
-        Fault::at(&token.spot, what).hint(self.hint(token)).into()
+        let fault = Fault::at(&token.spot, what).hint(self.hint(token));
+        // gringo takes `a, b :- c` for "a or b".
+        if token.is(",") && self.is_in_head() {
+            return Stop::Wrong(fault);
+        }
+        fault.into()
+    }
+
+    fn is_in_head(&self) -> bool {
+        !self.tokens[..self.at].iter().any(|token| token.kind == Kind::If)
     }
 
     fn hint(&self, token: &Token) -> String {
         let before = &self.tokens[self.at.saturating_sub(1)];
-        let in_head = !self.tokens[..self.at].iter().any(|token| token.kind == Kind::If);
         let brace = self.tokens[..self.at].iter().rev().find(|token| token.is("{") || token.is("}"));
         match token.text.as_str() {
             "," if brace.map_or(false, |brace| brace.is("{")) => "between braces relays stand apart by ; each of them up or dropped: { a; b }.".to_string(),
-            "," if in_head => {
+            "," if self.is_in_head() => {
                 "a head lists its relays by ; and one of them is up; for relays that are driven together write a rule for each".to_string()
             }
             ":-" => "a rule has one :- ; is the full stop of the rule before it missing?".to_string(),
@@ -369,9 +377,9 @@ fn not_closed(token: &Token) -> Stop {
 
 fn no_name(token: &Token) -> Stop {
     if token.is("&") {
-        return Fault::at(&token.spot, "theory atoms are no part of a plan").hint("write out what the theory says as rules").into();
+        return Stop::Wrong(Fault::at(&token.spot, "theory atoms are no part of a plan").hint("write out what the theory says as rules"));
     }
-    let is_larger = matches!(token.kind, Kind::Number | Kind::Hash | Kind::Quoted) || ["{", "(", "@"].contains(&token.text.as_str());
+    let is_larger = matches!(token.kind, Kind::Number | Kind::Hash | Kind::Quoted) || ["{", "(", "@", "$"].contains(&token.text.as_str());
     if is_larger {
         return large(token);
     }
@@ -380,7 +388,7 @@ fn no_name(token: &Token) -> Stop {
 }
 
 fn never_acts(spot: &Spot, atom: &str, both: &str) -> Stop {
-    Fault::at(spot, format!("{} is wanted {} in one body: this rule can never act", atom, both)).hint("take one of the two out").into()
+    Stop::Wrong(Fault::at(spot, format!("{} is wanted {} in one body: this rule can never act", atom, both)).hint("take one of the two out"))
 }
 
 fn is_decimal(number: &str) -> bool {

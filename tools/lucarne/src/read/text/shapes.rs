@@ -43,10 +43,11 @@ pub struct Shape {
     pub is_external: bool,
 }
 
-/// The names that `#const` defines.
-pub fn constants(statements: &[Statement]) -> BTreeSet<String> {
+/// The names that `#const` and the command line (NAME=VALUE) define.
+pub fn constants(statements: &[Statement], set: &[String]) -> BTreeSet<String> {
     let defined = statements.iter().filter(|statement| statement.tokens[0].is("#const"));
-    defined.filter_map(|statement| statement.tokens.get(1)).map(|token| token.text.clone()).collect()
+    let named = defined.filter_map(|statement| statement.tokens.get(1)).map(|token| token.text.as_str());
+    named.chain(set.iter().map(|constant| constant.split('=').next().unwrap_or(constant))).map(str::to_string).collect()
 }
 
 impl Shape {
@@ -55,8 +56,8 @@ impl Shape {
             return Shape::of_fact(&statement.tokens[..statement.tokens.len() - 1]);
         }
         let mut builder = Builder { shape: Shape::default(), constants };
-        let end = statement.tokens.iter().position(|token| token.kind == Kind::Dot).unwrap_or(statement.tokens.len());
-        let tokens = &statement.tokens[..end];
+        let end = statement.rule().iter().position(|token| token.kind == Kind::Dot).unwrap_or(statement.rule().len());
+        let tokens = &statement.rule()[..end];
         match tokens {
             [first, rest @ ..] if first.is("#external") => builder.external(rest),
             // What starts with another word of gringo's is no rule, but for the sums that may stand in a head.

@@ -1,6 +1,6 @@
 //! A sheet's statements, and what its directives say. A file is a sheet; `%unit NAME` starts another one within it.
 
-use super::directives::{self, Directive, Label, WrittenTable};
+use super::directives::{self, Directive, Label, Special, WrittenTable};
 use super::tokens::{tokens, Kind, Token};
 use crate::fault::{Fault, Spot};
 use crate::plan::program::Shows;
@@ -13,9 +13,16 @@ use std::sync::Arc;
 pub struct Statement {
     pub sheet: usize,
     pub tokens: Vec<Token>,
+    /// The rule for gringo, where that is another: a term is shown where a relay of our own is up.
+    pub rule: Option<Vec<Token>>,
 }
 
 impl Statement {
+    /// What gringo reads.
+    pub fn rule(&self) -> &[Token] {
+        self.rule.as_ref().unwrap_or(&self.tokens)
+    }
+
     pub fn spot(&self) -> &Spot {
         &self.tokens[0].spot
     }
@@ -69,6 +76,8 @@ pub struct Sheets {
     /// Where each `#show` that names relays stands.
     pub show_spots: Vec<((String, usize), Spot)>,
     pub notes: Vec<String>,
+    /// Files that `#include` names, each with the file that names it.
+    pub includes: Vec<(String, Spot)>,
     files: Vec<String>,
     /// The numbers of sheets by name.
     numbers: HashMap<String, usize>,
@@ -113,15 +122,23 @@ impl Sheets {
     }
 
     fn statement(&mut self, tokens: Vec<Token>, sheet: &str) -> Result<(), Fault> {
-        let statement = Statement { sheet: 0, tokens };
-        if let Some(fault) = directives::no_part_of_a_plan(&statement) {
-            return Err(fault);
-        }
-        if statement.tokens[0].is("#show") {
-            let shown = directives::show(&statement)?;
-            self.show_spots.extend(shown.iter().map(|name| (name.clone(), statement.spot().clone())));
-            self.shows.get_or_insert_with(BTreeSet::new).extend(shown);
-            return Ok(());
+        let mut statement = Statement { sheet: 0, tokens, rule: None };
+        match directives::kind(&statement)? {
+            Special::Rule => {}
+            Special::Term(rule) => statement.rule = Some(rule),
+            Special::Show(shown) => {
+                self.show_spots.extend(shown.iter().map(|name| (name.clone(), statement.spot().clone())));
+                self.shows.get_or_insert_with(BTreeSet::new).extend(shown);
+                return Ok(());
+            }
+            Special::Include(path) => {
+                self.includes.push((path, statement.spot().clone()));
+                return Ok(());
+            }
+            Special::Idle(note) => {
+                self.notes.extend(note);
+                return Ok(());
+            }
         }
         let sheet = self.number(sheet);
         self.statements.push(Statement { sheet, ..statement });

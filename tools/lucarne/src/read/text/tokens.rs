@@ -162,7 +162,7 @@ fn measure(text: &str) -> Option<(Kind, usize)> {
             .map(|length| (Kind::Hash, length)),
         '.' => Some(if text.starts_with("..") { (Kind::Range, 2) } else { (Kind::Dot, 1) }),
         ':' if text.starts_with(":-") || text.starts_with(":~") => Some((Kind::If, 2)),
-        '0'..='9' => Some((Kind::Number, length_while(text, |sign| sign.is_ascii_alphanumeric()))),
+        '0'..='9' => Some((Kind::Number, length_while(text, |sign| sign.is_ascii_alphanumeric() || sign == '_'))),
         'a'..='z' | 'A'..='Z' | '_' => Some(name(text)),
         _ => sign_length(text).map(|length| (Kind::Sign, length)),
     }

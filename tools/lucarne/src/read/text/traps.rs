@@ -7,16 +7,43 @@ use super::tokens::{Kind, Token};
 use crate::fault::Fault;
 use std::collections::BTreeSet;
 
-/// A comparison in which a relay's name stands, or what only gringo's constraint solver can tell. gringo would read it, and the rule would be gone.
+/// A comparison in which a relay's name stands: gringo would read it, and the rule would be gone. A name with a digit before it, and `NOT`: gringo's own
+/// word for them says nothing to those who write them.
 pub fn misread(statement: &Statement, constants: &BTreeSet<String>) -> Option<Fault> {
     let tokens = &statement.tokens;
-    let fault = match tokens.iter().find(|token| token.is("$") || token.is("#disjoint")) {
-        Some(token) => Fault::at(&token.spot, "constraint variables ($x) are no part of a plan")
-            .hint("write out the values as relays, one of which is up: 1 { x(1..3) } 1."),
-        None if tokens[0].is("#const") => return None,
-        None => (0..tokens.len()).find_map(|place| comparison(tokens, place, constants))?,
-    };
-    Some(fault.text(cut(&statement.text(), 100)))
+    let is_const = tokens[0].is("#const");
+    let slip = tokens.iter().find_map(digit_first).or_else(|| tokens.windows(2).find_map(|pair| capital_not(&pair[0], &pair[1])));
+    let compared = || (0..tokens.len()).filter(|_| !is_const).find_map(|place| comparison(tokens, place, constants));
+    Some(slip.or_else(compared)?.text(cut(&statement.text(), 100)))
+}
+
+/// `1a_lr`, as railways name relays. `0x1f`, `0b11` and `0o17` are numbers.
+fn digit_first(token: &Token) -> Option<Fault> {
+    let is_digit = |base: u32| move |sign: char| sign.is_digit(base);
+    let is_number = token.text.chars().all(is_digit(10))
+        || [("0x", 16), ("0b", 2), ("0o", 8)].iter().any(|(start, base)| {
+            token.text.strip_prefix(start).map_or(false, |rest| !rest.is_empty() && rest.chars().all(is_digit(*base)))
+        });
+    if token.kind != Kind::Number || is_number {
+        return None;
+    }
+    let name = format!("r{}", token.text.to_lowercase());
+    Some(
+        Fault::at(&token.spot, format!("{} begins with a digit, and the name of a relay begins with a small letter", token.text))
+            .hint(format!("write {0}, and what is to be printed by: %name {0} \"{1}\"", name, token.text)),
+    )
+}
+
+/// `NOT a`: a word in capitals is a variable.
+fn capital_not(token: &Token, next: &Token) -> Option<Fault> {
+    let is_not = token.kind == Kind::Variable && token.text.eq_ignore_ascii_case("not");
+    if !is_not || !next.gap || !(matches!(next.kind, Kind::Name | Kind::Variable) || next.is("-")) {
+        return None;
+    }
+    Some(
+        Fault::at(&token.spot, format!("\"{}\" is read as a variable: \"not\" is written in small letters", token.text))
+            .hint(format!("write: not {}", next.text)),
+    )
 }
 
 /// The fault of the comparison sign at this place, if it compares a relay's name with something that has no variable.
