@@ -1,0 +1,2 @@
+// Pilots: spare atoms that follow the answers of contact tables.
+pub mod table_step;
