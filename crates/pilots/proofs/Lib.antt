@@ -1,2 +1,4 @@
 -- Rows of a table that a state leaves, and what they tell of inputs and of the pilot
 pub mod PilotRows
+-- Linked rules: their bodies where pilots follow their tables, and their answer sets
+pub mod LinkedRules
