@@ -2,3 +2,5 @@
 pub mod PilotRows
 -- Linked rules: their bodies where pilots follow their tables, and their answer sets
 pub mod LinkedRules
+-- How rules are linked one after the other
+pub mod Linking

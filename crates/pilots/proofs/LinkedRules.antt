@@ -96,8 +96,8 @@ use-linked rules linked e i l N =
     go (inl h) = (omega (arith, table-first i h), omega (arith, table-first i h))
     go (inr (t, h, q)) = (omega (arith, ap usedTable q ∙ table-behind t), omega (arith, ap usedTable q ∙ table-behind t))
 
-module _ {rules pilots linked : List ℕ} {which told : ℕ} (k : Linked rules pilots which told linked) (r : ℕ) (p : Has which r) where
-  words : LinkedRule rules pilots told linked r
+module _ {rules pilots linked : List ℕ} {which : ℕ} (k : Linked rules pilots which linked) (r : ℕ) (p : Has which r) where
+  words : LinkedRule rules pilots (k .told) linked r
   words = k .each r p
 
   -- a body of linked words that holds where pilots follow their tables
@@ -107,10 +107,10 @@ module _ {rules pilots linked : List ℕ} {which told : ℕ} (k : Linked rules p
       parts : (q : Part) → InBody linked r q → PartHolds linked r q M
       parts = body-parts linked r M b
 
-      use-of : (i : ℕ) → (l : i < USE_BITS) → Has (uses rules r) i → Dec (Has told i) → Sided i → useHolds rules i M ≡ true
+      use-of : (i : ℕ) → (l : i < USE_BITS) → Has (uses rules r) i → Dec (Has (k .told) i) → Sided i → useHolds rules i M ≡ true
       use-of i l h (no n) s =
-          sym (use-linked rules linked (k .same-tables) i l M)
-          ∙ parts (table-use i) (has-use i l (rw (words .uses) (has-without (uses rules r) told h n)))
+          sym (use-linked rules linked (k .same-tables r p) i l M)
+          ∙ parts (table-use i) (has-use i l (rw (words .uses) (has-without (uses rules r) (k .told) h n)))
       use-of i l h (yes d) (inl s) =
           let a = some-atom (getD pilots i 0) (λ z. k .told-uses .piloted i d (ap (λ (x : ℕ). getD pilots x 0) (sym (table-first i s)) ∙ z)) in
           on-holds rules pilots M f i (a .0) s (a .1)
@@ -133,7 +133,7 @@ module _ {rules pilots linked : List ℕ} {which told : ℕ} (k : Linked rules p
       go _ has-negative = record {
         none = λ i h. parts negative-word has-negative .none i (rw (words .negative) (has-left (negative rules r) (offPilots rules pilots r) h));
       }
-      go _ (has-use i l h) = use-of i l h (has-dec told i) (sided i l)
+      go _ (has-use i l h) = use-of i l h (has-dec (k .told) i) (sided i l)
 
   -- a body holds of linked words where it holds, and pilots are as it asks
   linked-body : (N : ℕ) → onPilots rules pilots r ⊆ N → Apart (offPilots rules pilots r) N → Body (lent rules) r N → Body (lent linked) r N
@@ -154,7 +154,7 @@ module _ {rules pilots linked : List ℕ} {which told : ℕ} (k : Linked rules p
       go _ has-positive = record { each = λ i h. up i (union-cases (lent rules .positive r) (onPilots rules pilots r) (rw (words .positive) at h)) }
       go _ has-negative = record { none = λ i h. down i (union-cases (negative rules r) (offPilots rules pilots r) (rw (words .negative) at h)) }
       go _ (has-use i l h) =
-          use-linked rules linked (k .same-tables) i l N ∙ parts (table-use i) (has-use i l (without-left (uses rules r) told (rw (words .uses) at h)))
+          use-linked rules linked (k .same-tables r p) i l N ∙ parts (table-use i) (has-use i l (without-left (uses rules r) (k .told) (rw (words .uses) at h)))
 
   module _ (M : ℕ) (f : FollowAll rules pilots M) (b : Body (lent rules) r M) where
     -- so they are where pilots follow their tables
@@ -192,9 +192,9 @@ module _ {rules pilots linked : List ℕ} {which told : ℕ} (k : Linked rules p
 -- ---- answer sets
 
 -- an answer set in which the pilots are inputs and follow their tables is one of the linked rules
-pub answers-linked : {rules pilots linked : List ℕ} {which told inputs M : ℕ} → Linked rules pilots which told linked → PilotsWithin pilots inputs
+pub answers-linked : {rules pilots linked : List ℕ} {which inputs M : ℕ} → Linked rules pilots which linked → PilotsWithin pilots inputs
     → FollowAll rules pilots M → AnswersInputs rules which inputs M → AnswersInputs linked which inputs M
-answers-linked {rules} {pilots} {linked} {which} {told} {inputs} {M} k w f s = record {
+answers-linked {rules} {pilots} {linked} {which} {inputs} {M} k w f s = record {
   answer = record {
     model = record { facts-up = s .answer .model .facts-up; each = λ r q. record { head-up = λ b. met r q b } };
     minimal = λ N proper m. s .answer .minimal N proper (record {

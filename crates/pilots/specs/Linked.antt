@@ -1,12 +1,13 @@
 -- Inner: linked rules: the same rules with pilots in place of uses.
 use mathlib.Core.Path.{_≡_}
 use mathlib.Core.List.{List}
-use Prim.Native.Nat.{ℕ, _/_, _^_, _<_}
-use lib.ListN.{getD}
+use mathlib.Core.Logic.{_⊎_}
+use Prim.Native.Nat.{ℕ, _+_, _*_, _/_, _^_, _≤_, _<_}
+use lib.ListN.{length, getD, set}
 use Rattle.atoms.specs.Word.{Has, _⊆_, _∪_, _∖_}
 use Rattle.atoms.specs.Bounded.{unionIn}
-use Rattle.plan.specs.Limits.{MAX_TABLES, FIRST_RULE}
-use Rattle.answer_sets.specs.Lent.{lent, Lent, negative, uses, usedTable}
+use Rattle.plan.specs.Limits.{MAX_TABLES, MAX_RULES, FIRST_RULE, RULE_WORDS}
+use Rattle.answer_sets.specs.Lent.{ruleAt, lent, Lent, negative, uses, usedTable}
 
 -- the pilots of the tables that rule r wants true, and of those that it wants false
 abbrev pub onPilots : List ℕ → List ℕ → ℕ → ℕ
@@ -27,11 +28,32 @@ pub record ToldUses (pilots : List ℕ) (told : ℕ) : Type 0 where
   pub piloted : (i : ℕ) → Has told i → ¬ (getD pilots (usedTable i) 0 ≡ 0)
 
 -- so is each numbered rule; the tables are the same
-pub record Linked (rules pilots : List ℕ) (which told : ℕ) (linked : List ℕ) : Type 0 where
+pub record Linked (rules pilots : List ℕ) (which : ℕ) (linked : List ℕ) : Type 0 where
+  pub told : ℕ
   pub told-uses : ToldUses pilots told
-  pub same-tables : (j : ℕ) → j < FIRST_RULE → getD linked j 0 ≡ getD rules j 0
+  pub same-tables : (r : ℕ) → Has which r → (j : ℕ) → j < FIRST_RULE → getD linked j 0 ≡ getD rules j 0
   pub each : (r : ℕ) → Has which r → LinkedRule rules pilots told linked r
   pub there : Lent linked which
+
+-- the words of a list from `at` on are these four
+abbrev pub written : List ℕ → ℕ → ℕ → ℕ → ℕ → ℕ → List ℕ
+written l at a b c d = set (set (set (set l at a) (at + 1) b) (at + 2) c) (at + 3) d
+
+-- one rule is linked, and no word elsewhere changed
+pub record RuleLinked (rules pilots : List ℕ) (told r : ℕ) (before after : List ℕ) : Type 0 where
+  pub same-length : length after ≡ length before
+  pub here : LinkedRule rules pilots told after r
+  pub elsewhere : (j : ℕ) → (j < ruleAt r) ⊎ (ruleAt r + RULE_WORDS ≤ j) → getD after j 0 ≡ getD before j 0
+
+-- each numbered rule is, and no table changed
+pub record RulesLinked (rules pilots : List ℕ) (told which : ℕ) (before after : List ℕ) : Type 0 where
+  pub same-length : length after ≡ length before
+  pub each : (r : ℕ) → Has which r → LinkedRule rules pilots told after r
+  pub same-tables : (j : ℕ) → j < FIRST_RULE → getD after j 0 ≡ getD before j 0
+
+-- how many words linked rules have
+abbrev pub LINKED_WORDS : ℕ
+LINKED_WORDS = FIRST_RULE + RULE_WORDS * MAX_RULES
 
 -- each pilot is an input
 pub record PilotsWithin (pilots : List ℕ) (inputs : ℕ) : Type 0 where

@@ -1,2 +1,3 @@
 // Pilots: spare atoms that follow the answers of contact tables.
+pub mod link;
 pub mod table_step;

@@ -1,0 +1,44 @@
+-- The tables are copied and the rules linked; without room for the tables no rule is numbered.
+use Prim.Native.Nat.{_^_, _<_}
+use native.Mathlib.Omega.{arith}
+use Rattle.atoms.specs.Word.{ATOMS}
+use Rattle.pilots.proofs.Linking.{lent-linked, linked-none, linked-all}
+use borrow.Author.Needs.{needs}
+use Rattle.pilots.proofs.link.link.Statement.{statement}
+use Rattle.pilots.proofs.link.link.Tie as tie
+
+-- rule numbers are bits of a word
+fits : (c : tie.Start) → c .args .which < 2 ^ ATOMS
+fits c = omega arith
+
+returns : tie.Need-returns
+returns c = linked-none (c .if1 .taken) (c .before .before .before .pre .0)
+
+link-all-requires : tie.Need-link-all-requires
+link-all-requires c κs =
+    let start = c .before .before .before .before .before .before .before .before .before in
+    (start .pre .0, lent-linked (search needs) (fits start), start .pre .1)
+
+returns-2 : tie.Need-returns-2
+returns-2 c =
+    let linked = c .before in
+    let told = linked .before .before in
+    let stored = told .before .before in
+    let test = stored .before .before .before in
+    let start = test .before .before .before in
+    linked-all _ (test .if1 .left) (search needs) (fits start) (stored .store .ensures) (told .told-uses .ensures) (linked .link-all .ensures) (search needs)
+
+pub link-spec : {M : Type 1} → statement M
+link-spec =
+    tie.close
+    (tie.spec
+    returns
+    (λ c. search needs)
+    (λ c. search needs)
+    (λ c. search needs)
+    (λ c. search needs)
+    (λ c κs. search needs)
+    (λ c κs. search needs)
+    (λ c. search needs)
+    link-all-requires
+    returns-2)
