@@ -1,0 +1,8 @@
+// Sums of parities: contact tables that say whether an odd number of their inputs is up, as rows with their pilots, and the step that sums them.
+mod rows;
+mod sums;
+mod tables;
+
+pub use sums::sum_step;
+pub use tables::parity_atoms;
+pub use tables::parity_tables;
