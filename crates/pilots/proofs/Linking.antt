@@ -159,13 +159,15 @@ pub lent-linked : {linked : List ℕ} {which : ℕ} → length linked ≡ LINKED
 lent-linked {which = which} e l = record { each = λ r h. let k = has-lt which ATOMS l h in omega (arith, e, k) }
 
 -- without room for the tables no rule is numbered
-pub linked-none : {rules pilots linked : List ℕ} {which : ℕ} → length rules < FIRST_RULE → Lent rules which → Linked rules pilots which linked
-linked-none {rules} {which = which} s l = record {
+pub linked-none : {rules pilots linked : List ℕ} {which : ℕ} → length rules < FIRST_RULE → Lent rules which → length linked ≡ LINKED_WORDS
+    → Linked rules pilots which linked
+linked-none {rules} {which = which} s l e = record {
   told = 0;
   told-uses = told-none;
   same-tables = λ r h. absurd (no r h);
   each = λ r h. absurd (no r h);
   there = record { each = λ r h. absurd (no r h) };
+  long = e;
 }
   where
     no : (r : ℕ) → Has which r → ⊥
@@ -181,6 +183,7 @@ linked-all {rules} before {between} {told = told} l e f g k w long = record {
   same-tables = λ r h j m. w .same-tables j m ∙ copied j m;
   each = w .each;
   there = lent-linked long f;
+  long = long;
 }
   where
     front : length (take FIRST_RULE rules) ≡ FIRST_RULE

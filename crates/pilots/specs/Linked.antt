@@ -27,6 +27,10 @@ pub record LinkedRule (rules pilots : List ℕ) (told : ℕ) (linked : List ℕ)
 pub record ToldUses (pilots : List ℕ) (told : ℕ) : Type 0 where
   pub piloted : (i : ℕ) → Has told i → ¬ (getD pilots (usedTable i) 0 ≡ 0)
 
+-- how many words linked rules have
+abbrev pub LINKED_WORDS : ℕ
+LINKED_WORDS = FIRST_RULE + RULE_WORDS * MAX_RULES
+
 -- so is each numbered rule; the tables are the same
 pub record Linked (rules pilots : List ℕ) (which : ℕ) (linked : List ℕ) : Type 0 where
   pub told : ℕ
@@ -34,6 +38,7 @@ pub record Linked (rules pilots : List ℕ) (which : ℕ) (linked : List ℕ) : 
   pub same-tables : (r : ℕ) → Has which r → (j : ℕ) → j < FIRST_RULE → getD linked j 0 ≡ getD rules j 0
   pub each : (r : ℕ) → Has which r → LinkedRule rules pilots told linked r
   pub there : Lent linked which
+  pub long : length linked ≡ LINKED_WORDS
 
 -- the words of a list from `at` on are these four
 abbrev pub written : List ℕ → ℕ → ℕ → ℕ → ℕ → ℕ → List ℕ
@@ -50,10 +55,6 @@ pub record RulesLinked (rules pilots : List ℕ) (told which : ℕ) (before afte
   pub same-length : length after ≡ length before
   pub each : (r : ℕ) → Has which r → LinkedRule rules pilots told after r
   pub same-tables : (j : ℕ) → j < FIRST_RULE → getD after j 0 ≡ getD before j 0
-
--- how many words linked rules have
-abbrev pub LINKED_WORDS : ℕ
-LINKED_WORDS = FIRST_RULE + RULE_WORDS * MAX_RULES
 
 -- each pilot is an input
 pub record PilotsWithin (pilots : List ℕ) (inputs : ℕ) : Type 0 where

@@ -2,13 +2,13 @@
 use answer_sets::uses::table_inputs;
 use answer_sets::uses::table_truth;
 use contact_tables::agreeing_rows;
+use plan::FIRST_RULE;
 use states::State;
 use states::clash;
 use states::undecided;
-ghost use Prim.Native.Nat.{_≤_, _<_};
-ghost use lib.ListN.{length};
+ghost use Prim.Native.Nat.{_<_};
 ghost use Rattle.atoms.specs.Word.{ATOMS};
-ghost use Rattle.plan.specs.Limits.{FIRST_RULE, MAX_TABLES};
+ghost use Rattle.plan.specs.Limits.{MAX_TABLES};
 ghost use Rattle.states.specs.Narrowing.{Narrows};
 ghost use Rattle.pilots.specs.Pilots.{Follows, FollowsWords, RowAmong};
 
@@ -72,11 +72,14 @@ fn tell_pilot(inputs: u64, truth: u64, pilot: u64, s: State) -> State
     s
 }
 
-// The state after table t with its pilot.
+// The state after table t with its pilot, where there are tables.
 pub fn table_step(rules: &[u64], t: usize, pilot: u64, s: State) -> State
-    requires { ⌜ (FIRST_RULE ≤ length (now rules)) × (t < MAX_TABLES) ⌝ }
+    requires { ⌜ t < MAX_TABLES ⌝ }
     ensures { λ r. ⌜ Narrows (Follows (now (rules .entry)) t pilot) s r ⌝ }
 {
+    if rules.len() < FIRST_RULE {
+        return s;
+    }
     let inputs = table_inputs(rules, t);
     let truth = table_truth(rules, t);
     if !atoms::are_apart(pilot, s.up) {

@@ -7,8 +7,8 @@ use lib.Count.{ones}
 use lib.ListN.{length, getD}
 use Rattle.atoms.specs.Word.{ATOMS, Apart, _∪_, atom}
 use Rattle.atoms.specs.Collected.{Collects}
-use Rattle.plan.specs.Limits.{MAX_UNITS}
-use Rattle.answer_sets.specs.Lent.{lent, looks}
+use Rattle.plan.specs.Limits.{MAX_TABLES, MAX_UNITS}
+use Rattle.answer_sets.specs.Lent.{lent, looks, inputs}
 use Rattle.states.specs.State.{undecided}
 use Rattle.states.specs.declared.state.State.{State}
 use Rattle.narrowing.specs.Marks.{NotedAt, ByOne}
@@ -43,6 +43,10 @@ INDEX_WORDS = WOKEN_WORDS + ATOMS
 abbrev pub FOUNDED_PLACE : ℕ
 FOUNDED_PLACE = MAX_UNITS
 
+-- the place of the first table there
+abbrev pub TABLES_PLACE : ℕ
+TABLES_PLACE = FOUNDED_PLACE + 1
+
 -- the atoms of rule r
 abbrev pub atomsOf : List ℕ → ℕ → ℕ
 atomsOf rules r = lent rules .head r ∪ (lent rules .positive r ∪ looks rules r)
@@ -56,13 +60,32 @@ pub record WakesFounded (rules : List ℕ) (looped r i q : ℕ) : Type 0 where
   pub is-looped : ¬ Apart (lent rules .head r) looped
   pub noted : NotedAt WOKEN_WORDS (atomsOf rules r) (atom FOUNDED_PLACE) i q
 
--- step q stands at place i of the index of a unit
-pub data Indexed (rules heads : List ℕ) (unit : Unit) (looped i q : ℕ) : Type 0 where
-  by-rule : SomeWakes rules (unit .rules) i q → Indexed rules heads unit looped i q
-  by-list : ByOne (WakesList heads) (unit .nearest) i q → Indexed rules heads unit looped i q
-  by-loop : ByOne (WakesFounded rules looped) (unit .rules) i q → Indexed rules heads unit looped i q
+-- table t has a pilot, and its step is woken by its inputs and its pilot
+pub record WakesTable (linked pilots : List ℕ) (t i q : ℕ) : Type 0 where
+  pub has-pilot : ¬ (getD pilots t 0 ≡ 0)
+  pub noted : NotedAt WOKEN_WORDS (inputs linked t ∪ getD pilots t 0) (atom (TABLES_PLACE + t)) i q
+
+-- one of the tables below n is
+pub record WakesTables (linked pilots : List ℕ) (n i q : ℕ) : Type 0 where
+  pub table : ℕ
+  pub lower : table < n
+  pub wakes : WakesTable linked pilots table i q
+
+-- q is the place of a table below n that has a pilot
+pub record TablePlace (pilots : List ℕ) (n q : ℕ) : Type 0 where
+  pub table : ℕ
+  pub lower : table < n
+  pub has-pilot : ¬ (getD pilots table 0 ≡ 0)
+  pub place : q ≡ TABLES_PLACE + table
+
+-- step q stands at place i of the index of a unit whose rules are linked
+pub data Indexed (rules linked pilots heads : List ℕ) (unit : Unit) (looped i q : ℕ) : Type 0 where
+  by-rule : SomeWakes linked (unit .rules) i q → Indexed rules linked pilots heads unit looped i q
+  by-list : ByOne (WakesList heads) (unit .nearest) i q → Indexed rules linked pilots heads unit looped i q
+  by-loop : ByOne (WakesFounded rules looped) (unit .rules) i q → Indexed rules linked pilots heads unit looped i q
+  by-table : WakesTables linked pilots MAX_TABLES i q → Indexed rules linked pilots heads unit looped i q
 
 -- the whole index
-pub record WakeIndex (rules heads : List ℕ) (unit : Unit) (looped : ℕ) (index : List ℕ) : Type 0 where
+pub record WakeIndex (rules linked pilots heads : List ℕ) (unit : Unit) (looped : ℕ) (index : List ℕ) : Type 0 where
   pub long : length index ≡ INDEX_WORDS
-  pub words : (i : ℕ) → Collects (Indexed rules heads unit looped i) (getD index i 0)
+  pub words : (i : ℕ) → Collects (Indexed rules linked pilots heads unit looped i) (getD index i 0)

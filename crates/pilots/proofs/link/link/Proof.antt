@@ -12,7 +12,7 @@ fits : (c : tie.Start) → c .args .which < 2 ^ ATOMS
 fits c = omega arith
 
 returns : tie.Need-returns
-returns c = linked-none (c .if1 .taken) (c .before .before .before .pre .0)
+returns c = linked-none (c .if1 .taken) (c .before .before .before .pre .0) (search needs)
 
 link-all-requires : tie.Need-link-all-requires
 link-all-requires c κs =
