@@ -17,6 +17,8 @@ use narrowing::founded_step::founded_step;
 use narrowing::steps::apply_rule;
 use narrowing::steps::apply_support;
 use narrowing::unfounded::drop_unfounded;
+use parities::parity_atoms;
+use parities::sum_step;
 use pilots::table_step::table_step;
 use plan::FIRST_RULE;
 use propagating::Unit;
@@ -98,6 +100,7 @@ fn step_again(
         Step::List(list) => list_again(table, counts, desk, unit.nearest, list, s),
         Step::Founded => founded_step(rules, unit.rules, unit.inputs, s),
         Step::Table(t) => table_step(rules, t, desk[PILOTS + t], s),
+        Step::Sums => sum_step(rules, &desk[PILOTS..LINKED], s),
         Step::Pair(i) => refute(read_pair(memory, i), s),
         Step::Unfounded => drop_unfounded(rules, unit.rules, unit.inputs, c.unfounded, s),
     }
@@ -206,10 +209,14 @@ fn looked_at(
 {
     match decode(step) {
         Step::Rule(rule) => either_way(numbered_atoms(&desk[LINKED..DESK_WORDS], unit.rules, rule)),
-        Step::Support(atom) => excluding(&desk[LINKED..DESK_WORDS], backing(desk, unit.rules, atom)),
+        Step::Support(atom) => excluding(
+            &desk[LINKED..DESK_WORDS],
+            backing(desk, unit.rules, atom),
+        ),
         Step::List(list) => either_way(desk[list]),
         Step::Founded => either_way(atoms::first(ATOMS)),
         Step::Table(t) => either_way(table_atoms(rules, t, desk[PILOTS + t])),
+        Step::Sums => either_way(parity_atoms(rules, &desk[PILOTS..LINKED])),
         Step::Pair(i) => either_way(decided(read_pair(memory, i))),
         Step::Unfounded => unfounding(rules, unit.rules, unfounded),
     }

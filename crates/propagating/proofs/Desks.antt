@@ -4,7 +4,7 @@ use mathlib.Core.Bool.{Bool}
 use mathlib.Core.List.{List, [], _++_, append-assoc, append-nil}
 use Prim.Native.Nat.{ℕ, _+_, _*_, _≤_, _<_}
 use native.Mathlib.Omega.{arith}
-use lib.ListN.{length, take, drop, getD}
+use lib.ListN.{length, take, drop, getD, length-drop}
 use lib.Seq.{paste, length-paste, take-all, length-take-le, getD-take, getD-drop}
 use Rattle.atoms.specs.Word.{_∩_}
 use Rattle.atoms.specs.Bounded.{allIn}
@@ -150,3 +150,9 @@ module _ {rules heads pilots desk : List ℕ} {unit : Unit} (l : LaidOut rules h
 -- a pilot stands behind the index
 pub pilot-at : (desk : List ℕ) (t : ℕ) → t < MAX_TABLES → getD desk (PILOTS_AT + t) 0 ≡ getD (pilotsOf desk) t 0
 pilot-at desk t l = sym (getD-take MAX_TABLES (drop PILOTS_AT desk) t 0 l ∙ getD-drop PILOTS_AT desk t 0)
+
+-- there is one for each table
+pub pilots-long : (desk : List ℕ) → length desk ≡ DESK_WORDS → MAX_TABLES ≤ length (pilotsOf desk)
+pilots-long desk l =
+    let e : length (pilotsOf desk) ≡ MAX_TABLES = length-take-le MAX_TABLES (drop PILOTS_AT desk) (omega (arith, length-drop PILOTS_AT desk, l)) in
+    omega arith

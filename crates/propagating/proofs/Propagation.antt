@@ -50,3 +50,7 @@ module _ {rules table counts desk : List ℕ} {unit : Unit} {s t : State} (ready
   pub table-narrows : {i w : ℕ} → i < MAX_TABLES → w ≡ getD (pilotsOf desk) i 0 → Narrows (Follows rules i w) s t
       → Narrows (Wired rules table counts desk unit) s t
   table-narrows {i} l e n = narrows-for (λ M b. rw e (b .follow .each i l)) n
+
+  -- all of them do
+  pub sums-narrow : Narrows (FollowAll rules (pilotsOf desk)) s t → Narrows (Wired rules table counts desk unit) s t
+  sums-narrow n = narrows-for (λ M b. b .follow) n

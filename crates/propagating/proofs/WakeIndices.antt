@@ -1,4 +1,4 @@
--- The index of woken steps: its lists, the founded step, the tables, and all of it from zeros on; and the places of tables on an agenda.
+-- The index of woken steps: its lists, the founded step, the tables, their sums, and all of it from zeros on; and the places of tables on an agenda.
 use mathlib.Core.Path.{_≡_, sym, subst, _∙_}
 use mathlib.Core.Bool.{Bool, true, false, not}
 use mathlib.Core.List.{List}
@@ -8,20 +8,21 @@ use native.Mathlib.Omega.{arith}
 use native.Mathlib.Decide.{ℕ-discrete}
 use lib.Dec.{eqb}
 use lib.ListN.{length, getD}
-use Rattle.atoms.specs.Word.{Has, Apart, apart, _∪_, atom}
+use Rattle.atoms.specs.Word.{Has, Apart, apart, _∪_, atom, AtMostOne}
 use Rattle.atoms.specs.Bounded.{Decides, singleIf}
 use Rattle.atoms.specs.Collected.{Collects}
-use Rattle.atoms.proofs.Sets.{has-none, decides-apart}
+use Rattle.atoms.proofs.Sets.{has-none, has-atom, atom-only, decides-apart}
 use Rattle.atoms.proofs.Tests.{decided, decided-true, decides-not, decides-equal}
 use Rattle.atoms.proofs.Singles.{single-if-has, single-if-at}
-use Rattle.atoms.proofs.Collected.{collects-iff, collects-has, collects-union}
+use Rattle.atoms.proofs.Collected.{collects-iff, collects-has, collects-same, collects-union}
 use Rattle.plan.specs.Limits.{MAX_TABLES}
 use Rattle.answer_sets.specs.Lent.{lent, inputs}
 use Rattle.narrowing.specs.Marks.{Adds, NotedAt, ByOne, Marked}
 use Rattle.narrowing.specs.Woken.{WOKEN_WORDS, SomeWakes}
+use Rattle.parities.specs.Parity.{ParityTable, ParityAtom}
 use Rattle.narrowing.proofs.MarkedTables.{adds-none, adds-iff, adds-trans}
 use Rattle.propagating.specs.Agenda.{INDEX_WORDS, FOUNDED_PLACE, TABLES_PLACE, atomsOf, WakesList, WakesFounded, WakesTable, WakesTables, TablePlace}
-use Rattle.propagating.specs.Agenda.{Indexed, by-rule, by-list, by-loop, by-table, WakeIndex}
+use Rattle.propagating.specs.Agenda.{SUMS_PLACE, WakesSums, Indexed, by-rule, by-list, by-loop, by-table, by-sums, WakeIndex}
 use Rattle.propagating.specs.declared.unit.Unit.{Unit}
 
 -- one list
@@ -119,34 +120,70 @@ pub places-end : {pilots : List ℕ} {t word : ℕ} → Collects (TablePlace pil
     → Collects (TablePlace pilots MAX_TABLES) word
 places-end {pilots} {t} {word} c l m = subst (λ (n : ℕ). Collects (TablePlace pilots n) word) (omega arith) c
 
+-- ---- the sums
+
+-- two parity tables or more
+pub sums-added : (linked pilots : List ℕ) {tables which word : ℕ} {before after : List ℕ} → Collects (ParityTable linked pilots) tables → ¬ AtMostOne tables
+    → Collects (ParityAtom linked pilots) which → word ≡ atom SUMS_PLACE → Marked WOKEN_WORDS which word before after
+    → Adds (WakesSums linked pilots) before after
+sums-added linked pilots {tables} {which} {word} c n d e m = adds-iff into from m
+  where
+    into : (i q : ℕ) → NotedAt WOKEN_WORDS which word i q → WakesSums linked pilots i q
+    into i q k = record {
+      tables = tables;
+      are-parities = c;
+      several = n;
+      atom = k .atom;
+      of-table = d .each (k .atom) (k .in-set);
+      at = k .place;
+      place = sym (atom-only SUMS_PLACE (rw e at (k .in-word)));
+    }
+
+    from : (i q : ℕ) → WakesSums linked pilots i q → NotedAt WOKEN_WORDS which word i q
+    from i q k = record {
+      atom = k .atom;
+      in-set = d .all (k .atom) (k .of-table);
+      place = k .at;
+      in-word = rw (e, k .place) (has-atom SUMS_PLACE);
+    }
+
+-- fewer
+pub sums-left : {linked pilots : List ℕ} {tables : ℕ} {table : List ℕ} → Collects (ParityTable linked pilots) tables → AtMostOne tables
+    → Adds (WakesSums linked pilots) table table
+sums-left c one = adds-none (λ i q k. k .several (subst AtMostOne (collects-same c (k .are-parities)) one))
+
 -- ---- all of it
 
-pub index-of : {rules linked pilots heads : List ℕ} {unit : Unit} {looped : ℕ} {before first second third after : List ℕ} → length before ≡ INDEX_WORDS
+pub index-of : {rules linked pilots heads : List ℕ} {unit : Unit} {looped : ℕ} {before first second third fourth after : List ℕ} → length before ≡ INDEX_WORDS
     → ((i : ℕ) → getD before i 0 ≡ 0) → Adds (SomeWakes linked (unit .rules)) before first → Adds (ByOne (WakesList heads) (unit .nearest)) first second
-    → Adds (ByOne (WakesFounded rules looped) (unit .rules)) second third → Adds (WakesTables linked pilots MAX_TABLES) third after
+    → Adds (ByOne (WakesFounded rules looped) (unit .rules)) second third → Adds (WakesTables linked pilots MAX_TABLES) third fourth
+    → Adds (WakesSums linked pilots) fourth after
     → WakeIndex rules linked pilots heads unit looped after
-index-of {rules} {linked} {pilots} {heads} {unit} {looped} {before} {after = after} l z a b c d = record {
+index-of {rules} {linked} {pilots} {heads} {unit} {looped} {before} {after = after} l z a b c d f = record {
   long = whole .same-length ∙ l;
   words = λ i. record { each = λ q h. go i q (whole .no-more i q h); all = λ q k. whole .added i q k };
 }
   where
-    into : (i q : ℕ) → ((SomeWakes linked (unit .rules) i q ⊎ ByOne (WakesList heads) (unit .nearest) i q)
-        ⊎ ByOne (WakesFounded rules looped) (unit .rules) i q) ⊎ WakesTables linked pilots MAX_TABLES i q → Indexed rules linked pilots heads unit looped i q
-    into i q (inl (inl (inl k))) = by-rule k
-    into i q (inl (inl (inr k))) = by-list k
-    into i q (inl (inr k)) = by-loop k
-    into i q (inr k) = by-table k
+    into : (i q : ℕ) → (((SomeWakes linked (unit .rules) i q ⊎ ByOne (WakesList heads) (unit .nearest) i q)
+        ⊎ ByOne (WakesFounded rules looped) (unit .rules) i q) ⊎ WakesTables linked pilots MAX_TABLES i q) ⊎ WakesSums linked pilots i q
+        → Indexed rules linked pilots heads unit looped i q
+    into i q (inl (inl (inl (inl k)))) = by-rule k
+    into i q (inl (inl (inl (inr k)))) = by-list k
+    into i q (inl (inl (inr k))) = by-loop k
+    into i q (inl (inr k)) = by-table k
+    into i q (inr k) = by-sums k
 
     from : (i q : ℕ) → Indexed rules linked pilots heads unit looped i q
-        → ((SomeWakes linked (unit .rules) i q ⊎ ByOne (WakesList heads) (unit .nearest) i q)
-        ⊎ ByOne (WakesFounded rules looped) (unit .rules) i q) ⊎ WakesTables linked pilots MAX_TABLES i q
-    from i q (by-rule k) = inl (inl (inl k))
-    from i q (by-list k) = inl (inl (inr k))
-    from i q (by-loop k) = inl (inr k)
-    from i q (by-table k) = inr k
+        → (((SomeWakes linked (unit .rules) i q ⊎ ByOne (WakesList heads) (unit .nearest) i q)
+        ⊎ ByOne (WakesFounded rules looped) (unit .rules) i q) ⊎ WakesTables linked pilots MAX_TABLES i q) ⊎ WakesSums linked pilots i q
+    from i q (by-rule k) = inl (inl (inl (inl k)))
+    from i q (by-list k) = inl (inl (inl (inr k)))
+    from i q (by-loop k) = inl (inl (inr k))
+    from i q (by-table k) = inl (inr k)
+    from i q (by-sums k) = inr k
 
     whole : Adds (Indexed rules linked pilots heads unit looped) before after
-    whole = adds-iff into from (adds-trans (adds-trans (adds-trans a b) c) d)
+    whole = adds-iff into from (adds-trans (adds-trans (adds-trans (adds-trans a b) c) d) f)
 
     go : (i q : ℕ) → Has (getD before i 0) q ⊎ Indexed rules linked pilots heads unit looped i q → Indexed rules linked pilots heads unit looped i q
     go i q (inl h) = absurd (has-none (subst (λ (w : ℕ). Has w q) (z i) h))

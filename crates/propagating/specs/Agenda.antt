@@ -5,7 +5,7 @@ use mathlib.Core.List.{List}
 use Prim.Native.Nat.{ℕ, _+_, _≤_, _<_}
 use lib.Count.{ones}
 use lib.ListN.{length, getD}
-use Rattle.atoms.specs.Word.{ATOMS, Apart, _∪_, atom}
+use Rattle.atoms.specs.Word.{ATOMS, Apart, _∪_, atom, AtMostOne}
 use Rattle.atoms.specs.Collected.{Collects}
 use Rattle.plan.specs.Limits.{MAX_TABLES, MAX_UNITS}
 use Rattle.answer_sets.specs.Lent.{lent, looks, inputs}
@@ -13,6 +13,7 @@ use Rattle.states.specs.State.{undecided}
 use Rattle.states.specs.declared.state.State.{State}
 use Rattle.narrowing.specs.Marks.{NotedAt, ByOne}
 use Rattle.narrowing.specs.Woken.{WOKEN_WORDS, SomeWakes}
+use Rattle.parities.specs.Parity.{ParityTable, ParityAtom}
 use Rattle.propagating.specs.declared.unit.Unit.{Unit}
 use Rattle.propagating.specs.declared.agenda.Agenda.{Agenda}
 use Rattle.propagating.specs.declared.agenda.Taken.{Taken}
@@ -47,6 +48,10 @@ FOUNDED_PLACE = MAX_UNITS
 abbrev pub TABLES_PLACE : ℕ
 TABLES_PLACE = FOUNDED_PLACE + 1
 
+-- and that of the sums, behind the tables
+abbrev pub SUMS_PLACE : ℕ
+SUMS_PLACE = TABLES_PLACE + MAX_TABLES
+
 -- the atoms of rule r
 abbrev pub atomsOf : List ℕ → ℕ → ℕ
 atomsOf rules r = lent rules .head r ∪ (lent rules .positive r ∪ looks rules r)
@@ -71,6 +76,16 @@ pub record WakesTables (linked pilots : List ℕ) (n i q : ℕ) : Type 0 where
   pub lower : table < n
   pub wakes : WakesTable linked pilots table i q
 
+-- two tables or more are parities with a pilot, and their sums are woken by their inputs and pilots
+pub record WakesSums (linked pilots : List ℕ) (i q : ℕ) : Type 0 where
+  pub tables : ℕ
+  pub are-parities : Collects (ParityTable linked pilots) tables
+  pub several : ¬ AtMostOne tables
+  pub atom : ℕ
+  pub of-table : ParityAtom linked pilots atom
+  pub at : i ≡ WOKEN_WORDS + atom
+  pub place : q ≡ SUMS_PLACE
+
 -- q is the place of a table below n that has a pilot
 pub record TablePlace (pilots : List ℕ) (n q : ℕ) : Type 0 where
   pub table : ℕ
@@ -84,6 +99,7 @@ pub data Indexed (rules linked pilots heads : List ℕ) (unit : Unit) (looped i 
   by-list : ByOne (WakesList heads) (unit .nearest) i q → Indexed rules linked pilots heads unit looped i q
   by-loop : ByOne (WakesFounded rules looped) (unit .rules) i q → Indexed rules linked pilots heads unit looped i q
   by-table : WakesTables linked pilots MAX_TABLES i q → Indexed rules linked pilots heads unit looped i q
+  by-sums : WakesSums linked pilots i q → Indexed rules linked pilots heads unit looped i q
 
 -- the whole index
 pub record WakeIndex (rules linked pilots heads : List ℕ) (unit : Unit) (looped : ℕ) (index : List ℕ) : Type 0 where

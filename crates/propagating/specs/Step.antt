@@ -5,7 +5,7 @@ use Rattle.atoms.specs.Word.{ATOMS}
 use Rattle.plan.specs.Limits.{MAX_RULES, MAX_TABLES, MAX_UNITS}
 use Rattle.learning.specs.Store.{PAIRS}
 use Rattle.propagating.specs.declared.step.Step.{Step}
-use Rattle.propagating.specs.declared.step.Step.the-variants.{Rule, Support, List, Founded, Table, Pair, Unfounded}
+use Rattle.propagating.specs.declared.step.Step.the-variants.{Rule, Support, List, Founded, Table, Sums, Pair, Unfounded}
 
 -- the first number of each kind: of rules it is 0
 abbrev pub SUPPORTS : ℕ
@@ -20,8 +20,11 @@ FOUNDED_STEP = LISTS + MAX_UNITS
 abbrev pub TABLE_STEPS : ℕ
 TABLE_STEPS = FOUNDED_STEP + 1
 
+abbrev pub SUM_STEP : ℕ
+SUM_STEP = TABLE_STEPS + MAX_TABLES
+
 abbrev pub PAIR_STEPS : ℕ
-PAIR_STEPS = TABLE_STEPS + MAX_TABLES
+PAIR_STEPS = SUM_STEP + 1
 
 abbrev pub UNFOUNDED_STEP : ℕ
 UNFOUNDED_STEP = PAIR_STEPS + PAIRS
@@ -33,5 +36,6 @@ Decoded n (Support a) = (a < ATOMS) × (n ≡ SUPPORTS + a)
 Decoded n (List v) = (v < MAX_UNITS) × (n ≡ LISTS + v)
 Decoded n Founded = n ≡ FOUNDED_STEP
 Decoded n (Table t) = (t < MAX_TABLES) × (n ≡ TABLE_STEPS + t)
+Decoded n Sums = n ≡ SUM_STEP
 Decoded n (Pair i) = (i < PAIRS) × (n ≡ PAIR_STEPS + i)
 Decoded n Unfounded = UNFOUNDED_STEP ≤ n

@@ -1,6 +1,7 @@
 // The agenda: which steps may have something new to say. It is advice: a step that is left out costs pruning and no member.
 use crate::step::FOUNDED_STEP;
 use crate::step::LISTS;
+use crate::step::SUM_STEP;
 use crate::step::SUPPORTS;
 use crate::step::TABLE_STEPS;
 use crate::unit::Unit;
@@ -15,6 +16,8 @@ use narrowing::woken::RULES_UP;
 use narrowing::woken::SUPPORTS_UP;
 use narrowing::woken::WOKEN_WORDS;
 use narrowing::woken::note_rules;
+use parities::parity_atoms;
+use parities::parity_tables;
 use plan::MAX_TABLES;
 use states::State;
 use states::undecided;
@@ -32,7 +35,7 @@ ghost use Rattle.answer_sets.specs.Lent.{lent, IsLent, Lent};
 ghost use Rattle.narrowing.specs.Marks.{Adds, ByOne};
 ghost use Rattle.pilots.specs.Linked.{LINKED_WORDS};
 ghost use Rattle.propagating.specs.Agenda.{Idle, TakenFrom, Woken, INDEX_WORDS, FOUNDED_PLACE, atomsOf, WakesList, WakesFounded};
-ghost use Rattle.propagating.specs.Agenda.{WakesTable, WakesTables, TablePlace, WakeIndex};
+ghost use Rattle.propagating.specs.Agenda.{WakesTable, WakesTables, WakesSums, TablePlace, WakeIndex};
 
 // The founded step's place in the agenda's third word, behind the lists.
 const FOUNDED_PLACE: usize = FOUNDED_STEP - LISTS;
@@ -40,12 +43,15 @@ const FOUNDED_PLACE: usize = FOUNDED_STEP - LISTS;
 // The place of the first table there.
 const TABLES_PLACE: usize = TABLE_STEPS - LISTS;
 
+// The place of the sums, behind the tables.
+const SUMS_PLACE: usize = SUM_STEP - LISTS;
+
 // The index of woken steps: the parts for rules and supports, and one for the lists and the founded step.
 const OTHERS: usize = WOKEN_WORDS;
 
 pub const INDEX_WORDS: usize = WOKEN_WORDS + ATOMS;
 
-// The rules, the atoms whose support, and the lists that are to be looked at; behind these the founded step and the tables.
+// The rules, the atoms whose support, and the lists that are to be looked at; behind these the founded step, the tables and their sums.
 pub struct Agenda {
     pub rules: u64,
     pub supports: u64,
@@ -224,6 +230,18 @@ fn note_tables(linked: &[u64], pilots: &[u64], index: &mut [u64])
     }
 }
 
+// Notes the sums for the inputs and pilots of the parity tables, where there are two or more of these.
+fn note_sums(linked: &[u64], pilots: &[u64], index: &mut [u64])
+    requires { ⌜ (length (now pilots) ≡ MAX_TABLES) × (INDEX_WORDS ≤ length (now index)) ⌝ }
+    ensures { λ _. ⌜ Adds (WakesSums (now (linked .entry)) (now (pilots .entry))) (now (index .entry)) (now (index .exit)) ⌝ }
+{
+    if atoms::at_most_one(parity_tables(linked, pilots)) {
+        return;
+    }
+    let seen = parity_atoms(linked, pilots);
+    mark(index, OTHERS, seen, atoms::single(SUMS_PLACE));
+}
+
 // The index of the steps that a decided atom wakes, in a unit whose looped atoms are these, and whose rules are linked by these pilots.
 pub fn wake_index(
     rules: &[u64],
@@ -242,6 +260,7 @@ pub fn wake_index(
     note_lists(heads, unit.nearest, &mut index);
     note_founded(rules, unit.rules, looped, &mut index);
     note_tables(linked, pilots, &mut index);
+    note_sums(linked, pilots, &mut index);
     index
 }
 
@@ -272,7 +291,8 @@ pub fn with_tables(pilots: &[u64], a: Agenda) -> Agenda
     }
 }
 
-// The agenda of all steps but those of tables; without looped atoms the founded step has nothing to say beyond the supports.
+// The agenda of all steps but those of tables; without looped atoms the founded step has nothing to say beyond the supports. The sums are on no first
+// agenda: until a pilot is decided they have nothing to say beyond the tables.
 pub fn every_step(unit: Unit, looped: u64) -> Agenda
     ensures rules { λ r. ⌜ (r .rules ≡ unit .rules) × (r .supports ≡ outside (unit .inputs)) ⌝ }
     ensures others { λ r. ⌜ r .others ≡ unit .nearest ∪ singleIf (not (eqb looped 0)) FOUNDED_PLACE ⌝ }

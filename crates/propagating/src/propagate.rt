@@ -23,6 +23,7 @@ use learning::trail::note_step;
 use narrowing::founded_step::founded_step;
 use narrowing::steps::apply_rule;
 use narrowing::steps::apply_support;
+use parities::sum_step;
 use pilots::table_step::table_step;
 use states::State;
 ghost use mathlib.Core.Path.{_≡_};
@@ -62,6 +63,7 @@ fn take_step(
         Step::List(list) => filter_step(table, counts, desk, unit.nearest, list, filter, s),
         Step::Founded => founded_step(rules, unit.rules, unit.inputs, s),
         Step::Table(t) => table_step(rules, t, desk[PILOTS + t], s),
+        Step::Sums => sum_step(rules, &desk[PILOTS..LINKED], s),
         Step::Pair(_) => s,
         Step::Unfounded => s,
     }

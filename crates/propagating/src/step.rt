@@ -1,5 +1,5 @@
 // The steps by number, as the agenda and the trail have them: the rules, the supports of the atoms, the lists, the founded step, the tables, the
-// pairs of the memory, and last the step that drops given atoms if they are unfounded.
+// sums of parity tables, the pairs of the memory, and last the step that drops given atoms if they are unfounded.
 use atoms::ATOMS;
 use learning::store::PAIRS;
 use plan::MAX_RULES;
@@ -15,17 +15,20 @@ pub const FOUNDED_STEP: usize = LISTS + MAX_UNITS;
 
 pub const TABLE_STEPS: usize = FOUNDED_STEP + 1;
 
-pub const PAIR_STEPS: usize = TABLE_STEPS + MAX_TABLES;
+pub const SUM_STEP: usize = TABLE_STEPS + MAX_TABLES;
+
+pub const PAIR_STEPS: usize = SUM_STEP + 1;
 
 pub const UNFOUNDED_STEP: usize = PAIR_STEPS + PAIRS;
 
-// A step: a rule, an atom's support, a list, the founded step, a table, a pair of the memory, or that given atoms are unfounded.
+// A step: a rule, an atom's support, a list, the founded step, a table, the sums of parity tables, a pair of the memory, or that given atoms are unfounded.
 pub enum Step {
     Rule(usize),
     Support(usize),
     List(usize),
     Founded,
     Table(usize),
+    Sums,
     Pair(usize),
     Unfounded,
 }
@@ -46,8 +49,11 @@ pub fn decode(number: usize) -> Step
     if number < TABLE_STEPS {
         return Step::Founded;
     }
-    if number < PAIR_STEPS {
+    if number < SUM_STEP {
         return Step::Table(number - TABLE_STEPS);
+    }
+    if number < PAIR_STEPS {
+        return Step::Sums;
     }
     if number < UNFOUNDED_STEP {
         return Step::Pair(number - PAIR_STEPS);

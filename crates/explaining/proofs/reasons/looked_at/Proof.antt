@@ -2,7 +2,9 @@
 use native.Mathlib.Omega.{arith}
 use Prim.Native.Nat.{_<_}
 use Rattle.plan.specs.Limits.{MAX_TABLES, MAX_UNITS}
+use denote.Ref.{now}
 use Rattle.answer_sets.proofs.Lent.{lent-within}
+use Rattle.propagating.proofs.Desks.{pilots-long}
 use borrow.Author.Needs.{needs}
 use Rattle.explaining.proofs.reasons.looked_at.Statement.{statement}
 use Rattle.explaining.proofs.reasons.looked_at.Tie as tie
@@ -73,11 +75,18 @@ looked-at-spec =
     (λ c κs. few (c .before))
     (λ c κs. search needs)
     (λ c. search needs)
+    (λ c. search needs)
+    (λ c. search needs)
+    (λ c. search needs)
+    (λ c κs. let at = start (c .before .before .before) in pilots-long (now (at .args .desk)) (at .pre .2))
+    (λ c κs. search needs)
+    (λ c. search needs)
     read-pair-requires
     (λ c κs. search needs)
     (λ c κs. search needs)
     (λ c. search needs)
     (λ c κs. start (c .before .before) .pre .0)
+    (λ c. search needs)
     (λ c. search needs)
     (λ c. search needs)
     (λ c. search needs)

@@ -6,9 +6,9 @@ use Rattle.atoms.specs.Word.{ATOMS}
 use Rattle.plan.specs.Limits.{MAX_TABLES}
 use Rattle.learning.specs.Store.{PAIRS}
 use Rattle.joining.proofs.JoinedLists.{joinable-some}
-use Rattle.propagating.proofs.Propagation.{lists-narrow, rules-narrow, linked-narrow, satisfying-wired, table-narrows}
+use Rattle.propagating.proofs.Propagation.{lists-narrow, rules-narrow, linked-narrow, satisfying-wired, table-narrows, sums-narrow}
 use Rattle.learning.proofs.HeededSteps.{heeds-narrows, pairs-narrow, pair-narrows}
-use Rattle.propagating.proofs.Desks.{pilot-at}
+use Rattle.propagating.proofs.Desks.{pilot-at, pilots-long}
 use borrow.Author.Needs.{needs}
 use Rattle.explaining.proofs.reasons.step_again.Statement.{statement}
 use Rattle.explaining.proofs.reasons.step_again.Tie as tie
@@ -70,10 +70,13 @@ returns-5 c =
     heeds-narrows (table-narrows (at .pre .0) (few told) (pilot-at (now (at .args .desk)) _ (few told)) (c .table-step .ensures))
 
 returns-6 : tie.Need-returns-6
-returns-6 c = pairs-narrow (pair-narrows _ (in-memory (c .before .before)) (c .before .read-pair .ensures) (c .refute .ensures .0))
+returns-6 c = heeds-narrows (sums-narrow (start (c .before .before .before .before) .pre .0) (c .sum-step .ensures))
 
 returns-7 : tie.Need-returns-7
-returns-7 c =
+returns-7 c = pairs-narrow (pair-narrows _ (in-memory (c .before .before)) (c .before .read-pair .ensures) (c .refute .ensures .0))
+
+returns-8 : tie.Need-returns-8
+returns-8 c =
     let at = start (c .before .before .before) in
     heeds-narrows (rules-narrow (at .pre .0) (fits at) (c .drop-unfounded .ensures))
 
@@ -105,6 +108,11 @@ step-again-spec =
     (λ c. omega (arith, few (c .before), start (c .before .before .before .before) .pre .0 .long))
     (λ c κs. few (c .before))
     (λ c. search needs)
+    (λ c. search needs)
+    (λ c. search needs)
+    (λ c. search needs)
+    (λ c κs. let at = start (c .before .before .before) in pilots-long (now (at .args .desk)) (at .pre .0 .long))
+    (λ c. search needs)
     (λ c κs. (start (c .before .before .before) .pre .1, in-memory c))
     (λ c κs. search needs)
     (λ c. search needs)
@@ -115,4 +123,5 @@ step-again-spec =
     returns-4
     returns-5
     returns-6
-    returns-7)
+    returns-7
+    returns-8)

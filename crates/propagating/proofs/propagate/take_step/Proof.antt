@@ -5,8 +5,8 @@ use native.Mathlib.Omega.{arith}
 use Rattle.atoms.specs.Word.{ATOMS}
 use Rattle.joining.proofs.JoinedLists.{joinable-some}
 use Rattle.joining.proofs.Filters.{filtered-narrows}
-use Rattle.propagating.proofs.Propagation.{lists-narrow, rules-narrow, linked-narrow, satisfying-wired, table-narrows}
-use Rattle.propagating.proofs.Desks.{pilot-at}
+use Rattle.propagating.proofs.Propagation.{lists-narrow, rules-narrow, linked-narrow, satisfying-wired, table-narrows, sums-narrow}
+use Rattle.propagating.proofs.Desks.{pilot-at, pilots-long}
 use borrow.Author.Needs.{needs}
 use Rattle.propagating.proofs.propagate.take_step.Statement.{statement}
 use Rattle.propagating.proofs.propagate.take_step.Tie as tie
@@ -66,6 +66,11 @@ returns-5 c =
     let few = (rw (c .before .before .before .t .given .1) at (decoded .decode .ensures)) .0 in
     (table-narrows (at .pre .0) few (pilot-at (now (at .args .desk)) _ few) (c .table-step .ensures), filtered-narrows (c .table-step .ensures) (at .pre .1))
 
+returns-6 : tie.Need-returns-6
+returns-6 c =
+    let at = start (c .before .before .before .before) in
+    (sums-narrow (at .pre .0) (c .sum-step .ensures), filtered-narrows (c .sum-step .ensures) (at .pre .1))
+
 pub take-step-spec : {M : Type 1} → statement M
 take-step-spec =
     tie.close
@@ -97,11 +102,17 @@ take-step-spec =
     table-step-requires
     (λ c. search needs)
     (λ c. search needs)
+    (λ c. search needs)
+    (λ c. search needs)
+    (λ c κs. let at = start (c .before .before .before) in pilots-long (now (at .args .desk)) (at .pre .0 .long))
+    (λ c. search needs)
+    (λ c. search needs)
     returns
     returns-2
     (λ c. search needs)
     returns-3
     returns-4
     returns-5
+    returns-6
     (λ c. search needs)
     (λ c. search needs))
