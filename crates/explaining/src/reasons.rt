@@ -206,7 +206,10 @@ fn looked_at(
 {
     match decode(step) {
         Step::Rule(rule) => either_way(numbered_atoms(&desk[LINKED..DESK_WORDS], unit.rules, rule)),
-        Step::Support(atom) => excluding(&desk[LINKED..DESK_WORDS], backing(desk, unit.rules, atom)),
+        Step::Support(atom) => excluding(
+            &desk[LINKED..DESK_WORDS],
+            backing(desk, unit.rules, atom),
+        ),
         Step::List(list) => either_way(desk[list]),
         Step::Founded => either_way(atoms::first(ATOMS)),
         Step::Table(t) => either_way(table_atoms(rules, t, desk[PILOTS + t])),
