@@ -4,3 +4,5 @@ pub mod PilotRows
 pub mod LinkedRules
 -- How rules are linked one after the other
 pub mod Linking
+-- Pilots at a full position: one row is left there, and it tells what the table says
+pub mod FollowedTables

@@ -8,13 +8,15 @@ use native.Mathlib.Decide.{ℕ-discrete, decLt}
 use lib.ListN.{length, getD, take, set, length-set}
 use lib.Seq.{paste, getD-set-same, getD-set-other, getD-take, length-take-le}
 use Rattle.atoms.specs.Word.{ATOMS, Has, Lowest, _⊆_, _∪_, _∖_, atom}
-use Rattle.atoms.proofs.Sets.{has-none, has-lt, union-cases, atom-only}
+use Rattle.atoms.specs.Bounded.{unionIn}
+use Rattle.atoms.proofs.Bounded.{union-at}
+use Rattle.atoms.proofs.Sets.{ext, empty, has-none, has-lt, has-without, without-left, union-cases, union-none-right, atom-only}
 use Rattle.atoms.proofs.TakenNumbers.{Taking, taking-start, taking-next, taking-end}
 use Rattle.atoms.proofs.StoredWords.{stored-front}
 use Rattle.plan.specs.Limits.{MAX_TABLES, FIRST_RULE, RULE_WORDS}
 use Rattle.answer_sets.specs.Lent.{lent, Lent, negative, uses, usedTable, ruleAt}
 use Rattle.answer_sets.proofs.Bodies.{table-first, table-second}
-use Rattle.pilots.specs.Linked.{LINKED_WORDS, written, onPilots, offPilots, LinkedRule, ToldUses, RuleLinked, RulesLinked, Linked}
+use Rattle.pilots.specs.Linked.{LINKED_WORDS, written, onPilots, offPilots, LinkedRule, NoPilots, Plain, ToldUses, RuleLinked, RulesLinked, Linked}
 
 -- ---- the uses that are told
 
@@ -194,3 +196,64 @@ linked-all {rules} before {between} {told = told} l e f g k w long = record {
         sym (getD-take FIRST_RULE between j 0 m)
         ∙ ap (λ (x : List ℕ). getD x j 0) (stored-front before 0 (take FIRST_RULE rules) {n = FIRST_RULE} (omega arith) (omega (arith, front)) g)
         ∙ getD-take FIRST_RULE rules j 0 m
+
+-- ---- no pilots
+
+without-none : (w : ℕ) → w ∖ 0 ≡ w
+without-none w = ext (w ∖ 0) w (λ i h. without-left w 0 h) (λ i h. has-without w 0 h (λ p. has-none p))
+
+-- no table below n has a pilot
+pub record NoneBelow (pilots : List ℕ) (n : ℕ) : Type 0 where
+  pub each : (t : ℕ) → t < n → getD pilots t 0 ≡ 0
+
+pub none-start : (pilots : List ℕ) → NoneBelow pilots 0
+none-start pilots = record { each = λ t l. absurd (omega (arith, l)) }
+
+pub none-next : {pilots : List ℕ} {n : ℕ} → NoneBelow pilots n → getD pilots n 0 ≡ 0 → NoneBelow pilots (n + 1)
+none-next {pilots} {n} f e = record { each = λ t l. go t l (ℕ-discrete t n) }
+  where
+    go : (t : ℕ) → t < n + 1 → Dec (t ≡ n) → getD pilots t 0 ≡ 0
+    go t l (yes q) = rw q e
+    go t l (no m) = f .each t (omega (arith, l, m))
+
+pub none-end : {pilots : List ℕ} {n : ℕ} → NoneBelow pilots n → MAX_TABLES ≤ n → NoPilots pilots
+none-end f l = record { each = λ t m. f .each t (omega (arith, l, m)) }
+
+-- a plain copy
+module _ {rules pilots : List ℕ} (before : List ℕ) {after : List ℕ} {which : ℕ} (p : Plain rules pilots) (e : length before ≡ LINKED_WORDS)
+    (f : which < 2 ^ ATOMS) (g : after ≡ paste before 0 (take LINKED_WORDS rules) (length (take LINKED_WORDS rules)))
+    (long : length after ≡ LINKED_WORDS) where
+  copy-front : length (take LINKED_WORDS rules) ≡ LINKED_WORDS
+  copy-front = length-take-le LINKED_WORDS rules (p .long)
+
+  copied : (j : ℕ) → j < LINKED_WORDS → getD after j 0 ≡ getD rules j 0
+  copied j m =
+      sym (getD-take LINKED_WORDS after j 0 m)
+      ∙ ap (λ (x : List ℕ). getD x j 0)
+      (stored-front before 0 (take LINKED_WORDS rules) {n = LINKED_WORDS} (omega arith) (omega (arith, copy-front)) g)
+      ∙ getD-take LINKED_WORDS rules j 0 m
+
+  -- no pilot is in a word
+  no-union : (w : ℕ) → unionIn MAX_TABLES w (λ t. getD pilots t 0) ≡ 0
+  no-union w =
+      empty _ (λ a h. let u = union-at MAX_TABLES w (λ t. getD pilots t 0) a h in
+      has-none (subst (λ (x : ℕ). Has x a) (p .none .each (u .0) (u .1)) (u .3)))
+
+  copied-rule : (r : ℕ) → r < ATOMS → LinkedRule rules pilots 0 after r
+  unfolding lent
+  copied-rule r l = record {
+    head = copied (ruleAt r) (omega (arith, l));
+    positive = copied (ruleAt r + 1) (omega (arith, l)) ∙ sym (union-none-right _) ∙ ap (λ (w : ℕ). getD rules (ruleAt r + 1) 0 ∪ w) (sym (no-union _));
+    negative = copied (ruleAt r + 2) (omega (arith, l)) ∙ sym (union-none-right _) ∙ ap (λ (w : ℕ). getD rules (ruleAt r + 2) 0 ∪ w) (sym (no-union _));
+    uses = copied (ruleAt r + 3) (omega (arith, l)) ∙ sym (without-none _);
+  }
+
+  pub linked-copy : Linked rules pilots which after
+  linked-copy = record {
+    told = 0;
+    told-uses = told-none;
+    same-tables = λ r h j m. copied j (omega (arith, m));
+    each = λ r h. copied-rule r (has-lt which ATOMS f h);
+    there = lent-linked long f;
+    long = long;
+  }

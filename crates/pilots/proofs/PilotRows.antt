@@ -1,19 +1,20 @@
 -- Rows of a table that a state leaves, and what they tell of inputs and of the pilot.
 use mathlib.Core.Path.{_≡_, refl, sym, subst, _∙_}
 use mathlib.Core.Bool.{Bool, true, false, not}
-use Prim.Native.Nat.{ℕ}
+use Prim.Native.Nat.{ℕ, _^_, _<_}
 use borrow.Author.Tests.{not-true}
-use Rattle.atoms.specs.Word.{Has, _⊆_, subset, Apart, apart, _∪_, atom, outside}
+use Rattle.atoms.specs.Word.{ATOMS, Has, _⊆_, subset, Apart, apart, _∩_, _∪_, outside}
 use Rattle.atoms.specs.Collected.{Collects}
-use Rattle.atoms.proofs.Sets.{has-dec, has-outside, decides-has, decides-apart, decides-subset, without-left, atom-only}
+use Rattle.atoms.proofs.Sets.{has-dec, has-none, has-cut, has-left, has-outside, decides-has, decides-apart, decides-subset, without-left}
 use Rattle.atoms.proofs.Tests.{decided-true, decided-false}
 use Rattle.states.specs.State.{Completes, halfDecided}
 use Rattle.states.specs.Narrowing.{Narrows, clashed}
 use Rattle.states.specs.declared.state.State.{State}
-use Rattle.states.proofs.Narrows.{narrows-when, clash-narrows, up-narrows, down-narrows, with-up, with-dropped}
+use Rattle.states.proofs.Narrows.{narrows-trans, narrows-when, clash-narrows, up-narrows, down-narrows}
 use Rattle.contact_tables.specs.Table.{row, tableAnswer}
-use Rattle.contact_tables.specs.Rows.{Reached}
+use Rattle.contact_tables.specs.Rows.{Reached, EachRow, NoRow}
 use Rattle.contact_tables.proofs.RowBits.{row-lt}
+use Rattle.contact_tables.proofs.ToldInputs.{told-completes}
 use Rattle.pilots.specs.Pilots.{FollowsWords, RowAmong}
 
 -- ---- what tests of two words say
@@ -43,27 +44,26 @@ row-left {up = up} {dropped} {N = N} c d = c .all _ (record { position = N; comp
 
 -- ---- inputs
 
--- no row is left: nothing completes the state
-pub none-left : {inputs rows left : ℕ} {s t : State} → Collects (Reached inputs (s .up) (s .dropped)) left → Apart left rows → t ≡ clashed s
-    → Narrows (RowAmong inputs rows) s t
-none-left {s = s} c a e = rw e (clash-narrows s (λ N k d. a .none _ (row-left c d) (k .among)))
+-- no row is left of those that it may be: nothing completes the state
+pub none-left : {inputs rows reached left : ℕ} {s t : State} → Collects (Reached inputs (s .up) (s .dropped)) reached → left ≡ reached ∩ rows → left ≡ 0
+    → t ≡ clashed s → Narrows (RowAmong inputs rows) s t
+none-left {inputs} {rows} {reached} {s = s} c e z f =
+    rw f (clash-narrows s (λ N k d. has-none (subst (λ (w : ℕ). Has w (row inputs N)) (sym e ∙ z) (has-cut reached rows (row-left c d) (k .among)))))
 
-module _ {inputs rows left : ℕ} (s : State) (a : ℕ) {x word : ℕ} (e : x ≡ atom a) where
-  -- none is left with the atom up
-  pub not-up : {down : ℕ} → word ≡ s .up ∪ x → Collects (Reached inputs word (s .dropped)) left → Apart left rows → down ≡ s .dropped ∪ x
-      → Narrows (RowAmong inputs rows) s (record { up = s .up; dropped = down })
-  not-up g c f r = rw r (down-narrows s x (λ N k d. record {
-    none = λ i h m. f .none _ (row-left (rw (g, e) at c) (with-up s a d (subst (Has N) (sym (atom-only a (rw e at h))) m))) (k .among);
-  }))
+-- what the rows that are left tell of the inputs
+pub inputs-told : {inputs rows reached left up dropped : ℕ} {s t : State} → inputs < 2 ^ ATOMS → Collects (Reached inputs (s .up) (s .dropped)) reached
+    → left ≡ reached ∩ rows → Collects (EachRow inputs left) (t .up) → Collects (NoRow inputs left) (t .dropped) → up ≡ s .up ∪ t .up
+    → dropped ≡ s .dropped ∪ t .dropped → Narrows (RowAmong inputs rows) s (record { up = up; dropped = dropped })
+inputs-told {inputs} {rows} {reached} {left} {s = s} {t} fits c e u d f g =
+    rw (f, g)
+    (narrows-trans (up-narrows s (t .up) (λ N k m. told N k m .has-up))
+    (down-narrows (record { up = s .up ∪ t .up; dropped = s .dropped }) (t .dropped) (λ N k m. told N k (fewer-up N m) .no-dropped)))
+  where
+    fewer-up : (N : ℕ) → Completes (record { up = s .up ∪ t .up; dropped = s .dropped }) N → Completes s N
+    fewer-up N m = record { has-up = record { each = λ a h. m .has-up .each a (has-left (s .up) (t .up) h) }; no-dropped = m .no-dropped }
 
-  -- none is left with the atom dropped
-  pub not-dropped : {up : ℕ} → word ≡ s .dropped ∪ x → Collects (Reached inputs (s .up) word) left → Apart left rows → up ≡ s .up ∪ x
-      → Narrows (RowAmong inputs rows) s (record { up = up; dropped = s .dropped })
-  not-dropped g c f r = rw r (up-narrows s x (λ N k d. record { each = λ i h. go N k d i (atom-only a (rw e at h)) (has-dec N i) }))
-    where
-      go : (N : ℕ) → RowAmong inputs rows N → Completes s N → (i : ℕ) → a ≡ i → Dec (Has N i) → Has N i
-      go N k d i q (yes p) = p
-      go N k d i q (no p) = absurd (f .none _ (row-left (rw (g, e) at c) (with-dropped s a d (λ m. p (subst (Has N) q m)))) (k .among))
+    told : (N : ℕ) → RowAmong inputs rows N → Completes s N → Completes t N
+    told N k m = told-completes fits u d (rw e (has-cut reached rows (row-left c m) (k .among)))
 
 -- ---- the pilot
 

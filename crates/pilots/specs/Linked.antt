@@ -56,6 +56,15 @@ pub record RulesLinked (rules pilots : List ℕ) (told which : ℕ) (before afte
   pub each : (r : ℕ) → Has which r → LinkedRule rules pilots told after r
   pub same-tables : (j : ℕ) → j < FIRST_RULE → getD after j 0 ≡ getD before j 0
 
+-- no table has a pilot
+pub record NoPilots (pilots : List ℕ) : Type 0 where
+  pub each : (t : ℕ) → t < MAX_TABLES → getD pilots t 0 ≡ 0
+
+-- all words of the rules are there, and no table has a pilot
+pub record Plain (rules pilots : List ℕ) : Type 0 where
+  pub long : LINKED_WORDS ≤ length rules
+  pub none : NoPilots pilots
+
 -- each pilot is an input
 pub record PilotsWithin (pilots : List ℕ) (inputs : ℕ) : Type 0 where
   pub each : (t : ℕ) → t < MAX_TABLES → getD pilots t 0 ⊆ inputs

@@ -12,9 +12,10 @@ use plan::USES;
 ghost use mathlib.Core.Path.{_≡_};
 ghost use Prim.Native.Nat.{_≤_, _<_};
 ghost use lib.ListN.{length};
+ghost use Rattle.atoms.specs.Bounded.{Decides};
 ghost use Rattle.plan.specs.Limits.{MAX_TABLES};
 ghost use Rattle.answer_sets.specs.Lent.{ruleAt, IsLent, Lent};
-ghost use Rattle.pilots.specs.Linked.{written, ToldUses, RuleLinked, RulesLinked, Linked};
+ghost use Rattle.pilots.specs.Linked.{written, NoPilots, Plain, ToldUses, RuleLinked, RulesLinked, Linked};
 
 pub const LINKED_WORDS: usize = FIRST_RULE + RULE_WORDS * MAX_RULES;
 
@@ -87,13 +88,43 @@ fn link_all(rules: &[u64], pilots: &[u64], told: u64, which: u64, linked: &mut [
     }
 }
 
-// The rules of the word with pilots in place of uses.
+// Whether no table has a pilot.
+fn are_none(pilots: &[u64]) -> bool
+    requires { ⌜ MAX_TABLES ≤ length (now pilots) ⌝ }
+    ensures { λ r. ⌜ Decides (NoPilots (now (pilots .entry))) r ⌝ }
+{
+    let mut t = 0;
+    while t < MAX_TABLES {
+        if pilots[t] != 0 {
+            return false;
+        }
+        t += 1;
+    }
+    true
+}
+
+// Whether the rules may be copied as they are: all words are there, and no table has a pilot.
+fn is_plain(rules: &[u64], pilots: &[u64]) -> bool
+    requires { ⌜ MAX_TABLES ≤ length (now pilots) ⌝ }
+    ensures { λ r. ⌜ Decides (Plain (now (rules .entry)) (now (pilots .entry))) r ⌝ }
+{
+    if rules.len() < LINKED_WORDS {
+        return false;
+    }
+    are_none(pilots)
+}
+
+// The rules of the word with pilots in place of uses; a plain copy where there are no pilots.
 pub fn link(rules: &[u64], pilots: &[u64], which: u64) -> [u64; LINKED_WORDS]
     requires { ⌜ Lent (now rules) which × (MAX_TABLES ≤ length (now pilots)) ⌝ }
     ensures { λ r. ⌜ Linked (now (rules .entry)) (now (pilots .entry)) which r ⌝ }
 {
     let mut linked = [0u64; LINKED_WORDS];
     if rules.len() < FIRST_RULE {
+        return linked;
+    }
+    if is_plain(rules, pilots) {
+        store(&rules[0..LINKED_WORDS], &mut linked, 0);
         return linked;
     }
     store(&rules[0..FIRST_RULE], &mut linked, 0);

@@ -2,54 +2,29 @@
 use answer_sets::uses::table_inputs;
 use answer_sets::uses::table_truth;
 use contact_tables::agreeing_rows;
+use contact_tables::told_inputs;
 use plan::FIRST_RULE;
 use states::State;
 use states::clash;
-use states::undecided;
 ghost use Prim.Native.Nat.{_<_};
-ghost use Rattle.atoms.specs.Word.{ATOMS};
 ghost use Rattle.plan.specs.Limits.{MAX_TABLES};
 ghost use Rattle.states.specs.Narrowing.{Narrows};
 ghost use Rattle.pilots.specs.Pilots.{Follows, FollowsWords, RowAmong};
 
-// The state after one input atom, where the table's row is one of these: it is dropped if no row is left with it up, and up if none is with it dropped.
-fn tell_input(inputs: u64, rows: u64, a: usize, s: State) -> State
-    requires { ⌜ a < ATOMS ⌝ }
-    ensures { λ t. ⌜ Narrows (RowAmong inputs rows) s t ⌝ }
-{
-    let atom = atoms::single(a);
-    let up = atoms::union(s.up, atom);
-    if atoms::are_apart(agreeing_rows(inputs, up, s.dropped), rows) {
-        return State {
-            up: s.up,
-            dropped: atoms::union(s.dropped, atom),
-        };
-    }
-    let dropped = atoms::union(s.dropped, atom);
-    if atoms::are_apart(agreeing_rows(inputs, s.up, dropped), rows) {
-        return State {
-            up,
-            dropped: s.dropped,
-        };
-    }
-    s
-}
-
-// The state after all undecided inputs of a table whose row is one of these; with none left nothing completes it.
+// The state after the inputs of a table whose row is one of these: an input that each row that is left has is up, one that none has is dropped; with
+// none left nothing completes it.
 fn tell_inputs(inputs: u64, rows: u64, s: State) -> State
     ensures { λ t. ⌜ Narrows (RowAmong inputs rows) s t ⌝ }
 {
-    if atoms::are_apart(agreeing_rows(inputs, s.up, s.dropped), rows) {
+    let left = atoms::cut(agreeing_rows(inputs, s.up, s.dropped), rows);
+    if left == 0 {
         return clash(s);
     }
-    let mut t = s;
-    let mut rest = atoms::cut(inputs, undecided(s.up, s.dropped));
-    while rest != 0 {
-        let a = atoms::lowest(rest);
-        t = tell_input(inputs, rows, a, t);
-        rest = atoms::drop(rest, a);
+    let told = told_inputs(inputs, left);
+    State {
+        up: atoms::union(s.up, told.up),
+        dropped: atoms::union(s.dropped, told.dropped),
     }
-    t
 }
 
 // The state after the pilot of a table with this truth word, where the rows that are left all say the same.

@@ -1,44 +1,32 @@
--- No row is left; or the loop asks about each undecided input.
-use lib.Count.{ones}
-use Rattle.atoms.proofs.Counts.{taken-less}
-use Rattle.states.specs.Narrowing.{Narrows}
-use Rattle.states.proofs.Narrows.{narrows-refl, narrows-trans}
-use Rattle.pilots.specs.Pilots.{RowAmong}
-use Rattle.pilots.proofs.PilotRows.{tested-apart, none-left}
+-- No row is left; or those that are tell of the inputs.
+use native.Mathlib.Omega.{arith}
+use Rattle.pilots.proofs.PilotRows.{none-left, inputs-told}
 use borrow.Author.Needs.{needs}
 use Rattle.pilots.proofs.table_step.tell_inputs.Statement.{statement}
 use Rattle.pilots.proofs.table_step.tell_inputs.Tie as tie
 
-abbrev Inv-loop : tie.InvT-loop
-Inv-loop inputs rows t₀ rest₀ t rest = Narrows (RowAmong inputs rows) t₀ t
-
-abbrev μ-loop : tie.MeasureT-loop
-μ-loop inputs rows t₀ rest₀ t rest = ones rest
-
-returns : tie.Need-returns Inv-loop μ-loop
+returns : tie.Need-returns
 returns c =
-    let test = c .before .before in
-    none-left (test .before .agreeing-rows .ensures) (tested-apart _ _ (test .are-apart .ensures) (c .before .if1 .taken)) (c .clash .ensures)
+    let cut = c .before .before in
+    none-left (cut .before .agreeing-rows .ensures) (cut .cut .ensures) (c .before .if1 .taken) (c .clash .ensures)
 
-loop-again : tie.Need-loop-again Inv-loop μ-loop
-loop-again c = narrows-trans (c .before .before .before .before .loop .inv) (c .before .tell-input .ensures)
+returns-2 : tie.Need-returns-2
+returns-2 c =
+    let up = c .before in
+    let told = up .before in
+    let cut = told .before .before in
+    inputs-told (omega arith) (cut .before .agreeing-rows .ensures) (cut .cut .ensures) (told .told-inputs .ensures .0) (told .told-inputs .ensures .1)
+    (up .union .ensures) (c .union2 .ensures)
 
 pub tell-inputs-spec : {M : Type 1} → statement M
 tell-inputs-spec =
     tie.close
     (tie.spec
-    Inv-loop
-    μ-loop
     (λ c κs. search needs)
     (λ c κs. search needs)
     (λ c κs. search needs)
     returns
     (λ c κs. search needs)
     (λ c κs. search needs)
-    (λ c. narrows-refl)
-    (λ c κs. c .loop-test .taken)
-    (λ c κs. c .lowest .ensures .1)
-    (λ c κs. c .before .lowest .ensures .1)
-    (λ c. taken-less (c .before .before .lowest .ensures .0) (c .drop .ensures))
-    loop-again
-    (λ c. c .before .loop .inv))
+    (λ c κs. search needs)
+    returns-2)
