@@ -19,6 +19,7 @@ use narrowing::steps::apply_support;
 use narrowing::unfounded::drop_unfounded;
 use parities::parity_atoms;
 use parities::sum_step;
+use parities::telling_atoms;
 use pilots::table_step::table_step;
 use plan::FIRST_RULE;
 use propagating::Unit;
@@ -100,7 +101,7 @@ fn step_again(
         Step::List(list) => list_again(table, counts, desk, unit.nearest, list, s),
         Step::Founded => founded_step(rules, unit.rules, unit.inputs, s),
         Step::Table(t) => table_step(rules, t, desk[PILOTS + t], s),
-        Step::Sums => sum_step(rules, &desk[PILOTS..LINKED], s),
+        Step::Sums => sum_step(rules, &desk[PILOTS..LINKED], unit.rules, s),
         Step::Pair(i) => refute(read_pair(memory, i), s),
         Step::Unfounded => drop_unfounded(rules, unit.rules, unit.inputs, c.unfounded, s),
     }
@@ -216,7 +217,10 @@ fn looked_at(
         Step::List(list) => either_way(desk[list]),
         Step::Founded => either_way(atoms::first(ATOMS)),
         Step::Table(t) => either_way(table_atoms(rules, t, desk[PILOTS + t])),
-        Step::Sums => either_way(parity_atoms(rules, &desk[PILOTS..LINKED])),
+        Step::Sums => either_way(atoms::union(
+            parity_atoms(rules, &desk[PILOTS..LINKED]),
+            telling_atoms(rules, unit.rules),
+        )),
         Step::Pair(i) => either_way(decided(read_pair(memory, i))),
         Step::Unfounded => unfounding(rules, unit.rules, unfounded),
     }

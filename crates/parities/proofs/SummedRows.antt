@@ -19,10 +19,12 @@ use Rattle.states.specs.Narrowing.{Narrows, SomeUp}
 use Rattle.states.specs.declared.state.State.{State}
 use Rattle.states.proofs.HalfDecided.{undecided-up, undecided-intro}
 use Rattle.states.proofs.Narrows.{narrows-when, narrows-trans, narrows-for, down-narrows}
-use Rattle.answer_sets.specs.Lent.{inputs, truth}
+use Rattle.answer_sets.specs.Program.{SatisfiesAll}
+use Rattle.answer_sets.specs.Lent.{lent, inputs, truth}
 use Rattle.pilots.specs.Pilots.{FollowAll}
 use Rattle.parities.specs.Parity.{odd, _△_, ParityTable}
-use Rattle.parities.specs.Rows.{ROWS, RowHolds, tableRow, openRow, RowsHold, Rows, BitPut, SameRows}
+use Rattle.parities.specs.Rows.{ROWS, RowHolds, tableRow, openRow, RowsHold, Gathered, BitPut, SameRows}
+use Rattle.parities.specs.Told.{Summed}
 use Rattle.parities.specs.declared.rows.Row.{Row}
 use Rattle.parities.proofs.CountedWords.{count-none, count-apart, count-atom, digit-none}
 use Rattle.parities.proofs.Parities.{odd-lt, odd-sum}
@@ -68,22 +70,31 @@ none-holds : (N : ℕ) → RowHolds 0 0 N
 unfolding odd
 none-holds N = record { parity = omega (arith, ap ones (empty (N ∩ 0) (λ i h. has-none (cut-right N 0 h))), count-none) }
 
-pub rows-none : {K : ℕ → Type 0} {s : State} → Rows K s (replicate ROWS 0) 0
-rows-none {K} {s} = record {
-  long = refl;
-  right = λ N k c. record { each = λ i l. rw (getD-replicate {A = ℕ} ROWS i 0 0 l, digit-zero i) (none-holds N) };
-}
+pub rows-none : (N : ℕ) → RowsHold (replicate ROWS 0) 0 N
+rows-none N = record { each = λ i l. rw (getD-replicate {A = ℕ} ROWS i 0 0 l, digit-zero i) (none-holds N) }
 
-pub row-put : {K : ℕ → Type 0} {s : State} {words : List ℕ} {bits t w b r : ℕ} → t < ROWS → Rows K s words bits
-    → ((N : ℕ) → K N → Completes s N → RowHolds w b N) → BitPut bits t b r → Rows K s (set words t w) r
-row-put {K} {s} {words} {bits} {t} {w} {b} {r} l rows f put = record {
-  long = length-set words t w ∙ rows .long;
-  right = λ N k c. record { each = λ i m. go N k c i m (ℕ-discrete i t) };
+pub gathered-refl : {K : ℕ → Type 0} {s : State} {words : List ℕ} {bits : ℕ} → Gathered K s words bits words bits
+gathered-refl = record { same-length = refl; right = λ N k c h. h }
+
+pub gathered-trans : {K : ℕ → Type 0} {s : State} {words words′ words″ : List ℕ} {bits bits′ bits″ : ℕ} → Gathered K s words bits words′ bits′
+    → Gathered K s words′ bits′ words″ bits″ → Gathered K s words bits words″ bits″
+gathered-trans f g = record { same-length = g .same-length ∙ f .same-length; right = λ N k c h. g .right N k c (f .right N k c h) }
+
+pub gathered-for : {K L : ℕ → Type 0} {s : State} {words words′ : List ℕ} {bits bits′ : ℕ} → ((N : ℕ) → L N → K N) → Gathered K s words bits words′ bits′
+    → Gathered L s words bits words′ bits′
+gathered-for f g = record { same-length = g .same-length; right = λ N l c h. g .right N (f N l) c h }
+
+-- one row is written
+pub row-put : {K : ℕ → Type 0} {s : State} {words : List ℕ} {bits t w b r : ℕ} → length words ≡ ROWS → t < ROWS
+    → ((N : ℕ) → K N → Completes s N → RowHolds w b N) → BitPut bits t b r → Gathered K s words bits (set words t w) r
+row-put {K} {s} {words} {bits} {t} {w} {b} {r} long l f put = record {
+  same-length = length-set words t w;
+  right = λ N k c h. record { each = λ i m. go N k c h i m (ℕ-discrete i t) };
 }
   where
-    go : (N : ℕ) → K N → Completes s N → (i : ℕ) → i < ROWS → Dec (i ≡ t) → RowHolds (getD (set words t w) i 0) (digit r i) N
-    go N k c i m (yes q) = rw q (rw (getD-set-same words t w 0 (omega (arith, rows .long, l)), put .here) (f N k c))
-    go N k c i m (no n) = rw (getD-set-other words t i w 0 n, put .others i n) (rows .right N k c .each i m)
+    go : (N : ℕ) → K N → Completes s N → RowsHold words bits N → (i : ℕ) → i < ROWS → Dec (i ≡ t) → RowHolds (getD (set words t w) i 0) (digit r i) N
+    go N k c h i m (yes q) = rw q (rw (getD-set-same words t w 0 (omega (arith, long, l)), put .here) (f N k c))
+    go N k c h i m (no n) = rw (getD-set-other words t i w 0 n, put .others i n) (h .each i m)
 
 -- ---- the rows of tables
 
@@ -237,6 +248,8 @@ pub rows-more : {words : List ℕ} {bits : ℕ} {s t u : State} (i : ℕ) {w b :
 rows-more i l e f m n = narrows-trans m (narrows-for (λ N h. rw (e, f) (h .each i l)) n)
 
 -- and after all, where they are sums of rows that are right
-pub rows-narrow : {K : ℕ → Type 0} {words words′ : List ℕ} {bits bits′ : ℕ} {s t : State} → Rows K s words bits → SameRows words bits words′ bits′
-    → Narrows (RowsHold words′ bits′) s t → Narrows K s t
-rows-narrow rows same n = narrows-when (λ N k c. same .there N (rows .right N k c)) n
+pub rows-narrow : {rules pilots : List ℕ} {which : ℕ} {told words sums : List ℕ} {bits bits′ bits″ : ℕ} {s t : State}
+    → Gathered (SatisfiesAll (lent rules) which) s (replicate ROWS 0) 0 told bits → Gathered (FollowAll rules pilots) s told bits words bits′
+    → SameRows words bits′ sums bits″ → Narrows (RowsHold sums bits″) s t → Narrows (Summed rules pilots which) s t
+rows-narrow f g same n =
+    narrows-when (λ N k c. same .there N (g .right N (k .follow) c (f .right N (k .satisfies) c (rows-none N)))) n

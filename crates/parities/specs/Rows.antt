@@ -39,10 +39,10 @@ openRow r s = record {
 pub record RowsHold (words : List ℕ) (bits N : ℕ) : Type 0 where
   pub each : (i : ℕ) → i < ROWS → RowHolds (getD words i 0) (digit bits i) N
 
--- the rows are right of every position with K that completes the state
-pub record Rows (K : ℕ → Type 0) (s : State) (words : List ℕ) (bits : ℕ) : Type 0 where
-  pub long : length words ≡ ROWS
-  pub right : (N : ℕ) → K N → Completes s N → RowsHold words bits N
+-- the rows after are right of every position with K that completes the state and of which the rows before are
+pub record Gathered (K : ℕ → Type 0) (s : State) (before : List ℕ) (bits : ℕ) (after : List ℕ) (bits′ : ℕ) : Type 0 where
+  pub same-length : length after ≡ length before
+  pub right : (N : ℕ) → K N → Completes s N → RowsHold before bits N → RowsHold after bits′ N
 
 -- bit i is b now, and no other bit changed
 pub record BitPut (bits i b r : ℕ) : Type 0 where

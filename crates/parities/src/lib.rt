@@ -2,7 +2,10 @@
 mod rows;
 mod sums;
 mod tables;
+mod told;
 
 pub use sums::sum_step;
 pub use tables::parity_atoms;
 pub use tables::parity_tables;
+pub use told::telling_atoms;
+pub use told::telling_rules;

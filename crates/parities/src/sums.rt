@@ -1,5 +1,5 @@
 // The step that sums parity tables: in every position whose pilots follow their tables the inputs of a parity table and its pilot have an even number up,
-// or an odd one. These rows are summed, and what they leave is decided.
+// or an odd one; and where a rule says that its one use fails, so have the inputs alone. These rows are summed, and what they leave is decided.
 use crate::rows::ROWS;
 use crate::rows::Row;
 use crate::rows::put_bit;
@@ -7,8 +7,14 @@ use crate::rows::read_rows;
 use crate::rows::sum;
 use crate::rows::sum_rows;
 use crate::tables::is_parity_table;
+use crate::told::USE_BITS;
+use crate::told::is_held;
+use crate::told::telling_rules;
+use crate::told::use_row;
+use crate::told::used_table;
 use answer_sets::uses::table_inputs;
 use answer_sets::uses::table_truth;
+use answer_sets::uses::uses;
 use states::State;
 use states::undecided;
 ghost use mathlib.Core.Path.{_≡_};
@@ -16,8 +22,11 @@ ghost use Prim.Native.Nat.{_<_, _≤_};
 ghost use lib.ListN.{length};
 ghost use Rattle.plan.specs.Limits.{MAX_TABLES, FIRST_RULE};
 ghost use Rattle.states.specs.Narrowing.{Narrows};
+ghost use Rattle.answer_sets.specs.Program.{Satisfies, SatisfiesAll};
+ghost use Rattle.answer_sets.specs.Lent.{lent, IsLent, Lent};
 ghost use Rattle.pilots.specs.Pilots.{FollowAll};
-ghost use Rattle.parities.specs.Rows.{tableRow, openRow, Rows};
+ghost use Rattle.parities.specs.Rows.{ROWS as Rows·ROWS, tableRow, openRow, Gathered};
+ghost use Rattle.parities.specs.Told.{Tells, Summed};
 
 // The row of a parity table: its inputs and its pilot. With no input up the table that asks for an even number is true.
 fn table_row(rules: &[u64], pilots: &[u64], t: usize) -> Row
@@ -50,8 +59,8 @@ fn gather_row(
     words: &mut [u64],
     bits: u64,
 ) -> u64
-    requires { ⌜ (MAX_TABLES ≤ length (now pilots)) × (t < MAX_TABLES) × Rows (FollowAll (now rules) (now pilots)) s (now words) bits ⌝ }
-    ensures { λ r. ⌜ Rows (FollowAll (now (rules .entry)) (now (pilots .entry))) s (now (words .exit)) r ⌝ }
+    requires { ⌜ (MAX_TABLES ≤ length (now pilots)) × (t < MAX_TABLES) × (length (now words) ≡ Rows·ROWS) ⌝ }
+    ensures { λ r. ⌜ Gathered (FollowAll (now (rules .entry)) (now (pilots .entry))) s (now (words .entry)) bits (now (words .exit)) r ⌝ }
 {
     if !is_parity_table(rules, pilots, t) {
         return bits;
@@ -61,27 +70,58 @@ fn gather_row(
     put_bit(bits, t, row.bit)
 }
 
-// Writes the rows of all parity tables with a pilot: the word of bits.
-fn gather_rows(rules: &[u64], pilots: &[u64], s: State, words: &mut [u64]) -> u64
-    requires { ⌜ (MAX_TABLES ≤ length (now pilots)) × Rows (FollowAll (now rules) (now pilots)) s (now words) 0 ⌝ }
-    ensures { λ r. ⌜ Rows (FollowAll (now (rules .entry)) (now (pilots .entry))) s (now (words .exit)) r ⌝ }
+// Writes the rows of all parity tables with a pilot: the new word of bits.
+fn gather_rows(rules: &[u64], pilots: &[u64], s: State, words: &mut [u64], bits: u64) -> u64
+    requires { ⌜ (MAX_TABLES ≤ length (now pilots)) × (length (now words) ≡ Rows·ROWS) ⌝ }
+    ensures { λ r. ⌜ Gathered (FollowAll (now (rules .entry)) (now (pilots .entry))) s (now (words .entry)) bits (now (words .exit)) r ⌝ }
 {
-    let mut bits = 0;
+    let mut sums = bits;
     let mut t = 0;
     while t < ROWS {
-        bits = gather_row(rules, pilots, t, s, words, bits);
+        sums = gather_row(rules, pilots, t, s, words, sums);
         t += 1;
     }
-    bits
+    sums
 }
 
-// The state after the sums of all parity tables with a pilot.
-pub fn sum_step(rules: &[u64], pilots: &[u64], s: State) -> State
-    requires { ⌜ MAX_TABLES ≤ length (now pilots) ⌝ }
-    ensures { λ t. ⌜ Narrows (FollowAll (now (rules .entry)) (now (pilots .entry))) s t ⌝ }
+// Writes the row that a rule with one use tells at the state, if it does: the new word of bits.
+fn gather_told(rules: &[u64], rule: usize, s: State, words: &mut [u64], bits: u64) -> u64
+    requires { ⌜ IsLent (now rules) rule × Tells (now rules) rule × (length (now words) ≡ Rows·ROWS) ⌝ }
+    ensures { λ r. ⌜ Gathered (Satisfies (lent (now (rules .entry))) rule) s (now (words .entry)) bits (now (words .exit)) r ⌝ }
+{
+    if !is_held(rules, rule, s) {
+        return bits;
+    }
+    let i = atoms::lowest(atoms::cut(uses(rules, rule), atoms::first(USE_BITS)));
+    let row = open_row(use_row(rules, i), s);
+    let t = used_table(i);
+    words[t] = row.word;
+    put_bit(bits, t, row.bit)
+}
+
+// Writes the rows that the rules of the word tell: the new word of bits.
+fn gather_all_told(rules: &[u64], which: u64, s: State, words: &mut [u64], bits: u64) -> u64
+    requires { ⌜ Lent (now rules) which × (length (now words) ≡ Rows·ROWS) ⌝ }
+    ensures { λ r. ⌜ Gathered (SatisfiesAll (lent (now (rules .entry))) which) s (now (words .entry)) bits (now (words .exit)) r ⌝ }
+{
+    let mut sums = bits;
+    let mut rest = telling_rules(rules, which);
+    while rest != 0 {
+        let rule = atoms::lowest(rest);
+        sums = gather_told(rules, rule, s, words, sums);
+        rest = atoms::drop(rest, rule);
+    }
+    sums
+}
+
+// The state after the sums of all parity tables with a pilot, and of those that a rule of the word tells. A pilot's row takes the place of a rule's.
+pub fn sum_step(rules: &[u64], pilots: &[u64], which: u64, s: State) -> State
+    requires { ⌜ Lent (now rules) which × (MAX_TABLES ≤ length (now pilots)) ⌝ }
+    ensures { λ t. ⌜ Narrows (Summed (now (rules .entry)) (now (pilots .entry)) which) s t ⌝ }
 {
     let mut words = [0u64; ROWS];
-    let bits = gather_rows(rules, pilots, s, &mut words);
+    let told = gather_all_told(rules, which, s, &mut words, 0);
+    let bits = gather_rows(rules, pilots, s, &mut words, told);
     let sums = sum_rows(&mut words, bits);
     read_rows(&words, sums, s)
 }

@@ -15,7 +15,7 @@ ghost use Rattle.parities.specs.Parity.{Parity, ParityTable, ParityAtom}
 const ODD_ROWS: u64 = 0x6996_9669_9669_6996;
 
 // Whether the truth word says if an odd number of the inputs is up, or if an even number is.
-fn is_parity(inputs: u64, truth: u64) -> bool
+pub fn is_parity(inputs: u64, truth: u64) -> bool
     ensures { λ r. ⌜ Decides (Parity inputs truth) r ⌝ }
 {
     let n = atoms::count(inputs);

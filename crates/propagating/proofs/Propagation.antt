@@ -15,6 +15,8 @@ use Rattle.narrowing.specs.Inputs.{AnswersInputs}
 use Rattle.narrowing.proofs.NumberedSteps.{satisfying-narrow}
 use Rattle.pilots.specs.Pilots.{Follows, FollowAll}
 use Rattle.pilots.proofs.LinkedRules.{answers-linked}
+use Rattle.parities.specs.Told.{Summed}
+use Rattle.answer_sets.proofs.Support.{satisfied}
 use Rattle.propagating.specs.Job.{Belongs}
 use Rattle.propagating.specs.Desk.{pilotsOf, linkedOf, Prepared, Wired}
 use Rattle.joining.specs.Filter.{JoinsAll}
@@ -46,11 +48,16 @@ module _ {rules table counts desk : List ℕ} {unit : Unit} {s t : State} (ready
     pub satisfying-wired : Narrows (SatisfiesAll (lent (linkedOf desk)) (unit .rules)) s t → Narrows (Wired rules table counts desk unit) s t
     satisfying-wired n = linked-narrow (satisfying-narrow (linkedOf desk) (unit .rules) (unit .inputs) n)
 
+    -- all pilots follow their tables, and it satisfies the rules as they are
+    pub sums-narrow : Narrows (Summed rules (pilotsOf desk) (unit .rules)) s t → Narrows (Wired rules table counts desk unit) s t
+    sums-narrow n =
+        narrows-for
+        (λ M b. record {
+          follow = b .follow;
+          satisfies = record { each = λ r h. satisfied (lent rules) (unit .rules) (M ∩ unit .inputs) M r (answers fits M b .answer) h };
+        }) n
+
   -- each pilot follows its table
   pub table-narrows : {i w : ℕ} → i < MAX_TABLES → w ≡ getD (pilotsOf desk) i 0 → Narrows (Follows rules i w) s t
       → Narrows (Wired rules table counts desk unit) s t
   table-narrows {i} l e n = narrows-for (λ M b. rw e (b .follow .each i l)) n
-
-  -- all of them do
-  pub sums-narrow : Narrows (FollowAll rules (pilotsOf desk)) s t → Narrows (Wired rules table counts desk unit) s t
-  sums-narrow n = narrows-for (λ M b. b .follow) n

@@ -20,9 +20,10 @@ use Rattle.answer_sets.specs.Lent.{lent, inputs}
 use Rattle.narrowing.specs.Marks.{Adds, NotedAt, ByOne, Marked}
 use Rattle.narrowing.specs.Woken.{WOKEN_WORDS, SomeWakes}
 use Rattle.parities.specs.Parity.{ParityTable, ParityAtom}
+use Rattle.parities.specs.Told.{Tells, ToldAtom}
 use Rattle.narrowing.proofs.MarkedTables.{adds-none, adds-iff, adds-trans}
 use Rattle.propagating.specs.Agenda.{INDEX_WORDS, FOUNDED_PLACE, TABLES_PLACE, atomsOf, WakesList, WakesFounded, WakesTable, WakesTables, TablePlace}
-use Rattle.propagating.specs.Agenda.{SUMS_PLACE, WakesSums, Indexed, by-rule, by-list, by-loop, by-table, by-sums, WakeIndex}
+use Rattle.propagating.specs.Agenda.{SUMS_PLACE, WakesSums, WakesTold, Indexed, by-rule, by-list, by-loop, by-table, by-sums, by-told, WakeIndex}
 use Rattle.propagating.specs.declared.unit.Unit.{Unit}
 
 -- one list
@@ -152,38 +153,71 @@ pub sums-left : {linked pilots : List ℕ} {tables : ℕ} {table : List ℕ} →
     → Adds (WakesSums linked pilots) table table
 sums-left c one = adds-none (λ i q k. k .several (subst AtMostOne (collects-same c (k .are-parities)) one))
 
+-- two telling rules or more
+pub told-added : (rules : List ℕ) (numbered : ℕ) {telling which word : ℕ} {before after : List ℕ} → Collects (λ r. Has numbered r × Tells rules r) telling
+    → ¬ AtMostOne telling → Collects (ToldAtom rules numbered) which → word ≡ atom SUMS_PLACE → Marked WOKEN_WORDS which word before after
+    → Adds (WakesTold rules numbered) before after
+told-added rules numbered {telling} {which} {word} c n d e m = adds-iff into from m
+  where
+    into : (i q : ℕ) → NotedAt WOKEN_WORDS which word i q → WakesTold rules numbered i q
+    into i q k = record {
+      telling = telling;
+      are-telling = c;
+      several = n;
+      atom = k .atom;
+      of-rule = d .each (k .atom) (k .in-set);
+      at = k .place;
+      place = sym (atom-only SUMS_PLACE (rw e at (k .in-word)));
+    }
+
+    from : (i q : ℕ) → WakesTold rules numbered i q → NotedAt WOKEN_WORDS which word i q
+    from i q k = record {
+      atom = k .atom;
+      in-set = d .all (k .atom) (k .of-rule);
+      place = k .at;
+      in-word = rw (e, k .place) (has-atom SUMS_PLACE);
+    }
+
+-- fewer
+pub told-left : {rules : List ℕ} {numbered telling : ℕ} {table : List ℕ} → Collects (λ r. Has numbered r × Tells rules r) telling → AtMostOne telling
+    → Adds (WakesTold rules numbered) table table
+told-left c one = adds-none (λ i q k. k .several (subst AtMostOne (collects-same c (k .are-telling)) one))
+
 -- ---- all of it
 
-pub index-of : {rules linked pilots heads : List ℕ} {unit : Unit} {looped : ℕ} {before first second third fourth after : List ℕ} → length before ≡ INDEX_WORDS
+pub index-of : {rules linked pilots heads : List ℕ} {unit : Unit} {looped : ℕ} {before first second third fourth fifth after : List ℕ} → length before ≡ INDEX_WORDS
     → ((i : ℕ) → getD before i 0 ≡ 0) → Adds (SomeWakes linked (unit .rules)) before first → Adds (ByOne (WakesList heads) (unit .nearest)) first second
     → Adds (ByOne (WakesFounded rules looped) (unit .rules)) second third → Adds (WakesTables linked pilots MAX_TABLES) third fourth
-    → Adds (WakesSums linked pilots) fourth after
+    → Adds (WakesSums linked pilots) fourth fifth → Adds (WakesTold rules (unit .rules)) fifth after
     → WakeIndex rules linked pilots heads unit looped after
-index-of {rules} {linked} {pilots} {heads} {unit} {looped} {before} {after = after} l z a b c d f = record {
+index-of {rules} {linked} {pilots} {heads} {unit} {looped} {before} {after = after} l z a b c d f g = record {
   long = whole .same-length ∙ l;
   words = λ i. record { each = λ q h. go i q (whole .no-more i q h); all = λ q k. whole .added i q k };
 }
   where
-    into : (i q : ℕ) → (((SomeWakes linked (unit .rules) i q ⊎ ByOne (WakesList heads) (unit .nearest) i q)
-        ⊎ ByOne (WakesFounded rules looped) (unit .rules) i q) ⊎ WakesTables linked pilots MAX_TABLES i q) ⊎ WakesSums linked pilots i q
-        → Indexed rules linked pilots heads unit looped i q
-    into i q (inl (inl (inl (inl k)))) = by-rule k
-    into i q (inl (inl (inl (inr k)))) = by-list k
-    into i q (inl (inl (inr k))) = by-loop k
-    into i q (inl (inr k)) = by-table k
-    into i q (inr k) = by-sums k
+    into : (i q : ℕ) → ((((SomeWakes linked (unit .rules) i q ⊎ ByOne (WakesList heads) (unit .nearest) i q)
+        ⊎ ByOne (WakesFounded rules looped) (unit .rules) i q) ⊎ WakesTables linked pilots MAX_TABLES i q) ⊎ WakesSums linked pilots i q)
+        ⊎ WakesTold rules (unit .rules) i q → Indexed rules linked pilots heads unit looped i q
+    into i q (inl (inl (inl (inl (inl k))))) = by-rule k
+    into i q (inl (inl (inl (inl (inr k))))) = by-list k
+    into i q (inl (inl (inl (inr k)))) = by-loop k
+    into i q (inl (inl (inr k))) = by-table k
+    into i q (inl (inr k)) = by-sums k
+    into i q (inr k) = by-told k
 
     from : (i q : ℕ) → Indexed rules linked pilots heads unit looped i q
-        → (((SomeWakes linked (unit .rules) i q ⊎ ByOne (WakesList heads) (unit .nearest) i q)
-        ⊎ ByOne (WakesFounded rules looped) (unit .rules) i q) ⊎ WakesTables linked pilots MAX_TABLES i q) ⊎ WakesSums linked pilots i q
-    from i q (by-rule k) = inl (inl (inl (inl k)))
-    from i q (by-list k) = inl (inl (inl (inr k)))
-    from i q (by-loop k) = inl (inl (inr k))
-    from i q (by-table k) = inl (inr k)
-    from i q (by-sums k) = inr k
+        → ((((SomeWakes linked (unit .rules) i q ⊎ ByOne (WakesList heads) (unit .nearest) i q)
+        ⊎ ByOne (WakesFounded rules looped) (unit .rules) i q) ⊎ WakesTables linked pilots MAX_TABLES i q) ⊎ WakesSums linked pilots i q)
+        ⊎ WakesTold rules (unit .rules) i q
+    from i q (by-rule k) = inl (inl (inl (inl (inl k))))
+    from i q (by-list k) = inl (inl (inl (inl (inr k))))
+    from i q (by-loop k) = inl (inl (inl (inr k)))
+    from i q (by-table k) = inl (inl (inr k))
+    from i q (by-sums k) = inl (inr k)
+    from i q (by-told k) = inr k
 
     whole : Adds (Indexed rules linked pilots heads unit looped) before after
-    whole = adds-iff into from (adds-trans (adds-trans (adds-trans (adds-trans a b) c) d) f)
+    whole = adds-iff into from (adds-trans (adds-trans (adds-trans (adds-trans (adds-trans a b) c) d) f) g)
 
     go : (i q : ℕ) → Has (getD before i 0) q ⊎ Indexed rules linked pilots heads unit looped i q → Indexed rules linked pilots heads unit looped i q
     go i q (inl h) = absurd (has-none (subst (λ (w : ℕ). Has w q) (z i) h))

@@ -5,7 +5,7 @@ use mathlib.Core.List.{List}
 use Prim.Native.Nat.{ℕ, _+_, _≤_, _<_}
 use lib.Count.{ones}
 use lib.ListN.{length, getD}
-use Rattle.atoms.specs.Word.{ATOMS, Apart, _∪_, atom, AtMostOne}
+use Rattle.atoms.specs.Word.{ATOMS, Has, Apart, _∪_, atom, AtMostOne}
 use Rattle.atoms.specs.Collected.{Collects}
 use Rattle.plan.specs.Limits.{MAX_TABLES, MAX_UNITS}
 use Rattle.answer_sets.specs.Lent.{lent, looks, inputs}
@@ -14,6 +14,7 @@ use Rattle.states.specs.declared.state.State.{State}
 use Rattle.narrowing.specs.Marks.{NotedAt, ByOne}
 use Rattle.narrowing.specs.Woken.{WOKEN_WORDS, SomeWakes}
 use Rattle.parities.specs.Parity.{ParityTable, ParityAtom}
+use Rattle.parities.specs.Told.{Tells, ToldAtom}
 use Rattle.propagating.specs.declared.unit.Unit.{Unit}
 use Rattle.propagating.specs.declared.agenda.Agenda.{Agenda}
 use Rattle.propagating.specs.declared.agenda.Taken.{Taken}
@@ -86,6 +87,16 @@ pub record WakesSums (linked pilots : List ℕ) (i q : ℕ) : Type 0 where
   pub at : i ≡ WOKEN_WORDS + atom
   pub place : q ≡ SUMS_PLACE
 
+-- two numbered rules or more make one use, of a parity table, and the sums are woken by their atoms
+pub record WakesTold (rules : List ℕ) (which i q : ℕ) : Type 0 where
+  pub telling : ℕ
+  pub are-telling : Collects (λ r. Has which r × Tells rules r) telling
+  pub several : ¬ AtMostOne telling
+  pub atom : ℕ
+  pub of-rule : ToldAtom rules which atom
+  pub at : i ≡ WOKEN_WORDS + atom
+  pub place : q ≡ SUMS_PLACE
+
 -- q is the place of a table below n that has a pilot
 pub record TablePlace (pilots : List ℕ) (n q : ℕ) : Type 0 where
   pub table : ℕ
@@ -100,6 +111,7 @@ pub data Indexed (rules linked pilots heads : List ℕ) (unit : Unit) (looped i 
   by-loop : ByOne (WakesFounded rules looped) (unit .rules) i q → Indexed rules linked pilots heads unit looped i q
   by-table : WakesTables linked pilots MAX_TABLES i q → Indexed rules linked pilots heads unit looped i q
   by-sums : WakesSums linked pilots i q → Indexed rules linked pilots heads unit looped i q
+  by-told : WakesTold rules (unit .rules) i q → Indexed rules linked pilots heads unit looped i q
 
 -- the whole index
 pub record WakeIndex (rules linked pilots heads : List ℕ) (unit : Unit) (looped : ℕ) (index : List ℕ) : Type 0 where

@@ -18,6 +18,8 @@ use narrowing::woken::WOKEN_WORDS;
 use narrowing::woken::note_rules;
 use parities::parity_atoms;
 use parities::parity_tables;
+use parities::telling_atoms;
+use parities::telling_rules;
 use plan::MAX_TABLES;
 use states::State;
 use states::undecided;
@@ -35,7 +37,7 @@ ghost use Rattle.answer_sets.specs.Lent.{lent, IsLent, Lent};
 ghost use Rattle.narrowing.specs.Marks.{Adds, ByOne};
 ghost use Rattle.pilots.specs.Linked.{LINKED_WORDS};
 ghost use Rattle.propagating.specs.Agenda.{Idle, TakenFrom, Woken, INDEX_WORDS, FOUNDED_PLACE, atomsOf, WakesList, WakesFounded};
-ghost use Rattle.propagating.specs.Agenda.{WakesTable, WakesTables, WakesSums, TablePlace, WakeIndex};
+ghost use Rattle.propagating.specs.Agenda.{WakesTable, WakesTables, WakesSums, WakesTold, TablePlace, WakeIndex};
 
 // The founded step's place in the agenda's third word, behind the lists.
 const FOUNDED_PLACE: usize = FOUNDED_STEP - LISTS;
@@ -242,6 +244,18 @@ fn note_sums(linked: &[u64], pilots: &[u64], index: &mut [u64])
     mark(index, OTHERS, seen, atoms::single(SUMS_PLACE));
 }
 
+// And for the atoms of the rules that tell of parity tables, where there are two or more of these.
+fn note_told(rules: &[u64], which: u64, index: &mut [u64])
+    requires { ⌜ Lent (now rules) which × (INDEX_WORDS ≤ length (now index)) ⌝ }
+    ensures { λ _. ⌜ Adds (WakesTold (now (rules .entry)) which) (now (index .entry)) (now (index .exit)) ⌝ }
+{
+    if atoms::at_most_one(telling_rules(rules, which)) {
+        return;
+    }
+    let seen = telling_atoms(rules, which);
+    mark(index, OTHERS, seen, atoms::single(SUMS_PLACE));
+}
+
 // The index of the steps that a decided atom wakes, in a unit whose looped atoms are these, and whose rules are linked by these pilots.
 pub fn wake_index(
     rules: &[u64],
@@ -261,6 +275,7 @@ pub fn wake_index(
     note_founded(rules, unit.rules, looped, &mut index);
     note_tables(linked, pilots, &mut index);
     note_sums(linked, pilots, &mut index);
+    note_told(rules, unit.rules, &mut index);
     index
 }
 

@@ -63,7 +63,7 @@ fn take_step(
         Step::List(list) => filter_step(table, counts, desk, unit.nearest, list, filter, s),
         Step::Founded => founded_step(rules, unit.rules, unit.inputs, s),
         Step::Table(t) => table_step(rules, t, desk[PILOTS + t], s),
-        Step::Sums => sum_step(rules, &desk[PILOTS..LINKED], s),
+        Step::Sums => sum_step(rules, &desk[PILOTS..LINKED], unit.rules, s),
         Step::Pair(_) => s,
         Step::Unfounded => s,
     }

@@ -79,6 +79,8 @@ looked-at-spec =
     (λ c. search needs)
     (λ c. search needs)
     (λ c κs. let at = start (c .before .before .before) in pilots-long (now (at .args .desk)) (at .pre .2))
+    (λ c κs. start (c .before .before .before .before) .pre .0)
+    (λ c κs. search needs)
     (λ c κs. search needs)
     (λ c. search needs)
     read-pair-requires

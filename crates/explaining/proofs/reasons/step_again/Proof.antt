@@ -70,7 +70,7 @@ returns-5 c =
     heeds-narrows (table-narrows (at .pre .0) (few told) (pilot-at (now (at .args .desk)) _ (few told)) (c .table-step .ensures))
 
 returns-6 : tie.Need-returns-6
-returns-6 c = heeds-narrows (sums-narrow (start (c .before .before .before .before) .pre .0) (c .sum-step .ensures))
+returns-6 c = let at = start (c .before .before .before .before) in heeds-narrows (sums-narrow (at .pre .0) (fits at) (c .sum-step .ensures))
 
 returns-7 : tie.Need-returns-7
 returns-7 c = pairs-narrow (pair-narrows _ (in-memory (c .before .before)) (c .before .read-pair .ensures) (c .refute .ensures .0))
@@ -111,7 +111,9 @@ step-again-spec =
     (λ c. search needs)
     (λ c. search needs)
     (λ c. search needs)
-    (λ c κs. let at = start (c .before .before .before) in pilots-long (now (at .args .desk)) (at .pre .0 .long))
+    (λ c κs.
+    let at = start (c .before .before .before) in
+    (at .pre .0 .searchable .rules-lent, pilots-long (now (at .args .desk)) (at .pre .0 .long)))
     (λ c. search needs)
     (λ c κs. (start (c .before .before .before) .pre .1, in-memory c))
     (λ c κs. search needs)

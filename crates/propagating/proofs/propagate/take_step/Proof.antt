@@ -69,7 +69,7 @@ returns-5 c =
 returns-6 : tie.Need-returns-6
 returns-6 c =
     let at = start (c .before .before .before .before) in
-    (sums-narrow (at .pre .0) (c .sum-step .ensures), filtered-narrows (c .sum-step .ensures) (at .pre .1))
+    (sums-narrow (at .pre .0) (fits at) (c .sum-step .ensures), filtered-narrows (c .sum-step .ensures) (at .pre .1))
 
 pub take-step-spec : {M : Type 1} → statement M
 take-step-spec =
@@ -104,7 +104,9 @@ take-step-spec =
     (λ c. search needs)
     (λ c. search needs)
     (λ c. search needs)
-    (λ c κs. let at = start (c .before .before .before) in pilots-long (now (at .args .desk)) (at .pre .0 .long))
+    (λ c κs.
+    let at = start (c .before .before .before) in
+    (at .pre .0 .searchable .rules-lent, pilots-long (now (at .args .desk)) (at .pre .0 .long)))
     (λ c. search needs)
     (λ c. search needs)
     returns
