@@ -1,18 +1,19 @@
 // The least answer sets of a program behind a place: a tree over the undecided atoms, the highest first and dropped before up, so that they are
 // met rising.
+use crate::ask::ask;
 use crate::ask::desk_of;
 use crate::ask::root_of;
-use crate::ask::whole;
+use crate::ask::unit_of;
 use crate::least::From;
 use crate::least::is_behind;
 use crate::least::put;
 use joining::filter::full_filter;
 use learning::store::empty_store;
 use plan::MAX_UNITS;
+use propagating::Unit;
 use propagating::front::Front;
 use propagating::front::moved;
 use propagating::propagate::propagate;
-use searching::find::find;
 use searching::witness::Witness;
 use states::State;
 use states::decide;
@@ -22,15 +23,14 @@ ghost use mathlib.Core.Path.{_≡_};
 ghost use mathlib.Core.Bool.{true};
 ghost use mathlib.Core.List.{[]};
 ghost use lib.ListN.{length};
-ghost use Rattle.atoms.specs.Word.{ATOMS};
+ghost use Rattle.atoms.specs.Word.{ATOMS, Has};
 ghost use Rattle.answer_sets.specs.AnswerSet.{AnswerSet};
 ghost use Rattle.answer_sets.specs.Lent.{lent, Lent};
 ghost use Rattle.states.specs.Narrowing.{Narrows, branchOf};
 ghost use Rattle.learning.specs.Reason.{Remembers};
-ghost use Rattle.propagating.specs.Job.{Belongs};
-ghost use Rattle.searching.specs.Witness.{Witnessed};
-ghost use Rattle.finding.specs.Whole.{wholeOf, noLists, Fitting};
-ghost use Rattle.finding.specs.Gather.{Added, Sought, Due, AllPassed, Likely, Looked, Kept, PlaceIn, Standing, Node, Descended};
+ghost use Rattle.propagating.specs.Desk.{Wired};
+ghost use Rattle.finding.specs.Whole.{noLists, hiddenOf, Standing};
+ghost use Rattle.finding.specs.Gather.{Added, Sought, Due, AllPassed, darkOf, Likely, Looked, Kept, PlaceIn, Node, Descended};
 
 // A node of the tree: where propagation stands, and a position that completes its state, if one is known: an answer set, or one that is passed.
 pub struct Branch {
@@ -68,35 +68,14 @@ fn place_in(s: State, from: From) -> Witness
     }
 }
 
-// An answer set that completes the state of the front, or that none does.
-fn ask_here(
-    rules: &[u64],
-    desk: &[u64],
-    memory: &mut [u64],
-    which: u64,
-    facts: u64,
-    f: Front,
-) -> Witness
-    requires { ⌜ Standing (now rules) (now desk) (now memory) which facts (f .state) ⌝ }
-    ensures witnessed { λ r. ⌜ Witnessed (Fitting (now (rules .entry)) which facts (f .state)) r ⌝ }
-    ensures stands { λ _. ⌜ Standing (now (rules .entry)) (now (desk .entry)) (now (memory .exit)) which facts (f .state) ⌝ }
+// The state as it is without pilots: all of them are dropped.
+fn dark_of(s: State, hidden: u64) -> State
+    ensures { λ r. ⌜ r ≡ darkOf s hidden ⌝ }
 {
-    let s = f.state;
-    if !atoms::are_apart(s.up, s.dropped) {
-        return Witness::Nothing;
+    State {
+        up: atoms::without(s.up, hidden),
+        dropped: atoms::union(s.dropped, hidden),
     }
-    let table = [0u64; 0];
-    let counts = [0usize; MAX_UNITS];
-    find(
-        rules,
-        &table,
-        &counts,
-        desk,
-        memory,
-        whole(which, facts),
-        f,
-        s,
-    )
 }
 
 // The position that is known of the node, or an answer set that completes its state; or that none there is behind the place.
@@ -104,23 +83,24 @@ fn look(
     rules: &[u64],
     desk: &[u64],
     memory: &mut [u64],
-    which: u64,
+    unit: Unit,
     facts: u64,
     node: Branch,
     from: From,
 ) -> Witness
-    requires { ⌜ Node (now rules) (now desk) (now memory) which facts from node ⌝ }
-    ensures looked { λ r. ⌜ Looked (now (rules .entry)) which facts from (node .front .state) r ⌝ }
-    ensures stands { λ _. ⌜ Standing (now (rules .entry)) (now (desk .entry)) (now (memory .exit)) which facts (node .front .state) ⌝ }
+    requires { ⌜ Node (now rules) (now desk) (now memory) unit facts from node ⌝ }
+    ensures looked { λ r. ⌜ Looked (now (rules .entry)) (now (desk .entry)) unit facts from (node .front .state) r ⌝ }
+    ensures stands { λ _. ⌜ Standing (now (rules .entry)) (now (desk .entry)) (now (memory .exit)) unit facts (node .front .state) ⌝ }
 {
     let f = node.front;
-    if is_passed(f.state, from) {
+    let dark = dark_of(f.state, atoms::without(unit.inputs, facts));
+    if is_passed(dark, from) {
         return Witness::Nothing;
     }
     let known = node.known;
     match known {
         Witness::Member(m) => Witness::Member(m),
-        Witness::Nothing => ask_here(rules, desk, memory, which, facts, f),
+        Witness::Nothing => ask(rules, desk, memory, unit, facts, f),
     }
 }
 
@@ -129,20 +109,21 @@ fn step_down(
     rules: &[u64],
     desk: &[u64],
     memory: &mut [u64],
-    which: u64,
+    unit: Unit,
     facts: u64,
     f: Front,
     k: usize,
     phase: bool,
     from: From,
 ) -> Front
-    requires { ⌜ Standing (now rules) (now desk) (now memory) which facts (f .state) × (k < ATOMS) ⌝ }
-    ensures narrows { λ g. ⌜ Narrows (Belongs (now (rules .entry)) [] noLists (now (desk .entry)) (wholeOf which facts))
+    requires { ⌜ Standing (now rules) (now desk) (now memory) unit facts (f .state) × (k < ATOMS) ⌝ }
+    ensures narrows { λ g. ⌜ Narrows (Wired (now (rules .entry)) [] noLists (now (desk .entry)) unit)
         (branchOf (f .state) k phase) (g .state) ⌝ }
-    ensures remembers { λ _. ⌜ Remembers (Belongs (now (rules .entry)) [] noLists (now (desk .entry)) (wholeOf which facts)) (now (memory .exit)) ⌝ }
+    ensures remembers { λ _. ⌜ Remembers (Wired (now (rules .entry)) [] noLists (now (desk .entry)) unit) (now (memory .exit)) ⌝ }
 {
     let t = decide(f.state, k, phase);
-    if is_passed(t, from) {
+    let dark = dark_of(t, atoms::without(unit.inputs, facts));
+    if is_passed(dark, from) {
         let agenda = f.agenda;
         return Front {
             state: t,
@@ -154,16 +135,7 @@ fn step_down(
     let counts = [0usize; MAX_UNITS];
     let mut filter = full_filter(&counts);
     let g = moved(desk, f, t);
-    propagate(
-        rules,
-        &table,
-        &counts,
-        desk,
-        whole(which, facts),
-        memory,
-        &mut filter,
-        g,
-    )
+    propagate(rules, &table, &counts, desk, unit, memory, &mut filter, g)
 }
 
 // The node of the atom in the phase; the position m goes with it if it lies there.
@@ -171,7 +143,7 @@ fn descend(
     rules: &[u64],
     desk: &[u64],
     memory: &mut [u64],
-    which: u64,
+    unit: Unit,
     facts: u64,
     f: Front,
     m: u64,
@@ -179,13 +151,15 @@ fn descend(
     phase: bool,
     from: From,
 ) -> Branch
-    requires { ⌜ Standing (now rules) (now desk) (now memory) which facts (f .state) × Likely (now rules) which facts from (f .state) m × (k < ATOMS) ⌝ }
-    ensures { λ r. ⌜ Descended (now (rules .entry)) (now (desk .entry)) (now (memory .exit)) which facts from (f .state) k phase r ⌝ }
+    requires { ⌜ Standing (now rules) (now desk) (now memory) unit facts (f .state) × Likely (now rules) (now desk) unit facts from (f .state) m
+        × (k < ATOMS) × (Has (hiddenOf unit facts) k → ⊥) ⌝ }
+    ensures { λ r. ⌜ Descended (now (rules .entry)) (now (desk .entry)) (now (memory .exit)) unit facts from (f .state) k phase r ⌝ }
 {
-    let front = step_down(rules, desk, memory, which, facts, f, k, phase, from);
+    let front = step_down(rules, desk, memory, unit, facts, f, k, phase, from);
+    let dark = dark_of(front.state, atoms::without(unit.inputs, facts));
     Branch {
         front,
-        known: kept(m, front.state),
+        known: kept(m, dark),
     }
 }
 
@@ -195,7 +169,7 @@ fn gather(
     rules: &[u64],
     desk: &[u64],
     memory: &mut [u64],
-    which: u64,
+    unit: Unit,
     facts: u64,
     node: Branch,
     from: From,
@@ -203,29 +177,29 @@ fn gather(
     out: &mut [u64],
     at: usize,
 ) -> usize
-    requires { ⌜ Node (now rules) (now desk) (now memory) which facts from node × (at ≤ length (now out)) ⌝ }
-    ensures added { λ r. ⌜ Added (Due (now (rules .entry)) which facts from (now (skip .entry)) (node .front .state)) (now (out .entry)) at
+    requires { ⌜ Node (now rules) (now desk) (now memory) unit facts from node × (at ≤ length (now out)) ⌝ }
+    ensures added { λ r. ⌜ Added (Due (now (rules .entry)) (now (desk .entry)) unit facts from (now (skip .entry)) (node .front .state)) (now (out .entry)) at
         (now (out .exit)) r ⌝ }
-    ensures stands { λ _. ⌜ Standing (now (rules .entry)) (now (desk .entry)) (now (memory .exit)) which facts (node .front .state) ⌝ }
+    ensures stands { λ _. ⌜ Standing (now (rules .entry)) (now (desk .entry)) (now (memory .exit)) unit facts (node .front .state) ⌝ }
 {
     if out.len() <= at {
         return at;
     }
-    let seen = look(rules, desk, memory, which, facts, node, from);
+    let seen = look(rules, desk, memory, unit, facts, node, from);
     let Witness::Member(m) = seen else {
         return at;
     };
     let f = node.front;
-    let s = f.state;
-    let free = undecided(s.up, s.dropped);
+    let dark = dark_of(f.state, atoms::without(unit.inputs, facts));
+    let free = undecided(dark.up, dark.dropped);
     if free == 0 {
         return put(out, at, from, skip, m);
     }
     let k = atoms::highest(free);
-    let low = descend(rules, desk, memory, which, facts, f, m, k, false, from);
-    let mid = gather(rules, desk, memory, which, facts, low, from, skip, out, at);
-    let up = descend(rules, desk, memory, which, facts, f, m, k, true, from);
-    gather(rules, desk, memory, which, facts, up, from, skip, out, mid)
+    let low = descend(rules, desk, memory, unit, facts, f, m, k, false, from);
+    let mid = gather(rules, desk, memory, unit, facts, low, from, skip, out, at);
+    let up = descend(rules, desk, memory, unit, facts, f, m, k, true, from);
+    gather(rules, desk, memory, unit, facts, up, from, skip, out, mid)
 }
 
 // Fills the words with the least answer sets behind the place that are not passed over, rising: how many there are.
@@ -242,17 +216,19 @@ pub fn gather_all(
         (now (out .exit)) r ⌝ }
 {
     let desk = desk_of(rules, which, facts);
+    let unit = unit_of(&desk, which, facts);
     let mut memory = empty_store();
-    let front = root_of(rules, &desk, &mut memory, which, facts);
+    let front = root_of(rules, &desk, &mut memory, unit, facts);
+    let dark = dark_of(front.state, atoms::without(unit.inputs, facts));
     let root = Branch {
         front,
-        known: place_in(front.state, from),
+        known: place_in(dark, from),
     };
     gather(
         rules,
         &desk,
         &mut memory,
-        which,
+        unit,
         facts,
         root,
         from,

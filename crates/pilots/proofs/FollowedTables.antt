@@ -19,6 +19,7 @@ use Rattle.contact_tables.specs.Table.{row, tableAnswer}
 use Rattle.contact_tables.specs.Rows.{Reached}
 use Rattle.contact_tables.proofs.RowBits.{UpAt, row-bit}
 use Rattle.pilots.specs.Pilots.{FollowsWords, Follows, FollowAll}
+use Rattle.pilots.specs.Linked.{NoPilots}
 
 -- ---- one row
 
@@ -109,3 +110,7 @@ followed-end k l = record { yes = λ e. record { each = λ u m. k .each u (omega
 
 pub not-followed : {rules pilots : List ℕ} {M t : ℕ} → t < MAX_TABLES → ¬ Follows rules t (getD pilots t 0) M → Decides (FollowAll rules pilots M) false
 not-followed {t = t} l n = record { yes = λ e. absurd (false≢true e); no = λ e f. n (f .each t l) }
+
+-- without pilots nothing is to follow
+pub none-follow : {rules pilots : List ℕ} {M : ℕ} → NoPilots pilots → Decides (FollowAll rules pilots M) true
+none-follow n = record { yes = λ e. record { each = λ t l. follows-nothing (n .each t l) .yes refl }; no = λ e. absurd (true≢false e) }

@@ -5,11 +5,14 @@ use mathlib.Core.List.{List}
 use Prim.Native.Nat.{ℕ, _+_, _*_, _/_, _^_, _≤_, _<_}
 use native.Mathlib.Omega.{arith}
 use native.Mathlib.Decide.{ℕ-discrete, decLt}
+use lib.Dec.{eqb}
 use lib.ListN.{length, getD, take, set, length-set}
 use lib.Seq.{paste, getD-set-same, getD-set-other, getD-take, length-take-le}
 use Rattle.atoms.specs.Word.{ATOMS, Has, Lowest, _⊆_, _∪_, _∖_, atom}
-use Rattle.atoms.specs.Bounded.{unionIn}
 use Rattle.atoms.proofs.Bounded.{union-at}
+use Rattle.atoms.specs.Bounded.{Decides, unionIn}
+use Rattle.atoms.proofs.Tests.{decides-iff, decides-equal}
+use Rattle.atoms.proofs.Sets.{has-left, has-right}
 use Rattle.atoms.proofs.Sets.{ext, empty, has-none, has-lt, has-without, without-left, union-cases, union-none-right, atom-only}
 use Rattle.atoms.proofs.TakenNumbers.{Taking, taking-start, taking-next, taking-end}
 use Rattle.atoms.proofs.StoredWords.{stored-front}
@@ -202,22 +205,31 @@ linked-all {rules} before {between} {told = told} l e f g k w long = record {
 without-none : (w : ℕ) → w ∖ 0 ≡ w
 without-none w = ext (w ∖ 0) w (λ i h. without-left w 0 h) (λ i h. has-without w 0 h (λ p. has-none p))
 
--- no table below n has a pilot
-pub record NoneBelow (pilots : List ℕ) (n : ℕ) : Type 0 where
-  pub each : (t : ℕ) → t < n → getD pilots t 0 ≡ 0
+-- the pilots of the tables below n are gathered: the word is 0 just where there are none
+pub record NoneBelow (pilots : List ℕ) (n all : ℕ) : Type 0 where
+  pub each : all ≡ 0 → (t : ℕ) → t < n → getD pilots t 0 ≡ 0
+  pub all-none : ((t : ℕ) → t < n → getD pilots t 0 ≡ 0) → all ≡ 0
 
-pub none-start : (pilots : List ℕ) → NoneBelow pilots 0
-none-start pilots = record { each = λ t l. absurd (omega (arith, l)) }
+pub none-start : (pilots : List ℕ) → NoneBelow pilots 0 0
+none-start pilots = record { each = λ e t l. absurd (omega (arith, l)); all-none = λ f. refl }
 
-pub none-next : {pilots : List ℕ} {n : ℕ} → NoneBelow pilots n → getD pilots n 0 ≡ 0 → NoneBelow pilots (n + 1)
-none-next {pilots} {n} f e = record { each = λ t l. go t l (ℕ-discrete t n) }
+pub none-next : (pilots : List ℕ) (n all : ℕ) {r : ℕ} → NoneBelow pilots n all → r ≡ all ∪ getD pilots n 0 → NoneBelow pilots (n + 1) r
+none-next pilots n all f e = record {
+  each = λ z t l. go (sym e ∙ z) t l (ℕ-discrete t n);
+  all-none = λ g. e ∙ both (f .all-none (λ t l. g t (omega (arith, l)))) (g n (omega arith));
+}
   where
-    go : (t : ℕ) → t < n + 1 → Dec (t ≡ n) → getD pilots t 0 ≡ 0
-    go t l (yes q) = rw q e
-    go t l (no m) = f .each t (omega (arith, l, m))
+    go : all ∪ getD pilots n 0 ≡ 0 → (t : ℕ) → t < n + 1 → Dec (t ≡ n) → getD pilots t 0 ≡ 0
+    go z t l (yes q) = rw q (empty (getD pilots n 0) (λ i h. has-none (rw z at (has-right all (getD pilots n 0) h))))
+    go z t l (no m) = f .each (empty all (λ i h. has-none (rw z at (has-left all (getD pilots n 0) h)))) t (omega (arith, l, m))
 
-pub none-end : {pilots : List ℕ} {n : ℕ} → NoneBelow pilots n → MAX_TABLES ≤ n → NoPilots pilots
-none-end f l = record { each = λ t m. f .each t (omega (arith, l, m)) }
+    both : all ≡ 0 → getD pilots n 0 ≡ 0 → all ∪ getD pilots n 0 ≡ 0
+    both p q = rw (p, q) (union-none-right 0)
+
+pub none-end : (pilots : List ℕ) (n all : ℕ) → NoneBelow pilots n all → n ≡ MAX_TABLES → Decides (NoPilots pilots) (eqb all 0)
+none-end pilots n all f e =
+    decides-iff (λ z. record { each = λ t l. f .each z t (omega (arith, e, l)) }) (λ p. f .all-none (λ t l. p .each t (omega (arith, e, l))))
+    (decides-equal all 0)
 
 -- a plain copy
 module _ {rules pilots : List ℕ} (before : List ℕ) {after : List ℕ} {which : ℕ} (p : Plain rules pilots) (e : length before ≡ LINKED_WORDS)

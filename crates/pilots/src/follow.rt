@@ -1,4 +1,5 @@
 // Whether pilots follow their tables at a full position.
+use crate::link::are_none;
 use contact_tables::agreeing_rows;
 use plan::CONTACT_WORDS;
 use plan::MAX_TABLES;
@@ -41,6 +42,9 @@ pub fn follow_all(rules: &[u64], pilots: &[u64], position: u64) -> bool
     requires { ⌜ MAX_TABLES ≤ length (now pilots) ⌝ }
     ensures { λ r. ⌜ Decides (FollowAll (now (rules .entry)) (now (pilots .entry)) position) r ⌝ }
 {
+    if are_none(pilots) {
+        return true;
+    }
     let mut t = 0;
     while t < MAX_TABLES {
         if !follows(rules, t, pilots[t], position) {

@@ -307,7 +307,7 @@ pub fn with_tables(pilots: &[u64], a: Agenda) -> Agenda
 }
 
 // The agenda of all steps but those of tables; without looped atoms the founded step has nothing to say beyond the supports. The sums are on no first
-// agenda: until a pilot is decided they have nothing to say beyond the tables.
+// agenda: the first of their atoms that is decided wakes them.
 pub fn every_step(unit: Unit, looped: u64) -> Agenda
     ensures rules { λ r. ⌜ (r .rules ≡ unit .rules) × (r .supports ≡ outside (unit .inputs)) ⌝ }
     ensures others { λ r. ⌜ r .others ≡ unit .nearest ∪ singleIf (not (eqb looped 0)) FOUNDED_PLACE ⌝ }

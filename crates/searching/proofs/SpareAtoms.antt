@@ -126,3 +126,19 @@ module _ {rules : List ℕ} {which X : ℕ} (sp : Spare rules which X) where
           back : (i : ℕ) → N ⊆ K ∖ X → Has N i ⊎ Has W i → Has K i
           back i g (inl h) = without-left K X (g .each i h)
           back i g (inr h) = f .each i (has-cut (N ∪ W) (inputs ∪ X) (has-right N W h) (has-right inputs X (sub .each i h)))
+
+  -- an answer set has no spare atom but for inputs
+  pub answers-off : {inputs M : ℕ} → Apart inputs X → AnswersInputs rules which inputs M → Apart X M
+  answers-off {inputs} {M} off s = record {
+    none = λ i x m. s .answer .minimal (M ∖ X) (fewer i x m)
+        (model-alike (record { elsewhere = λ j n. (λ h. h, λ h. h) }) (alike-without X M) facts (s .answer .model));
+  }
+    where
+      facts : M ∩ inputs ⊆ M ∖ X
+      facts = record { each = λ j h. has-without M X (cut-left M inputs h) (off .none j (cut-right M inputs h)) }
+
+      fewer : (i : ℕ) → Has X i → Has M i → M ∖ X ⊂ M
+      fewer i x m = record {
+        within = record { each = λ j h. without-left M X h };
+        short = λ f. without-right M X (f .each i m) x;
+      }
