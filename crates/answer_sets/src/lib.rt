@@ -9,7 +9,7 @@ pub mod rule_pass;
 mod smaller;
 mod tried;
 pub mod truth;
-mod uses;
+pub mod uses;
 
 pub use position::Judged;
 pub use position::has_smaller;

@@ -38,7 +38,7 @@ fn table_of(i: usize) -> usize
 }
 
 // The table's input atoms.
-fn table_inputs(rules: &[u64], table: usize) -> u64
+pub fn table_inputs(rules: &[u64], table: usize) -> u64
     requires { ⌜ (Limits·FIRST_RULE ≤ length (now rules)) × (table < Limits·MAX_TABLES) ⌝ }
     ensures { λ r. ⌜ r ≡ inputs (now (rules .entry)) table ⌝ }
 {
@@ -46,7 +46,7 @@ fn table_inputs(rules: &[u64], table: usize) -> u64
 }
 
 // The table's truth word.
-fn table_truth(rules: &[u64], table: usize) -> u64
+pub fn table_truth(rules: &[u64], table: usize) -> u64
     requires { ⌜ (Limits·FIRST_RULE ≤ length (now rules)) × (table < Limits·MAX_TABLES) ⌝ }
     ensures { λ r. ⌜ r ≡ truth (now (rules .entry)) table ⌝ }
 {

@@ -4,5 +4,9 @@ pub mod Places
 pub mod RowBits
 -- The six constant words: bit j of the k-th is bit k of j
 pub mod Columns
+-- The inputs of a table gone through from the lowest on, at most as many as a row has bits
+pub mod InputWalks
 -- The rows that completions have: input by input, those that say of it what is known
 pub mod Sifting
+-- What rows tell of the inputs of a table: input by input, those that each of the rows has up and those that none has
+pub mod ToldInputs

@@ -1,23 +1,23 @@
 -- The rows that completions have: input by input, those that say of it what is known.
-use mathlib.Core.Path.{_≡_, refl, sym, ap, _∙_, subst}
+use mathlib.Core.Path.{_≡_, refl, sym, subst}
 use mathlib.Core.Bool.{Bool, _&&_}
 use mathlib.Core.Logic.{_⊎_, inl, inr}
 use Prim.Native.Nat.{ℕ, suc, _+_, _^_, _<_, _≤_}
-use native.Mathlib.Decide.{ℕ-discrete, decLt}
 use native.Mathlib.Omega.{arith}
 use Rattle.atoms.specs.Word.{ATOMS, Has, has, _∩_, _∪_, _∖_, atom, below, Lowest}
 use Rattle.atoms.specs.Bounded.{wordBelow}
 use Rattle.atoms.specs.Collected.{Collects}
 use Rattle.atoms.proofs.Tests.{and-true, decided-true}
 use Rattle.atoms.proofs.Bounded.{word-has, word-at}
-use Rattle.atoms.proofs.Sets.{ext, has-dec, decides-has, has-lt, has-below, below-lt, has-cut, cut-left, cut-right, has-none, lt-of-has}
-use Rattle.atoms.proofs.Sets.{has-without, without-left, without-right, has-atom, atom-only, has-left, has-right, union-cases}
+use Rattle.atoms.proofs.Sets.{ext, has-dec, decides-has, has-lt, has-below, below-lt, has-cut, cut-left, cut-right, lt-of-has}
+use Rattle.atoms.proofs.Sets.{has-without, without-left, without-right, has-left, has-right, union-cases}
 use Rattle.plan.specs.Limits.{MAX_INPUTS}
 use Rattle.states.specs.State.{Completes, halfDecided}
 use Rattle.contact_tables.specs.Table.{place, row}
 use Rattle.contact_tables.specs.Rows.{Reached, ROWS, Agrees}
-use Rattle.contact_tables.proofs.Places.{place-input, place-le, place-lt, place-one, place-gap, place-found}
+use Rattle.contact_tables.proofs.Places.{place-one, place-found}
 use Rattle.contact_tables.proofs.RowBits.{UpAt, row-bit, row-lt}
+use Rattle.contact_tables.proofs.InputWalks.{Walking, walking-start, walking-next, next-input, next-above, next-placed, next-cases, input-done, done-lt}
 
 -- row j says of each input below `top` what is known of it
 pub record AgreesBelow (inputs up dropped top j : ℕ) : Type 0 where
@@ -27,122 +27,57 @@ pub record AgreesBelow (inputs up dropped top j : ℕ) : Type 0 where
 -- the inputs below `top` are done, k of them
 pub record Sifting (inputs up dropped rows rest k : ℕ) : Type 0 where
   pub top : ℕ
-  pub left : rest ≡ inputs ∖ below top
-  pub done : place inputs top ≡ k
-  pub few : k ≤ MAX_INPUTS
+  pub walking : Walking inputs rest k top
   pub kept : Collects (AgreesBelow inputs up dropped top) rows
 
 module _ {inputs up dropped : ℕ} where
   pub sifting-start : {rows : ℕ} → rows ≡ below ATOMS → Sifting inputs up dropped rows inputs 0
-  unfolding place
   sifting-start e = record {
     top = 0;
-    left = ext inputs (inputs ∖ below 0) (λ i h. has-without inputs (below 0) h (λ b. let l : i < 0 = below-lt 0 b in omega arith))
-        (λ i h. without-left inputs (below 0) h);
-    done = refl;
-    few = omega arith;
+    walking = walking-start;
     kept = record {
       each = λ j h. record { small = let l : j < ATOMS = below-lt ATOMS (rw e at h) in omega arith; each = λ a l i. absurd (omega arith) };
       all = λ j k. rw e (has-below ATOMS j (let l : j < ROWS = k .small in omega arith));
     };
   }
 
-  module _ {rows rest k a : ℕ} (s : Sifting inputs up dropped rows rest k) (low : Lowest rest a) where
-    -- the lowest input that is left
-    at-left : Has (inputs ∖ below (s .top)) a
-    at-left = rw (s .left) at (low .here)
+  -- one input more
+  pub sifting-next : {rows rest k a rows′ rest′ : ℕ} → Sifting inputs up dropped rows rest k → Lowest rest a → k < MAX_INPUTS
+      → Collects (λ j. Has rows j × Agrees up dropped a k j) rows′ → rest′ ≡ rest ∖ atom a → Sifting inputs up dropped rows′ rest′ (k + 1)
+  sifting-next {rows} {k = k} {a} {rows′} s low l c e = record {
+    top = suc a;
+    walking = walking-next (s .walking) low l e;
+    kept = record { each = keep; all = again };
+  }
+    where
+      placed : place inputs a ≡ k
+      placed = next-placed (s .walking) low
 
-    pub sifting-input : Has inputs a
-    sifting-input = without-left inputs (below (s .top)) at-left
+      keep : (j : ℕ) → Has rows′ j → AgreesBelow inputs up dropped (suc a) j
+      keep j h =
+          let both = c .each j h in
+          let before = s .kept .each j (both .0) in
+          record { small = before .small; each = λ i m p. go before (both .1) i p (next-cases (s .walking) low i m p) }
+        where
+          go : AgreesBelow inputs up dropped (s .top) j → Agrees up dropped a k j → (i : ℕ) → Has inputs i → (i < s .top) ⊎ (a ≡ i)
+              → Agrees up dropped i (place inputs i) j
+          go before new i p (inl q) = before .each i q p
+          go before new i p (inr q) =
+              subst (λ (x : ℕ). Agrees up dropped x (place inputs x) j) q
+              (subst (λ (x : ℕ). Agrees up dropped a x j) (sym placed) new)
 
-    above : s .top ≤ a
-    above = go (decLt a (s .top))
-      where
-        go : Dec (a < s .top) → s .top ≤ a
-        go (yes l) = absurd (without-right inputs (below (s .top)) at-left (has-below (s .top) a l))
-        go (no n) = omega arith
-
-    gap : (i : ℕ) → s .top ≤ i → i < a → ¬ Has inputs i
-    gap i l m h =
-        low .least i m
-        (rw (s .left) (has-without inputs (below (s .top)) h (λ b. let n : i < s .top = below-lt (s .top) b in omega arith)))
-
-    placed : place inputs a ≡ k
-    placed = place-gap inputs (s .top) a above gap ∙ s .done
-
-    -- one input more
-    pub sifting-next : {rows′ rest′ : ℕ} → k < MAX_INPUTS → Collects (λ j. Has rows j × Agrees up dropped a k j) rows′
-        → rest′ ≡ rest ∖ atom a → Sifting inputs up dropped rows′ rest′ (k + 1)
-    sifting-next {rows′} {rest′} l c e = record {
-      top = suc a;
-      left = e ∙ ext (rest ∖ atom a) (inputs ∖ below (suc a)) fewer back;
-      done = place-input inputs a sifting-input ∙ ap (λ (n : ℕ). n + 1) placed;
-      few = omega arith;
-      kept = record { each = keep; all = again };
-    }
-      where
-        fewer : (i : ℕ) → Has (rest ∖ atom a) i → Has (inputs ∖ below (suc a)) i
-        fewer i h =
-            let here = rw (s .left) at (without-left rest (atom a) h) in
-            has-without inputs (below (suc a)) (without-left inputs (below (s .top)) here)
-            (λ b. let n : i < suc a = below-lt (suc a) b in go n (ℕ-discrete a i) (decLt i a))
-          where
-            go : i < suc a → Dec (a ≡ i) → Dec (i < a) → ⊥
-            go n (yes q) d = without-right rest (atom a) h (subst (λ (x : ℕ). Has (atom a) x) q (has-atom a))
-            go n (no q) (yes m) = low .least i m (without-left rest (atom a) h)
-            go n (no q) (no m) = omega arith
-
-        back : (i : ℕ) → Has (inputs ∖ below (suc a)) i → Has (rest ∖ atom a) i
-        back i h =
-            let far : ¬ (i < suc a) = λ m. without-right inputs (below (suc a)) h (has-below (suc a) i m) in
-            let up-there = above in
-            has-without rest (atom a)
-            (rw (s .left)
-            (has-without inputs (below (s .top)) (without-left inputs (below (suc a)) h)
-            (λ b. let m : i < s .top = below-lt (s .top) b in far (omega arith))))
-            (λ b. let q : a ≡ i = atom-only a b in far (omega arith))
-
-        keep : (j : ℕ) → Has rows′ j → AgreesBelow inputs up dropped (suc a) j
-        keep j h =
-            let both = c .each j h in
-            let before = s .kept .each j (both .0) in
-            record { small = before .small; each = λ i m p. go before (both .1) i m p (decLt i (s .top)) (ℕ-discrete a i) }
-          where
-            go : AgreesBelow inputs up dropped (s .top) j → Agrees up dropped a k j → (i : ℕ) → i < suc a → Has inputs i
-                → Dec (i < s .top) → Dec (a ≡ i) → Agrees up dropped i (place inputs i) j
-            go before new i m p (yes q) d = before .each i q p
-            go before new i m p (no n) (yes q) =
-                subst (λ (x : ℕ). Agrees up dropped x (place inputs x) j) q
-                (subst (λ (x : ℕ). Agrees up dropped a x j) (sym placed) new)
-            go before new i m p (no n) (no q) = absurd (gap i (omega arith) (omega arith) p)
-
-        again : (j : ℕ) → AgreesBelow inputs up dropped (suc a) j → Has rows′ j
-        again j b =
-            let up-there = above in
-            c .all j (
-              s .kept .all j (record { small = b .small; each = λ i m p. b .each i (omega arith) p }),
-              subst (λ (x : ℕ). Agrees up dropped a x j) placed (b .each a (omega arith) sifting-input),
-            )
+      again : (j : ℕ) → AgreesBelow inputs up dropped (suc a) j → Has rows′ j
+      again j b =
+          let up-there = next-above (s .walking) low in
+          c .all j (
+            s .kept .all j (record { small = b .small; each = λ i m p. b .each i (omega arith) p }),
+            subst (λ (x : ℕ). Agrees up dropped a x j) placed (b .each a (omega arith) (next-input (s .walking) low)),
+          )
 
   -- ---- when all is done
 
   module _ {rows rest k : ℕ} (fits : inputs < 2 ^ ATOMS) (s : Sifting inputs up dropped rows rest k)
       (end : (rest ≡ 0) ⊎ (MAX_INPUTS ≤ k)) where
-    -- an input is done, or its place is none of a row
-    input-done : (a : ℕ) → Has inputs a → (a < s .top) ⊎ (MAX_INPUTS ≤ place inputs a)
-    input-done a h = go (decLt a (s .top)) end
-      where
-        go : Dec (a < s .top) → (rest ≡ 0) ⊎ (MAX_INPUTS ≤ k) → (a < s .top) ⊎ (MAX_INPUTS ≤ place inputs a)
-        go (yes l) d = inl l
-        go (no n) (inl z) =
-            absurd
-            (has-none (rw (sym (s .left) ∙ z) at (has-without inputs (below (s .top)) h (λ b. n (below-lt (s .top) b)))))
-        go (no n) (inr m) = let l = place-le inputs (s .top) a (omega arith) in let e = s .done in inr (omega arith)
-
-    -- a place below that of the end is one of a row's
-    done-lt : (a : ℕ) → a < s .top → Has inputs a → place inputs a < k
-    done-lt a l h = let m = place-lt inputs a (s .top) h l in let e = s .done in omega arith
-
     -- ---- each row that is left is that of a completion
 
     module _ (j : ℕ) (b : AgreesBelow inputs up dropped (s .top) j) (small : j < 2 ^ k) where
@@ -197,7 +132,7 @@ module _ {inputs up dropped : ℕ} where
       whole-row = ext (row inputs whole) j there back
         where
           there : (i : ℕ) → Has (row inputs whole) i → Has j i
-          there i h = let r = row-bit inputs whole i .0 h in go (r .0) (r .1) (input-done (r .1 .at) (r .1 .input))
+          there i h = let r = row-bit inputs whole i .0 h in go (r .0) (r .1) (input-done (s .walking) end (r .1 .at) (r .1 .input))
             where
               go : i < MAX_INPUTS → (u : UpAt inputs whole i) → (u .at < s .top) ⊎ (MAX_INPUTS ≤ place inputs (u .at)) → Has j i
               go l u (inl m) = subst (λ (x : ℕ). Has j x) (u .placed) (up-then-bit (u .at) m (u .input) (u .is-up))
@@ -206,8 +141,8 @@ module _ {inputs up dropped : ℕ} where
           back : (i : ℕ) → Has j i → Has (row inputs whole) i
           back i h =
               let l : i < k = has-lt j k small h in
-              let few = s .few in
-              let f = place-found inputs (s .top) i (let e = s .done in omega arith) in
+              let few = s .walking .few in
+              let f = place-found inputs (s .top) i (let e = s .walking .done in omega arith) in
               row-bit inputs whole i .1 (
                 omega arith,
                 record {
@@ -226,10 +161,10 @@ module _ {inputs up dropped : ℕ} where
 
     module _ (N : ℕ) (c : Completes (halfDecided up dropped) N) where
       row-small : row inputs N < 2 ^ k
-      row-small = lt-of-has (row inputs N) k (λ i h. let r = row-bit inputs N i .0 h in go i (r .0) (r .1) (input-done (r .1 .at) (r .1 .input)))
+      row-small = lt-of-has (row inputs N) k (λ i h. let r = row-bit inputs N i .0 h in go i (r .0) (r .1) (input-done (s .walking) end (r .1 .at) (r .1 .input)))
         where
           go : (i : ℕ) → i < MAX_INPUTS → (u : UpAt inputs N i) → (u .at < s .top) ⊎ (MAX_INPUTS ≤ place inputs (u .at)) → i < k
-          go i l u (inl m) = let e = u .placed in let n = done-lt (u .at) m (u .input) in omega arith
+          go i l u (inl m) = let e = u .placed in let n = done-lt (s .walking) (u .at) m (u .input) in omega arith
           go i l u (inr m) = let e = u .placed in absurd (omega arith)
 
       row-agrees : AgreesBelow inputs up dropped (s .top) (row inputs N)
@@ -237,8 +172,8 @@ module _ {inputs up dropped : ℕ} where
         small = row-lt inputs N;
         each = λ a l h. record {
           when-up = λ u.
-              let m = done-lt a l h in
-              let few = s .few in
+              let m = done-lt (s .walking) a l h in
+              let few = s .walking .few in
               row-bit inputs N (place inputs a) .1 (
                 omega arith,
                 record {

@@ -4,7 +4,7 @@ use Prim.Native.Nat.{ℕ, _^_, _<_}
 use Rattle.atoms.specs.Word.{Has}
 use Rattle.plan.specs.Limits.{MAX_INPUTS}
 use Rattle.states.specs.State.{Completes, halfDecided}
-use Rattle.contact_tables.specs.Table.{row}
+use Rattle.contact_tables.specs.Table.{place, row}
 
 -- some completion has this row
 pub record Reached (inputs up dropped j : ℕ) : Type 0 where
@@ -25,3 +25,15 @@ pub record InColumn (k j : ℕ) : Type 0 where
 pub record Agrees (up dropped a k j : ℕ) : Type 0 where
   pub when-up : Has up a → Has j k
   pub when-dropped : ¬ Has up a → Has dropped a → ¬ Has j k
+
+-- a is an input with a place in rows, and each of these rows has it up
+pub record EachRow (inputs rows a : ℕ) : Type 0 where
+  pub input : Has inputs a
+  pub place-lt : place inputs a < MAX_INPUTS
+  pub each : (j : ℕ) → Has rows j → Has j (place inputs a)
+
+-- none of these rows has
+pub record NoRow (inputs rows a : ℕ) : Type 0 where
+  pub input : Has inputs a
+  pub place-lt : place inputs a < MAX_INPUTS
+  pub none : (j : ℕ) → Has rows j → ¬ Has j (place inputs a)

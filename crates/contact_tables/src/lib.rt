@@ -2,3 +2,4 @@
 mod rows;
 
 pub use rows::agreeing_rows;
+pub use rows::told_inputs;

@@ -1,10 +1,11 @@
 // The rows of a contact table that a half-decided position leaves: an intersection of at most six constant words.
 use plan::MAX_INPUTS;
+use states::State;
 ghost use Prim.Native.Nat.{_<_};
 ghost use Rattle.atoms.specs.Collected.{Collects};
 ghost use Rattle.atoms.specs.Word.{Has, ATOMS};
 ghost use Rattle.plan.specs.Limits.{MAX_INPUTS as Limits·MAX_INPUTS};
-ghost use Rattle.contact_tables.specs.Rows.{InColumn, Agrees, Reached};
+ghost use Rattle.contact_tables.specs.Rows.{InColumn, Agrees, Reached, EachRow, NoRow};
 
 // The rows whose bit k is set.
 fn column(k: usize) -> u64
@@ -51,4 +52,24 @@ pub fn agreeing_rows(inputs: u64, up: u64, dropped: u64) -> u64
         k += 1;
     }
     atoms::cut(rows, atoms::first(atoms::single(k) as usize))
+}
+
+// What rows tell of the inputs: up those that each of the rows has up, dropped those that none has; without rows each input is both.
+pub fn told_inputs(inputs: u64, rows: u64) -> State
+    ensures up { λ r. ⌜ Collects (EachRow inputs rows) (r .up) ⌝ }
+    ensures dropped { λ r. ⌜ Collects (NoRow inputs rows) (r .dropped) ⌝ }
+{
+    let mut up = 0;
+    let mut dropped = 0;
+    let mut rest = inputs;
+    let mut k = 0;
+    while rest != 0 && k < MAX_INPUTS {
+        let a = atoms::lowest(rest);
+        let with = column(k);
+        up = atoms::union(up, atoms::single_if(atoms::is_subset(rows, with), a));
+        dropped = atoms::union(dropped, atoms::single_if(atoms::are_apart(rows, with), a));
+        rest = atoms::drop(rest, a);
+        k += 1;
+    }
+    State { up, dropped }
 }

@@ -14,8 +14,7 @@ ghost use Prim.Native.Nat.{_≤_, _<_};
 ghost use lib.ListN.{length};
 ghost use Rattle.learning.specs.Store.{MEMORY_WORDS, STEPS};
 ghost use Rattle.learning.specs.Reason.{Heeds, Leads, Lifted};
-ghost use Rattle.propagating.specs.Job.{Belongs};
-ghost use Rattle.propagating.specs.Desk.{Prepared};
+ghost use Rattle.propagating.specs.Desk.{Prepared, Wired};
 
 // The steps of the trail from `from` up to `top`, and the state that they and a decision began from.
 pub struct Stretch {
@@ -43,7 +42,7 @@ fn lift_over(
     n: State,
 ) -> State
     requires { ⌜ Prepared (now rules) (now table) (now counts) (now desk) unit × (MEMORY_WORDS ≤ length (now memory)) × (at < STEPS) ⌝ }
-    ensures { λ r. ⌜ Leads (Heeds (Belongs (now (rules .entry)) (now (table .entry)) (now (counts .entry)) (now (desk .entry)) unit)
+    ensures { λ r. ⌜ Leads (Heeds (Wired (now (rules .entry)) (now (table .entry)) (now (counts .entry)) (now (desk .entry)) unit)
         (now (memory .entry))) n r ⌝ }
 {
     let done = read_step(memory, at);
@@ -74,7 +73,7 @@ pub fn lift(
     n: State,
 ) -> State
     requires { ⌜ Prepared (now rules) (now table) (now counts) (now desk) unit × (MEMORY_WORDS ≤ length (now memory)) ⌝ }
-    ensures { λ r. ⌜ Lifted (Belongs (now (rules .entry)) (now (table .entry)) (now (counts .entry)) (now (desk .entry)) unit) n
+    ensures { λ r. ⌜ Lifted (Wired (now (rules .entry)) (now (table .entry)) (now (counts .entry)) (now (desk .entry)) unit) n
         (now (memory .entry)) (now (memory .exit)) r ⌝ }
 {
     if STEPS < stretch.top {
@@ -105,7 +104,7 @@ pub fn blame(
     n: State,
 ) -> State
     requires { ⌜ Prepared (now rules) (now table) (now counts) (now desk) unit × (MEMORY_WORDS ≤ length (now memory)) ⌝ }
-    ensures { λ r. ⌜ Lifted (Belongs (now (rules .entry)) (now (table .entry)) (now (counts .entry)) (now (desk .entry)) unit) n
+    ensures { λ r. ⌜ Lifted (Wired (now (rules .entry)) (now (table .entry)) (now (counts .entry)) (now (desk .entry)) unit) n
         (now (memory .entry)) (now (memory .exit)) r ⌝ }
 {
     if !atoms::are_apart(n.up, n.dropped) {

@@ -4,6 +4,7 @@ use answer_sets::rule::looks;
 use answer_sets::rule::negative_body;
 use answer_sets::rule::positive_body;
 use answer_sets::rule::rule_atoms;
+use answer_sets::uses::table_inputs;
 use atoms::ATOMS;
 use joining::filter::filter_step;
 use joining::filter::full_filter;
@@ -16,9 +17,17 @@ use narrowing::founded_step::founded_step;
 use narrowing::steps::apply_rule;
 use narrowing::steps::apply_support;
 use narrowing::unfounded::drop_unfounded;
+use parities::parity_atoms;
+use parities::sum_step;
+use parities::telling_atoms;
+use pilots::table_step::table_step;
+use plan::FIRST_RULE;
 use propagating::Unit;
 use propagating::desk::BACKERS;
+use propagating::desk::DESK_WORDS;
 use propagating::desk::INDEX;
+use propagating::desk::LINKED;
+use propagating::desk::PILOTS;
 use propagating::desk::backing;
 use propagating::step::Step;
 use propagating::step::UNFOUNDED_STEP;
@@ -29,15 +38,14 @@ ghost use mathlib.Core.Bool.{true};
 ghost use Prim.Native.Nat.{_≤_, _<_};
 ghost use lib.ListN.{length};
 ghost use Rattle.atoms.specs.Word.{ATOMS};
-ghost use Rattle.plan.specs.Limits.{MAX_UNITS};
+ghost use Rattle.plan.specs.Limits.{MAX_TABLES, MAX_UNITS};
 ghost use Rattle.answer_sets.specs.Lent.{IsLent, Lent};
 ghost use Rattle.states.specs.Narrowing.{Narrows};
 ghost use Rattle.learning.specs.Store.{MEMORY_WORDS, STEPS};
 ghost use Rattle.learning.specs.Reason.{Heeds, Explains};
-ghost use Rattle.propagating.specs.Job.{Belongs};
 ghost use Rattle.joining.specs.Joins.{Joinable};
 ghost use Rattle.joining.specs.Filter.{JoinsAll};
-ghost use Rattle.propagating.specs.Desk.{DESK_WORDS, Prepared};
+ghost use Rattle.propagating.specs.Desk.{DESK_WORDS, linkedOf, Prepared, Wired};
 ghost use Rattle.explaining.specs.Claims.{Told};
 
 // A step, a part of a state, and what the step is to tell from it; and the atoms that it drops if they are unfounded, where it is the step for that:
@@ -76,14 +84,14 @@ fn step_again(
     c: Claim,
 ) -> State
     requires { ⌜ Prepared (now rules) (now table) (now counts) (now desk) unit × (MEMORY_WORDS ≤ length (now memory)) ⌝ }
-    ensures { λ t. ⌜ Narrows (Heeds (Belongs (now (rules .entry)) (now (table .entry)) (now (counts .entry)) (now (desk .entry)) unit)
+    ensures { λ t. ⌜ Narrows (Heeds (Wired (now (rules .entry)) (now (table .entry)) (now (counts .entry)) (now (desk .entry)) unit)
         (now (memory .entry))) (c .part) t ⌝ }
 {
     let s = c.part;
     match decode(c.step) {
-        Step::Rule(rule) => apply_rule(rules, unit.rules, rule, s),
+        Step::Rule(rule) => apply_rule(&desk[LINKED..DESK_WORDS], unit.rules, rule, s),
         Step::Support(atom) => apply_support(
-            rules,
+            &desk[LINKED..DESK_WORDS],
             unit.rules,
             unit.inputs,
             &desk[BACKERS..INDEX],
@@ -92,6 +100,8 @@ fn step_again(
         ),
         Step::List(list) => list_again(table, counts, desk, unit.nearest, list, s),
         Step::Founded => founded_step(rules, unit.rules, unit.inputs, s),
+        Step::Table(t) => table_step(rules, t, desk[PILOTS + t], s),
+        Step::Sums => sum_step(rules, &desk[PILOTS..LINKED], unit.rules, s),
         Step::Pair(i) => refute(read_pair(memory, i), s),
         Step::Unfounded => drop_unfounded(rules, unit.rules, unit.inputs, c.unfounded, s),
     }
@@ -171,6 +181,16 @@ fn unfounding(rules: &[u64], which: u64, x: u64) -> State
     seen
 }
 
+// The inputs of a table and its pilot, where there are tables.
+fn table_atoms(rules: &[u64], t: usize, pilot: u64) -> u64
+    requires { ⌜ t < MAX_TABLES ⌝ }
+{
+    if rules.len() < FIRST_RULE {
+        return 0;
+    }
+    atoms::union(table_inputs(rules, t), pilot)
+}
+
 // The atoms that the state, or the pair, has decided.
 fn decided(s: State) -> u64 {
     atoms::union(s.up, s.dropped)
@@ -185,13 +205,22 @@ fn looked_at(
     step: usize,
     unfounded: u64,
 ) -> State
-    requires { ⌜ Lent (now rules) (unit .rules) × (length (now desk) ≡ DESK_WORDS) × (MEMORY_WORDS ≤ length (now memory)) ⌝ }
+    requires { ⌜ Lent (now rules) (unit .rules) × Lent (linkedOf (now desk)) (unit .rules) × (length (now desk) ≡ DESK_WORDS)
+        × (MEMORY_WORDS ≤ length (now memory)) ⌝ }
 {
     match decode(step) {
-        Step::Rule(rule) => either_way(numbered_atoms(rules, unit.rules, rule)),
-        Step::Support(atom) => excluding(rules, backing(desk, unit.rules, atom)),
+        Step::Rule(rule) => either_way(numbered_atoms(&desk[LINKED..DESK_WORDS], unit.rules, rule)),
+        Step::Support(atom) => excluding(
+            &desk[LINKED..DESK_WORDS],
+            backing(desk, unit.rules, atom),
+        ),
         Step::List(list) => either_way(desk[list]),
         Step::Founded => either_way(atoms::first(ATOMS)),
+        Step::Table(t) => either_way(table_atoms(rules, t, desk[PILOTS + t])),
+        Step::Sums => either_way(atoms::union(
+            parity_atoms(rules, &desk[PILOTS..LINKED]),
+            telling_atoms(rules, unit.rules),
+        )),
         Step::Pair(i) => either_way(decided(read_pair(memory, i))),
         Step::Unfounded => unfounding(rules, unit.rules, unfounded),
     }
@@ -217,7 +246,7 @@ fn still_tells(
     c: Claim,
 ) -> bool
     requires { ⌜ Prepared (now rules) (now table) (now counts) (now desk) unit × (MEMORY_WORDS ≤ length (now memory)) ⌝ }
-    ensures { λ r. ⌜ (r ≡ true → Told (Belongs (now (rules .entry)) (now (table .entry)) (now (counts .entry)) (now (desk .entry)) unit)
+    ensures { λ r. ⌜ (r ≡ true → Told (Wired (now (rules .entry)) (now (table .entry)) (now (counts .entry)) (now (desk .entry)) unit)
         (now (memory .entry)) (c .goal) c) ⌝ }
 {
     let t = step_again(rules, table, counts, desk, memory, unit, c);
@@ -236,8 +265,8 @@ fn spare(
     atom: usize,
 ) -> Claim
     requires { ⌜ Prepared (now rules) (now table) (now counts) (now desk) unit × (MEMORY_WORDS ≤ length (now memory)) × (atom < ATOMS)
-        × Told (Belongs (now rules) (now table) (now counts) (now desk) unit) (now memory) (c .goal) c ⌝ }
-    ensures { λ r. ⌜ Told (Belongs (now (rules .entry)) (now (table .entry)) (now (counts .entry)) (now (desk .entry)) unit) (now (memory .entry))
+        × Told (Wired (now rules) (now table) (now counts) (now desk) unit) (now memory) (c .goal) c ⌝ }
+    ensures { λ r. ⌜ Told (Wired (now (rules .entry)) (now (table .entry)) (now (counts .entry)) (now (desk .entry)) unit) (now (memory .entry))
         (c .goal) r ⌝ }
 {
     let part = c.part;
@@ -270,8 +299,8 @@ fn spare_each(
     which: u64,
 ) -> Claim
     requires { ⌜ Prepared (now rules) (now table) (now counts) (now desk) unit × (MEMORY_WORDS ≤ length (now memory))
-        × Told (Belongs (now rules) (now table) (now counts) (now desk) unit) (now memory) (claim .goal) claim ⌝ }
-    ensures { λ r. ⌜ Told (Belongs (now (rules .entry)) (now (table .entry)) (now (counts .entry)) (now (desk .entry)) unit) (now (memory .entry))
+        × Told (Wired (now rules) (now table) (now counts) (now desk) unit) (now memory) (claim .goal) claim ⌝ }
+    ensures { λ r. ⌜ Told (Wired (now (rules .entry)) (now (table .entry)) (now (counts .entry)) (now (desk .entry)) unit) (now (memory .entry))
         (claim .goal) r ⌝ }
 {
     let mut c = claim;
@@ -296,8 +325,8 @@ fn shrink(
     at: usize,
 ) -> Claim
     requires { ⌜ Prepared (now rules) (now table) (now counts) (now desk) unit × (MEMORY_WORDS ≤ length (now memory)) × (at < STEPS)
-        × Told (Belongs (now rules) (now table) (now counts) (now desk) unit) (now memory) (claim .goal) claim ⌝ }
-    ensures { λ r. ⌜ Told (Belongs (now (rules .entry)) (now (table .entry)) (now (counts .entry)) (now (desk .entry)) unit) (now (memory .entry))
+        × Told (Wired (now rules) (now table) (now counts) (now desk) unit) (now memory) (claim .goal) claim ⌝ }
+    ensures { λ r. ⌜ Told (Wired (now (rules .entry)) (now (table .entry)) (now (counts .entry)) (now (desk .entry)) unit) (now (memory .entry))
         (claim .goal) r ⌝ }
 {
     let mut c = claim;
@@ -346,7 +375,7 @@ pub fn explain(
     at: usize,
 ) -> State
     requires { ⌜ Prepared (now rules) (now table) (now counts) (now desk) unit × (MEMORY_WORDS ≤ length (now memory)) × (at < STEPS) ⌝ }
-    ensures { λ r. ⌜ Explains (Heeds (Belongs (now (rules .entry)) (now (table .entry)) (now (counts .entry)) (now (desk .entry)) unit)
+    ensures { λ r. ⌜ Explains (Heeds (Wired (now (rules .entry)) (now (table .entry)) (now (counts .entry)) (now (desk .entry)) unit)
         (now (memory .entry))) r (c .goal) ⌝ }
 {
     let whole = c.part;

@@ -8,17 +8,17 @@ use lib.ListN.{getD}
 use Rattle.atoms.specs.Word.{ATOMS, Has, _⊆_, _∪_, _∖_, atom, Lowest}
 use Rattle.atoms.proofs.Sets.{has-none, has-left, has-right, union-cases, has-without, without-left, without-right, has-atom, atom-only}
 use Rattle.atoms.proofs.Sets.{subset-refl, subset-trans}
-use Rattle.atoms.proofs.Tests.{decided-true}
 use Rattle.answer_sets.specs.AnswerSet.{AnswerSet}
 use Rattle.answer_sets.specs.Lent.{lent, Lent}
-use Rattle.answer_sets.proofs.Judged.{decides-answer-set}
-use Rattle.answer_sets.proofs.Lent.{answer-word}
 use Rattle.answer_sets.proofs.Support.{fewer-constraints}
+use Rattle.states.specs.declared.state.State.{State}
+use Rattle.propagating.specs.declared.unit.Unit.{Unit}
 use Rattle.searching.specs.Witness.{Witnessed, none}
 use Rattle.searching.specs.declared.witness.Witness.{Witness}
 use Rattle.searching.specs.declared.witness.Witness.the-variants.{Member, Nothing}
 use Rattle.searching.proofs.Witnesses.{witnessed-iff, witnessed-met}
-use Rattle.finding.specs.Whole.{Fitting}
+use Rattle.finding.specs.Whole.{unitOf, Fitting, Standing, Rooted}
+use Rattle.finding.proofs.Wholes.{fits-answers, answers-fit}
 use Rattle.finding.specs.Few.{Constraints, NoneSettled, OneSettled, Tried, drops, keeps, Going, done, tries, FewBlamed}
 
 -- ---- what was asked
@@ -132,15 +132,11 @@ lent-some headed held others f e l = rw e (record { each = λ r h. l .each r (go
 pub others-within : (held c : ℕ) {others : ℕ} → others ≡ held ∖ atom c → others ⊆ held
 others-within held c e = rw e (record { each = λ i h. without-left held (atom c) h })
 
-pub any-asked : (rules : List ℕ) {which facts : ℕ} {w : Witness} → ((i : ℕ) → getD rules i 0 < 2 ^ ATOMS) → facts < 2 ^ ATOMS → which < 2 ^ ATOMS
-    → Witnessed (Fitting rules which facts (record { up = 0; dropped = 0 })) w → Witnessed (AnswerSet (lent rules) which facts) w
-any-asked rules {which} {facts} g f h k = witnessed-iff (λ M q. decides-answer-set (lent rules) which facts M h .yes (q .settled .answers)) (λ M a. record {
-  settled = record { word = answer-word rules g f a; answers = decided-true (decides-answer-set (lent rules) which facts M h) a };
-  completes = record {
-    has-up = record { each = λ i h. absurd (has-none h) };
-    no-dropped = record { none = λ i h. absurd (has-none h) };
-  };
-}) k
+pub any-asked : (rules : List ℕ) {desk memory : List ℕ} {unit : Unit} {which facts : ℕ} {root : State} {w : Witness}
+    → ((i : ℕ) → getD rules i 0 < 2 ^ ATOMS) → facts < 2 ^ ATOMS → which < 2 ^ ATOMS → unit ≡ unitOf desk which facts
+    → Standing rules desk memory unit facts root → Rooted rules desk unit facts root → Witnessed (Fitting rules desk unit facts root) w
+    → Witnessed (AnswerSet (lent rules) which facts) w
+any-asked rules g f h e y t k = witnessed-iff (λ M q. fits-answers y e h q) (λ M a. answers-fit g f h e t a) k
 
 module _ {rules : List ℕ} {headed held facts c others which : ℕ} (o : others ≡ held ∖ atom c) (e : which ≡ headed ∪ others) where
   pub tried-keeps : {w : Witness} {M : ℕ} → w ≡ Member M → Witnessed (AnswerSet (lent rules) which facts) w → Tried rules headed held facts c held

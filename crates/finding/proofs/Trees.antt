@@ -10,40 +10,38 @@ use lib.Count.{ones}
 use lib.ListN.{length, getD, set}
 use lib.Dec.{ltb}
 use borrow.Author.Tests.{not-true, not-false, ltb-true, lt-ltb}
-use Rattle.atoms.specs.Word.{ATOMS, Has, _⊆_, subset, apart, high, outside, Highest}
+use Rattle.atoms.specs.Word.{ATOMS, Has, _⊆_, subset, apart, high, _∪_, _∖_, outside, Highest}
 use Rattle.atoms.specs.Bounded.{Decides}
-use Rattle.atoms.proofs.Tests.{decides, decided-true}
-use Rattle.atoms.proofs.Sets.{has-dec, has-lt, has-none, has-left, has-right, union-cases, has-atom, has-outside}
+use Rattle.atoms.proofs.Tests.{decides}
+use Rattle.atoms.proofs.Sets.{has-dec, has-lt, has-none, has-left, has-right, union-cases, has-without, without-left, without-right, has-atom, has-outside}
 use Rattle.atoms.proofs.Sets.{subset-le, subset-antisym, subset-trans, subset-refl}
 use Rattle.atoms.proofs.Sets.{decides-apart, decides-subset}
 use Rattle.atoms.proofs.Lists.{member-getD, index-of}
 use Rattle.atoms.proofs.HighParts.{high-same, high-with, high-without, high-mono}
 use Rattle.answer_sets.specs.AnswerSet.{AnswerSet}
 use Rattle.answer_sets.specs.Lent.{lent}
-use Rattle.answer_sets.proofs.Judged.{decides-answer-set}
-use Rattle.answer_sets.proofs.Lent.{answer-word}
 use Rattle.states.specs.State.{Completes, undecided}
-use Rattle.states.specs.Narrowing.{Narrows, Wanted, bothOf, branchOf}
+use Rattle.states.specs.Narrowing.{Narrows, branchOf}
 use Rattle.states.specs.declared.state.State.{State}
 use Rattle.states.proofs.Narrows.{completes-back}
-use Rattle.states.proofs.HalfDecided.{decided-cases}
+use Rattle.states.proofs.HalfDecided.{decided-cases, undecided-up, undecided-dropped, undecided-lt, undecided-intro}
 use Rattle.states.proofs.Branches.{without-branch, some-branch, decided-falls}
 use Rattle.learning.specs.Reason.{Remembers}
-use Rattle.propagating.specs.Job.{Belongs}
+use Rattle.propagating.specs.Desk.{Wired}
+use Rattle.propagating.specs.declared.unit.Unit.{Unit}
 use Rattle.searching.specs.Witness.{Witnessed, met, none}
 use Rattle.searching.specs.declared.witness.Witness.{Witness}
 use Rattle.searching.specs.declared.witness.Witness.the-variants.{Member, Nothing}
-use Rattle.searching.proofs.Witnesses.{witnessed-iff}
-use Rattle.finding.specs.Whole.{wholeOf, noLists, Settled, Fitting, Ready}
+use Rattle.finding.specs.Whole.{noLists, unitOf, hiddenOf, Fitting, Standing, Rooted}
 use Rattle.finding.specs.Least.{Behind, from-start, above}
-use Rattle.finding.specs.Gather.{Added, Sought, Due, Offered, AllPassed, Likely, Hinted, known, unknown, Looked, seen, unseen}
-use Rattle.finding.specs.Gather.{Kept, kept, left, PlaceIn, at-place, elsewhere, Standing, Node, Descended}
+use Rattle.finding.specs.Gather.{Added, Sought, Due, Offered, AllPassed, darkOf, Likely, Hinted, known, unknown, Looked, seen, unseen}
+use Rattle.finding.specs.Gather.{Kept, kept, left, PlaceIn, at-place, elsewhere, Node, Descended}
 use Rattle.finding.specs.declared.least.From.{From}
 use Rattle.finding.specs.declared.least.From.the-variants.{Start, Above}
 use Rattle.finding.specs.declared.gather.Branch.{Branch}
 use Rattle.finding.proofs.AddedWords.{added-none, added-full, added-one, added-iff, added-both}
 use Rattle.finding.proofs.Walks.{behind-up, above-of}
-use Rattle.finding.proofs.Wholes.{belongs-settled, settled-belongs}
+use Rattle.finding.proofs.Wholes.{fits-settled, fits-answers, answers-fit}
 
 -- ---- what is sought
 
@@ -103,67 +101,51 @@ module _ {from : From} {passed : List ℕ} {m : ℕ} {b : Bool} (d : Decides (So
 
 -- ---- what is known at a node
 
-pub overlap-nothing : {rules : List ℕ} {which facts : ℕ} {s : State} {b : Bool} → b ≡ apart (s .up) (s .dropped) → not b ≡ true
-    → Witnessed (Fitting rules which facts s) Nothing
+pub overlap-nothing : {rules desk : List ℕ} {unit : Unit} {facts : ℕ} {s : State} {b : Bool} → b ≡ apart (s .up) (s .dropped) → not b ≡ true
+    → Witnessed (Fitting rules desk unit facts s) Nothing
 overlap-nothing {s = s} {b = b} e t = none (λ M f.
     decides-apart (s .up) (s .dropped) .no (sym e ∙ not-true b t)
-    (record { none = λ i u d. f .completes .no-dropped .none i d (f .completes .has-up .each i u) }))
+    (record { none = λ i u d. f .wanted .completes .no-dropped .none i d (f .wanted .completes .has-up .each i u) }))
 
-module _ {rules desk memory : List ℕ} {which facts : ℕ} where
-  pub ready-stands : {root : State} → Ready rules desk memory which facts root → Standing rules desk memory which facts root
-  ready-stands r = record { prepared = r .prepared; remembers = r .remembers; facts-up = r .facts-up }
+-- who fits the state completes it without pilots
+fits-dark : {rules desk : List ℕ} {unit : Unit} {facts : ℕ} {s : State} {M : ℕ} → Fitting rules desk unit facts s M
+    → Completes (darkOf s (hiddenOf unit facts)) M
+fits-dark {unit = unit} {facts} {s} {M} f = rw (f .is) (record {
+  has-up = record {
+    each = λ i h. has-without (f .whole) X (f .wanted .completes .has-up .each i (without-left (s .up) X h)) (without-right (s .up) X h);
+  };
+  no-dropped = record { none = λ i h m. go i (union-cases (s .dropped) X h) m };
+})
+  where
+    X : ℕ
+    X = hiddenOf unit facts
 
-  pub stands-still : {s : State} {after : List ℕ} → Standing rules desk memory which facts s
-      → Remembers (Belongs rules [] noLists desk (wholeOf which facts)) after → Standing rules desk after which facts s
-  stands-still r m = record { prepared = r .prepared; remembers = m; facts-up = r .facts-up }
+    go : (i : ℕ) → Has (s .dropped) i ⊎ Has X i → Has (f .whole ∖ X) i → ⊥
+    go i (inl d) m = f .wanted .completes .no-dropped .none i d (without-left (f .whole) X m)
+    go i (inr x) m = without-right (f .whole) X m x
 
-  pub asked-here : {s : State} {w : Witness} → Standing rules desk memory which facts s
-      → Witnessed (Wanted (Belongs rules [] noLists desk (wholeOf which facts)) (bothOf s s)) w → Witnessed (Fitting rules which facts s) w
-  asked-here {s} r k = witnessed-iff into from k
-    where
-      into : (M : ℕ) → Wanted (Belongs rules [] noLists desk (wholeOf which facts)) (bothOf s s) M → Fitting rules which facts s M
-      into M w = record {
-        settled = belongs-settled (record { each = λ i h. w .completes .has-up .each i (has-left (s .up) (s .up) (r .facts-up .each i h)) }) (w .belongs);
-        completes = record {
-          has-up = record { each = λ i h. w .completes .has-up .each i (has-left (s .up) (s .up) h) };
-          no-dropped = record { none = λ i h. w .completes .no-dropped .none i (has-left (s .dropped) (s .dropped) h) };
-        };
-      }
+module _ {rules desk memory : List ℕ} {unit : Unit} {facts : ℕ} {from : From} {s : State} (r : Standing rules desk memory unit facts s) where
+  likely-fitting : {M : ℕ} → Fitting rules desk unit facts s M → Likely rules desk unit facts from s M
+  likely-fitting f = record { word = fits-settled r f .word; completes = fits-dark f; fits = λ b. f }
 
-      one : {a i : ℕ} → Has a i ⊎ Has a i → Has a i
-      one (inl h) = h
-      one (inr h) = h
+  pub looked-passed : {t : State} → t ≡ darkOf s (hiddenOf unit facts) → AllPassed t from → Looked rules desk unit facts from s Nothing
+  looked-passed e a = unseen (λ M f b. a .none M (fits-settled r f .word) (rw e (fits-dark f)) b)
 
-      from : (M : ℕ) → Fitting rules which facts s M → Wanted (Belongs rules [] noLists desk (wholeOf which facts)) (bothOf s s) M
-      from M f = record {
-        belongs = settled-belongs (f .settled);
-        completes = record {
-          has-up = record { each = λ i h. f .completes .has-up .each i (one (union-cases (s .up) (s .up) h)) };
-          no-dropped = record { none = λ i h. f .completes .no-dropped .none i (one (union-cases (s .dropped) (s .dropped) h)) };
-        };
-      }
-
-module _ {rules : List ℕ} {which facts : ℕ} {from : From} {s : State} where
-  likely-fitting : {M : ℕ} → Fitting rules which facts s M → Likely rules which facts from s M
-  likely-fitting f = record { word = f .settled .word; completes = f .completes; settled = λ b. f .settled }
-
-  pub looked-passed : AllPassed s from → Looked rules which facts from s Nothing
-  looked-passed a = unseen (λ M f b. a .none M (f .settled .word) (f .completes) b)
-
-  pub looked-known : {w : Witness} {M : ℕ} → w ≡ Member M → Hinted rules which facts from s w → Looked rules which facts from s (Member M)
-  looked-known {M = M} e h = go (subst (Hinted rules which facts from s) e h)
-    where
-      go : Hinted rules which facts from s (Member M) → Looked rules which facts from s (Member M)
-      go (known f) = seen f
-
-  pub looked-asked : {w : Witness} → Witnessed (Fitting rules which facts s) w → Looked rules which facts from s w
+  pub looked-asked : {w : Witness} → Witnessed (Fitting rules desk unit facts s) w → Looked rules desk unit facts from s w
   looked-asked (met f) = seen (likely-fitting f)
   looked-asked (none n) = unseen (λ M f b. n M f)
 
-  pub looked-seen : {w : Witness} {M : ℕ} → w ≡ Member M → Looked rules which facts from s w → Likely rules which facts from s M
-  looked-seen {M = M} e l = go (subst (Looked rules which facts from s) e l)
+module _ {rules desk : List ℕ} {unit : Unit} {facts : ℕ} {from : From} {s : State} where
+  pub looked-known : {w : Witness} {M : ℕ} → w ≡ Member M → Hinted rules desk unit facts from s w → Looked rules desk unit facts from s (Member M)
+  looked-known {M = M} e h = go (subst (Hinted rules desk unit facts from s) e h)
     where
-      go : Looked rules which facts from s (Member M) → Likely rules which facts from s M
+      go : Hinted rules desk unit facts from s (Member M) → Looked rules desk unit facts from s (Member M)
+      go (known f) = seen f
+
+  pub looked-seen : {w : Witness} {M : ℕ} → w ≡ Member M → Looked rules desk unit facts from s w → Likely rules desk unit facts from s M
+  looked-seen {M = M} e l = go (subst (Looked rules desk unit facts from s) e l)
+    where
+      go : Looked rules desk unit facts from s (Member M) → Likely rules desk unit facts from s M
       go (seen f) = f
 
 -- ---- what is known of a branch
@@ -179,17 +161,13 @@ pub place-kept : {s : State} {from : From} {p : ℕ} {w : Witness} → from ≡ 
 place-kept e (kept l c) = at-place l e c
 place-kept e left = elsewhere
 
-pub hinted-place : {rules : List ℕ} {which facts : ℕ} {from : From} {s : State} {w : Witness} → PlaceIn s from w → Hinted rules which facts from s w
-hinted-place {rules} {which} {facts} {from} {s} (at-place {p} l e c) = known (record { word = l; completes = c; settled = λ b. absurd (here b) })
+pub hinted-place : {rules desk : List ℕ} {unit : Unit} {facts : ℕ} {from : From} {s t : State} {w : Witness} → t ≡ darkOf s (hiddenOf unit facts)
+    → PlaceIn t from w → Hinted rules desk unit facts from s w
+hinted-place {from = from} g (at-place {p} l e c) = known (record { word = l; completes = rw g at c; fits = λ b. absurd (here b) })
   where
     here : ¬ Behind from p
     here b = let k = above-of (rw e at b) in omega arith
-hinted-place elsewhere = unknown
-
-hinted-kept : {rules : List ℕ} {which facts : ℕ} {from : From} {s t : State} {m : ℕ} {w : Witness} → Likely rules which facts from s m → Kept m t w
-    → Hinted rules which facts from t w
-hinted-kept f (kept l c) = known (record { word = f .word; completes = c; settled = f .settled })
-hinted-kept f left = unknown
+hinted-place g elsewhere = unknown
 
 -- ---- the two branches
 
@@ -197,22 +175,69 @@ branch-up-grows : (s : State) (k : ℕ) (phase : Bool) → s .up ⊆ branchOf s 
 branch-up-grows s k true = record { each = λ i h. has-left (s .up) _ h }
 branch-up-grows s k false = subset-refl
 
-pub descended : {rules desk : List ℕ} {which facts : ℕ} {from : From} (s : State) (k : ℕ) (phase : Bool) {memory after : List ℕ} {node : Branch} {m : ℕ}
-    → Standing rules desk memory which facts s → Likely rules which facts from s m
-    → Narrows (Belongs rules [] noLists desk (wholeOf which facts)) (branchOf s k phase) (node .front .state)
-    → Remembers (Belongs rules [] noLists desk (wholeOf which facts)) after → Kept m (node .front .state) (node .known)
-    → Descended rules desk after which facts from s k phase node
-descended s k phase r f n m w = record {
+-- who completes the state completes the branch of a phase that agrees with it
+module _ {s : State} {k N : ℕ} (c : Completes s N) where
+  up-branch : Has N k → Completes (branchOf s k true) N
+  up-branch h = go (some-branch s k false c)
+    where
+      go : Completes (branchOf s k false) N ⊎ Completes (branchOf s k true) N → Completes (branchOf s k true) N
+      go (inl d) = absurd (d .no-dropped .none k (has-right (s .dropped) _ (has-atom k)) h)
+      go (inr d) = d
+
+  down-branch : ¬ Has N k → Completes (branchOf s k false) N
+  down-branch n = go (some-branch s k false c)
+    where
+      go : Completes (branchOf s k false) N ⊎ Completes (branchOf s k true) N → Completes (branchOf s k false) N
+      go (inl d) = d
+      go (inr d) = absurd (n (d .has-up .each k (has-right (s .up) _ (has-atom k))))
+
+-- a position that fits, and lies in the branch, fits there
+module _ {rules desk : List ℕ} {unit : Unit} {facts : ℕ} (s : State) (k : ℕ) {t : State} (free : ¬ Has (hiddenOf unit facts) k) where
+  still-fits : (phase : Bool) → Narrows (Wired rules [] noLists desk unit) (branchOf s k phase) t → {M : ℕ}
+      → Completes (darkOf t (hiddenOf unit facts)) M → Fitting rules desk unit facts s M → Fitting rules desk unit facts t M
+  still-fits phase n {M} d f = record {
+    whole = f .whole;
+    wanted = record { belongs = f .wanted .belongs; completes = n .keeps (f .whole) (f .wanted .belongs) (there phase n) };
+    is = f .is;
+  }
+    where
+      X : ℕ
+      X = hiddenOf unit facts
+
+      there : (phase : Bool) → Narrows (Wired rules [] noLists desk unit) (branchOf s k phase) t → Completes (branchOf s k phase) (f .whole)
+      there true n =
+          up-branch (f .wanted .completes)
+          (without-left (f .whole) X
+          (subst (λ (w : ℕ). Has w k) (f .is)
+          (d .has-up .each k (has-without (t .up) X (n .up-grows .each k (has-right (s .up) _ (has-atom k))) free))))
+      there false n =
+          down-branch (f .wanted .completes)
+          (λ h. d .no-dropped .none k (has-left (t .dropped) X (n .dropped-grows .each k (has-right (s .dropped) _ (has-atom k))))
+          (subst (λ (w : ℕ). Has w k) (sym (f .is)) (has-without (f .whole) X h free)))
+
+pub descended : {rules desk : List ℕ} {unit : Unit} {facts : ℕ} {from : From} (s : State) (k : ℕ) (phase : Bool) {memory after : List ℕ} {node : Branch}
+    {m : ℕ} {d : State} → Standing rules desk memory unit facts s → Likely rules desk unit facts from s m → ¬ Has (hiddenOf unit facts) k
+    → Narrows (Wired rules [] noLists desk unit) (branchOf s k phase) (node .front .state) → Remembers (Wired rules [] noLists desk unit) after
+    → d ≡ darkOf (node .front .state) (hiddenOf unit facts) → Kept m d (node .known) → Descended rules desk after unit facts from s k phase node
+descended {rules} {desk} {unit} {facts} {from} s k phase {node = node} {m} {d} r f free n a e w = record {
   is-node = record {
     stands = record {
-      prepared = r .prepared;
-      remembers = m;
+      serves = r .serves;
+      remembers = a;
       facts-up = subset-trans (r .facts-up) (subset-trans (branch-up-grows s k phase) (n .up-grows));
     };
-    hinted = hinted-kept f w;
+    hinted = go (node .known) w;
   };
   narrows = n;
 }
+  where
+    go : (v : Witness) → Kept m d v → Hinted rules desk unit facts from (node .front .state) v
+    go v (kept l c) = known (record {
+      word = f .word;
+      completes = rw e at c;
+      fits = λ b. still-fits s k free phase n (rw e at c) (f .fits b);
+    })
+    go v left = unknown
 
 -- ---- what is gathered
 
@@ -249,106 +274,135 @@ completion-below {s} {M} {N} {k} t m n c d lacks has = go (decLt M N)
     go (yes l) = l
     go (no l) = let g : N ≤ M = omega arith in absurd (omega (arith, high-mono k g, high-with has, high-without lacks, alike))
 
-fits-back : {rules desk memory : List ℕ} {which facts k : ℕ} {from : From} {s : State} {phase : Bool} {node : Branch}
-    → Descended rules desk memory which facts from s k phase node → (M : ℕ) → Fitting rules which facts (node .front .state) M
-    → Completes (branchOf s k phase) M
-fits-back n M f = completes-back (n .narrows) (f .completes)
+-- who fits a branch completes its state
+fits-back : {rules desk memory : List ℕ} {unit : Unit} {facts k : ℕ} {from : From} {s : State} {phase : Bool} {node : Branch}
+    → Descended rules desk memory unit facts from s k phase node → {M : ℕ} (f : Fitting rules desk unit facts (node .front .state) M)
+    → Completes (branchOf s k phase) (f .whole)
+fits-back n f = completes-back (n .narrows) (f .wanted .completes)
 
-module _ {rules : List ℕ} {which facts : ℕ} {from : From} {passed : List ℕ} where
+-- an atom that is undecided without pilots is no pilot, and undecided
+pub dark-free : (s : State) (X : ℕ) {k : ℕ} → Has (undecided (darkOf s X .up) (darkOf s X .dropped)) k → ¬ Has X k
+dark-free s X h x = undecided-dropped (s .up ∖ X) (s .dropped ∪ X) h (has-right (s .dropped) X x)
+
+dark-undecided : (s : State) (X : ℕ) {k : ℕ} → Has (undecided (darkOf s X .up) (darkOf s X .dropped)) k → Has (undecided (s .up) (s .dropped)) k
+dark-undecided s X {k} h =
+    undecided-intro (s .up) (s .dropped) k (undecided-lt (s .up ∖ X) (s .dropped ∪ X) h)
+    (λ u. undecided-up (s .up ∖ X) (s .dropped ∪ X) h (has-without (s .up) X u (dark-free s X h)))
+    (λ d. undecided-dropped (s .up ∖ X) (s .dropped ∪ X) h (has-left (s .dropped) X d))
+
+module _ {rules desk : List ℕ} {unit : Unit} {facts : ℕ} {from : From} {passed : List ℕ} where
   pub gather-full : {s : State} {list : List ℕ} {count : ℕ} → count ≤ length list → length list ≤ count
-      → Added (Due rules which facts from passed s) list count list count
+      → Added (Due rules desk unit facts from passed s) list count list count
   gather-full l k = added-full l k
 
-  pub gather-none : {s : State} {w : Witness} {list : List ℕ} {count : ℕ} → count ≤ length list → w ≡ Nothing → Looked rules which facts from s w
-      → Added (Due rules which facts from passed s) list count list count
-  gather-none {s} {w} {list} {count} l e k = go (subst (Looked rules which facts from s) e k)
+  pub gather-none : {s : State} {w : Witness} {list : List ℕ} {count : ℕ} → count ≤ length list → w ≡ Nothing → Looked rules desk unit facts from s w
+      → Added (Due rules desk unit facts from passed s) list count list count
+  gather-none {s} {w} {list} {count} l e k = go (subst (Looked rules desk unit facts from s) e k)
     where
-      go : Looked rules which facts from s Nothing → Added (Due rules which facts from passed s) list count list count
+      go : Looked rules desk unit facts from s Nothing → Added (Due rules desk unit facts from passed s) list count list count
       go (unseen n) = added-none l (λ N d. n N (d .fits) (d .sought .behind))
 
-  pub gather-leaf : {s : State} {m : ℕ} {before after : List ℕ} {count r : ℕ} → Likely rules which facts from s m → undecided (s .up) (s .dropped) ≡ 0
-      → Added (Offered from passed m) before count after r → Added (Due rules which facts from passed s) before count after r
-  gather-leaf {s} {m} f z a =
-      added-iff (λ M o. record {
-        fits = subst (Fitting rules which facts s) (sym (o .is))
-            (record { settled = f .settled (subst (Behind from) (o .is) (o .sought .behind)); completes = f .completes });
-        sought = o .sought;
-      })
-      (λ M d. record { is = completion-one z (d .fits .settled .word) (f .word) (d .fits .completes) (f .completes); sought = d .sought }) a
+  module _ {memory : List ℕ} {s : State} (y : Standing rules desk memory unit facts s) where
+    due-word : {M : ℕ} → Due rules desk unit facts from passed s M → M < 2 ^ ATOMS
+    due-word d = fits-settled y (d .fits) .word
 
-  module _ {desk memory₁ : List ℕ} {s : State} {k : ℕ} {low : Branch} (h : Highest (undecided (s .up) (s .dropped)) k)
-      (d : Descended rules desk memory₁ which facts from s k false low) where
-    due-back : (phase : Bool) {memory : List ℕ} {node : Branch} → Descended rules desk memory which facts from s k phase node → (M : ℕ)
-        → Due rules which facts from passed (node .front .state) M → Due rules which facts from passed s M
-    due-back phase n M q = record {
-      fits = record { settled = q .fits .settled; completes = without-branch s k phase (fits-back n M (q .fits)) };
-      sought = q .sought;
-    }
+    pub gather-leaf : {m : ℕ} {before after : List ℕ} {count r : ℕ} → Likely rules desk unit facts from s m
+        → undecided (darkOf s (hiddenOf unit facts) .up) (darkOf s (hiddenOf unit facts) .dropped) ≡ 0
+        → Added (Offered from passed m) before count after r → Added (Due rules desk unit facts from passed s) before count after r
+    gather-leaf {m} f z a =
+        added-iff (λ M o. record {
+          fits = subst (Fitting rules desk unit facts s) (sym (o .is)) (f .fits (subst (Behind from) (o .is) (o .sought .behind)));
+          sought = o .sought;
+        })
+        (λ M d. record { is = completion-one z (due-word d) (f .word) (fits-dark (d .fits)) (f .completes); sought = d .sought }) a
 
-    due-after : (phase : Bool) {memory : List ℕ} {node : Branch} → Descended rules desk memory which facts from s k phase node → (M : ℕ)
-        → Due rules which facts from passed s M → Completes (branchOf s k phase) M → Due rules which facts from passed (node .front .state) M
-    due-after phase n M q c = record {
-      fits = record { settled = q .fits .settled; completes = n .narrows .keeps M (settled-belongs (q .fits .settled)) c };
-      sought = q .sought;
-    }
+    module _ {memory₁ : List ℕ} {k : ℕ} {low : Branch}
+        (h : Highest (undecided (darkOf s (hiddenOf unit facts) .up) (darkOf s (hiddenOf unit facts) .dropped)) k)
+        (d : Descended rules desk memory₁ unit facts from s k false low) where
+      due-back : (phase : Bool) {memory : List ℕ} {node : Branch} → Descended rules desk memory unit facts from s k phase node → (M : ℕ)
+          → Due rules desk unit facts from passed (node .front .state) M → Due rules desk unit facts from passed s M
+      due-back phase n M q = record {
+        fits = record {
+          whole = q .fits .whole;
+          wanted = record { belongs = q .fits .wanted .belongs; completes = without-branch s k phase (fits-back n (q .fits)) };
+          is = q .fits .is;
+        };
+        sought = q .sought;
+      }
 
-    -- all that lack the atom are below all that have it
-    low-below : (M N : ℕ) → Due rules which facts from passed (low .front .state) M → Due rules which facts from passed s N
-        → Completes (branchOf s k true) N → M < N
-    low-below M N p q b =
-        let a = fits-back d M (p .fits) in
-        completion-below h (p .fits .settled .word) (q .fits .settled .word) (without-branch s k false a) (q .fits .completes)
-        (λ m. a .no-dropped .none k (has-right (s .dropped) _ (has-atom k)) m) (b .has-up .each k (has-right (s .up) _ (has-atom k)))
+      due-after : (phase : Bool) {memory : List ℕ} {node : Branch} → Descended rules desk memory unit facts from s k phase node → (M : ℕ)
+          → (q : Due rules desk unit facts from passed s M) → Completes (branchOf s k phase) (q .fits .whole)
+          → Due rules desk unit facts from passed (node .front .state) M
+      due-after phase n M q c = record {
+        fits = record {
+          whole = q .fits .whole;
+          wanted = record { belongs = q .fits .wanted .belongs; completes = n .narrows .keeps (q .fits .whole) (q .fits .wanted .belongs) c };
+          is = q .fits .is;
+        };
+        sought = q .sought;
+      }
 
-    -- the words are full
-    pub gather-low : {list₀ list₁ : List ℕ} {count₀ count₁ : ℕ} → Added (Due rules which facts from passed (low .front .state)) list₀ count₀ list₁ count₁
-        → length list₁ ≤ count₁ → Added (Due rules which facts from passed s) list₀ count₀ list₁ count₁
-    gather-low a l =
-        added-both (due-back false d) (λ M q. q .0) split (λ M N p q. low-below M N p (q .0) (q .1)) a
-        (added-full (omega (arith, a .room, a .long)) l)
-      where
-        split : (M : ℕ) → Due rules which facts from passed s M
-            → Due rules which facts from passed (low .front .state) M ⊎ (Due rules which facts from passed s M × Completes (branchOf s k true) M)
-        split M q = go (some-branch s k false (q .fits .completes))
-          where
-            go : Completes (branchOf s k false) M ⊎ Completes (branchOf s k true) M
-                → Due rules which facts from passed (low .front .state) M ⊎ (Due rules which facts from passed s M × Completes (branchOf s k true) M)
-            go (inl c) = inl (due-after false d M q c)
-            go (inr c) = inr (q, c)
-
-    module _ {memory₂ : List ℕ} {up : Branch} (u : Descended rules desk memory₂ which facts from s k true up) where
-      due-split : (M : ℕ) → Due rules which facts from passed s M
-          → Due rules which facts from passed (low .front .state) M ⊎ Due rules which facts from passed (up .front .state) M
-      due-split M q = go (some-branch s k false (q .fits .completes))
+      -- all that lack the atom are below all that have it
+      low-below : (M N : ℕ) → Due rules desk unit facts from passed (low .front .state) M → (q : Due rules desk unit facts from passed s N)
+          → Completes (branchOf s k true) (q .fits .whole) → M < N
+      low-below M N p q b =
+          completion-below h (due-word (due-back false d M p)) (due-word q) (fits-dark (due-back false d M p .fits)) (fits-dark (q .fits))
+          (λ m. fits-back d (p .fits) .no-dropped .none k (has-right (s .dropped) _ (has-atom k))
+          (without-left (p .fits .whole) X (subst (λ (w : ℕ). Has w k) (p .fits .is) m)))
+          (subst (λ (w : ℕ). Has w k) (sym (q .fits .is))
+          (has-without (q .fits .whole) X (b .has-up .each k (has-right (s .up) _ (has-atom k))) (dark-free s X (h .here))))
         where
-          go : Completes (branchOf s k false) M ⊎ Completes (branchOf s k true) M
-              → Due rules which facts from passed (low .front .state) M ⊎ Due rules which facts from passed (up .front .state) M
-          go (inl c) = inl (due-after false d M q c)
-          go (inr c) = inr (due-after true u M q c)
+          X : ℕ
+          X = hiddenOf unit facts
 
-      pub gather-both : {list₀ list₁ list₂ : List ℕ} {count₀ count₁ count₂ : ℕ}
-          → Added (Due rules which facts from passed (low .front .state)) list₀ count₀ list₁ count₁
-          → Added (Due rules which facts from passed (up .front .state)) list₁ count₁ list₂ count₂
-          → Added (Due rules which facts from passed s) list₀ count₀ list₂ count₂
-      gather-both a b =
-          added-both (due-back false d) (due-back true u) due-split (λ M N p q. low-below M N p (due-back true u N q) (fits-back u N (q .fits))) a b
+      -- the words are full
+      pub gather-low : {list₀ list₁ : List ℕ} {count₀ count₁ : ℕ}
+          → Added (Due rules desk unit facts from passed (low .front .state)) list₀ count₀ list₁ count₁
+          → length list₁ ≤ count₁ → Added (Due rules desk unit facts from passed s) list₀ count₀ list₁ count₁
+      gather-low a l =
+          added-both (due-back false d) (λ M q. q .0) split (λ M N p q. low-below M N p (q .0) (q .1)) a
+          (added-full (omega (arith, a .room, a .long)) l)
+        where
+          split : (M : ℕ) → Due rules desk unit facts from passed s M
+              → Due rules desk unit facts from passed (low .front .state) M
+              ⊎ ((q : Due rules desk unit facts from passed s M) × Completes (branchOf s k true) (q .fits .whole))
+          split M q = go (some-branch s k false (q .fits .wanted .completes))
+            where
+              go : Completes (branchOf s k false) (q .fits .whole) ⊎ Completes (branchOf s k true) (q .fits .whole)
+                  → Due rules desk unit facts from passed (low .front .state) M
+                  ⊎ ((p : Due rules desk unit facts from passed s M) × Completes (branchOf s k true) (p .fits .whole))
+              go (inl c) = inl (due-after false d M q c)
+              go (inr c) = inr (q, c)
+
+      module _ {memory₂ : List ℕ} {up : Branch} (u : Descended rules desk memory₂ unit facts from s k true up) where
+        due-split : (M : ℕ) → Due rules desk unit facts from passed s M
+            → Due rules desk unit facts from passed (low .front .state) M ⊎ Due rules desk unit facts from passed (up .front .state) M
+        due-split M q = go (some-branch s k false (q .fits .wanted .completes))
+          where
+            go : Completes (branchOf s k false) (q .fits .whole) ⊎ Completes (branchOf s k true) (q .fits .whole)
+                → Due rules desk unit facts from passed (low .front .state) M ⊎ Due rules desk unit facts from passed (up .front .state) M
+            go (inl c) = inl (due-after false d M q c)
+            go (inr c) = inr (due-after true u M q c)
+
+        pub gather-both : {list₀ list₁ list₂ : List ℕ} {count₀ count₁ count₂ : ℕ}
+            → Added (Due rules desk unit facts from passed (low .front .state)) list₀ count₀ list₁ count₁
+            → Added (Due rules desk unit facts from passed (up .front .state)) list₁ count₁ list₂ count₂
+            → Added (Due rules desk unit facts from passed s) list₀ count₀ list₂ count₂
+        unfolding due-back
+        gather-both a b =
+            added-both (due-back false d) (due-back true u) due-split (λ M N p q. low-below M N p (due-back true u N q) (fits-back u (q .fits))) a b
 
 -- the branches have fewer undecided atoms
-pub descended-falls : {rules desk memory : List ℕ} {which facts : ℕ} {from : From} {s : State} {k n : ℕ} {node : Branch} (phase : Bool)
-    → Highest (undecided (s .up) (s .dropped)) k → Descended rules desk memory which facts from s k phase node
+pub descended-falls : {rules desk memory : List ℕ} {unit : Unit} {facts : ℕ} {from : From} (s : State) (X : ℕ) {k n : ℕ} {node : Branch} (phase : Bool)
+    → Highest (undecided (darkOf s X .up) (darkOf s X .dropped)) k → Descended rules desk memory unit facts from s k phase node
     → ones (undecided (s .up) (s .dropped)) ≡ n → ones (undecided (node .front .state .up) (node .front .state .dropped)) < n
-descended-falls {s = s} phase h d e = rw e at (decided-falls s phase (h .here) refl (d .narrows))
+descended-falls s X phase h d e = rw e at (decided-falls s phase (dark-undecided s X (h .here)) refl (d .narrows))
 
 -- at the root all answer sets are left
-pub gather-root : (rules : List ℕ) {desk memory : List ℕ} {which facts : ℕ} {from : From} {passed : List ℕ} {root : State} {before after : List ℕ} {r : ℕ}
-    → ((i : ℕ) → getD rules i 0 < 2 ^ ATOMS) → facts < 2 ^ ATOMS → which < 2 ^ ATOMS → Ready rules desk memory which facts root
-    → Added (Due rules which facts from passed root) before 0 after r
+pub gather-root : (rules : List ℕ) {desk memory : List ℕ} {unit : Unit} {which facts : ℕ} {from : From} {passed : List ℕ} {root : State}
+    {before after : List ℕ} {r : ℕ} → ((i : ℕ) → getD rules i 0 < 2 ^ ATOMS) → facts < 2 ^ ATOMS → which < 2 ^ ATOMS → unit ≡ unitOf desk which facts
+    → Standing rules desk memory unit facts root → Rooted rules desk unit facts root
+    → Added (Due rules desk unit facts from passed root) before 0 after r
     → Added (λ M. AnswerSet (lent rules) which facts M × Sought from passed M) before 0 after r
-gather-root rules {which = which} {facts = facts} {from = from} {passed = passed} {root = root} g f h y a =
-    added-iff (λ M d. (decides-answer-set (lent rules) which facts M h .yes (d .fits .settled .answers), d .sought)) back a
-  where
-    settled : (M : ℕ) → AnswerSet (lent rules) which facts M → Settled rules which facts M
-    settled M q = record { word = answer-word rules g f q; answers = decided-true (decides-answer-set (lent rules) which facts M h) q }
-
-    back : (M : ℕ) → AnswerSet (lent rules) which facts M × Sought from passed M → Due rules which facts from passed root M
-    back M q = record { fits = record { settled = settled M (q .0); completes = y .rooted M (settled M (q .0)) }; sought = q .1 }
+gather-root rules g f h e y t a =
+    added-iff (λ M d. (fits-answers y e h (d .fits), d .sought)) (λ M q. record { fits = answers-fit g f h e t (q .0); sought = q .1 }) a

@@ -5,16 +5,15 @@ use mathlib.Core.Bool.{Bool}
 use mathlib.Core.List.{List, [], List·Memᴰ}
 use Prim.Native.Nat.{ℕ, _^_, _≤_, _<_}
 use lib.ListN.{length, getD}
-use Rattle.atoms.specs.Word.{ATOMS, _⊆_}
+use Rattle.atoms.specs.Word.{ATOMS, _∪_, _∖_}
 use Rattle.states.specs.State.{Completes}
 use Rattle.states.specs.Narrowing.{Narrows, branchOf}
 use Rattle.states.specs.declared.state.State.{State}
-use Rattle.learning.specs.Reason.{Remembers}
-use Rattle.propagating.specs.Job.{Belongs}
-use Rattle.propagating.specs.Desk.{Prepared}
+use Rattle.propagating.specs.Desk.{Wired}
+use Rattle.propagating.specs.declared.unit.Unit.{Unit}
 use Rattle.searching.specs.declared.witness.Witness.{Witness}
 use Rattle.searching.specs.declared.witness.Witness.the-variants.{Member, Nothing}
-use Rattle.finding.specs.Whole.{wholeOf, noLists, Settled, Fitting}
+use Rattle.finding.specs.Whole.{noLists, hiddenOf, Fitting, Standing}
 use Rattle.finding.specs.Least.{Behind}
 use Rattle.finding.specs.declared.least.From.{From}
 use Rattle.finding.specs.declared.least.From.the-variants.{Above}
@@ -46,9 +45,9 @@ pub record Sought (from : From) (passed : List ℕ) (M : ℕ) : Type 0 where
   pub behind : Behind from M
   pub new : ¬ List·Memᴰ M passed
 
--- an answer set that is sought, and completes the state
-pub record Due (rules : List ℕ) (which facts : ℕ) (from : From) (passed : List ℕ) (s : State) (M : ℕ) : Type 0 where
-  pub fits : Fitting rules which facts s M
+-- an answer set that is sought, and fits the state
+pub record Due (rules desk : List ℕ) (unit : Unit) (facts : ℕ) (from : From) (passed : List ℕ) (s : State) (M : ℕ) : Type 0 where
+  pub fits : Fitting rules desk unit facts s M
   pub sought : Sought from passed M
 
 -- it is this one, and sought
@@ -62,21 +61,25 @@ pub record AllPassed (s : State) (from : From) : Type 0 where
 
 -- ---- nodes
 
--- M completes the state, and it is an answer set unless it is passed
-pub record Likely (rules : List ℕ) (which facts : ℕ) (from : From) (s : State) (M : ℕ) : Type 0 where
+-- the state as it is without pilots: all of them are dropped
+abbrev pub darkOf : State → ℕ → State
+darkOf s X = record { up = s .up ∖ X; dropped = s .dropped ∪ X }
+
+-- M completes the state without pilots, and it is an answer set that fits unless it is passed
+pub record Likely (rules desk : List ℕ) (unit : Unit) (facts : ℕ) (from : From) (s : State) (M : ℕ) : Type 0 where
   pub word : M < 2 ^ ATOMS
-  pub completes : Completes s M
-  pub settled : Behind from M → Settled rules which facts M
+  pub completes : Completes (darkOf s (hiddenOf unit facts)) M
+  pub fits : Behind from M → Fitting rules desk unit facts s M
 
 -- such a position is known; or nothing is said
-pub data Hinted (rules : List ℕ) (which facts : ℕ) (from : From) (s : State) : Witness → Type 0 where
-  known : {M : ℕ} → Likely rules which facts from s M → Hinted rules which facts from s (Member M)
-  unknown : Hinted rules which facts from s Nothing
+pub data Hinted (rules desk : List ℕ) (unit : Unit) (facts : ℕ) (from : From) (s : State) : Witness → Type 0 where
+  known : {M : ℕ} → Likely rules desk unit facts from s M → Hinted rules desk unit facts from s (Member M)
+  unknown : Hinted rules desk unit facts from s Nothing
 
--- such a position; or that no answer set that completes the state is behind the place
-pub data Looked (rules : List ℕ) (which facts : ℕ) (from : From) (s : State) : Witness → Type 0 where
-  seen : {M : ℕ} → Likely rules which facts from s M → Looked rules which facts from s (Member M)
-  unseen : ((M : ℕ) → Fitting rules which facts s M → ¬ Behind from M) → Looked rules which facts from s Nothing
+-- such a position; or that no answer set that fits the state is behind the place
+pub data Looked (rules desk : List ℕ) (unit : Unit) (facts : ℕ) (from : From) (s : State) : Witness → Type 0 where
+  seen : {M : ℕ} → Likely rules desk unit facts from s M → Looked rules desk unit facts from s (Member M)
+  unseen : ((M : ℕ) → Fitting rules desk unit facts s M → ¬ Behind from M) → Looked rules desk unit facts from s Nothing
 
 -- m, if it completes the state
 pub data Kept (m : ℕ) (s : State) : Witness → Type 0 where
@@ -88,18 +91,12 @@ pub data PlaceIn (s : State) (from : From) : Witness → Type 0 where
   at-place : {p : ℕ} → p < 2 ^ ATOMS → from ≡ Above p → Completes s p → PlaceIn s from (Member p)
   elsewhere : PlaceIn s from Nothing
 
--- all is lent that questions ask, what is remembered holds of every answer set, and the facts are up
-pub record Standing (rules desk memory : List ℕ) (which facts : ℕ) (s : State) : Type 0 where
-  pub prepared : Prepared rules [] noLists desk (wholeOf which facts)
-  pub remembers : Remembers (Belongs rules [] noLists desk (wholeOf which facts)) memory
-  pub facts-up : facts ⊆ s .up
-
 -- a node: its state stands, and what is known of it is so
-pub record Node (rules desk memory : List ℕ) (which facts : ℕ) (from : From) (node : Branch) : Type 0 where
-  pub stands : Standing rules desk memory which facts (node .front .state)
-  pub hinted : Hinted rules which facts from (node .front .state) (node .known)
+pub record Node (rules desk memory : List ℕ) (unit : Unit) (facts : ℕ) (from : From) (node : Branch) : Type 0 where
+  pub stands : Standing rules desk memory unit facts (node .front .state)
+  pub hinted : Hinted rules desk unit facts from (node .front .state) (node .known)
 
 -- the node of an atom in a phase
-pub record Descended (rules desk memory : List ℕ) (which facts : ℕ) (from : From) (s : State) (k : ℕ) (phase : Bool) (node : Branch) : Type 0 where
-  pub is-node : Node rules desk memory which facts from node
-  pub narrows : Narrows (Belongs rules [] noLists desk (wholeOf which facts)) (branchOf s k phase) (node .front .state)
+pub record Descended (rules desk memory : List ℕ) (unit : Unit) (facts : ℕ) (from : From) (s : State) (k : ℕ) (phase : Bool) (node : Branch) : Type 0 where
+  pub is-node : Node rules desk memory unit facts from node
+  pub narrows : Narrows (Wired rules [] noLists desk unit) (branchOf s k phase) (node .front .state)

@@ -2,9 +2,9 @@
 use crate::ask::ask;
 use crate::ask::desk_of;
 use crate::ask::root_of;
+use crate::ask::unit_of;
 use learning::store::empty_store;
 use searching::witness::Witness;
-use states::State;
 ghost use Prim.Native.Nat.{_<_};
 ghost use Rattle.atoms.specs.Word.{ATOMS, _∪_};
 ghost use Rattle.answer_sets.specs.AnswerSet.{AnswerSet};
@@ -18,10 +18,10 @@ fn any(rules: &[u64], which: u64, facts: u64) -> Witness
     ensures { λ r. ⌜ Witnessed (AnswerSet (lent (now (rules .entry))) which facts) r ⌝ }
 {
     let desk = desk_of(rules, which, facts);
+    let unit = unit_of(&desk, which, facts);
     let mut memory = empty_store();
-    let root = root_of(rules, &desk, &mut memory, which, facts);
-    let nothing = State { up: 0, dropped: 0 };
-    ask(rules, &desk, &mut memory, which, facts, root, nothing)
+    let root = root_of(rules, &desk, &mut memory, unit, facts);
+    ask(rules, &desk, &mut memory, unit, facts, root)
 }
 
 // What is held of these where rule c is tried: all but c, if that leaves no answer set.

@@ -1,18 +1,19 @@
 // The least answer sets of a program behind a place: a tree over the undecided atoms, the highest first and dropped before up, so that they are
 // met rising.
+use crate::ask::ask;
 use crate::ask::desk_of;
 use crate::ask::root_of;
-use crate::ask::whole;
+use crate::ask::unit_of;
 use crate::least::From;
 use crate::least::is_behind;
 use crate::least::put;
-use joining::filter::FILTER_WORDS;
+use joining::filter::full_filter;
 use learning::store::empty_store;
 use plan::MAX_UNITS;
+use propagating::Unit;
 use propagating::front::Front;
 use propagating::front::moved;
 use propagating::propagate::propagate;
-use searching::find::find;
 use searching::witness::Witness;
 use states::State;
 use states::decide;
@@ -22,19 +23,18 @@ ghost use mathlib.Core.Path.{_≡_};
 ghost use mathlib.Core.Bool.{true};
 ghost use mathlib.Core.List.{[]};
 ghost use lib.ListN.{length};
-ghost use Rattle.atoms.specs.Word.{ATOMS};
+ghost use Rattle.atoms.specs.Word.{ATOMS, Has};
 ghost use Rattle.answer_sets.specs.AnswerSet.{AnswerSet};
 ghost use Rattle.answer_sets.specs.Lent.{lent, Lent};
 ghost use Rattle.states.specs.Narrowing.{Narrows, branchOf};
 ghost use Rattle.learning.specs.Reason.{Remembers};
-ghost use Rattle.propagating.specs.Job.{Belongs};
-ghost use Rattle.searching.specs.Witness.{Witnessed};
-ghost use Rattle.finding.specs.Whole.{wholeOf, noLists, Fitting};
-ghost use Rattle.finding.specs.Gather.{Added, Sought, Due, AllPassed, Likely, Looked, Kept, PlaceIn, Standing, Node, Descended};
+ghost use Rattle.propagating.specs.Desk.{Wired};
+ghost use Rattle.finding.specs.Whole.{noLists, hiddenOf, Standing};
+ghost use Rattle.finding.specs.Gather.{Added, Sought, Due, AllPassed, darkOf, Likely, Looked, Kept, PlaceIn, Node, Descended};
 
-// What is asked: the rules by number, their facts, and the place behind which answer sets are sought.
+// What is asked: the program as one unit, its facts, and the place behind which answer sets are sought.
 pub struct Query {
-    pub which: u64,
+    pub unit: Unit,
     pub facts: u64,
     pub from: From,
 }
@@ -75,52 +75,33 @@ fn place_in(s: State, from: From) -> Witness
     }
 }
 
-// An answer set that completes the state of the front, or that none does.
-fn ask_here(
-    rules: &[u64],
-    desk: &[u64],
-    memory: &mut [u64],
-    which: u64,
-    facts: u64,
-    f: Front,
-) -> Witness
-    requires { ⌜ Standing (now rules) (now desk) (now memory) which facts (f .state) ⌝ }
-    ensures witnessed { λ r. ⌜ Witnessed (Fitting (now (rules .entry)) which facts (f .state)) r ⌝ }
-    ensures stands { λ _. ⌜ Standing (now (rules .entry)) (now (desk .entry)) (now (memory .exit)) which facts (f .state) ⌝ }
+// The state as it is without pilots: all of them are dropped.
+fn dark_of(s: State, hidden: u64) -> State
+    ensures { λ r. ⌜ r ≡ darkOf s hidden ⌝ }
 {
-    let s = f.state;
-    if !atoms::are_apart(s.up, s.dropped) {
-        return Witness::Nothing;
+    State {
+        up: atoms::without(s.up, hidden),
+        dropped: atoms::union(s.dropped, hidden),
     }
-    let table = [0u64; 0];
-    let counts = [0usize; MAX_UNITS];
-    find(
-        rules,
-        &table,
-        &counts,
-        desk,
-        memory,
-        whole(which, facts),
-        f,
-        s,
-    )
 }
 
 // The position that is known of the node, or an answer set that completes its state; or that none there is behind the place.
 fn look(rules: &[u64], desk: &[u64], memory: &mut [u64], query: Query, node: Branch) -> Witness
-    requires { ⌜ Node (now rules) (now desk) (now memory) (query .which) (query .facts) (query .from) node ⌝ }
-    ensures looked { λ r. ⌜ Looked (now (rules .entry)) (query .which) (query .facts) (query .from) (node .front .state) r ⌝ }
-    ensures stands { λ _. ⌜ Standing (now (rules .entry)) (now (desk .entry)) (now (memory .exit)) (query .which) (query .facts) (node .front .state) ⌝ }
+    requires { ⌜ Node (now rules) (now desk) (now memory) (query .unit) (query .facts) (query .from) node ⌝ }
+    ensures looked { λ r. ⌜ Looked (now (rules .entry)) (now (desk .entry)) (query .unit) (query .facts) (query .from) (node .front .state) r ⌝ }
+    ensures stands { λ _. ⌜ Standing (now (rules .entry)) (now (desk .entry)) (now (memory .exit)) (query .unit) (query .facts) (node .front .state) ⌝ }
 {
     let f = node.front;
     let from = query.from;
-    if is_passed(f.state, from) {
+    let unit = query.unit;
+    let dark = dark_of(f.state, atoms::without(unit.inputs, query.facts));
+    if is_passed(dark, from) {
         return Witness::Nothing;
     }
     let known = node.known;
     match known {
         Witness::Member(m) => Witness::Member(m),
-        Witness::Nothing => ask_here(rules, desk, memory, query.which, query.facts, f),
+        Witness::Nothing => ask(rules, desk, memory, unit, query.facts, f),
     }
 }
 
@@ -134,15 +115,16 @@ fn step_down(
     k: usize,
     phase: bool,
 ) -> Front
-    requires { ⌜ Standing (now rules) (now desk) (now memory) (query .which) (query .facts) (f .state) × (k < ATOMS) ⌝ }
-    ensures narrows { λ g. ⌜ Narrows (Belongs (now (rules .entry)) [] noLists (now (desk .entry)) (wholeOf (query .which) (query .facts)))
+    requires { ⌜ Standing (now rules) (now desk) (now memory) (query .unit) (query .facts) (f .state) × (k < ATOMS) ⌝ }
+    ensures narrows { λ g. ⌜ Narrows (Wired (now (rules .entry)) [] noLists (now (desk .entry)) (query .unit))
         (branchOf (f .state) k phase) (g .state) ⌝ }
-    ensures remembers { λ _. ⌜ Remembers (Belongs (now (rules .entry)) [] noLists (now (desk .entry)) (wholeOf (query .which) (query .facts)))
-        (now (memory .exit)) ⌝ }
+    ensures remembers { λ _. ⌜ Remembers (Wired (now (rules .entry)) [] noLists (now (desk .entry)) (query .unit)) (now (memory .exit)) ⌝ }
 {
     let t = decide(f.state, k, phase);
     let from = query.from;
-    if is_passed(t, from) {
+    let unit = query.unit;
+    let dark = dark_of(t, atoms::without(unit.inputs, query.facts));
+    if is_passed(dark, from) {
         let agenda = f.agenda;
         return Front {
             state: t,
@@ -152,18 +134,9 @@ fn step_down(
     }
     let table = [0u64; 0];
     let counts = [0usize; MAX_UNITS];
-    let mut filter = [0u64; FILTER_WORDS];
+    let mut filter = full_filter(&counts);
     let g = moved(desk, f, t);
-    propagate(
-        rules,
-        &table,
-        &counts,
-        desk,
-        whole(query.which, query.facts),
-        memory,
-        &mut filter,
-        g,
-    )
+    propagate(rules, &table, &counts, desk, unit, memory, &mut filter, g)
 }
 
 // The node of the atom in the phase; the position m goes with it if it lies there.
@@ -177,15 +150,17 @@ fn descend(
     k: usize,
     phase: bool,
 ) -> Branch
-    requires { ⌜ Standing (now rules) (now desk) (now memory) (query .which) (query .facts) (f .state)
-        × Likely (now rules) (query .which) (query .facts) (query .from) (f .state) m × (k < ATOMS) ⌝ }
-    ensures { λ r. ⌜ Descended (now (rules .entry)) (now (desk .entry)) (now (memory .exit)) (query .which) (query .facts) (query .from)
+    requires { ⌜ Standing (now rules) (now desk) (now memory) (query .unit) (query .facts) (f .state)
+        × Likely (now rules) (now desk) (query .unit) (query .facts) (query .from) (f .state) m × (k < ATOMS)
+        × (Has (hiddenOf (query .unit) (query .facts)) k → ⊥) ⌝ }
+    ensures { λ r. ⌜ Descended (now (rules .entry)) (now (desk .entry)) (now (memory .exit)) (query .unit) (query .facts) (query .from)
         (f .state) k phase r ⌝ }
 {
     let front = step_down(rules, desk, memory, query, f, k, phase);
+    let dark = dark_of(front.state, atoms::without(query.unit.inputs, query.facts));
     Branch {
         front,
-        known: kept(m, front.state),
+        known: kept(m, dark),
     }
 }
 
@@ -201,10 +176,10 @@ fn gather(
     out: &mut [u64],
     at: usize,
 ) -> usize
-    requires { ⌜ Node (now rules) (now desk) (now memory) (query .which) (query .facts) (query .from) node × (at ≤ length (now out)) ⌝ }
-    ensures added { λ r. ⌜ Added (Due (now (rules .entry)) (query .which) (query .facts) (query .from) (now (skip .entry)) (node .front .state))
-        (now (out .entry)) at (now (out .exit)) r ⌝ }
-    ensures stands { λ _. ⌜ Standing (now (rules .entry)) (now (desk .entry)) (now (memory .exit)) (query .which) (query .facts) (node .front .state) ⌝ }
+    requires { ⌜ Node (now rules) (now desk) (now memory) (query .unit) (query .facts) (query .from) node × (at ≤ length (now out)) ⌝ }
+    ensures added { λ r. ⌜ Added (Due (now (rules .entry)) (now (desk .entry)) (query .unit) (query .facts) (query .from) (now (skip .entry))
+        (node .front .state)) (now (out .entry)) at (now (out .exit)) r ⌝ }
+    ensures stands { λ _. ⌜ Standing (now (rules .entry)) (now (desk .entry)) (now (memory .exit)) (query .unit) (query .facts) (node .front .state) ⌝ }
 {
     if out.len() <= at {
         return at;
@@ -214,8 +189,8 @@ fn gather(
         return at;
     };
     let f = node.front;
-    let s = f.state;
-    let free = undecided(s.up, s.dropped);
+    let dark = dark_of(f.state, atoms::without(query.unit.inputs, query.facts));
+    let free = undecided(dark.up, dark.dropped);
     if free == 0 {
         let from = query.from;
         return put(out, at, from, skip, m);
@@ -244,12 +219,14 @@ pub fn gather_all(
         (now (out .exit)) r ⌝ }
 {
     let desk = desk_of(rules, which, facts);
+    let unit = unit_of(&desk, which, facts);
     let mut memory = empty_store();
-    let front = root_of(rules, &desk, &mut memory, which, facts);
+    let front = root_of(rules, &desk, &mut memory, unit, facts);
+    let dark = dark_of(front.state, atoms::without(unit.inputs, facts));
     let root = Branch {
         front,
-        known: place_in(front.state, from),
+        known: place_in(dark, from),
     };
-    let query = Query { which, facts, from };
+    let query = Query { unit, facts, from };
     gather(rules, &desk, &mut memory, query, root, passed, out, 0)
 }

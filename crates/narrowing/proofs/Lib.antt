@@ -18,3 +18,5 @@ pub mod WideRules
 pub mod LoopedAtoms
 -- The steps that a rule has woken: the four parts of the table
 pub mod WokenSteps
+-- Whether an atom of its own makes a rule's body fail
+pub mod UnfailedRules

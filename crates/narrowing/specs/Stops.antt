@@ -2,7 +2,7 @@
 use mathlib.Core.List.{List}
 use Prim.Native.Nat.{ℕ, _<_}
 use Rattle.atoms.specs.Word.{ATOMS, Has, _⊆_, Apart, _∖_}
-use Rattle.answer_sets.specs.Lent.{lent}
+use Rattle.answer_sets.specs.Lent.{lent, negative}
 use Rattle.answer_sets.specs.Known.{BodySays}
 use Rattle.states.specs.declared.state.State.{State}
 use Rattle.answer_sets.specs.declared.truth.Truth.the-variants.{Holds, Fails}
@@ -42,3 +42,8 @@ abbrev pub Stands : List ℕ → ℕ → State → Standing → Type 0
 Stands rules r s Spent = IsSpent rules r s
 Stands rules r s Stopped = AtStop rules r s
 Stands rules r s Live = (¬ IsSpent rules r s) × (¬ AtStop rules r s)
+
+-- Inner: no atom of its own makes the body of rule r fail; what its tables say is not looked at
+pub record Unfailed (rules : List ℕ) (r : ℕ) (s : State) : Type 0 where
+  pub positive : Apart (lent rules .positive r) (s .dropped)
+  pub negative : Apart (negative rules r) (s .up)

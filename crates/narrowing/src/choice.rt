@@ -4,6 +4,8 @@ use answer_sets::Truth;
 use answer_sets::known::body_known;
 use answer_sets::reduct::FoundRule;
 use answer_sets::rule::head;
+use answer_sets::rule::negative_body;
+use answer_sets::rule::positive_body;
 use answer_sets::rule::rule_atoms;
 use atoms::tally::count_atoms;
 use atoms::tally::most;
@@ -15,7 +17,7 @@ ghost use lib.ListN.{length};
 ghost use Rattle.atoms.specs.Bounded.{Decides};
 ghost use Rattle.answer_sets.specs.Lent.{IsLent, Lent};
 ghost use Rattle.narrowing.specs.declared.choice.Standing.the-variants.{Stopped};
-ghost use Rattle.narrowing.specs.Stops.{Stands, Met, Chosen};
+ghost use Rattle.narrowing.specs.Stops.{Stands, Unfailed, Met, Chosen};
 ghost use Rattle.narrowing.specs.Wide.{IsWide, SomeWide};
 
 // Seven binary places count up to 127, for at most MAX_RULES rules.
@@ -100,24 +102,40 @@ pub fn some_wide(rules: &[u64], which: u64, s: State) -> bool
     false
 }
 
-// Counts the free atoms of a rule that is live: among the first where the rule has a near atom, and else among the others.
+// Whether no atom of its own makes the rule's body fail.
+fn is_unfailed(rules: &[u64], rule: usize, s: State) -> bool
+    requires { ⌜ IsLent (now rules) rule ⌝ }
+    ensures { λ r. ⌜ Decides (Unfailed (now (rules .entry)) rule s) r ⌝ }
+{
+    if !atoms::are_apart(positive_body(rules, rule), s.dropped) {
+        return false;
+    }
+    atoms::are_apart(negative_body(rules, rule), s.up)
+}
+
+// Counts the free atoms of a rule that is live, as `counted` has it, unless its body fails there: among the first where the rule has a near atom, and
+// else among the others.
 fn count_rule(
-    rules: &[u64],
+    counted: &[u64],
     rule: usize,
     standing: Standing,
+    s: State,
     free: u64,
     near: u64,
     first: &mut [u64],
     others: &mut [u64],
 )
-    requires { ⌜ IsLent (now rules) rule ⌝ }
+    requires { ⌜ IsLent (now counted) rule ⌝ }
     ensures first { λ _. ⌜ length (now (first .exit)) ≡ length (now (first .entry)) ⌝ }
     ensures others { λ _. ⌜ length (now (others .exit)) ≡ length (now (others .entry)) ⌝ }
 {
     let Standing::Live = standing else {
         return;
     };
-    let all = rule_atoms(rules, rule);
+    if !is_unfailed(counted, rule, s) {
+        return;
+    }
+    let all = rule_atoms(counted, rule);
     let open = atoms::cut(free, all);
     if atoms::are_apart(all, near) {
         count_atoms(others, open);
@@ -129,6 +147,7 @@ fn count_rule(
 // The same for the rules of the word, up to one that is at a stop: that one, if there is one.
 fn count_rules(
     rules: &[u64],
+    counted: &[u64],
     which: u64,
     s: State,
     free: u64,
@@ -136,7 +155,7 @@ fn count_rules(
     first: &mut [u64],
     others: &mut [u64],
 ) -> FoundRule
-    requires { ⌜ Lent (now rules) which ⌝ }
+    requires { ⌜ Lent (now rules) which × Lent (now counted) which ⌝ }
     ensures met { λ r. ⌜ Met (now (rules .entry)) which s r ⌝ }
     ensures first { λ _. ⌜ length (now (first .exit)) ≡ length (now (first .entry)) ⌝ }
     ensures others { λ _. ⌜ length (now (others .exit)) ≡ length (now (others .entry)) ⌝ }
@@ -148,21 +167,31 @@ fn count_rules(
         if is_stop(standing) {
             return FoundRule::Rule(rule);
         }
-        count_rule(rules, rule, standing, free, near, first, others);
+        count_rule(counted, rule, standing, s, free, near, first, others);
         rest = atoms::drop(rest, rule);
     }
     FoundRule::Nothing
 }
 
 // What comes next: a rule of the word that is at a stop, if there is one; else the lowest of those free atoms that stand in most live rules, those
-// with a near atom before the others. Which free atom and which rule it is is not promised.
-pub fn choose(rules: &[u64], which: u64, s: State, free: u64, near: u64) -> Choice
-    requires { ⌜ Lent (now rules) which × (free ≡ 0 → ⊥) ⌝ }
+// with a near atom before the others. The rules that are counted may have other atoms than those that are tested for a stop: which free atom and
+// which rule it is is not promised.
+pub fn choose(rules: &[u64], counted: &[u64], which: u64, s: State, free: u64, near: u64) -> Choice
+    requires { ⌜ Lent (now rules) which × Lent (now counted) which × (free ≡ 0 → ⊥) ⌝ }
     ensures { λ r. ⌜ Chosen (now (rules .entry)) which s free r ⌝ }
 {
     let mut first = [0u64; PLACES];
     let mut others = [0u64; PLACES];
-    let found = count_rules(rules, which, s, free, near, &mut first, &mut others);
+    let found = count_rules(
+        rules,
+        counted,
+        which,
+        s,
+        free,
+        near,
+        &mut first,
+        &mut others,
+    );
     match found {
         FoundRule::Rule(rule) => Choice::Stop(rule),
         FoundRule::Nothing => Choice::Atom(atoms::lowest(most(&others, most(&first, free)))),

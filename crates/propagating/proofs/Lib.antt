@@ -2,7 +2,7 @@
 pub mod Agendas
 -- The desk: its parts stand where they are looked for
 pub mod Desks
--- Propagation: what belongs to the list survives each step, and the filter keeps its entry
+-- Propagation: what is sought survives each step, and the filter keeps its entry
 pub mod Propagation
 -- The index of woken steps: its lists, the founded step, and all of it from zeros on
 pub mod WakeIndices

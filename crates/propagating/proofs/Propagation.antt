@@ -1,7 +1,10 @@
--- Propagation: what belongs to the list survives each step, and the filter keeps its entry.
+-- Propagation: what is sought survives each step, and the filter keeps its entry.
+use mathlib.Core.Path.{_≡_}
 use mathlib.Core.List.{List}
 use Prim.Native.Nat.{ℕ, _^_, _<_}
-use Rattle.atoms.specs.Word.{ATOMS, _⊆_, _∩_}
+use Rattle.atoms.specs.Word.{ATOMS, _∩_}
+use lib.ListN.{getD}
+use Rattle.plan.specs.Limits.{MAX_TABLES}
 use Rattle.answer_sets.specs.Program.{SatisfiesAll}
 use Rattle.answer_sets.specs.Lent.{lent}
 use Rattle.states.specs.Narrowing.{Narrows}
@@ -10,25 +13,51 @@ use Rattle.answer_sets.proofs.Judged.{decides-answer-set}
 use Rattle.states.proofs.Narrows.{narrows-for}
 use Rattle.narrowing.specs.Inputs.{AnswersInputs}
 use Rattle.narrowing.proofs.NumberedSteps.{satisfying-narrow}
+use Rattle.pilots.specs.Pilots.{Follows, FollowAll}
+use Rattle.pilots.proofs.LinkedRules.{answers-linked}
+use Rattle.parities.specs.Told.{Summed}
+use Rattle.answer_sets.proofs.Support.{satisfied}
 use Rattle.propagating.specs.Job.{Belongs}
+use Rattle.propagating.specs.Desk.{pilotsOf, linkedOf, Prepared, Wired}
 use Rattle.joining.specs.Filter.{JoinsAll}
 use Rattle.propagating.specs.declared.unit.Unit.{Unit}
 use Rattle.joining.proofs.JoinedLists.{joins-some}
 
-module _ (rules table counts heads : List ℕ) (unit : Unit) {s t : State} where
-  -- what belongs joins the lists that the search looks at
-  pub lists-narrow : unit .nearest ⊆ unit .predecessors → Narrows (JoinsAll table counts heads (unit .nearest)) s t
-      → Narrows (Belongs rules table counts heads unit) s t
-  lists-narrow near n =
-      narrows-for (λ M b. joins-some table counts heads (unit .predecessors) (unit .nearest) M near (record { joined = b .joined })) n
+answers : {rules table counts desk : List ℕ} {unit : Unit} → unit .rules < 2 ^ ATOMS → (M : ℕ) → Wired rules table counts desk unit M
+    → AnswersInputs rules (unit .rules) (unit .inputs) M
+answers {rules} {unit = unit} fits M b =
+    record { answer = decides-answer-set (lent rules) (unit .rules) (M ∩ unit .inputs) M fits .yes (b .belongs .answers) }
 
-  -- and is an answer set of the unit's rules with its input as facts
-  pub rules-narrow : unit .rules < 2 ^ ATOMS → Narrows (AnswersInputs rules (unit .rules) (unit .inputs)) s t
-      → Narrows (Belongs rules table counts heads unit) s t
-  rules-narrow fits n =
+module _ {rules table counts desk : List ℕ} {unit : Unit} {s t : State} (ready : Prepared rules table counts desk unit) where
+  -- what is sought joins the lists that the search looks at
+  pub lists-narrow : Narrows (JoinsAll table counts desk (unit .nearest)) s t → Narrows (Wired rules table counts desk unit) s t
+  lists-narrow n =
       narrows-for
-      (λ M b. record { answer = decides-answer-set (lent rules) (unit .rules) (M ∩ unit .inputs) M fits .yes (b .answers) }) n
+      (λ M b. joins-some table counts desk (unit .predecessors) (unit .nearest) M (ready .searchable .near) (record { joined = b .belongs .joined })) n
 
-  -- so it satisfies each of them
-  pub satisfying-belong : unit .rules < 2 ^ ATOMS → Narrows (SatisfiesAll (lent rules) (unit .rules)) s t → Narrows (Belongs rules table counts heads unit) s t
-  satisfying-belong fits n = rules-narrow fits (satisfying-narrow rules (unit .rules) (unit .inputs) n)
+  module _ (fits : unit .rules < 2 ^ ATOMS) where
+    -- it is an answer set of the unit's rules with its input as facts
+    pub rules-narrow : Narrows (AnswersInputs rules (unit .rules) (unit .inputs)) s t → Narrows (Wired rules table counts desk unit) s t
+    rules-narrow n = narrows-for (answers fits) n
+
+    -- and of the linked rules
+    pub linked-narrow : Narrows (AnswersInputs (linkedOf desk) (unit .rules) (unit .inputs)) s t → Narrows (Wired rules table counts desk unit) s t
+    linked-narrow n = narrows-for (λ M b. answers-linked (ready .linked) (ready .within) (b .follow) (answers fits M b)) n
+
+    -- so it satisfies each of these
+    pub satisfying-wired : Narrows (SatisfiesAll (lent (linkedOf desk)) (unit .rules)) s t → Narrows (Wired rules table counts desk unit) s t
+    satisfying-wired n = linked-narrow (satisfying-narrow (linkedOf desk) (unit .rules) (unit .inputs) n)
+
+    -- all pilots follow their tables, and it satisfies the rules as they are
+    pub sums-narrow : Narrows (Summed rules (pilotsOf desk) (unit .rules)) s t → Narrows (Wired rules table counts desk unit) s t
+    sums-narrow n =
+        narrows-for
+        (λ M b. record {
+          follow = b .follow;
+          satisfies = record { each = λ r h. satisfied (lent rules) (unit .rules) (M ∩ unit .inputs) M r (answers fits M b .answer) h };
+        }) n
+
+  -- each pilot follows its table
+  pub table-narrows : {i w : ℕ} → i < MAX_TABLES → w ≡ getD (pilotsOf desk) i 0 → Narrows (Follows rules i w) s t
+      → Narrows (Wired rules table counts desk unit) s t
+  table-narrows {i} l e n = narrows-for (λ M b. rw e (b .follow .each i l)) n

@@ -1,11 +1,14 @@
 // The agenda: which steps may have something new to say. It is advice: a step that is left out costs pruning and no member.
 use crate::step::FOUNDED_STEP;
 use crate::step::LISTS;
+use crate::step::SUM_STEP;
 use crate::step::SUPPORTS;
+use crate::step::TABLE_STEPS;
 use crate::unit::Unit;
 use answer_sets::rule::head;
 use answer_sets::rule::looks;
 use answer_sets::rule::positive_body;
+use answer_sets::uses::table_inputs;
 use atoms::ATOMS;
 use narrowing::marks::mark;
 use narrowing::woken::RULES_DOWN;
@@ -13,6 +16,11 @@ use narrowing::woken::RULES_UP;
 use narrowing::woken::SUPPORTS_UP;
 use narrowing::woken::WOKEN_WORDS;
 use narrowing::woken::note_rules;
+use parities::parity_atoms;
+use parities::parity_tables;
+use parities::telling_atoms;
+use parities::telling_rules;
+use plan::MAX_TABLES;
 use states::State;
 use states::undecided;
 ghost use mathlib.Core.Path.{_≡_};
@@ -20,22 +28,32 @@ ghost use mathlib.Core.Bool.{not};
 ghost use Prim.Native.Nat.{_^_, _≤_, _<_};
 ghost use lib.Dec.{eqb};
 ghost use lib.ListN.{length};
-ghost use Rattle.atoms.specs.Word.{ATOMS, outside, Apart, _∪_};
+ghost use mathlib.Core.Logic.{_⊎_};
+ghost use Rattle.atoms.specs.Word.{ATOMS, Has, outside, Apart, _∪_};
 ghost use Rattle.atoms.specs.Bounded.{Decides, singleIf};
-ghost use Rattle.plan.specs.Limits.{MAX_UNITS};
+ghost use Rattle.atoms.specs.Collected.{Collects};
+ghost use Rattle.plan.specs.Limits.{MAX_TABLES, MAX_UNITS};
 ghost use Rattle.answer_sets.specs.Lent.{lent, IsLent, Lent};
 ghost use Rattle.narrowing.specs.Marks.{Adds, ByOne};
-ghost use Rattle.propagating.specs.Agenda.{Idle, TakenFrom, Woken, INDEX_WORDS, FOUNDED_PLACE, atomsOf, WakesList, WakesFounded, WakeIndex};
+ghost use Rattle.pilots.specs.Linked.{LINKED_WORDS};
+ghost use Rattle.propagating.specs.Agenda.{Idle, TakenFrom, Woken, INDEX_WORDS, FOUNDED_PLACE, atomsOf, WakesList, WakesFounded};
+ghost use Rattle.propagating.specs.Agenda.{WakesTable, WakesTables, WakesSums, WakesTold, TablePlace, WakeIndex};
 
 // The founded step's place in the agenda's third word, behind the lists.
 const FOUNDED_PLACE: usize = FOUNDED_STEP - LISTS;
+
+// The place of the first table there.
+const TABLES_PLACE: usize = TABLE_STEPS - LISTS;
+
+// The place of the sums, behind the tables.
+const SUMS_PLACE: usize = SUM_STEP - LISTS;
 
 // The index of woken steps: the parts for rules and supports, and one for the lists and the founded step.
 const OTHERS: usize = WOKEN_WORDS;
 
 pub const INDEX_WORDS: usize = WOKEN_WORDS + ATOMS;
 
-// The rules, the atoms whose support, and the lists that are to be looked at; behind these the founded step.
+// The rules, the atoms whose support, and the lists that are to be looked at; behind these the founded step, the tables and their sums.
 pub struct Agenda {
     pub rules: u64,
     pub supports: u64,
@@ -189,19 +207,107 @@ fn note_founded(rules: &[u64], which: u64, looped: u64, index: &mut [u64])
     }
 }
 
-// The index of the steps that a decided atom wakes, in a unit whose looped atoms are these.
-pub fn wake_index(rules: &[u64], heads: &[u64], unit: Unit, looped: u64) -> [u64; INDEX_WORDS]
-    requires { ⌜ Lent (now rules) (unit .rules) × (MAX_UNITS ≤ length (now heads)) × (unit .nearest < 2 ^ MAX_UNITS) ⌝ }
-    ensures { λ r. ⌜ WakeIndex (now (rules .entry)) (now (heads .entry)) unit looped r ⌝ }
+// Notes for the inputs of a table and its pilot, if it has one, its step.
+fn note_table(linked: &[u64], pilots: &[u64], t: usize, index: &mut [u64])
+    requires { ⌜ (length (now linked) ≡ LINKED_WORDS) × (length (now pilots) ≡ MAX_TABLES) × (t < MAX_TABLES) × (INDEX_WORDS ≤ length (now index)) ⌝ }
+    ensures { λ _. ⌜ Adds (WakesTable (now (linked .entry)) (now (pilots .entry)) t) (now (index .entry)) (now (index .exit)) ⌝ }
+{
+    let pilot = pilots[t];
+    if pilot == 0 {
+        return;
+    }
+    let seen = atoms::union(table_inputs(linked, t), pilot);
+    mark(index, OTHERS, seen, atoms::single(TABLES_PLACE + t));
+}
+
+// The same for all tables.
+fn note_tables(linked: &[u64], pilots: &[u64], index: &mut [u64])
+    requires { ⌜ (length (now linked) ≡ LINKED_WORDS) × (length (now pilots) ≡ MAX_TABLES) × (INDEX_WORDS ≤ length (now index)) ⌝ }
+    ensures { λ _. ⌜ Adds (WakesTables (now (linked .entry)) (now (pilots .entry)) MAX_TABLES) (now (index .entry)) (now (index .exit)) ⌝ }
+{
+    let mut t = 0;
+    while t < MAX_TABLES {
+        note_table(linked, pilots, t, index);
+        t += 1;
+    }
+}
+
+// Notes the sums for the inputs and pilots of the parity tables, where there are two or more of these.
+fn note_sums(linked: &[u64], pilots: &[u64], index: &mut [u64])
+    requires { ⌜ (length (now pilots) ≡ MAX_TABLES) × (INDEX_WORDS ≤ length (now index)) ⌝ }
+    ensures { λ _. ⌜ Adds (WakesSums (now (linked .entry)) (now (pilots .entry))) (now (index .entry)) (now (index .exit)) ⌝ }
+{
+    if atoms::at_most_one(parity_tables(linked, pilots)) {
+        return;
+    }
+    let seen = parity_atoms(linked, pilots);
+    mark(index, OTHERS, seen, atoms::single(SUMS_PLACE));
+}
+
+// And for the atoms of the rules that tell of parity tables, where there are two or more of these.
+fn note_told(rules: &[u64], which: u64, index: &mut [u64])
+    requires { ⌜ Lent (now rules) which × (INDEX_WORDS ≤ length (now index)) ⌝ }
+    ensures { λ _. ⌜ Adds (WakesTold (now (rules .entry)) which) (now (index .entry)) (now (index .exit)) ⌝ }
+{
+    if atoms::at_most_one(telling_rules(rules, which)) {
+        return;
+    }
+    let seen = telling_atoms(rules, which);
+    mark(index, OTHERS, seen, atoms::single(SUMS_PLACE));
+}
+
+// The index of the steps that a decided atom wakes, in a unit whose looped atoms are these, and whose rules are linked by these pilots.
+pub fn wake_index(
+    rules: &[u64],
+    linked: &[u64],
+    pilots: &[u64],
+    heads: &[u64],
+    unit: Unit,
+    looped: u64,
+) -> [u64; INDEX_WORDS]
+    requires { ⌜ Lent (now rules) (unit .rules) × Lent (now linked) (unit .rules) × (length (now linked) ≡ LINKED_WORDS)
+        × (length (now pilots) ≡ MAX_TABLES) × (MAX_UNITS ≤ length (now heads)) × (unit .nearest < 2 ^ MAX_UNITS) ⌝ }
+    ensures { λ r. ⌜ WakeIndex (now (rules .entry)) (now (linked .entry)) (now (pilots .entry)) (now (heads .entry)) unit looped r ⌝ }
 {
     let mut index = [0u64; INDEX_WORDS];
-    note_rules(rules, unit.rules, &mut index);
+    note_rules(linked, unit.rules, &mut index);
     note_lists(heads, unit.nearest, &mut index);
     note_founded(rules, unit.rules, looped, &mut index);
+    note_tables(linked, pilots, &mut index);
+    note_sums(linked, pilots, &mut index);
+    note_told(rules, unit.rules, &mut index);
     index
 }
 
-// The agenda of all steps; without looped atoms the founded step has nothing to say beyond the supports.
+// The places of the steps of the tables that have a pilot, in the agenda's third word.
+fn table_places(pilots: &[u64]) -> u64
+    requires { ⌜ length (now pilots) ≡ MAX_TABLES ⌝ }
+    ensures { λ r. ⌜ Collects (TablePlace (now (pilots .entry)) MAX_TABLES) r ⌝ }
+{
+    let mut places = 0;
+    let mut t = 0;
+    while t < MAX_TABLES {
+        places = atoms::union(places, atoms::single_if(pilots[t] != 0, TABLES_PLACE + t));
+        t += 1;
+    }
+    places
+}
+
+// The agenda with the steps of all tables that have a pilot.
+pub fn with_tables(pilots: &[u64], a: Agenda) -> Agenda
+    requires { ⌜ length (now pilots) ≡ MAX_TABLES ⌝ }
+    ensures same { λ r. ⌜ (r .rules ≡ a .rules) × (r .supports ≡ a .supports) ⌝ }
+    ensures others { λ r. ⌜ Collects (λ q. Has (a .others) q ⊎ TablePlace (now (pilots .entry)) MAX_TABLES q) (r .others) ⌝ }
+{
+    Agenda {
+        rules: a.rules,
+        supports: a.supports,
+        others: atoms::union(a.others, table_places(pilots)),
+    }
+}
+
+// The agenda of all steps but those of tables; without looped atoms the founded step has nothing to say beyond the supports. The sums are on no first
+// agenda: the first of their atoms that is decided wakes them.
 pub fn every_step(unit: Unit, looped: u64) -> Agenda
     ensures rules { λ r. ⌜ (r .rules ≡ unit .rules) × (r .supports ≡ outside (unit .inputs)) ⌝ }
     ensures others { λ r. ⌜ r .others ≡ unit .nearest ∪ singleIf (not (eqb looped 0)) FOUNDED_PLACE ⌝ }

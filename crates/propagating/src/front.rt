@@ -1,8 +1,8 @@
 // Where propagation stands, and how it goes on from there.
 use crate::agenda::Agenda;
 use crate::agenda::woken;
-use crate::desk::DESK_WORDS;
 use crate::desk::INDEX;
+use crate::desk::PILOTS;
 use crate::unit::Unit;
 use states::State;
 use states::decide;
@@ -34,7 +34,7 @@ pub fn moved(desk: &[u64], f: Front, after: State) -> Front
     let before = f.state;
     Front {
         state: after,
-        agenda: woken(&desk[INDEX..DESK_WORDS], none, before, after),
+        agenda: woken(&desk[INDEX..PILOTS], none, before, after),
         top: f.top,
     }
 }

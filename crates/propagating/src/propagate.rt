@@ -5,6 +5,8 @@ use crate::agenda::woken;
 use crate::desk::BACKERS;
 use crate::desk::DESK_WORDS;
 use crate::desk::INDEX;
+use crate::desk::LINKED;
+use crate::desk::PILOTS;
 use crate::front::Front;
 use crate::step::PAIR_STEPS;
 use crate::step::Step;
@@ -21,6 +23,8 @@ use learning::trail::note_step;
 use narrowing::founded_step::founded_step;
 use narrowing::steps::apply_rule;
 use narrowing::steps::apply_support;
+use parities::sum_step;
+use pilots::table_step::table_step;
 use states::State;
 ghost use mathlib.Core.Path.{_≡_};
 ghost use Prim.Native.Nat.{_≤_};
@@ -28,9 +32,8 @@ ghost use lib.ListN.{length};
 ghost use Rattle.states.specs.Narrowing.{Narrows};
 ghost use Rattle.learning.specs.Store.{MEMORY_WORDS, AvoidsAll, Keeps, SamePairs};
 ghost use Rattle.learning.specs.Reason.{Remembers};
-ghost use Rattle.propagating.specs.Job.{Belongs};
 ghost use Rattle.joining.specs.Filter.{Filtered};
-ghost use Rattle.propagating.specs.Desk.{DESK_WORDS, Prepared};
+ghost use Rattle.propagating.specs.Desk.{DESK_WORDS, Prepared, Wired};
 
 // The state after the step of this number; a list's step is one over the entries that the filter has. Pairs and unfounded atoms are on no agenda.
 fn take_step(
@@ -44,13 +47,13 @@ fn take_step(
     s: State,
 ) -> State
     requires { ⌜ Prepared (now rules) (now table) (now counts) (now desk) unit × Filtered (now table) (now counts) (now desk) (unit .nearest) s (now filter) ⌝ }
-    ensures narrows { λ t. ⌜ Narrows (Belongs (now (rules .entry)) (now (table .entry)) (now (counts .entry)) (now (desk .entry)) unit) s t ⌝ }
+    ensures narrows { λ t. ⌜ Narrows (Wired (now (rules .entry)) (now (table .entry)) (now (counts .entry)) (now (desk .entry)) unit) s t ⌝ }
     ensures filtered { λ t. ⌜ Filtered (now (table .entry)) (now (counts .entry)) (now (desk .entry)) (unit .nearest) t (now (filter .exit)) ⌝ }
 {
     match decode(step) {
-        Step::Rule(rule) => apply_rule(rules, unit.rules, rule, s),
+        Step::Rule(rule) => apply_rule(&desk[LINKED..DESK_WORDS], unit.rules, rule, s),
         Step::Support(atom) => apply_support(
-            rules,
+            &desk[LINKED..DESK_WORDS],
             unit.rules,
             unit.inputs,
             &desk[BACKERS..INDEX],
@@ -59,6 +62,8 @@ fn take_step(
         ),
         Step::List(list) => filter_step(table, counts, desk, unit.nearest, list, filter, s),
         Step::Founded => founded_step(rules, unit.rules, unit.inputs, s),
+        Step::Table(t) => table_step(rules, t, desk[PILOTS + t], s),
+        Step::Sums => sum_step(rules, &desk[PILOTS..LINKED], unit.rules, s),
         Step::Pair(_) => s,
         Step::Unfounded => s,
     }
@@ -77,7 +82,7 @@ fn run_agenda(
 ) -> Front
     requires { ⌜ Prepared (now rules) (now table) (now counts) (now desk) unit × (MEMORY_WORDS ≤ length (now memory))
         × Filtered (now table) (now counts) (now desk) (unit .nearest) (front .state) (now filter) ⌝ }
-    ensures narrows { λ f. ⌜ Narrows (Belongs (now (rules .entry)) (now (table .entry)) (now (counts .entry)) (now (desk .entry)) unit)
+    ensures narrows { λ f. ⌜ Narrows (Wired (now (rules .entry)) (now (table .entry)) (now (counts .entry)) (now (desk .entry)) unit)
         (front .state) (f .state) ⌝ }
     ensures filtered { λ f. ⌜ Filtered (now (table .entry)) (now (counts .entry)) (now (desk .entry)) (unit .nearest) (f .state) (now (filter .exit)) ⌝ }
     ensures same { λ _. ⌜ SamePairs (now (memory .entry)) (now (memory .exit)) ⌝ }
@@ -89,7 +94,7 @@ fn run_agenda(
         let taken = take(left);
         let u = take_step(rules, table, counts, desk, unit, filter, taken.step, t);
         top = note_step(memory, top, taken.step, t, u);
-        left = woken(&desk[INDEX..DESK_WORDS], taken.rest, t, u);
+        left = woken(&desk[INDEX..PILOTS], taken.rest, t, u);
         t = u;
     }
     Front {
@@ -122,7 +127,7 @@ fn take_pair(desk: &[u64], memory: &mut [u64], i: usize, f: Front) -> Front
     let top = note_step(memory, f.top, copy_step(f.top), f.state, t);
     Front {
         state: t,
-        agenda: woken(&desk[INDEX..DESK_WORDS], f.agenda, f.state, t),
+        agenda: woken(&desk[INDEX..PILOTS], f.agenda, f.state, t),
         top,
     }
 }
@@ -139,12 +144,12 @@ pub fn propagate(
     front: Front,
 ) -> Front
     requires { ⌜ Prepared (now rules) (now table) (now counts) (now desk) unit
-        × Remembers (Belongs (now rules) (now table) (now counts) (now desk) unit) (now memory)
+        × Remembers (Wired (now rules) (now table) (now counts) (now desk) unit) (now memory)
         × Filtered (now table) (now counts) (now desk) (unit .nearest) (front .state) (now filter) ⌝ }
-    ensures narrows { λ f. ⌜ Narrows (Belongs (now (rules .entry)) (now (table .entry)) (now (counts .entry)) (now (desk .entry)) unit)
+    ensures narrows { λ f. ⌜ Narrows (Wired (now (rules .entry)) (now (table .entry)) (now (counts .entry)) (now (desk .entry)) unit)
         (front .state) (f .state) ⌝ }
     ensures filtered { λ f. ⌜ Filtered (now (table .entry)) (now (counts .entry)) (now (desk .entry)) (unit .nearest) (f .state) (now (filter .exit)) ⌝ }
-    ensures remembers { λ _. ⌜ Remembers (Belongs (now (rules .entry)) (now (table .entry)) (now (counts .entry)) (now (desk .entry)) unit)
+    ensures remembers { λ _. ⌜ Remembers (Wired (now (rules .entry)) (now (table .entry)) (now (counts .entry)) (now (desk .entry)) unit)
         (now (memory .exit)) ⌝ }
 {
     let mut f = front;

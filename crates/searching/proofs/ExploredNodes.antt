@@ -19,8 +19,7 @@ use Rattle.learning.specs.Reason.{Remembers}
 use Rattle.learning.proofs.Nogoods.{nogood-resolved}
 use Rattle.learning.proofs.Reasons.{lifted-nogood, lifted-remembers}
 use Rattle.joining.specs.Filter.{Filtered}
-use Rattle.propagating.specs.Desk.{Prepared}
-use Rattle.propagating.specs.Job.{Belongs}
+use Rattle.propagating.specs.Desk.{Prepared, Wired}
 use Rattle.propagating.specs.declared.front.Front.{Front}
 use Rattle.propagating.specs.declared.unit.Unit.{Unit}
 use Rattle.searching.specs.Listing.{Ordered, Gathered, Grown, Offered}
@@ -120,7 +119,7 @@ module _ {rules table counts desk : List ℕ} {unit : Unit} {shown count : ℕ} 
   pub entered-ready : {list memo : List ℕ} → Prepared rules table counts desk unit → Ordered list count → Memo rules memo
       → Prepared rules table counts desk (node .unit)
       × Ordered list (node .count)
-      × Remembers (Belongs rules table counts desk (node .unit)) memory
+      × Remembers (Wired rules table counts desk (node .unit)) memory
       × Filtered table counts desk (node .unit .nearest) (node .front .state) filter
       × Leaves rules (node .unit .rules) (node .front .state) (node .next)
       × Memo rules memo
@@ -128,6 +127,6 @@ module _ {rules table counts desk : List ℕ} {unit : Unit} {shown count : ℕ} 
 
   -- what is said of it is said of the branch
   pub explored-branch : {list after later : List ℕ} {r : Found}
-      → Explored (Belongs rules table counts desk (node .unit)) (node .shown) (node .front .state) list (node .count) after later r
-      → Explored (Belongs rules table counts desk unit) shown (front .state) list count after later r
+      → Explored (Wired rules table counts desk (node .unit)) (node .shown) (node .front .state) list (node .count) after later r
+      → Explored (Wired rules table counts desk unit) shown (front .state) list count after later r
   explored-branch x = rw b at (explored-narrowed (e .narrows) (rw (e .same) at x))

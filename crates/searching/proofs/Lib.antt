@@ -10,3 +10,13 @@ pub mod SearchSteps
 pub mod Nodes
 -- The cases of a node, each with all that is said of it
 pub mod ExploredNodes
+-- Spare atoms: bodies and answer sets do not look at them
+pub mod SpareAtoms
+-- A unit with pilots: what is wanted of it, apart from its pilots, is what is wanted of the unit
+pub mod PilotedUnits
+-- Pilots that were tested: spare atoms, each of one table
+pub mod TestedPilots
+-- Searches with pilots: the cuts of what is wired are those of what belongs to the list
+pub mod PilotedSearches
+-- What is wired: what belongs to the list, where the pilots follow their tables
+pub mod WiredPositions

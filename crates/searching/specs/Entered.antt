@@ -9,7 +9,7 @@ use Rattle.states.specs.declared.state.State.{State}
 use Rattle.narrowing.specs.Stops.{NoStop}
 use Rattle.learning.specs.Reason.{Remembers}
 use Rattle.joining.specs.Filter.{Filtered}
-use Rattle.propagating.specs.Job.{Belongs}
+use Rattle.propagating.specs.Desk.{Wired}
 use Rattle.searching.specs.Outlook.{Leaves}
 use Rattle.searching.specs.declared.node.Branch.{Branch}
 use Rattle.searching.specs.declared.node.Node.{Node}
@@ -25,9 +25,9 @@ pub record Entered (rules table counts desk : List ℕ) (branch : Branch) (memor
         front = node .front;
         next = node .next;
       }
-  pub narrows : Narrows (Belongs rules table counts desk (branch .unit)) (branch .front .state) (node .front .state)
+  pub narrows : Narrows (Wired rules table counts desk (branch .unit)) (branch .front .state) (node .front .state)
   pub filtered : Filtered table counts desk (branch .unit .nearest) (node .front .state) filter
-  pub remembers : Remembers (Belongs rules table counts desk (branch .unit)) memory
+  pub remembers : Remembers (Wired rules table counts desk (branch .unit)) memory
   pub leaves : Leaves rules (branch .unit .rules) (node .front .state) (node .next)
 
 -- one atom further: it is decided where no rule of the word is at a stop

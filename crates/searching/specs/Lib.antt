@@ -3,3 +3,4 @@ pub mod Witness
 pub mod Outlook
 pub mod Node
 pub mod Entered
+pub mod Spare

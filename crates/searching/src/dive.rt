@@ -20,8 +20,7 @@ ghost use Rattle.states.specs.State.{undecided as undecidedOf};
 ghost use Rattle.states.specs.Narrowing.{Overlaps};
 ghost use Rattle.learning.specs.Reason.{Remembers};
 ghost use Rattle.joining.specs.Filter.{Filtered};
-ghost use Rattle.propagating.specs.Desk.{Prepared};
-ghost use Rattle.propagating.specs.Job.{Belongs};
+ghost use Rattle.propagating.specs.Desk.{Prepared, Wired};
 ghost use Rattle.searching.specs.Entered.{WentDown};
 
 // With fewer atoms undecided the search is short, and a way down before it is not worth its time.
@@ -66,17 +65,17 @@ fn descend(
     f: Front,
 ) -> Front
     requires { ⌜ Prepared (now rules) (now table) (now counts) (now desk) unit
-        × Remembers (Belongs (now rules) (now table) (now counts) (now desk) unit) (now memory)
+        × Remembers (Wired (now rules) (now table) (now counts) (now desk) unit) (now memory)
         × Filtered (now table) (now counts) (now desk) (unit .nearest) (f .state) (now filter)
         × (undecidedOf (f .state .up) (f .state .dropped) ≡ 0 → ⊥) ⌝ }
     ensures filtered { λ r. ⌜ Filtered (now (table .entry)) (now (counts .entry)) (now (desk .entry)) (unit .nearest) (r .state) (now (filter .exit)) ⌝ }
-    ensures remembers { λ _. ⌜ Remembers (Belongs (now (rules .entry)) (now (table .entry)) (now (counts .entry)) (now (desk .entry)) unit)
+    ensures remembers { λ _. ⌜ Remembers (Wired (now (rules .entry)) (now (table .entry)) (now (counts .entry)) (now (desk .entry)) unit)
         (now (memory .exit)) ⌝ }
     ensures onward { λ r. ⌜ WentDown (now (rules .entry)) (unit .rules) (f .state) (r .state) ⌝ }
     ensures falls { λ r. ⌜ ones (undecidedOf (r .state .up) (r .state .dropped)) < ones (undecidedOf (f .state .up) (f .state .dropped)) ⌝ }
 {
     let s = f.state;
-    let next = outlook_of(rules, unit, memory, s, s.up);
+    let next = outlook_of(rules, desk, unit, memory, s, s.up);
     let Outlook::Open(i) = next else {
         return halted(f);
     };
@@ -97,8 +96,8 @@ fn learn_stop(
     f: Front,
 ) -> bool
     requires { ⌜ Prepared (now rules) (now table) (now counts) (now desk) unit
-        × Remembers (Belongs (now rules) (now table) (now counts) (now desk) unit) (now memory) ⌝ }
-    ensures { λ _. ⌜ Remembers (Belongs (now (rules .entry)) (now (table .entry)) (now (counts .entry)) (now (desk .entry)) unit) (now (memory .exit)) ⌝ }
+        × Remembers (Wired (now rules) (now table) (now counts) (now desk) unit) (now memory) ⌝ }
+    ensures { λ _. ⌜ Remembers (Wired (now (rules .entry)) (now (table .entry)) (now (counts .entry)) (now (desk .entry)) unit) (now (memory .exit)) ⌝ }
 {
     let s = f.state;
     if atoms::are_apart(s.up, s.dropped) {
@@ -122,9 +121,9 @@ fn dive(
     front: Front,
 ) -> bool
     requires { ⌜ Prepared (now rules) (now table) (now counts) (now desk) unit
-        × Remembers (Belongs (now rules) (now table) (now counts) (now desk) unit) (now memory)
+        × Remembers (Wired (now rules) (now table) (now counts) (now desk) unit) (now memory)
         × Filtered (now table) (now counts) (now desk) (unit .nearest) (front .state) (now filter) ⌝ }
-    ensures { λ _. ⌜ Remembers (Belongs (now (rules .entry)) (now (table .entry)) (now (counts .entry)) (now (desk .entry)) unit) (now (memory .exit)) ⌝ }
+    ensures { λ _. ⌜ Remembers (Wired (now (rules .entry)) (now (table .entry)) (now (counts .entry)) (now (desk .entry)) unit) (now (memory .exit)) ⌝ }
 {
     let mut mine = copied(filter);
     let mut above = front;
@@ -148,9 +147,9 @@ pub fn dive_ahead(
     front: Front,
 )
     requires { ⌜ Prepared (now rules) (now table) (now counts) (now desk) unit
-        × Remembers (Belongs (now rules) (now table) (now counts) (now desk) unit) (now memory)
+        × Remembers (Wired (now rules) (now table) (now counts) (now desk) unit) (now memory)
         × Filtered (now table) (now counts) (now desk) (unit .nearest) (front .state) (now filter) ⌝ }
-    ensures { λ _. ⌜ Remembers (Belongs (now (rules .entry)) (now (table .entry)) (now (counts .entry)) (now (desk .entry)) unit) (now (memory .exit)) ⌝ }
+    ensures { λ _. ⌜ Remembers (Wired (now (rules .entry)) (now (table .entry)) (now (counts .entry)) (now (desk .entry)) unit) (now (memory .exit)) ⌝ }
 {
     if atoms::count(free_atoms(front.state)) < DEEP {
         return;

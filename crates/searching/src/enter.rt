@@ -6,8 +6,7 @@ use explaining::lift::span;
 use propagating::propagate::propagate;
 ghost use Rattle.learning.specs.Reason.{Remembers};
 ghost use Rattle.joining.specs.Filter.{Filtered};
-ghost use Rattle.propagating.specs.Desk.{Prepared};
-ghost use Rattle.propagating.specs.Job.{Belongs};
+ghost use Rattle.propagating.specs.Desk.{Prepared, Wired};
 ghost use Rattle.searching.specs.Entered.{Entered};
 
 // The node of a branch: steps are taken until none has anything new to say, and then it is looked at what the state leaves to search.
@@ -21,7 +20,7 @@ pub fn enter(
     branch: Branch,
 ) -> Node
     requires { ⌜ Prepared (now rules) (now table) (now counts) (now desk) (branch .unit)
-        × Remembers (Belongs (now rules) (now table) (now counts) (now desk) (branch .unit)) (now memory)
+        × Remembers (Wired (now rules) (now table) (now counts) (now desk) (branch .unit)) (now memory)
         × Filtered (now table) (now counts) (now desk) (branch .unit .nearest) (branch .front .state) (now filter) ⌝ }
     ensures { λ r. ⌜ Entered (now (rules .entry)) (now (table .entry)) (now (counts .entry)) (now (desk .entry)) branch
         (now (memory .exit)) (now (filter .exit)) r ⌝ }
@@ -30,7 +29,7 @@ pub fn enter(
     let front = branch.front;
     let f = propagate(rules, table, counts, desk, unit, memory, filter, front);
     let s = f.state;
-    let next = outlook_of(rules, unit, memory, s, branch.shown);
+    let next = outlook_of(rules, desk, unit, memory, s, branch.shown);
     let base = branch.base;
     Node {
         unit,

@@ -13,8 +13,7 @@ use states::State;
 ghost use Rattle.learning.specs.Reason.{Remembers};
 ghost use Rattle.states.specs.Narrowing.{bothOf, Wanted};
 ghost use Rattle.searching.specs.Witness.{Witnessed};
-ghost use Rattle.propagating.specs.Desk.{Prepared};
-ghost use Rattle.propagating.specs.Job.{Belongs};
+ghost use Rattle.propagating.specs.Desk.{Prepared, Wired};
 
 // A member that completes the state at the start and this one, or that none does: what shows of the members is nothing, so that the first one
 // ends the search. What is learnt on the way is of use for other states too.
@@ -29,10 +28,10 @@ pub fn find(
     s: State,
 ) -> Witness
     requires { ⌜ Prepared (now rules) (now table) (now counts) (now desk) unit
-        × Remembers (Belongs (now rules) (now table) (now counts) (now desk) unit) (now memory) ⌝ }
-    ensures witnessed { λ r. ⌜ Witnessed (Wanted (Belongs (now (rules .entry)) (now (table .entry)) (now (counts .entry)) (now (desk .entry)) unit)
+        × Remembers (Wired (now rules) (now table) (now counts) (now desk) unit) (now memory) ⌝ }
+    ensures witnessed { λ r. ⌜ Witnessed (Wanted (Wired (now (rules .entry)) (now (table .entry)) (now (counts .entry)) (now (desk .entry)) unit)
         (bothOf (start .state) s)) r ⌝ }
-    ensures remembers { λ _. ⌜ Remembers (Belongs (now (rules .entry)) (now (table .entry)) (now (counts .entry)) (now (desk .entry)) unit)
+    ensures remembers { λ _. ⌜ Remembers (Wired (now (rules .entry)) (now (table .entry)) (now (counts .entry)) (now (desk .entry)) unit)
         (now (memory .exit)) ⌝ }
 {
     let mut list = [0u64; LIST_WORDS];

@@ -8,5 +8,6 @@ mod member;
 mod node;
 mod outlook;
 pub mod search;
+pub mod spare;
 mod stop;
 pub mod witness;

@@ -7,6 +7,8 @@ use narrowing::choice::Choice;
 use narrowing::choice::choose;
 use narrowing::choice::some_wide;
 use propagating::Unit;
+use propagating::desk::DESK_WORDS;
+use propagating::desk::LINKED;
 use propagating::desk::backing;
 use states::State;
 use states::undecided;
@@ -18,7 +20,7 @@ ghost use Rattle.atoms.specs.Bounded.{Decides};
 ghost use Rattle.answer_sets.specs.Lent.{Lent};
 ghost use Rattle.narrowing.specs.Stops.{Chosen};
 ghost use Rattle.learning.specs.Store.{MEMORY_WORDS};
-ghost use Rattle.propagating.specs.Desk.{DESK_WORDS};
+ghost use Rattle.propagating.specs.Desk.{DESK_WORDS, linkedOf};
 ghost use Rattle.searching.specs.Outlook.{Leaves, TriedUp};
 
 // What a state leaves to search: nothing, since no member completes it; one full position; or two branches on this atom.
@@ -39,13 +41,21 @@ fn near_atoms(memory: &[u64], s: State) -> u64
 }
 
 // What comes next: a rule that is at a stop, if there is one; else a free atom, of those that show, if there are any, and of these one of those that
-// stood most often in what was learnt.
-fn pick(rules: &[u64], which: u64, memory: &[u64], s: State, free: u64, shown: u64) -> Choice
-    requires { ⌜ Lent (now rules) which × (MEMORY_WORDS ≤ length (now memory)) × (free ≡ 0 → ⊥) ⌝ }
+// stood most often in what was learnt; the linked rules are counted.
+fn pick(
+    rules: &[u64],
+    linked: &[u64],
+    which: u64,
+    memory: &[u64],
+    s: State,
+    free: u64,
+    shown: u64,
+) -> Choice
+    requires { ⌜ Lent (now rules) which × Lent (now linked) which × (MEMORY_WORDS ≤ length (now memory)) × (free ≡ 0 → ⊥) ⌝ }
     ensures { λ r. ⌜ Chosen (now (rules .entry)) which s free r ⌝ }
 {
     let leading = leaders(memory, prefer(free, shown));
-    choose(rules, which, s, leading, near_atoms(memory, s))
+    choose(rules, linked, which, s, leading, near_atoms(memory, s))
 }
 
 // With so many pairs learnt it is refuting that takes the time.
@@ -64,8 +74,15 @@ pub fn phase_of(rules: &[u64], desk: &[u64], which: u64, memory: &[u64], s: Stat
 }
 
 // What the state leaves to search of the unit; of the atoms those that show come first.
-pub fn outlook_of(rules: &[u64], unit: Unit, memory: &[u64], s: State, shown: u64) -> Outlook
-    requires { ⌜ Lent (now rules) (unit .rules) × (MEMORY_WORDS ≤ length (now memory)) ⌝ }
+pub fn outlook_of(
+    rules: &[u64],
+    desk: &[u64],
+    unit: Unit,
+    memory: &[u64],
+    s: State,
+    shown: u64,
+) -> Outlook
+    requires { ⌜ Lent (now rules) (unit .rules) × Lent (linkedOf (now desk)) (unit .rules) × (length (now desk) ≡ DESK_WORDS) × (MEMORY_WORDS ≤ length (now memory)) ⌝ }
     ensures { λ r. ⌜ Leaves (now (rules .entry)) (unit .rules) s r ⌝ }
 {
     if !atoms::are_apart(s.up, s.dropped) {
@@ -75,7 +92,8 @@ pub fn outlook_of(rules: &[u64], unit: Unit, memory: &[u64], s: State, shown: u6
     if free == 0 {
         return Outlook::Leaf;
     }
-    let choice = pick(rules, unit.rules, memory, s, free, shown);
+    let linked = &desk[LINKED..DESK_WORDS];
+    let choice = pick(rules, linked, unit.rules, memory, s, free, shown);
     match choice {
         Choice::Atom(i) => Outlook::Open(i),
         Choice::Stop(_) => Outlook::Stop,

@@ -10,6 +10,9 @@ use crate::node::joined;
 use crate::node::root;
 use crate::outlook::Outlook;
 use crate::outlook::phase_of;
+use crate::spare::all_of;
+use crate::spare::take_pilots;
+use crate::spare::with_inputs;
 use crate::stop::halt;
 use crate::stop::hand_up;
 use answer_sets::memo::blank_memo;
@@ -19,6 +22,7 @@ use learning::store::empty_store;
 use narrowing::loops::looped_atoms;
 use propagating::Unit;
 use propagating::agenda::every_step;
+use propagating::agenda::with_tables;
 use propagating::desk::lay_out;
 use propagating::front::Front;
 use states::State;
@@ -31,7 +35,7 @@ ghost use Rattle.atoms.specs.Cuts.{CutOf};
 ghost use Rattle.searching.specs.Node.{Explored};
 ghost use Rattle.searching.specs.Outlook.{Leaves};
 ghost use Rattle.joining.specs.Filter.{Filtered};
-ghost use Rattle.propagating.specs.Desk.{Prepared};
+ghost use Rattle.propagating.specs.Desk.{Prepared, Wired};
 ghost use Rattle.propagating.specs.Job.{Belongs, Searchable};
 ghost use Rattle.states.specs.Narrowing.{Wanted};
 
@@ -51,10 +55,10 @@ pub fn explore(
     node: Node,
 ) -> Found
     requires { ⌜ Prepared (now rules) (now table) (now counts) (now desk) (node .unit) × Ordered (now list) (node .count)
-        × Remembers (Belongs (now rules) (now table) (now counts) (now desk) (node .unit)) (now memory)
+        × Remembers (Wired (now rules) (now table) (now counts) (now desk) (node .unit)) (now memory)
         × Filtered (now table) (now counts) (now desk) (node .unit .nearest) (node .front .state) (now filter)
         × Leaves (now rules) (node .unit .rules) (node .front .state) (node .next) × Memo (now rules) (now memo) ⌝ }
-    ensures explored { λ r. ⌜ Explored (Belongs (now (rules .entry)) (now (table .entry)) (now (counts .entry)) (now (desk .entry)) (node .unit)) (node .shown)
+    ensures explored { λ r. ⌜ Explored (Wired (now (rules .entry)) (now (table .entry)) (now (counts .entry)) (now (desk .entry)) (node .unit)) (node .shown)
         (node .front .state) (now (list .entry)) (node .count) (now (list .exit)) (now (memory .exit)) r ⌝ }
     ensures memo { λ _. ⌜ Memo (now (rules .entry)) (now (memo .exit)) ⌝ }
 {
@@ -102,14 +106,23 @@ pub fn search(
     ensures { λ r. ⌜ Gathered (Grown (now (list .entry)) 0 (CutOf shown
         (Wanted (Belongs (now (rules .entry)) (now (table .entry)) (now (counts .entry)) (now (heads .entry)) unit) s))) (now (list .exit)) r ⌝ }
 {
+    let pilots = take_pilots(rules, heads, unit, s);
+    let all = all_of(&pilots);
+    let piloted = with_inputs(unit, all);
     let looped = looped_atoms(rules, unit.rules);
-    let desk = lay_out(rules, heads, unit, looped);
+    let rest = every_step(piloted, looped);
+    let agenda = with_tables(&pilots, rest);
+    let desk = lay_out(rules, heads, &pilots, piloted, looped);
     let mut memory = empty_store();
     let mut memo = blank_memo();
     let mut filter = full_filter(counts);
+    let opened = State {
+        up: s.up,
+        dropped: atoms::without(s.dropped, all),
+    };
     let front = Front {
-        state: s,
-        agenda: every_step(unit, looped),
+        state: opened,
+        agenda,
         top: 0,
     };
     let f = begin(
@@ -117,13 +130,13 @@ pub fn search(
         table,
         counts,
         &desk,
-        unit,
+        piloted,
         &mut memory,
         &mut filter,
         front,
     );
     let base = f.state;
-    let start = root(unit, shown, f, base);
+    let start = root(piloted, atoms::without(shown, all), f, base);
     let node = enter(rules, table, counts, &desk, &mut memory, &mut filter, start);
     explore(
         rules,

@@ -24,8 +24,7 @@ ghost use lib.ListN.{length};
 ghost use Rattle.learning.specs.Nogood.{Nogood};
 ghost use Rattle.learning.specs.Store.{MEMORY_WORDS};
 ghost use Rattle.learning.specs.Reason.{Remembers};
-ghost use Rattle.propagating.specs.Desk.{Prepared};
-ghost use Rattle.propagating.specs.Job.{Belongs};
+ghost use Rattle.propagating.specs.Desk.{Prepared, Wired};
 ghost use Rattle.searching.specs.Node.{HandedUp};
 ghost use Rattle.searching.specs.declared.witness.Witness.the-variants.{Nothing};
 
@@ -48,8 +47,8 @@ fn stop_reason(
     at: usize,
 ) -> State
     requires { ⌜ Prepared (now rules) (now table) (now counts) (now desk) unit
-        × Remembers (Belongs (now rules) (now table) (now counts) (now desk) unit) (now memory) ⌝ }
-    ensures { λ r. ⌜ Nogood (Belongs (now (rules .entry)) (now (table .entry)) (now (counts .entry)) (now (desk .entry)) unit) r ⌝ }
+        × Remembers (Wired (now rules) (now table) (now counts) (now desk) unit) (now memory) ⌝ }
+    ensures { λ r. ⌜ Nogood (Wired (now (rules .entry)) (now (table .entry)) (now (counts .entry)) (now (desk .entry)) unit) r ⌝ }
 {
     if STEPS <= at {
         return everything();
@@ -77,10 +76,10 @@ pub fn stop(
     way: Stretch,
 ) -> State
     requires { ⌜ Prepared (now rules) (now table) (now counts) (now desk) unit
-        × Remembers (Belongs (now rules) (now table) (now counts) (now desk) unit) (now memory) ⌝ }
-    ensures remembers { λ _. ⌜ Remembers (Belongs (now (rules .entry)) (now (table .entry)) (now (counts .entry)) (now (desk .entry)) unit)
+        × Remembers (Wired (now rules) (now table) (now counts) (now desk) unit) (now memory) ⌝ }
+    ensures remembers { λ _. ⌜ Remembers (Wired (now (rules .entry)) (now (table .entry)) (now (counts .entry)) (now (desk .entry)) unit)
         (now (memory .exit)) ⌝ }
-    ensures nogood { λ r. ⌜ Nogood (Belongs (now (rules .entry)) (now (table .entry)) (now (counts .entry)) (now (desk .entry)) unit) r ⌝ }
+    ensures nogood { λ r. ⌜ Nogood (Wired (now (rules .entry)) (now (table .entry)) (now (counts .entry)) (now (desk .entry)) unit) r ⌝ }
 {
     let at = step_before(way.top);
     let n = stop_reason(rules, table, counts, desk, unit, memory, at);
@@ -99,11 +98,11 @@ pub fn halt(
     node: Node,
 ) -> Found
     requires { ⌜ Prepared (now rules) (now table) (now counts) (now desk) (node .unit)
-        × Remembers (Belongs (now rules) (now table) (now counts) (now desk) (node .unit)) (now memory) ⌝ }
+        × Remembers (Wired (now rules) (now table) (now counts) (now desk) (node .unit)) (now memory) ⌝ }
     ensures is { λ r. ⌜ r ≡ record { count = node .count; nogood = r .nogood; witness = Nothing } ⌝ }
-    ensures remembers { λ _. ⌜ Remembers (Belongs (now (rules .entry)) (now (table .entry)) (now (counts .entry)) (now (desk .entry)) (node .unit))
+    ensures remembers { λ _. ⌜ Remembers (Wired (now (rules .entry)) (now (table .entry)) (now (counts .entry)) (now (desk .entry)) (node .unit))
         (now (memory .exit)) ⌝ }
-    ensures nogood { λ r. ⌜ Nogood (Belongs (now (rules .entry)) (now (table .entry)) (now (counts .entry)) (now (desk .entry)) (node .unit)) (r .nogood) ⌝ }
+    ensures nogood { λ r. ⌜ Nogood (Wired (now (rules .entry)) (now (table .entry)) (now (counts .entry)) (now (desk .entry)) (node .unit)) (r .nogood) ⌝ }
 {
     let unit = node.unit;
     let way = node.way;
@@ -122,10 +121,10 @@ pub fn reject(
     x: u64,
 ) -> State
     requires { ⌜ Prepared (now rules) (now table) (now counts) (now desk) (node .unit)
-        × Remembers (Belongs (now rules) (now table) (now counts) (now desk) (node .unit)) (now memory) ⌝ }
-    ensures remembers { λ _. ⌜ Remembers (Belongs (now (rules .entry)) (now (table .entry)) (now (counts .entry)) (now (desk .entry)) (node .unit))
+        × Remembers (Wired (now rules) (now table) (now counts) (now desk) (node .unit)) (now memory) ⌝ }
+    ensures remembers { λ _. ⌜ Remembers (Wired (now (rules .entry)) (now (table .entry)) (now (counts .entry)) (now (desk .entry)) (node .unit))
         (now (memory .exit)) ⌝ }
-    ensures nogood { λ r. ⌜ Nogood (Belongs (now (rules .entry)) (now (table .entry)) (now (counts .entry)) (now (desk .entry)) (node .unit)) r ⌝ }
+    ensures nogood { λ r. ⌜ Nogood (Wired (now (rules .entry)) (now (table .entry)) (now (counts .entry)) (now (desk .entry)) (node .unit)) r ⌝ }
 {
     if x == 0 {
         return everything();
@@ -153,7 +152,7 @@ pub fn hand_up(
     found: Found,
 ) -> Found
     requires { ⌜ Prepared (now rules) (now table) (now counts) (now desk) (node .unit) × (MEMORY_WORDS ≤ length (now memory)) ⌝ }
-    ensures { λ r. ⌜ HandedUp (Belongs (now (rules .entry)) (now (table .entry)) (now (counts .entry)) (now (desk .entry)) (node .unit)) found
+    ensures { λ r. ⌜ HandedUp (Wired (now (rules .entry)) (now (table .entry)) (now (counts .entry)) (now (desk .entry)) (node .unit)) found
         (now (memory .entry)) (now (memory .exit)) r ⌝ }
 {
     let unit = node.unit;

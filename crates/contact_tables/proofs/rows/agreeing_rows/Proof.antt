@@ -31,7 +31,7 @@ done c = c .before .before .loop .k
 
 rows-small : (c : tie.After-single Inv-loop μ-loop) → atom (done c) ≤ ATOMS
 unfolding atom
-rows-small c = pow-mono (c .before .before .loop .inv .few)
+rows-small c = pow-mono (c .before .before .loop .inv .walking .few)
 
 first-requires-2 : tie.Need-first-requires-2 Inv-loop μ-loop
 first-requires-2 c κs = let l = rows-small c in let e = c .single .ensures in omega arith
@@ -58,10 +58,10 @@ agreeing-rows-spec =
     (λ c κs. c .before .loop-test .taken)
     (λ c κs. (ltb-true _ _ (c .before .if1 .taken), c .lowest .ensures .1))
     (λ c κs. c .before .lowest .ensures .1)
-    (λ c. omega (arith, c .before .before .before .before .before .loop .inv .few))
+    (λ c. omega (arith, c .before .before .before .before .before .loop .inv .walking .few))
     (λ c. taken-less (c .before .before .lowest .ensures .0) (c .drop .ensures))
     loop-again
-    (λ c κs. let l = c .before .loop .inv .few in omega arith)
+    (λ c κs. let l = c .before .loop .inv .walking .few in omega arith)
     first-requires-2
     (λ c κs. search needs)
     returns)

@@ -5,7 +5,7 @@ use lib.ListN.{length}
 use Rattle.learning.specs.Store.{MEMORY_WORDS, STEPS}
 use Rattle.learning.specs.Reason.{Lifted}
 use Rattle.learning.proofs.Reasons.{lifted-start, lifted-learn, lifted-over}
-use Rattle.propagating.specs.Job.{Belongs}
+use Rattle.propagating.specs.Desk.{Wired}
 use Rattle.learning.proofs.HeededSteps.{lifted-after}
 use borrow.Author.Needs.{needs}
 use Rattle.explaining.proofs.lift.lift.Statement.{statement}
@@ -13,7 +13,7 @@ use Rattle.explaining.proofs.lift.lift.Tie as tie
 
 abbrev Inv-loop : tie.InvT-loop
 Inv-loop rules table counts desk unit memory₀ stretch base r₀ i₀ learnt₀ memory r i learnt =
-    Lifted (Belongs rules table counts desk unit) r₀ memory₀ memory r × (i ≤ STEPS)
+    Lifted (Wired rules table counts desk unit) r₀ memory₀ memory r × (i ≤ STEPS)
 
 abbrev μ-loop : tie.MeasureT-loop
 μ-loop rules table counts desk unit memory₀ stretch base r₀ i₀ learnt₀ memory r i learnt = i

@@ -11,7 +11,7 @@ unfounded-atoms-requires c κs = let pre = c .before .before .before .before .be
 looked-at-requires : tie.Need-looked-at-requires
 looked-at-requires c κs =
     let pre = c .before .before .before .before .before .before .before .before .pre in
-    (pre .0 .searchable .rules-lent, pre .0 .long, pre .1)
+    (pre .0 .searchable .rules-lent, pre .0 .linked .there, pre .0 .long, pre .1)
 
 shrink-requires : tie.Need-shrink-requires
 shrink-requires c κs =

@@ -2,7 +2,7 @@
 use native.Mathlib.Omega.{arith}
 use Prim.Native.Nat.{_<_}
 use Rattle.learning.specs.Store.{STEPS}
-use Rattle.propagating.specs.Job.{Belongs}
+use Rattle.propagating.specs.Desk.{Wired}
 use Rattle.explaining.specs.Claims.{Told}
 use Rattle.explaining.proofs.ToldClaims.{told-own, told-on}
 use borrow.Author.Needs.{needs}
@@ -11,7 +11,7 @@ use Rattle.explaining.proofs.reasons.shrink.Tie as tie
 
 abbrev Inv-loop : tie.InvT-loop
 Inv-loop rules table counts desk memory unit at c₀ i₀ rest₀ c i rest =
-    Told (Belongs rules table counts desk unit) memory (c₀ .goal) c × (i < STEPS)
+    Told (Wired rules table counts desk unit) memory (c₀ .goal) c × (i < STEPS)
 
 abbrev μ-loop : tie.MeasureT-loop
 μ-loop rules table counts desk memory unit at c₀ i₀ rest₀ c i rest = i

@@ -1,14 +1,14 @@
 -- The loop carries what the claim tells. The measure is how many atoms were not tried yet.
 use lib.Count.{ones}
 use Rattle.atoms.proofs.Counts.{taken-less}
-use Rattle.propagating.specs.Job.{Belongs}
+use Rattle.propagating.specs.Desk.{Wired}
 use Rattle.explaining.specs.Claims.{Told}
 use Rattle.explaining.proofs.ToldClaims.{told-own, told-on}
 use Rattle.explaining.proofs.reasons.spare_each.Statement.{statement}
 use Rattle.explaining.proofs.reasons.spare_each.Tie as tie
 
 abbrev Inv-loop : tie.InvT-loop
-Inv-loop rules table counts desk memory unit which c₀ rest₀ c rest = Told (Belongs rules table counts desk unit) memory (c₀ .goal) c
+Inv-loop rules table counts desk memory unit which c₀ rest₀ c rest = Told (Wired rules table counts desk unit) memory (c₀ .goal) c
 
 abbrev μ-loop : tie.MeasureT-loop
 μ-loop rules table counts desk memory unit which c₀ rest₀ c rest = ones rest

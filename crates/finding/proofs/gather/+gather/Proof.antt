@@ -2,6 +2,7 @@
 use mathlib.Core.Path.{sym, _∙_}
 use mathlib.Core.Bool.{true, false}
 use Prim.Native.Nat.{ℕ, _<_}
+use denote.Ref.{now}
 use native.Mathlib.Omega.{arith}
 use lib.Count.{ones}
 use borrow.Author.Needs.{needs}
@@ -9,14 +10,19 @@ use borrow.Fn.Kinds.{In}
 use borrow.Fn.PlainCycle.{Measures, is, falls, and}
 use Rattle.atoms.specs.Word.{ATOMS, Highest}
 use Rattle.states.specs.State.{undecided}
-use Rattle.finding.proofs.Trees.{looked-seen, stands-still, gather-full, gather-none, gather-leaf, gather-low, gather-both}
-use Rattle.finding.proofs.Trees.{descended-falls}
+use Rattle.states.specs.declared.state.State.{State}
+use Rattle.finding.specs.Whole.{hiddenOf}
+use Rattle.finding.specs.Gather.{darkOf, Likely}
+use Rattle.finding.proofs.Trees.{looked-seen, dark-free, gather-full, gather-none, gather-leaf, gather-low, gather-both, descended-falls}
+use Rattle.finding.proofs.Wholes.{stands-still}
 use Rattle.finding.proofs.gather.gather.Reads as gather
 use Rattle.finding.proofs.gather.gather.Kinds as gather-kinds
 use Rattle.finding.proofs.gather.+gather.Lts-gather as gather-lts
 use Rattle.finding.proofs.gather.descend.Reads as descend-reads
 use Rattle.atoms.proofs.highest.Reads as highest-reads
 use Rattle.finding.proofs.gather.look.Reads as look-reads
+use Rattle.finding.proofs.gather.dark_of.Reads as dark-of-reads
+use Rattle.atoms.proofs.without.Reads as without-reads
 use Rattle.finding.proofs.least.put.Reads as put-reads
 use Rattle.states.proofs.undecided.Reads as undecided-reads
 use Rattle.finding.proofs.gather.+gather.{statement}
@@ -35,6 +41,10 @@ abbrev calls : ℕ → gather-lts.Claims
 calls t = (
   look-reads.Asked,
   look-reads.Learnt,
+  without-reads.Asked,
+  without-reads.Learnt,
+  dark-of-reads.Asked,
+  dark-of-reads.Learnt,
   undecided-reads.Asked,
   undecided-reads.Learnt,
   put-reads.Asked,
@@ -75,39 +85,50 @@ module _ (t : ℕ) where
   chosen c = c .before .before
 
   abbrev looked : Chosen → Looked
-  looked c = c .before .before .before .before .before .before .before .before .before .before
+  looked c = c .before .before .before .before .before .before .before .before .before .before .before
 
   abbrev start : Looked → Start
   start c = c .before .before .before .before .before .before .before .before
 
   -- ---- what is known there
 
-  top : (c : Chosen)
-      → Highest (undecided (start (looked c) .args .node .front .state .up) (start (looked c) .args .node .front .state .dropped)) (c .highest .result)
-      × (c .highest .result < ATOMS)
-  top c = rw (c .before .before .undecided .ensures) at (c .highest .ensures)
+  -- the pilots, and the state of the node
+  abbrev X : Chosen → ℕ
+  X c = hiddenOf (start (looked c) .args .query .unit) (start (looked c) .args .query .facts)
+
+  abbrev here : Chosen → State
+  here c = start (looked c) .args .node .front .state
+
+  top : (c : Chosen) → Highest (undecided (darkOf (here c) (X c) .up) (darkOf (here c) (X c) .dropped)) (c .highest .result) × (c .highest .result < ATOMS)
+  top c =
+      let free = c .before .before in
+      rw (free .undecided .ensures, free .before .dark-of .ensures, free .before .before .without .ensures) at (c .highest .ensures)
+
+  likely : (c : Chosen)
+      → Likely (now (start (looked c) .args .rules)) (now (start (looked c) .args .desk)) (start (looked c) .args .query .unit) (start (looked c) .args .query .facts)
+      (start (looked c) .args .query .from) (here c) (c .before .before .before .before .before .before .before .seen .given .0 .0)
+  likely c = looked-seen (c .before .before .before .before .before .before .before .seen .given .1) (looked c .look .ensures .0)
 
   -- ---- what the calls ask
 
   descend-requires : gather-lts.Need-descend-requires (calls t) (gather-at t) gather.Post
-  descend-requires c κs =
-      let k = c .before in
-      (looked k .look .ensures .1, looked-seen (k .before .before .before .before .before .before .seen .given .1) (looked k .look .ensures .0), top k .1)
+  descend-requires c κs = let k = c .before in (looked k .look .ensures .1, likely k, top k .1, dark-free (here k) (X k) (top k .0 .here))
 
   first-requires : gather-lts.Need-gather-requires (calls t) (gather-at t) gather.Post
   first-requires c κs =
       let low = c .before .before .before .before in
       let k = chosen low in
       let pre = start (looked k) .pre in
-      (descended-falls false (top k .0) (low .descend .ensures) (pre .0), (low .descend .ensures .is-node, pre .1 .1))
+      (descended-falls (here k) (X k) false (top k .0) (low .descend .ensures) (pre .0), (low .descend .ensures .is-node, pre .1 .1))
 
   descend-requires-2 : gather-lts.Need-descend-requires-2 (calls t) (gather-at t) gather.Post
   descend-requires-2 c κs =
       let first = c .before .before .before .before .before .before in
       let k = chosen (lowered first) in (
         stands-still (looked k .look .ensures .1) (first .gather .ensures .1 .remembers),
-        looked-seen (k .before .before .before .before .before .before .seen .given .1) (looked k .look .ensures .0),
+        likely k,
         top k .1,
+        dark-free (here k) (X k) (top k .0 .here),
       )
 
   second-requires : gather-lts.Need-gather-requires-2 (calls t) (gather-at t) gather.Post
@@ -116,8 +137,10 @@ module _ (t : ℕ) where
       let first = up .before .before .before .before .before .before .before in
       let k = chosen (lowered first) in
       let told = first .gather .ensures .0 in
-      let pre = start (looked k) .pre in
-      (descended-falls true (top k .0) (up .descend2 .ensures) (pre .0), (up .descend2 .ensures .is-node, omega (arith, told .room, told .long)))
+      let pre = start (looked k) .pre in (
+        descended-falls (here k) (X k) true (top k .0) (up .descend2 .ensures) (pre .0),
+        (up .descend2 .ensures .is-node, omega (arith, told .room, told .long)),
+      )
 
   -- ---- what is handed back
 
@@ -132,16 +155,20 @@ module _ (t : ℕ) where
   leaf : gather-lts.Need-returns-3 (calls t) (gather-at t) gather.Post
   leaf c =
       let test = c .before .before .before .before in
-      let l = test .before .before .before .before .before .before .before .before .before in
-      let fits = looked-seen (c .before .before .before .before .before .before .before .before .before .seen .given .1) (l .look .ensures .0) in
-      (gather-leaf fits (sym (test .before .undecided .ensures) ∙ test .if2 .taken) (c .before .before .put .ensures), l .look .ensures .1)
+      let free = test .before in
+      let seen = free .before .before .before .before .before in
+      let l = seen .before .before .before .before in
+      let none = rw (free .undecided .ensures, free .before .dark-of .ensures, free .before .before .without .ensures) at (test .if2 .taken) in (
+        gather-leaf (l .look .ensures .1) (looked-seen (seen .seen .given .1) (l .look .ensures .0)) none (c .before .before .put .ensures),
+        l .look .ensures .1,
+      )
 
   full-below : gather-lts.Need-returns-4 (calls t) (gather-at t) gather.Post
   full-below c =
       let first = c .before .before .before .before .before in
       let low = lowered first in
       let k = chosen low in (
-        gather-low (top k .0) (low .descend .ensures) (first .gather .ensures .0) (c .if3 .taken),
+        gather-low (looked k .look .ensures .1) (top k .0) (low .descend .ensures) (first .gather .ensures .0) (c .if3 .taken),
         stands-still (looked k .look .ensures .1) (first .gather .ensures .1 .remembers),
       )
 
@@ -152,7 +179,8 @@ module _ (t : ℕ) where
       let first = up .before .before .before .before .before .before .before in
       let low = lowered first in
       let k = chosen low in (
-        gather-both (top k .0) (low .descend .ensures) (up .descend2 .ensures) (first .gather .ensures .0) (second .gather2 .ensures .0),
+        gather-both (looked k .look .ensures .1) (top k .0) (low .descend .ensures) (up .descend2 .ensures) (first .gather .ensures .0)
+            (second .gather2 .ensures .0),
         stands-still (looked k .look .ensures .1) (second .gather2 .ensures .1 .remembers),
       )
 
@@ -167,7 +195,9 @@ pub +gather-spec : {M : Type 1} → statement M
     (λ c. search needs)
     (none t)
     (λ c κs. search needs)
-    (λ c κs. omega (arith, c .before .before .before .before .before .before .before .before .before .before .before .before .if1 .left))
+    (λ c κs. search needs)
+    (λ c κs. search needs)
+    (λ c κs. omega (arith, c .before .before .before .before .before .before .before .before .before .before .before .before .before .if1 .left))
     (λ c. search needs)
     (λ c. search needs)
     (leaf t)

@@ -1,29 +1,34 @@
 -- None there is behind the place; one is known; or it is asked.
-use borrow.Author.Needs.{needs}
 use Rattle.finding.proofs.Trees.{looked-passed, looked-known, looked-asked}
+use borrow.Author.Needs.{needs}
 use Rattle.finding.proofs.gather.look.Statement.{statement}
 use Rattle.finding.proofs.gather.look.Tie as tie
 
 returns : tie.Need-returns
-returns c = (looked-passed (c .before .is-passed .ensures (c .if1 .taken)), c .before .before .before .before .before .before .pre .stands)
+returns c =
+    let dark = c .before .before in
+    let stands = dark .before .before .before .before .before .before .before .pre .stands in
+    (looked-passed stands (rw (dark .before .without .ensures) at (dark .dark-of .ensures)) (c .before .is-passed .ensures (c .if1 .taken)), stands)
 
 returns-2 : tie.Need-returns-2
-returns-2 c =
-    let pre = c .before .before .before .before .before .before .before .before .before .pre in
-    (looked-known (c .before .known .given .1) (pre .hinted), pre .stands)
+returns-2 c = let pre = c .before .before .before .before .before .before .before .before .before .before .before .before .pre in (looked-known (c .before .known .given .1) (pre .hinted), pre .stands)
 
 returns-3 : tie.Need-returns-3
-returns-3 c = let said = c .before .before in (looked-asked (said .ask-here .ensures .0), said .ask-here .ensures .1)
+returns-3 c =
+    let said = c .before .before in
+    (looked-asked (said .before .before .before .before .before .before .before .before .before .before .before .before .before .pre .stands) (said .ask .ensures .0), said .ask .ensures .1)
 
 pub look-spec : {M : Type 1} → statement M
 look-spec =
     tie.close
     (tie.spec
     (λ c κs. search needs)
+    (λ c κs. search needs)
+    (λ c κs. search needs)
     returns
     (λ c. search needs)
     (λ c. search needs)
-    (λ c κs. c .before .before .before .before .before .before .before .before .before .pre .stands)
+    (λ c κs. c .before .before .before .before .before .before .before .before .before .before .before .before .pre .stands)
     returns-2
     (λ c. search needs)
     returns-3)

@@ -1,25 +1,29 @@
 -- One atom is decided, and the steps that this wakes are taken.
-use mathlib.Core.Path.{refl}
 use Rattle.states.proofs.Narrows.{narrows-refl}
+use Rattle.joining.proofs.JoinedLists.{joinable-some}
+use Rattle.joining.proofs.Filters.{full-filtered}
 use borrow.Author.Needs.{needs}
-use Rattle.finding.proofs.Wholes.{no-lists-filtered}
 use Rattle.finding.proofs.gather.step_down.Statement.{statement}
 use Rattle.finding.proofs.gather.step_down.Tie as tie
 
 returns : tie.Need-returns
-returns c = (rw (c .before .before .before .decide .ensures) narrows-refl, c .before .before .before .before .before .before .before .pre .0 .remembers)
+returns c = (rw (c .before .before .before .before .before .before .decide .ensures) narrows-refl, c .before .before .before .before .before .before .before .before .before .before .pre .0 .remembers)
 
 propagate-requires : tie.Need-propagate-requires
 propagate-requires c κs =
-    let pre = c .before .before .before .before .before .before .before .before .before .before .before .before .pre .0 in
-    rw (c .before .before .whole .ensures) (pre .prepared, pre .remembers, no-lists-filtered refl)
+    let full = c .before .before .before .before .before in
+    let pre = full .before .before .before .before .before .before .before .before .before .before .before .pre .0 in
+    let ready = pre .serves .prepared in (
+      ready,
+      pre .remembers,
+      full-filtered _ _ _ _ _ _ (joinable-some (ready .searchable .near) (ready .searchable .joinable)) (full .full-filter .ensures),
+    )
 
 returns-2 : tie.Need-returns-2
 returns-2 c =
-    let unit = c .before .before .before .before .before .before in
-    let at-moved = unit .before .before .before in
-    let at-decide = at-moved .before .before .before in
-    let told = rw (unit .whole .ensures, at-moved .moved .ensures, at-decide .decide .ensures) at (c .before .before .before .propagate .ensures) in
+    let done = c .before .before .before in
+    let at-moved = done .before .before .before .before .before in
+    let told = rw (at-moved .moved .ensures, at-moved .before .before .before .before .before .before .before .before .decide .ensures) at (done .propagate .ensures) in
     (told .0, told .1 .1)
 
 pub step-down-spec : {M : Type 1} → statement M
@@ -28,11 +32,14 @@ step-down-spec =
     (tie.spec
     (λ c κs. search needs)
     (λ c κs. search needs)
+    (λ c κs. search needs)
+    (λ c κs. search needs)
     returns
-    (λ c κs. search needs)
-    (λ c. search needs)
     (λ c. search needs)
     (λ c κs. search needs)
+    (λ c κs. c .before .before .before .before .before .before .before .before .before .before .before .pre .0 .serves .prepared .long)
+    (λ c. search needs)
+    (λ c. search needs)
     (λ c. search needs)
     propagate-requires
     (λ c. search needs)

@@ -13,11 +13,11 @@ use Rattle.narrowing.proofs.choice.count_rules.Statement.{statement}
 use Rattle.narrowing.proofs.choice.count_rules.Tie as tie
 
 abbrev Inv-loop : tie.InvT-loop
-Inv-loop rules which s free near first₀ others₀ rest₀ first others rest =
+Inv-loop rules counted which s free near first₀ others₀ rest₀ first others rest =
     Taking which rest (λ r. ¬ AtStop rules r s) × (length first ≡ length first₀) × (length others ≡ length others₀)
 
 abbrev μ-loop : tie.MeasureT-loop
-μ-loop rules which s free near first₀ others₀ rest₀ first others rest = ones rest
+μ-loop rules counted which s free near first₀ others₀ rest₀ first others rest = ones rest
 
 -- the points behind the choice of the rule, the answer where it stands and the test, and where the function begins
 abbrev tested : tie.After-drop Inv-loop μ-loop → tie.After-is-stop Inv-loop μ-loop
@@ -27,15 +27,15 @@ abbrev taken : tie.After-standing-of Inv-loop μ-loop → tie.After-lowest Inv-l
 taken c = c .before
 
 abbrev start : tie.After-lowest Inv-loop μ-loop → tie.Start Inv-loop μ-loop
-start c = c .before .before .before .before .before .before
+start c = c .before .before .before .before .before .before .before
 
 standing-of-requires : tie.Need-standing-of-requires Inv-loop μ-loop
-standing-of-requires c κs = start c .pre .each _ (taken-lent (c .before .before .loop .inv .0 .within) (c .lowest .ensures .0))
+standing-of-requires c κs = start c .pre .0 .each _ (taken-lent (c .before .before .loop .inv .0 .within) (c .lowest .ensures .0))
 
 count-rule-requires : tie.Need-count-rule-requires Inv-loop μ-loop
 count-rule-requires c κs =
     let low = c .before .before .before .before .before in
-    start low .pre .each _ (taken-lent (low .before .before .loop .inv .0 .within) (low .lowest .ensures .0))
+    start low .pre .1 .each _ (taken-lent (low .before .before .loop .inv .0 .within) (low .lowest .ensures .0))
 
 stopped : tie.Need-returns Inv-loop μ-loop
 stopped c =

@@ -1,4 +1,4 @@
--- Three parts, from zeros on.
+-- Six parts, from zeros on.
 use mathlib.Core.Path.{refl}
 use Rattle.narrowing.proofs.BackedAtoms.{zeros-at}
 use Rattle.propagating.specs.Agenda.{INDEX_WORDS}
@@ -9,15 +9,27 @@ use Rattle.propagating.proofs.agenda.wake_index.Tie as tie
 
 returns : tie.Need-returns
 returns c =
-    let founded = c .before in
+    let told = c .before in
+    let sums = told .before .before .before in
+    let tables = sums .before .before .before in
+    let founded = tables .before .before .before in
     let lists = founded .before .before .before in
     let rules = lists .before .before .before in
     index-of refl (zeros-at INDEX_WORDS) (rules .note-rules .ensures) (lists .note-lists .ensures) (founded .note-founded .ensures)
+    (tables .note-tables .ensures)
+    (sums .note-sums .ensures)
+    (told .note-told .ensures)
 
 pub wake-index-spec : {M : Type 1} → statement M
 wake-index-spec =
     tie.close
     (tie.spec
+    (λ c. search needs)
+    (λ c κs. search needs)
+    (λ c. search needs)
+    (λ c κs. search needs)
+    (λ c. search needs)
+    (λ c κs. search needs)
     (λ c. search needs)
     (λ c κs. search needs)
     (λ c. search needs)

@@ -1,4 +1,4 @@
--- The desk is put together of three parts, and each stands where it is looked for.
+-- The desk is put together of five parts, and each stands where it is looked for.
 use Rattle.propagating.proofs.Desks.{laid-out}
 use borrow.Author.Needs.{needs}
 use Rattle.propagating.proofs.desk.lay_out.Statement.{statement}
@@ -6,28 +6,47 @@ use Rattle.propagating.proofs.desk.lay_out.Tie as tie
 
 returns : tie.Need-returns
 returns c =
-    let third = c .before in
+    let fifth = c .before in
+    let fourth = fifth .before .before .before .before in
+    let third = fourth .before .before .before .before in
     let second = third .before .before .before .before in
     let first = second .before .before .before .before in
     let index = first .before .before .before in
-    let backed = index .before in
-    let start = backed .before .before .before in
-    laid-out _ _ _ (index .wake-index .result) (search needs) (start .pre .1) (backed .backers .ensures) (index .wake-index .ensures .long)
-    (first .store .ensures) (second .store2 .ensures)
-    (third .store3 .ensures) (search needs)
+    let backed = index .before .before .before in
+    let linked = backed .before .before in
+    let start = linked .before .before .before .before in
+    laid-out _ _ _ (index .wake-index .result) _ _ (search needs) (start .pre .1) (linked .link .ensures) (search needs) (linked .link .ensures .long)
+    (backed .backers .ensures)
+    (index .wake-index .ensures .long)
+    (first .store .ensures)
+    (second .store2 .ensures)
+    (third .store3 .ensures)
+    (fourth .store4 .ensures)
+    (fifth .store5 .ensures)
+    (search needs)
 
 pub lay-out-spec : {M : Type 1} → statement M
 lay-out-spec =
     tie.close
     (tie.spec
-    (λ c κs. search needs)
-    (λ c κs. search needs)
+    (λ c κs. (c .before .before .before .pre .0, search needs))
+    (λ c. search needs)
+    (λ c κs. c .before .link .ensures .there)
+    (λ c. search needs)
+    (λ c κs.
+    let pre = c .before .before .before .before .before .before .before .before .pre in
+    (pre .0, c .before .before .before .before .link .ensures .there, c .before .before .before .before .link .ensures .long, search needs, pre .1, pre .2))
     (λ c. search needs)
     (λ c. search needs)
     (λ c. search needs)
     (λ c. search needs)
     (λ c κs. search needs)
     (λ c. search needs)
+    (λ c. search needs)
+    (λ c κs. search needs)
+    (λ c. search needs)
+    (λ c. search needs)
+    (λ c κs. search needs)
     (λ c. search needs)
     (λ c κs. search needs)
     (λ c. search needs)

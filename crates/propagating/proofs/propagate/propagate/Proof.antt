@@ -8,7 +8,7 @@ use Rattle.states.proofs.Narrows.{narrows-refl, narrows-trans}
 use Rattle.learning.specs.Store.{RING}
 use Rattle.learning.specs.Reason.{Remembers}
 use Rattle.learning.proofs.Reasons.{remembers-same, remembers-keeps, remembered-narrows}
-use Rattle.propagating.specs.Job.{Belongs}
+use Rattle.propagating.specs.Desk.{Wired}
 use Rattle.joining.specs.Filter.{Filtered}
 use Rattle.joining.proofs.Filters.{filtered-narrows}
 use Rattle.propagating.proofs.propagate.propagate.Statement.{statement}
@@ -16,8 +16,8 @@ use Rattle.propagating.proofs.propagate.propagate.Tie as tie
 
 abbrev Inv-loop : tie.InvT-loop
 Inv-loop rules table counts desk unit memory₀ filter₀ f₀ i₀ memory filter f i =
-    Narrows (Belongs rules table counts desk unit) (f₀ .state) (f .state) × Filtered table counts desk (unit .nearest) (f .state) filter
-    × Remembers (Belongs rules table counts desk unit) memory × (length memory ≡ length memory₀)
+    Narrows (Wired rules table counts desk unit) (f₀ .state) (f .state) × Filtered table counts desk (unit .nearest) (f .state) filter
+    × Remembers (Wired rules table counts desk unit) memory × (length memory ≡ length memory₀)
 
 abbrev μ-loop : tie.MeasureT-loop
 μ-loop rules table counts desk unit memory₀ filter₀ f₀ i₀ memory filter f i = RING + 1 - i

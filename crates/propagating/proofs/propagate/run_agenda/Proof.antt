@@ -11,7 +11,7 @@ use Rattle.states.specs.Narrowing.{Narrows}
 use Rattle.states.proofs.Narrows.{narrows-refl, narrows-trans}
 use Rattle.learning.specs.Store.{SamePairs}
 use Rattle.learning.proofs.Stores.{same-pairs, same-trans}
-use Rattle.propagating.specs.Job.{Belongs}
+use Rattle.propagating.specs.Desk.{Wired}
 use Rattle.joining.specs.Filter.{Filtered}
 use Rattle.propagating.specs.Agenda.{weight}
 use Rattle.propagating.proofs.Agendas.{propagation-falls}
@@ -21,7 +21,7 @@ use Rattle.propagating.proofs.propagate.run_agenda.Tie as tie
 
 abbrev Inv-loop : tie.InvT-loop
 Inv-loop rules table counts desk unit memory₀ filter₀ t₀ left₀ top₀ memory filter t left top =
-    Narrows (Belongs rules table counts desk unit) t₀ t × Filtered table counts desk (unit .nearest) t filter × SamePairs memory₀ memory
+    Narrows (Wired rules table counts desk unit) t₀ t × Filtered table counts desk (unit .nearest) t filter × SamePairs memory₀ memory
 
 abbrev μ-loop : tie.MeasureT-loop
 μ-loop rules table counts desk unit memory₀ filter₀ t₀ left₀ top₀ memory filter t left top =

@@ -5,15 +5,15 @@ use lib.Count.{ones}
 use lib.ListN.{length}
 use Rattle.states.specs.State.{undecided}
 use Rattle.learning.specs.Reason.{Remembers}
-use Rattle.propagating.specs.Job.{Belongs}
 use Rattle.joining.specs.Filter.{Filtered}
 use borrow.Author.Needs.{needs}
+use Rattle.propagating.specs.Desk.{Wired}
 use Rattle.searching.proofs.dive.dive.Statement.{statement}
 use Rattle.searching.proofs.dive.dive.Tie as tie
 
 abbrev Inv-loop : tie.InvT-loop
 Inv-loop rules table counts desk unit memory₀ filter mine₀ above₀ f₀ memory mine above f =
-    Filtered table counts desk (unit .nearest) (f .state) mine × Remembers (Belongs rules table counts desk unit) memory
+    Filtered table counts desk (unit .nearest) (f .state) mine × Remembers (Wired rules table counts desk unit) memory
     × (length memory ≡ length memory₀)
 
 abbrev μ-loop : tie.MeasureT-loop

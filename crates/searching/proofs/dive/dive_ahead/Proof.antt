@@ -2,14 +2,14 @@
 use mathlib.Core.Path.{_≡_, refl, _∙_}
 use lib.ListN.{length}
 use Rattle.learning.specs.Reason.{Remembers}
-use Rattle.propagating.specs.Job.{Belongs}
 use borrow.Author.Needs.{needs}
+use Rattle.propagating.specs.Desk.{Wired}
 use Rattle.searching.proofs.dive.dive_ahead.Statement.{statement}
 use Rattle.searching.proofs.dive.dive_ahead.Tie as tie
 
 abbrev Inv-loop : tie.InvT-loop
 Inv-loop rules table counts desk unit memory₀ filter front left₀ memory left =
-    Remembers (Belongs rules table counts desk unit) memory × (length memory ≡ length memory₀)
+    Remembers (Wired rules table counts desk unit) memory × (length memory ≡ length memory₀)
 
 abbrev μ-loop : tie.MeasureT-loop
 μ-loop rules table counts desk unit memory₀ filter front left₀ memory left = left

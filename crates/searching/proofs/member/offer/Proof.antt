@@ -14,9 +14,9 @@ returns c =
     let test = at-if1 .before .before .before .before in
     let start = test .before .before .before .before .before .before .before .before .before .before .before .before in
     let at = start .args in (
-      test .belongs .ensures .1,
+      test .is-wired .ensures .1,
       offer-none (now (at .list)) (at .node .count) (at .node .shown) (at .node .front .state .up) (start .pre .1)
-          (rw (not-true (test .belongs .result .answers) (at-if1 .if1 .taken)) at (test .belongs .ensures .0))
+          (rw (not-true (test .is-wired .result .answers) (at-if1 .if1 .taken)) at (test .is-wired .ensures .0))
           (c .handed .ensures) (rejected .reject .ensures .0) (rejected .reject .ensures .1),
     )
 
@@ -28,9 +28,9 @@ returns-2 c =
     let test = at-if1 .before .before .before .before in
     let start = test .before .before .before .before .before .before .before .before .before .before .before .before in
     let at = start .args in (
-      test .belongs .ensures .1,
+      test .is-wired .ensures .1,
       offer-one (now (at .list)) (at .node .count) (at .node .shown) (at .node .front .state .up) (put .insert .last .0) (start .pre .1)
-          (test .belongs .ensures .0 .yes (not-false (test .belongs .result .answers) (at-if1 .if1 .left)))
+          (test .is-wired .ensures .0 .yes (not-false (test .is-wired .result .answers) (at-if1 .if1 .left)))
           (at-cut .cut .ensures) (put .insert .ensures) (c .handed2 .ensures) (start .pre .2) (overlap-nogood (c .before .everything .ensures .0)),
     )
 
@@ -38,7 +38,7 @@ pub offer-spec : {M : Type 1} → statement M
 offer-spec =
     tie.close
     (tie.spec
-    (λ c κs. let pre = c .before .before .before .before .before .before .before .before .before .before .before .pre in (pre .0 .searchable, pre .3))
+    (λ c κs. let pre = c .before .before .before .before .before .before .before .before .before .before .before .pre in (pre .0, pre .3))
     (λ c κs. search needs)
     (λ c κs. search needs)
     (λ c κs. search needs)

@@ -22,7 +22,7 @@ returns-2 c =
 returns-3 : tie.Need-returns-3
 returns-3 c =
     let picked = c .before .before .before in
-    rw (picked .before .before .undecided .ensures) at (rw (c .before .choice .given .1) at (picked .pick .ensures))
+    rw (picked .before .before .before .undecided .ensures) at (rw (c .before .choice .given .1) at (picked .pick .ensures))
 
 returns-4 : tie.Need-returns-4
 returns-4 c =
@@ -37,6 +37,9 @@ outlook-of-spec =
     returns
     (λ c κs. search needs)
     returns-2
+    (λ c. search needs)
+    (λ c. search needs)
+    (λ c. search needs)
     (λ c κs. search needs)
     (λ c. search needs)
     (λ c. search needs)

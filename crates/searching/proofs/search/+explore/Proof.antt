@@ -192,7 +192,7 @@ module _ (t : ℕ) where
   halted c =
       let stop = c .before .before in
       let at = stop .before .before .before .before .before .before .before .before .before .before .before .before in (
-        explored-stop (belongs-answers _ _ _ _ _ (fits at)) (at .pre .1 .1) (is-stop _ _ (stop .before .before .enum-told .given .1) (at .pre .1 .4))
+        explored-stop (λ M w. belongs-answers _ _ _ _ _ (fits at) M (w .belongs)) (at .pre .1 .1) (is-stop _ _ (stop .before .before .enum-told .given .1) (at .pre .1 .4))
             (stop .halt .ensures .0) (stop .halt .ensures .1 .0) (stop .halt .ensures .1 .1),
         at .pre .1 .5,
       )
@@ -202,7 +202,7 @@ module _ (t : ℕ) where
       let leaf = c .before .before .before .before .before .before in
       let at = leaf .before .before .before .before .before .before .before .before .before .before .before .before .before .before in
       let told = leaf .offer .ensures .1 in (
-        explored-leaf (λ M b. b .word) (is-leaf _ _ (leaf .before .before .before .before .enum-told2 .given .1) (at .pre .1 .4))
+        explored-leaf (λ M w. w .belongs .word) (is-leaf _ _ (leaf .before .before .before .before .enum-told2 .given .1) (at .pre .1 .4))
             (told .0) (told .1 .0) (told .1 .1 .0) (told .1 .1 .1),
         leaf .offer .ensures .0,
       )
@@ -212,7 +212,7 @@ module _ (t : ℕ) where
       let s = c .before .before .before .before .before .before .before .before .before .before in
       let one = entered s .before .before .before in
       let first = explored-branch (one .below .ensures .0) (entered s .enter .ensures) (s .explore .ensures .0) in (
-        explored-done (chosen (entered s) .next .given .0 .0) (phased (entered s) .phase-of .result) (one .below .ensures .1) first (λ M b. b .word)
+        explored-done (chosen (entered s) .next .given .0 .0) (phased (entered s) .phase-of .result) (one .below .ensures .1) first (λ M w. w .belongs .word)
             (rw (c .before .before .before .undecided .ensures) at (c .before .before .cut .ensures)) (c .before .is-done .ensures .done (c .if1 .taken)),
         s .explore .ensures .1,
       )

@@ -1,0 +1,10 @@
+-- Counts of words: of words apart, of an atom, of a word's atoms below a bound
+pub mod CountedWords
+-- Parities: of the atoms that are in one of two words
+pub mod Parities
+-- Contact tables that are parities: what such a table says, what that makes of its inputs and its pilot, and which tables are such
+pub mod ParityTables
+-- Rows of parities: what is put where, what is added to what, and what a row says of a state
+pub mod SummedRows
+-- A rule whose head is dropped and whose words hold says that its one use fails; of a parity table that is a row. And which rules make one such use
+pub mod ToldRows

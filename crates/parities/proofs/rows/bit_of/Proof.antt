@@ -1,0 +1,18 @@
+-- A bit is set or not.
+use Rattle.parities.proofs.SummedRows.{bit-zero, bit-one}
+use borrow.Author.Needs.{needs}
+use Rattle.parities.proofs.rows.bit_of.Statement.{statement}
+use Rattle.parities.proofs.rows.bit_of.Tie as tie
+
+pub bit-of-spec : {M : Type 1} → statement M
+bit-of-spec =
+    tie.close
+    (tie.spec
+    (λ c κs. c .pre)
+    (λ c κs. search needs)
+    (λ c.
+    let single = c .before .before in
+    bit-zero (single .before .args .bits) (single .before .args .i) (single .single .ensures) (c .before .are-apart .ensures) (c .if1 .taken))
+    (λ c.
+    let single = c .before .before in
+    bit-one (single .before .args .bits) (single .before .args .i) (single .single .ensures) (c .before .are-apart .ensures) (c .if1 .left)))

@@ -1,0 +1,17 @@
+-- The bit is set or not.
+use Rattle.parities.proofs.SummedRows.{bit-one-put, bit-none-put}
+use borrow.Author.Needs.{needs}
+use Rattle.parities.proofs.rows.put_bit.Statement.{statement}
+use Rattle.parities.proofs.rows.put_bit.Tie as tie
+
+pub put-bit-spec : {M : Type 1} → statement M
+put-bit-spec =
+    tie.close
+    (tie.spec
+    (λ c κs. search needs)
+    (λ c. bit-none-put _ _ (c .before .if1 .taken) (c .drop .ensures))
+    (λ c κs. search needs)
+    (λ c κs. search needs)
+    (λ c.
+    let one = c .before in
+    bit-one-put _ _ (one .before .before .pre .1) (one .before .if1 .left) (one .single .ensures) (c .union .ensures)))

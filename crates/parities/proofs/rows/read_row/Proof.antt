@@ -1,0 +1,24 @@
+-- One atom is up, or none is.
+use borrow.Author.Tests.{not-false}
+use Rattle.states.proofs.Narrows.{narrows-for, narrows-refl}
+use Rattle.parities.proofs.SummedRows.{row-some, row-drops}
+use borrow.Author.Needs.{needs}
+use Rattle.parities.proofs.rows.read_row.Statement.{statement}
+use Rattle.parities.proofs.rows.read_row.Tie as tie
+
+returns-3 : tie.Need-returns-3
+returns-3 c =
+    let one = c .before .before in
+    let start = one .before .before in
+    row-drops (start .args .s) (start .pre) (one .before .if1 .left) (one .at-most-one .ensures .yes (not-false _ (c .before .if2 .left))) (c .union .ensures)
+
+pub read-row-spec : {M : Type 1} → statement M
+read-row-spec =
+    tie.close
+    (tie.spec
+    (λ c κs. search needs)
+    (λ c. narrows-for (λ N h. row-some (c .before .if1 .taken) h) (c .one-up .ensures .narrows))
+    (λ c κs. search needs)
+    (λ c. narrows-refl)
+    (λ c κs. search needs)
+    returns-3)

@@ -1,0 +1,16 @@
+-- The atoms that are in one of the words.
+use Rattle.parities.proofs.SummedRows.{sum-is}
+use borrow.Author.Needs.{needs}
+use Rattle.parities.proofs.rows.sum.Statement.{statement}
+use Rattle.parities.proofs.rows.sum.Tie as tie
+
+pub sum-spec : {M : Type 1} → statement M
+sum-spec =
+    tie.close
+    (tie.spec
+    (λ c κs. search needs)
+    (λ c κs. search needs)
+    (λ c κs. search needs)
+    (λ c.
+    let at = c .before .before .before .args in
+    sum-is (at .a) (at .b) (c .before .before .without .ensures) (c .before .without2 .ensures) (c .union .ensures)))

@@ -1,0 +1,52 @@
+-- The loop carries that the rows are right. The measure is how many rules are left.
+use mathlib.Core.Path.{_∙_}
+use lib.Count.{ones}
+use Rattle.atoms.proofs.Counts.{taken-less}
+use Rattle.atoms.proofs.TakenNumbers.{Carrying, carrying-start, carrying-next, taken-lent}
+use Rattle.answer_sets.specs.Program.{SatisfiesAll}
+use Rattle.answer_sets.specs.Lent.{lent}
+use Rattle.parities.specs.Rows.{Gathered}
+use Rattle.parities.proofs.SummedRows.{gathered-refl, gathered-trans, gathered-for}
+use borrow.Author.Needs.{needs}
+use Rattle.parities.proofs.sums.gather_all_told.Statement.{statement}
+use Rattle.parities.proofs.sums.gather_all_told.Tie as tie
+
+abbrev Inv-loop : tie.InvT-loop
+Inv-loop rules which s words₀ bits sums₀ rest₀ words sums rest =
+    Carrying rest₀ rest (Gathered (SatisfiesAll (lent rules) which) s words₀ sums₀ words sums)
+
+abbrev μ-loop : tie.MeasureT-loop
+μ-loop rules which s words₀ bits sums₀ rest₀ words sums rest = ones rest
+
+gather-told-requires : tie.Need-gather-told-requires Inv-loop μ-loop
+gather-told-requires c κs =
+    let low = c .before in
+    let loop = low .before .before in
+    let telling = loop .before in
+    let start = telling .before .before .before in
+    let k = telling .telling-rules .ensures .each _ (taken-lent (loop .loop .inv .within) (low .lowest .ensures .0)) in
+    (start .pre .0 .each _ (k .0), k .1, loop .loop .inv .fact .same-length ∙ start .pre .1)
+
+loop-again : tie.Need-loop-again Inv-loop μ-loop
+loop-again c =
+    let told = c .before .before .before in
+    let low = told .before .before in
+    let loop = low .before .before in
+    carrying-next (loop .loop .inv) (low .lowest .ensures .0) (c .drop .ensures)
+    (λ h f. gathered-trans f (gathered-for (λ N k. k .each _ (loop .before .telling-rules .ensures .each _ h .0)) (told .gather-told .ensures)))
+
+pub gather-all-told-spec : {M : Type 1} → statement M
+gather-all-told-spec =
+    tie.close
+    (tie.spec
+    Inv-loop
+    μ-loop
+    (λ c κs. search needs)
+    (λ c. carrying-start gathered-refl)
+    (λ c κs. c .loop-test .taken)
+    gather-told-requires
+    (λ c κs. c .before .before .before .before .lowest .ensures .1)
+    (λ c. taken-less (c .before .before .before .before .before .lowest .ensures .0) (c .drop .ensures))
+    loop-again
+    (λ c. c .before .loop .inv .fact .same-length)
+    (λ c. c .before .loop .inv .fact))

@@ -1,0 +1,29 @@
+-- The open atoms, and the count of those that are up.
+use Rattle.atoms.proofs.Counts.{counts-small}
+use Rattle.parities.proofs.SummedRows.{open-is}
+use borrow.Author.Needs.{needs}
+use Rattle.parities.proofs.sums.open_row.Statement.{statement}
+use Rattle.parities.proofs.sums.open_row.Tie as tie
+
+add-t7 : tie.Need-add-t7
+add-t7 c =
+    let up = c .before .before in
+    let l = counts-small (up .cut2 .result) (up .cut2 .ok) .0 in
+    let e = c .before .count .ensures in
+    search needs
+
+returns : tie.Need-returns
+returns c =
+    let up = c .before .before in
+    open-is _ _ (up .before .before .undecided .ensures) (up .before .cut .ensures) (up .cut2 .ensures) (c .before .count .ensures)
+
+pub open-row-spec : {M : Type 1} → statement M
+open-row-spec =
+    tie.close
+    (tie.spec
+    (λ c κs. search needs)
+    (λ c κs. search needs)
+    (λ c κs. search needs)
+    (λ c κs. search needs)
+    add-t7
+    returns)

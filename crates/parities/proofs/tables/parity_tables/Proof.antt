@@ -1,0 +1,32 @@
+-- The loop carries the word of those tables that are done. The measure is how many are left.
+use Prim.Native.Nat.{_-_}
+use native.Mathlib.Omega.{arith}
+use Rattle.plan.specs.Limits.{MAX_TABLES}
+use Rattle.parities.specs.Parity.{ParityTable}
+use Rattle.parities.proofs.ParityTables.{Found, found-none, found-next, found-all}
+use borrow.Author.Needs.{needs}
+use Rattle.parities.proofs.tables.parity_tables.Statement.{statement}
+use Rattle.parities.proofs.tables.parity_tables.Tie as tie
+
+abbrev Inv-loop : tie.InvT-loop
+Inv-loop rules pilots which₀ t₀ which t = Found (ParityTable rules pilots) t which
+
+abbrev μ-loop : tie.MeasureT-loop
+μ-loop rules pilots which₀ t₀ which t = MAX_TABLES - t
+
+pub parity-tables-spec : {M : Type 1} → statement M
+parity-tables-spec =
+    tie.close
+    (tie.spec
+    Inv-loop
+    μ-loop
+    (λ c. found-none)
+    (λ c κs. (c .before .before .before .before .pre, c .loop-test .taken))
+    (λ c κs. let l = c .before .loop-test .taken in search needs)
+    (λ c κs. search needs)
+    (λ c. search needs)
+    (λ c. omega (arith, c .before .before .before .loop-test .taken))
+    (λ c.
+    let test = c .before .before in
+    found-next (test .before .before .loop .inv) (test .is-parity-table .ensures) (c .before .single-if .ensures) (c .union .ensures))
+    (λ c. found-all (c .before .loop .inv) (c .loop-test .left)))

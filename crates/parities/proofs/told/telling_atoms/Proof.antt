@@ -1,0 +1,35 @@
+-- The loop gathers the atoms of the rules. The measure is how many are left.
+use lib.Count.{ones}
+use Rattle.atoms.proofs.Counts.{taken-less}
+use Rattle.parities.proofs.ToldRows.{GatheringTold, told-start, told-numbered, told-next, told-end}
+use borrow.Author.Needs.{needs}
+use Rattle.parities.proofs.told.telling_atoms.Statement.{statement}
+use Rattle.parities.proofs.told.telling_atoms.Tie as tie
+
+abbrev Inv-loop : tie.InvT-loop
+Inv-loop rules which all₀ rest₀ all rest = GatheringTold rules which all rest
+
+abbrev μ-loop : tie.MeasureT-loop
+μ-loop rules which all₀ rest₀ all rest = ones rest
+
+loop-again : tie.Need-loop-again Inv-loop μ-loop
+loop-again c =
+    let words = c .before .before in
+    let low = words .before in
+    told-next (low .before .before .loop .inv) (low .lowest .ensures .0) (c .drop .ensures) (words .rule-atoms .ensures) (c .before .union .ensures)
+
+pub telling-atoms-spec : {M : Type 1} → statement M
+telling-atoms-spec =
+    tie.close
+    (tie.spec
+    Inv-loop
+    μ-loop
+    (λ c κs. search needs)
+    (λ c. told-start (c .before .before .fits .which .fits) (c .telling-rules .ensures))
+    (λ c κs. c .loop-test .taken)
+    (λ c κs. let loop = c .before .before in loop .before .before .before .pre .each _ (told-numbered (loop .loop .inv) (c .lowest .ensures .0)))
+    (λ c κs. search needs)
+    (λ c κs. c .before .before .lowest .ensures .1)
+    (λ c. taken-less (c .before .before .before .lowest .ensures .0) (c .drop .ensures))
+    loop-again
+    (λ c. told-end (c .before .before .before .before .fits .which .fits) (c .before .loop .inv) (c .loop-test .left)))

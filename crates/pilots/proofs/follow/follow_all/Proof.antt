@@ -1,0 +1,33 @@
+-- The loop carries that the tables so far are followed.
+use Prim.Native.Nat.{_-_}
+use native.Mathlib.Omega.{arith}
+use borrow.Author.Tests.{not-true, not-false}
+use Rattle.plan.specs.Limits.{MAX_TABLES}
+use Rattle.pilots.proofs.FollowedTables.{Followed, followed-start, followed-next, followed-end, not-followed, none-follow}
+use borrow.Author.Needs.{needs}
+use Rattle.pilots.proofs.follow.follow_all.Statement.{statement}
+use Rattle.pilots.proofs.follow.follow_all.Tie as tie
+
+abbrev Inv-loop : tie.InvT-loop
+Inv-loop rules pilots position t₀ t = Followed rules pilots position t
+
+abbrev μ-loop : tie.MeasureT-loop
+μ-loop rules pilots position t₀ t = MAX_TABLES - t
+
+pub follow-all-spec : {M : Type 1} → statement M
+follow-all-spec =
+    tie.close
+    (tie.spec
+    Inv-loop
+    μ-loop
+    (λ c κs. search needs)
+    (λ c. none-follow (c .before .are-none .ensures .yes (c .if1 .taken)))
+    (λ c. followed-start)
+    (λ c. search needs)
+    (λ c. search needs)
+    (λ c κs. c .before .loop-test .taken)
+    (λ c. not-followed (c .before .before .before .loop-test .taken) (c .before .follows .ensures .no (not-true _ (c .if2 .taken))))
+    (λ c. search needs)
+    (λ c. omega (arith, c .before .before .before .loop-test .taken))
+    (λ c. followed-next (c .before .before .before .before .loop .inv) (c .before .follows .ensures .yes (not-false _ (c .if2 .left))))
+    (λ c. followed-end (c .before .loop .inv) (omega (arith, c .loop-test .left))))

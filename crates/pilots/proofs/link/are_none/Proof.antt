@@ -1,0 +1,41 @@
+-- The loop gathers the pilots. The measure is how many tables are left.
+use Prim.Native.Nat.{_-_, _≤_}
+use native.Mathlib.Omega.{arith}
+use denote.Ref.{now}
+use Rattle.plan.specs.Limits.{MAX_TABLES}
+use Rattle.pilots.proofs.Linking.{NoneBelow, none-start, none-next, none-end}
+use borrow.Author.Needs.{needs}
+use Rattle.pilots.proofs.link.are_none.Statement.{statement}
+use Rattle.pilots.proofs.link.are_none.Tie as tie
+
+abbrev Inv-loop : tie.InvT-loop
+Inv-loop pilots all₀ t₀ all t = NoneBelow pilots t all × (t ≤ MAX_TABLES)
+
+abbrev μ-loop : tie.MeasureT-loop
+μ-loop pilots all₀ t₀ all t = MAX_TABLES - t
+
+loop-again : tie.Need-loop-again Inv-loop μ-loop
+loop-again c =
+    let test = c .before .before in
+    let loop = test .before in
+    (none-next (now (loop .before .before .args .pilots)) (loop .loop .t) (loop .loop .all) (loop .loop .inv .0) (c .union .ensures), omega (arith, test .loop-test .taken))
+
+returns : tie.Need-returns Inv-loop μ-loop
+returns c =
+    let loop = c .before in
+    none-end (now (loop .before .before .args .pilots)) (loop .loop .t) (loop .loop .all) (loop .loop .inv .0) (omega (arith, loop .loop .inv .1, c .loop-test .left))
+
+pub are-none-spec : {M : Type 1} → statement M
+are-none-spec =
+    tie.close
+    (tie.spec
+    Inv-loop
+    μ-loop
+    (λ c. (none-start _, omega arith))
+    (λ c. search needs)
+    (λ c. search needs)
+    (λ c κs. search needs)
+    (λ c. search needs)
+    (λ c. search needs)
+    loop-again
+    returns)

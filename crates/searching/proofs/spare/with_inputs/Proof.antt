@@ -1,0 +1,8 @@
+-- The inputs are a union.
+use Rattle.searching.proofs.TestedPilots.{more-inputs}
+use borrow.Author.Needs.{needs}
+use Rattle.searching.proofs.spare.with_inputs.Statement.{statement}
+use Rattle.searching.proofs.spare.with_inputs.Tie as tie
+
+pub with-inputs-spec : {M : Type 1} → statement M
+with-inputs-spec = tie.close (tie.spec (λ c κs. search needs) (λ c. more-inputs _ _ (c .union .ensures)))
