@@ -6,5 +6,5 @@ pub mod Parities
 pub mod ParityTables
 -- Rows of parities: what is put where, what is added to what, and what a row says of a state
 pub mod SummedRows
--- A rule whose head is dropped and whose words hold says that its one use fails; of a parity table that is a row. And which rules make one such use
+-- A constraint whose words hold says that its one use fails; of a parity table that is a row. And which rules are constraints with one such use
 pub mod ToldRows

@@ -1,4 +1,4 @@
--- A rule whose head is dropped and whose words hold says that its one use fails; of a parity table that is a row. And which rules make one such use.
+-- A constraint whose words hold says that its one use fails; of a parity table that is a row. And which rules are constraints with one such use.
 use mathlib.Core.Path.{_≡_, refl, sym, ap, ap₂, _∙_, subst}
 use mathlib.Core.Bool.{Bool, true, false, not, false≢true}
 use mathlib.Core.List.{List}
@@ -43,6 +43,9 @@ lone-atom {w} {i} one h =
 pub use-small : (u : ℕ) {first used i : ℕ} → first ≡ below USE_BITS → used ≡ u ∩ first → Lowest used i → i < USE_BITS
 use-small u f g low = below-lt USE_BITS (cut-right u (below USE_BITS) (rw (g, f) at (low .here)))
 
+pub some-head : {rules : List ℕ} {r h : ℕ} → h ≡ lent rules .head r → ¬ (h ≡ 0) → Decides (Tells rules r) false
+some-head at n = record { yes = λ t. absurd (false≢true t); no = λ t p. n (at ∙ p .headless) }
+
 module _ (rules : List ℕ) (r : ℕ) {u first used : ℕ} (e : u ≡ uses rules r) (f : first ≡ below USE_BITS) (g : used ≡ u ∩ first) where
   used-is : used ≡ uses rules r ∩ below USE_BITS
   used-is = rw (g, e, f) refl
@@ -63,12 +66,13 @@ module _ (rules : List ℕ) (r : ℕ) {u first used : ℕ} (e : u ≡ uses rules
   pub same-use : {i : ℕ} → Has used i → (p : Tells rules r) → p .made ≡ i
   same-use {i} h p = atom-only (p .made) (subst (λ (w : ℕ). Has w i) (used-is ∙ p .one) h)
 
-  pub one-use : {i t x y : ℕ} {b : Bool} → AtMostOne used → Lowest used i → t ≡ usedTable i → x ≡ inputs rules t → y ≡ truth rules t
+  pub one-use : {h i t x y : ℕ} {b : Bool} → h ≡ lent rules .head r → h ≡ 0 → AtMostOne used → Lowest used i → t ≡ usedTable i → x ≡ inputs rules t → y ≡ truth rules t
       → Decides (Parity x y) b → Decides (Tells rules r) b
-  one-use {i} one low a h k d = decides-iff into back (rw (h, k, a) at d)
+  one-use {i = i} at none one low a h k d = decides-iff into back (rw (h, k, a) at d)
     where
       into : Parity (inputs rules (usedTable i)) (truth rules (usedTable i)) → Tells rules r
       into p = record {
+        headless = sym at ∙ none;
         made = i;
         small = use-small u f g low;
         one = sym used-is ∙ lone-atom one (low .here);
@@ -160,10 +164,9 @@ module _ {rules : List ℕ} {which : ℕ} where
 
 -- ---- what such a rule says
 
-pub held-when : {rules : List ℕ} {r : ℕ} {s : State} {h p n : ℕ} {a b c : Bool} → h ≡ lent rules .head r → p ≡ lent rules .positive r → n ≡ negative rules r
-    → a ≡ subset h (s .dropped) → a ≡ true → b ≡ subset p (s .up) → b ≡ true → c ≡ subset n (s .dropped) → c ≡ true → Held rules r s
-held-when {s = s} {h} {p} {n} e f g x t y u z v = record {
-  dropped = rw e at (decides-subset h (s .dropped) .yes (sym x ∙ t));
+pub held-when : {rules : List ℕ} {r : ℕ} {s : State} {p n : ℕ} {b c : Bool} → p ≡ lent rules .positive r → n ≡ negative rules r
+    → b ≡ subset p (s .up) → b ≡ true → c ≡ subset n (s .dropped) → c ≡ true → Held rules r s
+held-when {s = s} {p} {n} f g y u z v = record {
   up = rw f at (decides-subset p (s .up) .yes (sym y ∙ u));
   down = rw g at (decides-subset n (s .dropped) .yes (sym z ∙ v));
 }
@@ -171,7 +174,7 @@ held-when {s = s} {h} {p} {n} e f g x t y u z v = record {
 module _ {rules : List ℕ} {r : ℕ} {s : State} (h : Held rules r s) (t : Tells rules r) (N : ℕ) (k : Satisfies (lent rules) r N) (c : Completes s N) where
   -- the one use fails
   use-fails : ¬ (useHolds rules (t .made) N ≡ true)
-  use-fails e = let x = k .head-up body in c .no-dropped .none (x .0) (h .dropped .each (x .0) (x .1)) (x .2)
+  use-fails e = let x = k .head-up body in has-none (subst (λ (w : ℕ). Has w (x .0)) (t .headless) (x .1))
     where
       only : (j : ℕ) → j < USE_BITS → Has (uses rules r) j → t .made ≡ j
       only j l p = atom-only (t .made) (subst (λ (w : ℕ). Has w j) (t .one) (has-cut (uses rules r) (below USE_BITS) p (has-below USE_BITS j l)))

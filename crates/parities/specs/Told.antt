@@ -1,4 +1,4 @@
--- Inner: what rules tell of parity tables. A rule whose head is dropped and whose words hold says that its one use fails, and the table's answer is known.
+-- Inner: what constraints tell of parity tables. One whose words hold says that its one use fails, and the table's answer is known.
 use mathlib.Core.Path.{_≡_}
 use mathlib.Core.List.{List}
 use Prim.Native.Nat.{ℕ, _+_, _/_, _%_, _<_}
@@ -11,23 +11,23 @@ use Rattle.pilots.specs.Pilots.{FollowAll}
 use Rattle.parities.specs.Parity.{Parity}
 use Rattle.parities.specs.declared.rows.Row.{Row}
 
--- rule r makes one use, and it is of a parity table
+-- rule r is a constraint with one use, and that is of a parity table
 pub record Tells (rules : List ℕ) (r : ℕ) : Type 0 where
+  pub headless : lent rules .head r ≡ 0
   pub made : ℕ
   pub small : made < USE_BITS
   pub one : uses rules r ∩ below USE_BITS ≡ atom made
   pub parity : Parity (inputs rules (usedTable made)) (truth rules (usedTable made))
 
--- the atom is one of a numbered rule that does
+-- the atom is one of a numbered rule that is
 pub record ToldAtom (rules : List ℕ) (which a : ℕ) : Type 0 where
   pub rule : ℕ
   pub numbered : Has which rule
   pub tells : Tells rules rule
   pub within : Has (lent rules .head rule ∪ (lent rules .positive rule ∪ looks rules rule)) a
 
--- the rule's head is dropped, and its words hold
+-- the rule's words hold
 pub record Held (rules : List ℕ) (r : ℕ) (s : State) : Type 0 where
-  pub dropped : lent rules .head r ⊆ s .dropped
   pub up : lent rules .positive r ⊆ s .up
   pub down : negative rules r ⊆ s .dropped
 

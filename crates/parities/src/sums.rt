@@ -1,5 +1,5 @@
 // The step that sums parity tables: in every position whose pilots follow their tables the inputs of a parity table and its pilot have an even number up,
-// or an odd one; and where a rule says that its one use fails, so have the inputs alone. These rows are summed, and what they leave is decided.
+// or an odd one; and where a constraint says that its one use fails, so have the inputs alone. These rows are summed, and what they leave is decided.
 use crate::rows::ROWS;
 use crate::rows::Row;
 use crate::rows::put_bit;
@@ -84,7 +84,7 @@ fn gather_rows(rules: &[u64], pilots: &[u64], s: State, words: &mut [u64], bits:
     sums
 }
 
-// Writes the row that a rule with one use tells at the state, if it does: the new word of bits.
+// Writes the row that a constraint with one use tells at the state, if it does: the new word of bits.
 fn gather_told(rules: &[u64], rule: usize, s: State, words: &mut [u64], bits: u64) -> u64
     requires { ⌜ IsLent (now rules) rule × Tells (now rules) rule × (length (now words) ≡ Rows·ROWS) ⌝ }
     ensures { λ r. ⌜ Gathered (Satisfies (lent (now (rules .entry))) rule) s (now (words .entry)) bits (now (words .exit)) r ⌝ }
@@ -99,7 +99,7 @@ fn gather_told(rules: &[u64], rule: usize, s: State, words: &mut [u64], bits: u6
     put_bit(bits, t, row.bit)
 }
 
-// Writes the rows that the rules of the word tell: the new word of bits.
+// Writes the rows that the constraints of the word tell: the new word of bits.
 fn gather_all_told(rules: &[u64], which: u64, s: State, words: &mut [u64], bits: u64) -> u64
     requires { ⌜ Lent (now rules) which × (length (now words) ≡ Rows·ROWS) ⌝ }
     ensures { λ r. ⌜ Gathered (SatisfiesAll (lent (now (rules .entry))) which) s (now (words .entry)) bits (now (words .exit)) r ⌝ }
@@ -114,7 +114,7 @@ fn gather_all_told(rules: &[u64], which: u64, s: State, words: &mut [u64], bits:
     sums
 }
 
-// The state after the sums of all parity tables with a pilot, and of those that a rule of the word tells. A pilot's row takes the place of a rule's.
+// The state after the sums of all parity tables with a pilot, and of those that a constraint of the word tells. A pilot's row takes its place.
 pub fn sum_step(rules: &[u64], pilots: &[u64], which: u64, s: State) -> State
     requires { ⌜ Lent (now rules) which × (MAX_TABLES ≤ length (now pilots)) ⌝ }
     ensures { λ t. ⌜ Narrows (Summed (now (rules .entry)) (now (pilots .entry)) which) s t ⌝ }

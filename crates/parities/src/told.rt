@@ -1,4 +1,4 @@
-// What rules tell of parity tables: a rule whose head is dropped and whose words hold says that its one use fails, and the table's answer is known.
+// What constraints tell of parity tables: one whose words hold says that its one use fails, and the table's answer is known.
 use crate::rows::Row;
 use crate::tables::is_parity;
 use answer_sets::rule::head;
@@ -32,11 +32,14 @@ pub fn used_table(i: usize) -> usize
     if i < MAX_TABLES { i } else { i - MAX_TABLES }
 }
 
-// Whether the rule makes one use, of a parity table.
+// Whether the rule is a constraint with one use, of a parity table.
 fn is_telling(rules: &[u64], rule: usize) -> bool
     requires { ⌜ IsLent (now rules) rule ⌝ }
     ensures { λ r. ⌜ Decides (Tells (now (rules .entry)) rule) r ⌝ }
 {
+    if head(rules, rule) != 0 {
+        return false;
+    }
     let used = atoms::cut(uses(rules, rule), atoms::first(USE_BITS));
     if used == 0 {
         return false;
@@ -48,7 +51,7 @@ fn is_telling(rules: &[u64], rule: usize) -> bool
     is_parity(table_inputs(rules, t), table_truth(rules, t))
 }
 
-// The rules of the word that make one use, of a parity table.
+// The constraints of the word with one use, of a parity table.
 pub fn telling_rules(rules: &[u64], which: u64) -> u64
     requires { ⌜ Lent (now rules) which ⌝ }
     ensures { λ r. ⌜ Collects (λ i. Has which i × Tells (now (rules .entry)) i) r ⌝ }
@@ -79,14 +82,11 @@ pub fn telling_atoms(rules: &[u64], which: u64) -> u64
     all
 }
 
-// Whether the rule's head is dropped and its words hold, so that its uses cannot all hold.
+// Whether the rule's words hold.
 pub fn is_held(rules: &[u64], rule: usize, s: State) -> bool
     requires { ⌜ IsLent (now rules) rule ⌝ }
     ensures { λ r. ⌜ (r ≡ true → Held (now (rules .entry)) rule s) ⌝ }
 {
-    if !atoms::is_subset(head(rules, rule), s.dropped) {
-        return false;
-    }
     if !atoms::is_subset(positive_body(rules, rule), s.up) {
         return false;
     }

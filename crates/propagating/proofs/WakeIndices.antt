@@ -153,7 +153,7 @@ pub sums-left : {linked pilots : List ℕ} {tables : ℕ} {table : List ℕ} →
     → Adds (WakesSums linked pilots) table table
 sums-left c one = adds-none (λ i q k. k .several (subst AtMostOne (collects-same c (k .are-parities)) one))
 
--- two telling rules or more
+-- two constraints that tell or more
 pub told-added : (rules : List ℕ) (numbered : ℕ) {telling which word : ℕ} {before after : List ℕ} → Collects (λ r. Has numbered r × Tells rules r) telling
     → ¬ AtMostOne telling → Collects (ToldAtom rules numbered) which → word ≡ atom SUMS_PLACE → Marked WOKEN_WORDS which word before after
     → Adds (WakesTold rules numbered) before after

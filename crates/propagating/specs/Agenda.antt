@@ -87,7 +87,7 @@ pub record WakesSums (linked pilots : List ℕ) (i q : ℕ) : Type 0 where
   pub at : i ≡ WOKEN_WORDS + atom
   pub place : q ≡ SUMS_PLACE
 
--- two numbered rules or more make one use, of a parity table, and the sums are woken by their atoms
+-- two numbered constraints or more have one use, of a parity table, and the sums are woken by their atoms
 pub record WakesTold (rules : List ℕ) (which i q : ℕ) : Type 0 where
   pub telling : ℕ
   pub are-telling : Collects (λ r. Has which r × Tells rules r) telling

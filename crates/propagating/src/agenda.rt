@@ -244,7 +244,7 @@ fn note_sums(linked: &[u64], pilots: &[u64], index: &mut [u64])
     mark(index, OTHERS, seen, atoms::single(SUMS_PLACE));
 }
 
-// And for the atoms of the rules that tell of parity tables, where there are two or more of these.
+// And for the atoms of the constraints that tell of parity tables, where there are two or more of these.
 fn note_told(rules: &[u64], which: u64, index: &mut [u64])
     requires { ⌜ Lent (now rules) which × (INDEX_WORDS ≤ length (now index)) ⌝ }
     ensures { λ _. ⌜ Adds (WakesTold (now (rules .entry)) which) (now (index .entry)) (now (index .exit)) ⌝ }

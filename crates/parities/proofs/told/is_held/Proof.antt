@@ -1,4 +1,4 @@
--- Three words within the state's.
+-- Two words within the state's.
 use mathlib.Core.Bool.{false≢true}
 use borrow.Author.Tests.{not-false}
 use Rattle.parities.proofs.ToldRows.{held-when}
@@ -6,15 +6,12 @@ use borrow.Author.Needs.{needs}
 use Rattle.parities.proofs.told.is_held.Statement.{statement}
 use Rattle.parities.proofs.told.is_held.Tie as tie
 
-returns-3 : tie.Need-returns-3
-returns-3 c t =
+returns-2 : tie.Need-returns-2
+returns-2 c t =
     let positive = c .before .before .before in
-    let head = positive .before .before .before in
-    held-when (head .before .head .ensures) (positive .before .positive-body .ensures) (c .before .negative-body .ensures) (head .is-subset .ensures)
-    (not-false _ (positive .before .before .if1 .left))
-    (positive .is-subset2 .ensures)
-    (not-false _ (c .before .before .if2 .left))
-    (c .is-subset3 .ensures)
+    held-when (positive .before .positive-body .ensures) (c .before .negative-body .ensures) (positive .is-subset .ensures)
+    (not-false _ (c .before .before .if1 .left))
+    (c .is-subset2 .ensures)
     t
 
 pub is-held-spec : {M : Type 1} → statement M
@@ -26,7 +23,4 @@ is-held-spec =
     (λ c t. absurd (false≢true t))
     (λ c κs. search needs)
     (λ c κs. search needs)
-    (λ c t. absurd (false≢true t))
-    (λ c κs. search needs)
-    (λ c κs. search needs)
-    returns-3)
+    returns-2)

@@ -1,32 +1,34 @@
--- The rule makes no use, several, or one, of a table that is a parity or not.
+-- The rule has a head, or makes no use, several, or one, of a table that is a parity or not.
 use native.Mathlib.Omega.{arith}
 use borrow.Author.Tests.{not-true, not-false}
-use Rattle.parities.proofs.ToldRows.{no-use, several-uses, one-use, use-small}
+use Rattle.parities.proofs.ToldRows.{some-head, no-use, several-uses, one-use, use-small}
 use borrow.Author.Needs.{needs}
 use Rattle.parities.proofs.told.is_telling.Statement.{statement}
 use Rattle.parities.proofs.told.is_telling.Tie as tie
 
-returns-2 : tie.Need-returns-2
-returns-2 c =
+returns-3 : tie.Need-returns-3
+returns-3 c =
     let one = c .before in
     let used = one .before .before in
     several-uses _ _ (used .before .before .uses .ensures) (used .before .first .ensures) (used .cut .ensures)
-    (one .at-most-one .ensures .no (not-true _ (c .if2 .taken)))
+    (one .at-most-one .ensures .no (not-true _ (c .if3 .taken)))
 
 used-table-requires : tie.Need-used-table-requires
 used-table-requires c κs =
     let used = c .before .before .before .before in
     use-small _ (used .before .first .ensures) (used .cut .ensures) (c .lowest .ensures .0)
 
-returns-3 : tie.Need-returns-3
-returns-3 c =
+returns-4 : tie.Need-returns-4
+returns-4 c =
     let inputs = c .before .before in
     let low = inputs .before .before in
     let tested = low .before in
     let one = tested .before in
     let used = one .before .before in
-    one-use _ _ (used .before .before .uses .ensures) (used .before .first .ensures) (used .cut .ensures)
-    (one .at-most-one .ensures .yes (not-false _ (tested .if2 .left))) (low .lowest .ensures .0)
+    let headless = used .before .before .before in
+    one-use _ _ (used .before .before .uses .ensures) (used .before .first .ensures) (used .cut .ensures) (headless .before .head .ensures)
+    (headless .if1 .left)
+    (one .at-most-one .ensures .yes (not-false _ (tested .if3 .left))) (low .lowest .ensures .0)
     (inputs .before .used-table .ensures .0)
     (inputs .table-inputs .ensures)
     (c .before .table-truth .ensures)
@@ -37,18 +39,20 @@ is-telling-spec =
     tie.close
     (tie.spec
     (λ c κs. search needs)
+    (λ c. some-head (c .before .head .ensures) (c .if1 .taken))
+    (λ c κs. search needs)
     (λ c κs. search needs)
     (λ c κs. search needs)
     (λ c.
     let used = c .before in
-    no-use _ _ (used .before .before .uses .ensures) (used .before .first .ensures) (used .cut .ensures) (c .if1 .taken))
+    no-use _ _ (used .before .before .uses .ensures) (used .before .first .ensures) (used .cut .ensures) (c .if2 .taken))
     (λ c κs. search needs)
-    returns-2
-    (λ c κs. c .before .before .if1 .left)
+    returns-3
+    (λ c κs. c .before .before .if2 .left)
     used-table-requires
     (λ c κs.
-    (omega (arith, c .before .before .before .before .before .before .before .before .before .pre), c .used-table .ensures .1))
+    (omega (arith, c .before .before .before .before .before .before .before .before .before .before .before .pre), c .used-table .ensures .1))
     (λ c κs.
-    (omega (arith, c .before .before .before .before .before .before .before .before .before .before .pre), c .before .used-table .ensures .1))
+    (omega (arith, c .before .before .before .before .before .before .before .before .before .before .before .before .pre), c .before .used-table .ensures .1))
     (λ c κs. search needs)
-    returns-3)
+    returns-4)

@@ -1,4 +1,4 @@
--- Two telling rules or more are noted; fewer are not.
+-- Two constraints that tell or more are noted; fewer are not.
 use Rattle.propagating.proofs.WakeIndices.{told-added, told-left}
 use borrow.Author.Needs.{needs}
 use Rattle.propagating.proofs.agenda.note_told.Statement.{statement}
