@@ -598,16 +598,17 @@ def hidden_functions(size):
 
 
 def hidden_clauses(size):
-    """`size` banks of six keys with random answers, and 16 constraints of three of them at random."""
+    """`size` banks of six keys with random answers, and constraints of three of them at random until no combination is left: no position."""
     plan = Plan()
     never = plan.atom()
     draw = random.Random("hidden clauses, %d" % size)
     banks = [bank(plan, 6, lambda ups: draw.random() < 0.5) for _ in range(size)]
-    clauses = set()
-    while len(clauses) < 16:
-        clauses.add(tuple((chosen, draw.random() < 0.5) for chosen in sorted(draw.sample(banks, 3))))
-    for uses in sorted(clauses):
-        plan.rule((), (), [never], uses=uses)
+    left = list(itertools.product([False, True], repeat=size))
+    while left:
+        out = draw.choice(left)
+        chosen = sorted(draw.sample(range(size), 3))
+        plan.rule((), (), [never], uses=[(banks[i], out[i]) for i in chosen])
+        left = [answers for answers in left if any(answers[i] != out[i] for i in chosen)]
     return plan
 
 
@@ -701,7 +702,7 @@ FAMILIES = {
     odd_and_even_tables: range(6, 17, 2),
     parity_graph: range(8, 16),
     hidden_functions: range(2, 6),
-    hidden_clauses: [4, 5],
+    hidden_clauses: range(3, 6),
     pebbles: range(2, 6),
     majority: range(2, 17, 3),
     decoder: range(1, 7),
