@@ -582,6 +582,53 @@ def parity_graph(size):
     return plan
 
 
+def bank(plan, inputs, answer):
+    """A table over as many new keys, each one of a choice."""
+    return plan.table([plan.choice()[0] for _ in range(inputs)], answer)
+
+
+def hidden_functions(size):
+    """`size` banks of five keys, of which an odd number is up or the first two are; every combination of their answers is ruled out: no position."""
+    plan = Plan()
+    never = plan.atom()
+    banks = [bank(plan, 5, lambda ups: sum(ups) % 2 or (ups[0] and ups[1])) for _ in range(size)]
+    for answers in itertools.product([False, True], repeat=size):
+        plan.rule((), (), [never], uses=list(zip(banks, answers)))
+    return plan
+
+
+def hidden_clauses(size):
+    """`size` banks of six keys with random answers, and constraints of three of them at random until no combination is left: no position."""
+    plan = Plan()
+    never = plan.atom()
+    draw = random.Random("hidden clauses, %d" % size)
+    banks = [bank(plan, 6, lambda ups: draw.random() < 0.5) for _ in range(size)]
+    left = list(itertools.product([False, True], repeat=size))
+    while left:
+        out = draw.choice(left)
+        chosen = sorted(draw.sample(range(size), 3))
+        plan.rule((), (), [never], uses=[(banks[i], out[i]) for i in chosen])
+        left = [answers for answers in left if any(answers[i] != out[i] for i in chosen)]
+    return plan
+
+
+def pebbles(size):
+    """A pyramid of `size` rows of banks of two keys, which answer where one is up: the lowest must, each other must where the two below it do, and the
+    topmost must not: no position."""
+    plan = Plan()
+    never = plan.atom()
+    below = [bank(plan, 2, any) for _ in range(size)]
+    for lowest in below:
+        plan.rule((), (), [never], uses=[(lowest, False)])
+    while len(below) > 1:
+        row = [bank(plan, 2, any) for _ in below[1:]]
+        for i, above in enumerate(row):
+            plan.rule((), (), [never], uses=[(below[i], True), (below[i + 1], True), (above, False)])
+        below = row
+    plan.rule((), (), [never], uses=[(below[0], True)])
+    return plan
+
+
 # Three families that no setting was picked on: they were drawn once, after all settings were fixed.
 
 
@@ -654,6 +701,9 @@ FAMILIES = {
     odd_and_even_pairs: range(6, 15, 2),
     odd_and_even_tables: range(6, 17, 2),
     parity_graph: range(8, 16),
+    hidden_functions: range(2, 6),
+    hidden_clauses: range(3, 6),
+    pebbles: range(2, 6),
     majority: range(2, 17, 3),
     decoder: range(1, 7),
     free_helpers: range(0, 25, 4),

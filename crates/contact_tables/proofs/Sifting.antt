@@ -161,7 +161,9 @@ module _ {inputs up dropped : ℕ} where
 
     module _ (N : ℕ) (c : Completes (halfDecided up dropped) N) where
       row-small : row inputs N < 2 ^ k
-      row-small = lt-of-has (row inputs N) k (λ i h. let r = row-bit inputs N i .0 h in go i (r .0) (r .1) (input-done (s .walking) end (r .1 .at) (r .1 .input)))
+      row-small =
+          lt-of-has (row inputs N) k
+          (λ i h. let r = row-bit inputs N i .0 h in go i (r .0) (r .1) (input-done (s .walking) end (r .1 .at) (r .1 .input)))
         where
           go : (i : ℕ) → i < MAX_INPUTS → (u : UpAt inputs N i) → (u .at < s .top) ⊎ (MAX_INPUTS ≤ place inputs (u .at)) → i < k
           go i l u (inl m) = let e = u .placed in let n = done-lt (s .walking) (u .at) m (u .input) in omega arith

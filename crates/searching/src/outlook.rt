@@ -82,7 +82,8 @@ pub fn outlook_of(
     s: State,
     shown: u64,
 ) -> Outlook
-    requires { ⌜ Lent (now rules) (unit .rules) × Lent (linkedOf (now desk)) (unit .rules) × (length (now desk) ≡ DESK_WORDS) × (MEMORY_WORDS ≤ length (now memory)) ⌝ }
+    requires { ⌜ Lent (now rules) (unit .rules) × Lent (linkedOf (now desk)) (unit .rules) × (length (now desk) ≡ DESK_WORDS)
+        × (MEMORY_WORDS ≤ length (now memory)) ⌝ }
     ensures { λ r. ⌜ Leaves (now (rules .entry)) (unit .rules) s r ⌝ }
 {
     if !atoms::are_apart(s.up, s.dropped) {

@@ -7,7 +7,9 @@ use Rattle.finding.proofs.gather.step_down.Statement.{statement}
 use Rattle.finding.proofs.gather.step_down.Tie as tie
 
 returns : tie.Need-returns
-returns c = (rw (c .before .before .before .before .before .before .decide .ensures) narrows-refl, c .before .before .before .before .before .before .before .before .before .before .pre .0 .remembers)
+returns c =
+    let decided = c .before .before .before .before .before .before in
+    (rw (decided .decide .ensures) narrows-refl, decided .before .before .before .before .pre .0 .remembers)
 
 propagate-requires : tie.Need-propagate-requires
 propagate-requires c κs =

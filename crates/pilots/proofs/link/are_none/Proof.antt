@@ -18,12 +18,14 @@ loop-again : tie.Need-loop-again Inv-loop μ-loop
 loop-again c =
     let test = c .before .before in
     let loop = test .before in
-    (none-next (now (loop .before .before .args .pilots)) (loop .loop .t) (loop .loop .all) (loop .loop .inv .0) (c .union .ensures), omega (arith, test .loop-test .taken))
+    let at = loop .loop in
+    (none-next (now (loop .before .before .args .pilots)) (at .t) (at .all) (at .inv .0) (c .union .ensures), omega (arith, test .loop-test .taken))
 
 returns : tie.Need-returns Inv-loop μ-loop
 returns c =
     let loop = c .before in
-    none-end (now (loop .before .before .args .pilots)) (loop .loop .t) (loop .loop .all) (loop .loop .inv .0) (omega (arith, loop .loop .inv .1, c .loop-test .left))
+    let at = loop .loop in
+    none-end (now (loop .before .before .args .pilots)) (at .t) (at .all) (at .inv .0) (omega (arith, at .inv .1, c .loop-test .left))
 
 pub are-none-spec : {M : Type 1} → statement M
 are-none-spec =

@@ -12,7 +12,8 @@ returns c =
 returns-2 : tie.Need-returns-2
 returns-2 c =
     let test = c .before .before in
-    all-false _ (test .before .before .before .agreeing-rows .ensures) (tested-apart _ _ (test .are-apart .ensures) (c .before .if2 .taken)) (c .union2 .ensures)
+    all-false _ (test .before .before .before .agreeing-rows .ensures) (tested-apart _ _ (test .are-apart .ensures) (c .before .if2 .taken))
+    (c .union2 .ensures)
 
 pub tell-pilot-spec : {M : Type 1} → statement M
 tell-pilot-spec =

@@ -192,7 +192,8 @@ module _ (t : ℕ) where
   halted c =
       let stop = c .before .before in
       let at = stop .before .before .before .before .before .before .before .before .before .before .before .before in (
-        explored-stop (λ M w. belongs-answers _ _ _ _ _ (fits at) M (w .belongs)) (at .pre .1 .1) (is-stop _ _ (stop .before .before .enum-told .given .1) (at .pre .1 .4))
+        explored-stop (λ M w. belongs-answers _ _ _ _ _ (fits at) M (w .belongs)) (at .pre .1 .1)
+            (is-stop _ _ (stop .before .before .enum-told .given .1) (at .pre .1 .4))
             (stop .halt .ensures .0) (stop .halt .ensures .1 .0) (stop .halt .ensures .1 .1),
         at .pre .1 .5,
       )

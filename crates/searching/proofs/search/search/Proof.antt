@@ -108,7 +108,7 @@ search-spec =
     lay-out-requires
     (λ c κs. search needs)
     (λ c κs. search needs)
-    (λ c κs. c .before .before .before .before .before .before .before .before .before .before .before .before .before .before .before .before .before .pre .0 .joinable .counts-long)
+    (λ c κs. entry (c .before .before) .pre .0 .joinable .counts-long)
     (λ c κs. search needs)
     (λ c. search needs)
     (λ c. search needs)
@@ -122,7 +122,9 @@ search-spec =
     enter-requires
     (λ c. sym (laid (c .before .before .before .before .before .before .before .before .before .before .before .before) .lay-out .ensures .long))
     (λ c. search needs)
-    (λ c. sym (blank (c .before .before .before .before .before .before .before .before .before .before .before .before .before .before .before) .blank-memo .ensures .memo [] .long))
+    (λ c.
+    let root = c .before .before .before .before .before .before .before .before .before .before in
+    sym (blank (root .before .before .before .before .before) .blank-memo .ensures .memo [] .long))
     (λ c. search needs)
     explore-requires
     (λ c. search needs)
