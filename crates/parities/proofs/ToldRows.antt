@@ -10,7 +10,7 @@ use Rattle.atoms.specs.Word.{ATOMS, digit, Has, has, _⊆_, subset, _∩_, _∪
 use Rattle.atoms.specs.Bounded.{Decides, singleIf, unionIn}
 use Rattle.atoms.specs.Collected.{Collects}
 use Rattle.atoms.proofs.Counts.{taken-within}
-use Rattle.atoms.proofs.Sets.{ext, has-cut, cut-left, cut-right, has-left, has-right, union-cases, has-none, has-atom, atom-only, has-below, below-lt, has-lt}
+use Rattle.atoms.proofs.Sets.{ext, has-cut, cut-right, has-left, has-right, union-cases, has-none, has-atom, atom-only, has-below, below-lt, has-lt}
 use Rattle.atoms.proofs.Sets.{subset-refl, subset-trans, decides-has, decides-subset, union-none-left}
 use Rattle.atoms.proofs.Collected.{collects-iff, collects-has, collects-union-in}
 use Rattle.atoms.proofs.GatheredWords.{Gathers, gathers-next, gathers-end}
@@ -23,7 +23,7 @@ use Rattle.states.specs.State.{Completes}
 use Rattle.states.specs.declared.state.State.{State}
 use Rattle.answer_sets.specs.Program.{Body, Satisfies}
 use Rattle.answer_sets.specs.Lent.{lent, looks, negative, uses, USE_BITS, usedTable, inputs, truth, useHolds}
-use Rattle.answer_sets.specs.Known.{Part, positive-word, negative-word, table-use, InBody, PartHolds, has-positive, has-negative, has-use}
+use Rattle.answer_sets.specs.Known.{Part, InBody, PartHolds, has-positive, has-negative, has-use}
 use Rattle.answer_sets.proofs.Bodies.{parts-body, wanted-true, wanted-false}
 use Rattle.parities.specs.Parity.{odd, Parity}
 use Rattle.parities.specs.Rows.{RowHolds, openRow}
@@ -66,8 +66,8 @@ module _ (rules : List ℕ) (r : ℕ) {u first used : ℕ} (e : u ≡ uses rules
   pub same-use : {i : ℕ} → Has used i → (p : Tells rules r) → p .made ≡ i
   same-use {i} h p = atom-only (p .made) (subst (λ (w : ℕ). Has w i) (used-is ∙ p .one) h)
 
-  pub one-use : {h i t x y : ℕ} {b : Bool} → h ≡ lent rules .head r → h ≡ 0 → AtMostOne used → Lowest used i → t ≡ usedTable i → x ≡ inputs rules t → y ≡ truth rules t
-      → Decides (Parity x y) b → Decides (Tells rules r) b
+  pub one-use : {h i t x y : ℕ} {b : Bool} → h ≡ lent rules .head r → h ≡ 0 → AtMostOne used → Lowest used i → t ≡ usedTable i
+      → x ≡ inputs rules t → y ≡ truth rules t → Decides (Parity x y) b → Decides (Tells rules r) b
   one-use {i = i} at none one low a h k d = decides-iff into back (rw (h, k, a) at d)
     where
       into : Parity (inputs rules (usedTable i)) (truth rules (usedTable i)) → Tells rules r
@@ -232,7 +232,8 @@ told-row {rules} {r} {i} {s} h t e l f g N k c = rw (g, f) (row-opened s (inputs
     whole = record {
       parity =
           ap odd (cut-swap N (inputs rules (usedTable i)))
-          ∙ bit-from (truth rules (usedTable i)) (parity-answer (inputs rules (usedTable i)) N l (p .few) (truth rules (usedTable i)) p) (says rules i N fails small)
+          ∙ bit-from (truth rules (usedTable i)) (parity-answer (inputs rules (usedTable i)) N l (p .few) (truth rules (usedTable i)) p)
+          (says rules i N fails small)
           (odd-lt (inputs rules (usedTable i) ∩ N))
           (omega (arith, small));
     }

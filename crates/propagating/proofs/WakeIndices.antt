@@ -185,8 +185,9 @@ told-left c one = adds-none (λ i q k. k .several (subst AtMostOne (collects-sam
 
 -- ---- all of it
 
-pub index-of : {rules linked pilots heads : List ℕ} {unit : Unit} {looped : ℕ} {before first second third fourth fifth after : List ℕ} → length before ≡ INDEX_WORDS
-    → ((i : ℕ) → getD before i 0 ≡ 0) → Adds (SomeWakes linked (unit .rules)) before first → Adds (ByOne (WakesList heads) (unit .nearest)) first second
+pub index-of : {rules linked pilots heads : List ℕ} {unit : Unit} {looped : ℕ} {before first second third fourth fifth after : List ℕ}
+    → length before ≡ INDEX_WORDS → ((i : ℕ) → getD before i 0 ≡ 0) → Adds (SomeWakes linked (unit .rules)) before first
+    → Adds (ByOne (WakesList heads) (unit .nearest)) first second
     → Adds (ByOne (WakesFounded rules looped) (unit .rules)) second third → Adds (WakesTables linked pilots MAX_TABLES) third fourth
     → Adds (WakesSums linked pilots) fourth fifth → Adds (WakesTold rules (unit .rules)) fifth after
     → WakeIndex rules linked pilots heads unit looped after

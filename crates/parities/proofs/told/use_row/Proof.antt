@@ -1,6 +1,5 @@
 -- The table's inputs, and its answer by the use's sign.
 use denote.Ref.{now}
-use native.Mathlib.Omega.{arith}
 use Rattle.parities.proofs.ToldRows.{use-row-is}
 use borrow.Author.Needs.{needs}
 use Rattle.parities.proofs.told.use_row.Statement.{statement}
