@@ -45,7 +45,8 @@ module _ {c : Contents} {p : Plan} (m : Means c p) where
       (λ e. has-none (subst (λ (v : ℕ). Has v a) (sym (m .rule r x n .head) ∙ e) h))
   back w r (held {x} n e h) = constraint (constraint-back r (x, n, e)) h
 
-  same : (w : ℕ) {which : ℕ} → Collects (Among p w) which → (M : ℕ) → AnswerSet (lent (p .rules)) which (p .once .given .word) M ↔ AnswerSetOf c (AmongRules c w) M
+  same : (w : ℕ) {which : ℕ} → Collects (Among p w) which → (M : ℕ)
+      → AnswerSet (lent (p .rules)) which (p .once .given .word) M ↔ AnswerSetOf c (AmongRules c w) M
   same w {which} k = sets-same m which (AmongRules c w) (λ r h. there w r (k .each r h)) (λ r h. told w r (k .each r h)) (λ r l t. k .all r (back w r t))
 
   constraints-mean : ConstraintsMean c p

@@ -137,7 +137,8 @@ module _ (p : Plan) (fits : Fitting p) where
   pub none-leaves : (w : ℕ) → w ⊆ constraintsIn p → NoneSettled (p .rules) (rulesWith p w) (p .once .given .word) → leaves p w ≡ false
   unfolding leaves
   none-leaves w f n =
-      some-none (suc (mayBeUp p)) (λ M. answerSet (lent (p .rules)) (rulesWith p w) (p .once .given .word) M) (λ M l e. n .nobody M (decides-answers w M f .yes e))
+      some-none (suc (mayBeUp p)) (λ M. answerSet (lent (p .rules)) (rulesWith p w) (p .once .given .word) M)
+      (λ M l e. n .nobody M (decides-answers w M f .yes e))
 
 -- ---- what few_constraints is asked, by the words of the code
 

@@ -37,14 +37,15 @@ pub record ShownAlike (p q : Plan) : Type 0 where
   pub rules : p .rules ≡ q .rules
   pub rule-count : p .«rule_count» ≡ q .«rule_count»
   pub given : p .once .given .word ≡ q .once .given .word
-  pub shown : (i : ℕ) → Supported (lent (p .rules)) (below (p .«rule_count»)) (p .once .given .word) i → Has (p .once .shown .word) i ↔ Has (q .once .shown .word) i
+  pub shown : (i : ℕ) → Supported (lent (p .rules)) (below (p .«rule_count»)) (p .once .given .word) i
+      → Has (p .once .shown .word) i ↔ Has (q .once .shown .word) i
 
 module _ {p q : Plan} (g : ShownAlike p q) where
   same-cut : (M : ℕ) → Settles p M → M ∩ p .once .shown .word ≡ M ∩ q .once .shown .word
   same-cut M a =
       ext (M ∩ p .once .shown .word) (M ∩ q .once .shown .word)
-      (λ i h. has-cut M (q .once .shown .word) (cut-left M (p .once .shown .word) h) (alike i (cut-left M (p .once .shown .word) h) .0 (cut-right M (p .once .shown .word) h)))
-      (λ i h. has-cut M (p .once .shown .word) (cut-left M (q .once .shown .word) h) (alike i (cut-left M (q .once .shown .word) h) .1 (cut-right M (q .once .shown .word) h)))
+      (λ i h. let up = cut-left M (p .once .shown .word) h in has-cut M (q .once .shown .word) up (alike i up .0 (cut-right M (p .once .shown .word) h)))
+      (λ i h. let up = cut-left M (q .once .shown .word) h in has-cut M (p .once .shown .word) up (alike i up .1 (cut-right M (q .once .shown .word) h)))
     where
       alike : (i : ℕ) → Has M i → Has (p .once .shown .word) i ↔ Has (q .once .shown .word) i
       alike i h = g .shown i (supported (lent (p .rules)) (below (p .«rule_count»)) (p .once .given .word) M i a h)

@@ -12,7 +12,8 @@ use lib.Seq.{take-all, drop-cons}
 use lib.Dec.{eqb}
 use borrow.Author.Tests.{eqb-true, ltb-false, leb-false, le-ltb, not-false}
 use Rattle.plan.specs.Record.{emptyPlan}
-use Rattle.reading.specs.Commands.{Kind, single, sizes, given, show, table, rule, usage, unit, edge, end, byteOf, kinds, kindOf, operandBytes, orderOf, carrying}
+use Rattle.reading.specs.Commands.{Kind, single, sizes, given, show, table, rule, usage, unit, edge, end}
+use Rattle.reading.specs.Commands.{byteOf, kinds, kindOf, operandBytes, orderOf, carrying}
 use Rattle.reading.specs.Commands.{Most, once, upTo, runsOutAt, mostOf, count, noRoom}
 use Rattle.reading.specs.Commands.{full, Row, kindRows, operandRows, rows, firstFit, ofKind, commandAt}
 use Rattle.reading.proofs.CommandKinds.{kind-of-byte, kind-byte, byte-own, no-kind, countBehind, late-counted}

@@ -1,4 +1,5 @@
--- "every reading fault, a 241st EDGE .. included": behind MAX_EDGES edges, and nothing that comes behind EDGEs, none is new, so a further EDGE is 8, or 2 where it is cut short.
+-- "every reading fault, a 241st EDGE .. included": behind MAX_EDGES edges, and nothing that comes behind EDGEs, none is new, so a further EDGE is 8, or 2
+-- where it is cut short.
 use mathlib.Core.Path.{_≡_, refl, ap, _∙_}
 use mathlib.Core.List.{List, [], _∷_, _++_}
 use mathlib.Core.Bool.{true, false}

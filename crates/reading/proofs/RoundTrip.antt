@@ -192,7 +192,8 @@ module _ (c : Contents) (w : WithinLimits c) where
   counts-taken =
       group-takes countBytes (λ d. recordOf (counts-only d)) (λ d x. (length d < 1) × Unit {0})
       (λ d x f. one-takes (counts-only d) (single sizes) x refl (record {
-        few = few-so _ (elim [ sizes ↦ omega (arith, f .0) | given ↦ omega arith | show ↦ omega arith ]) (omega arith) (omega arith) (omega arith) (omega arith) tt;
+        few = few-so _ (elim [ sizes ↦ omega (arith, f .0) | given ↦ omega arith | show ↦ omega arith ]) (omega arith) (omega arith)
+            (omega arith) (omega arith) tt;
         in-place = record { on-time = omega (arith, f .0); room = refl };
         right = tt;
       }) tt)
@@ -273,8 +274,8 @@ module _ (c : Contents) (w : WithinLimits c) where
   shown-taken =
       group-takes showBytes (λ d. recordOf (shown-too d)) (λ d x. (length d < 1) × (x < WORD_VALUES))
       (λ d x f. one-takes (shown-too d) (single show) x refl (record {
-        few = few-so _ (elim [ sizes ↦ w .under (single sizes) | given ↦ w .under (single given) | show ↦ omega (arith, f .0) ]) (w .under table) (w .under rule)
-            (w .under usage) (w .under unit) (w .good-uses);
+        few = few-so _ (elim [ sizes ↦ w .under (single sizes) | given ↦ w .under (single given) | show ↦ omega (arith, f .0) ])
+            (w .under table) (w .under rule) (w .under usage) (w .under unit) (w .good-uses);
         in-place = record { on-time = omega (arith, f .0); room = refl };
         right = tt;
       }) (f .1))

@@ -206,7 +206,9 @@ module _ (c : Contents) (few : Few c) (operands : List ℕ) where
 
   order-decided : (k : Kind) → Decides (OutOfGroupOrder c (byteOf k ∷ operands)) (late (recordOf c) (orderOf k))
   order-decided k = record {
-    yes = λ e. record { byte = byteOf k; behind = operands; is = refl; too-late = kind-late c k (ltb-true _ _ (sym (late-counted (recordOf c) (orderOf k)) ∙ e)) };
+    yes = λ e.
+        let some = ltb-true _ _ (sym (late-counted (recordOf c) (orderOf k)) ∙ e) in
+        record { byte = byteOf k; behind = operands; is = refl; too-late = kind-late c k some };
     no = λ e o.
         let j = late-kind c (o .too-late) in
         let some = subst (λ (i : Kind). 0 < countBehind (recordOf c) (orderOf i) kinds) (own k (o .is) (j .0) (j .1)) (j .2) in

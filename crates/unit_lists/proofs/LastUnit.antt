@@ -67,7 +67,8 @@ module _ {p : Plan} {h : HeadAtoms} (s : Setting p h) where
   input-of-last : p .once .given .word ∪ all-heads ≡ inputHeads (withLast (unitsOf p)) (p .«unit_count»)
   unfolding unitsOf withLast
   input-of-last =
-      ext (p .once .given .word ∪ all-heads) (inputHeads (withLast (unitsOf p)) (p .«unit_count»)) (λ a k. into a (union-cases (p .once .given .word) all-heads k))
+      ext (p .once .given .word ∪ all-heads) (inputHeads (withLast (unitsOf p)) (p .«unit_count»))
+      (λ a k. into a (union-cases (p .once .given .word) all-heads k))
       (λ a k. back a (input-cases (withLast (unitsOf p)) (p .«unit_count») a (omega arith) k))
     where
       heads-at : (v : ℕ) → v < p .«unit_count» → getD (h .heads) v 0 ≡ heads (withLast (unitsOf p)) v

@@ -105,8 +105,9 @@ module _ (t : ℕ) where
       rw (free .undecided .ensures, free .before .dark-of .ensures, free .before .before .without .ensures) at (c .highest .ensures)
 
   likely : (c : Chosen)
-      → Likely (now (start (looked c) .args .rules)) (now (start (looked c) .args .desk)) (start (looked c) .args .query .unit) (start (looked c) .args .query .facts)
-      (start (looked c) .args .query .from) (here c) (c .before .before .before .before .before .before .before .seen .given .0 .0)
+      → Likely (now (start (looked c) .args .rules)) (now (start (looked c) .args .desk)) (start (looked c) .args .query .unit)
+      (start (looked c) .args .query .facts) (start (looked c) .args .query .from) (here c)
+      (c .before .before .before .before .before .before .before .seen .given .0 .0)
   likely c = looked-seen (c .before .before .before .before .before .before .before .seen .given .1) (looked c .look .ensures .0)
 
   -- ---- what the calls ask

@@ -25,7 +25,8 @@ returns-2 : tie.Need-returns-2
 returns-2 c =
     let done = c .before .before .before in
     let at-moved = done .before .before .before .before .before in
-    let told = rw (at-moved .moved .ensures, at-moved .before .before .before .before .before .before .before .before .decide .ensures) at (done .propagate .ensures) in
+    let decided = at-moved .before .before .before .before .before .before .before .before in
+    let told = rw (at-moved .moved .ensures, decided .decide .ensures) at (done .propagate .ensures) in
     (told .0, told .1 .1)
 
 pub step-down-spec : {M : Type 1} → statement M
