@@ -75,8 +75,8 @@ try_copy() {
 with_mistake "an edge is dropped" plan/layout.rs 'if from != to {' 'if from != to && to != 0 {' gate
 with_mistake "a helper is shown" plan/program.rs '!named.is_helper && !self.hidden' '!self.hidden' gate
 with_mistake "a choice has no helper" plan/program.rs '[atom, helper].iter().copied()' '[atom].iter().copied().filter(|&atom| atom != helper)' gate
-with_mistake "a relay and its opposite may both be up" read/reader.rs 'add_opposites(&mut program);' 'let _ = add_opposites;' gate
-with_mistake "a table's rows in the wrong order" read/text/directives.rs '(j >> k & 1 == 1))' '(j >> (row.len() - 1 - k) & 1 == 1))' gate
+with_mistake "a relay and its opposite may both be up" read/reader.rs 'add_opposites(&mut program);' 'let _ = add_opposites;'
+with_mistake "a table's rows in the wrong order" read/text/directives.rs '(j >> k & 1 == 1))' '(j >> (row.len() - 1 - k) & 1 == 1))'
 with_mistake "a table's truth word in the order of the sheet" plan/bytes.rs 'order.sort_by_key(|&k| plan.bit(inputs[k]));' ''
 with_mistake "a label in the page is more than text" show/html.rs "'<' => out += \"&lt;\"" "'<' => out.push(sign)"
 with_mistake "the page leaves a position out" show/page/grid.rs 'positions.iter().enumerate().map(row)' 'positions.iter().enumerate().skip(1).map(row)'
@@ -117,13 +117,13 @@ with_mistake "a choice over many relays is one rule" plan/limits.rs 'if rule.is_
 with_mistake "facts are counted as rules" plan/limits.rs '!rule.is_fact()' '!rule.is_fact() || true'
 with_mistake "a pool is no list" read/text/ground.rs 'return Err(large(self.peek())); // a pool' ''
 with_mistake "a key that is a fact is listed" read/gringo.rs 'if shapes.iter().any(|shape| shape.is_external) {' 'if shapes.is_empty() {'
-with_mistake "a relay that holds itself is not told" read/reader.rs 'held::note(&mut program);' '' gate
+with_mistake "a relay that holds itself is not told" read/reader.rs 'held::note(&mut program);' ''
 with_mistake "a circle of relays is not told" plan/held.rs \
     'if seen.insert(relays(program, &circle)) {' 'if circle.len() == 1 && seen.insert(relays(program, &circle)) {'
 with_mistake "a relay that is chosen is told as held" plan/held.rs \
     '.filter(|circle| leaves_out(program, circle))' '.filter(|circle| leaves_out(program, circle) || true)'
 with_mistake "the way to write a held relay leaves out its body" plan/held.rs 'rest.neg.extend(&rule.neg);' ''
-with_mistake "an arrow is a comparison" read/reader.rs 'traps::misread(statement, &constants)' 'traps::misread(statement, &constants).filter(|_| false)' gate
+with_mistake "an arrow is a comparison" read/reader.rs 'traps::misread(statement, &constants)' 'traps::misread(statement, &constants).filter(|_| false)'
 with_mistake "a number is compared with a relay" read/text/traps.rs 'if names == 0 ||' 'if names < 2 ||'
 with_mistake "; in a body is told at every rule" read/text/traps.rs 'told.insert(statement.sheet)' 'told.insert(statement.sheet) || true'
 with_mistake "what nothing drives is not told of gringo's sheets" read/gringo.rs 'program.notes.extend(undriven(' 'drop(undriven('
@@ -147,7 +147,7 @@ with_mistake "what they lack is looked for without a position behind their lines
 with_mistake "what is not looked for is not told" commands/audit.rs \
     'let proved = if self.is_searched {' 'let proved = if self.is_searched || true {'
 with_mistake "a walk ends with its first call" commands/next.rs 'found = if args.is_all {' 'found = if args.is_all && found.len() > most {'
-with_mistake "a walk goes by whole positions" commands/next.rs 'let mut walk = if args.is_whole {' 'let mut walk = if args.is_whole || true {' gate
+with_mistake "a walk goes by whole positions" commands/next.rs 'let mut walk = if args.is_whole {' 'let mut walk = if args.is_whole || true {'
 with_mistake "positions alike in what shows come again" plan/walk.rs '        found.dedup();' ''
 with_mistake "what shows stands below what does not" plan/walk.rs 'hidden.iter().chain(&shown)' 'shown.iter().chain(&hidden)'
 with_mistake "an unknown command is passed over" plan/bytes.rs \
@@ -176,7 +176,7 @@ with_mistake "what is copied has no heads" show/page/page.js 'return [top, ...so
 with_mistake "all is saved, whatever is shown" show/page/page.js 'const toCsv = () => lines(shown)' 'const toCsv = () => lines(rows)'
 with_mistake "the file in the page is another" show/page/files.rs 'csv::show(group, Heads::Labels)' 'csv::show(group, Heads::Names)'
 with_mistake "a position has no address" show/page/grid.rs '<tr id=\"{}\">{}' '<tr data-id=\"{}\">{}'
-with_mistake "a dropped relay is not asked for" commands/ask.rs 'question.dropped |= bit;' 'question.dropped |= bit & 0;' gate
+with_mistake "a dropped relay is not asked for" commands/ask.rs 'question.dropped |= bit;' 'question.dropped |= bit & 0;'
 with_mistake "the last setting of keys is left out" commands/keys.rs 'for setting in 0..settings {' 'for setting in 0..settings - 1 {'
 with_mistake "the low byte of a reading comes first" commands/readings.rs 'u16::from_be_bytes' 'u16::from_le_bytes'
 with_mistake "rows of the wrong relays" commands/rows.rs 'rows.get(bit)' 'rows.get(bit + 1)'
@@ -190,7 +190,7 @@ with_mistake "names that are not ours are written over" plan/file.rs 'read.is_ok
 with_mistake "a full disk takes the old file" show/beside.rs 'fresh(folder, USUAL, names(".lucarne-", ".part"))?' '(File::create(&place)?, place.clone())'
 with_mistake "a new file forgets who may read it" show/beside.rs 'file.set_permissions(old.permissions())' 'Ok(())'
 with_mistake "a kept plan goes where others put a file" show/beside.rs 'create_new(true)' 'create(true).truncate(true)'
-with_mistake "what a folder does not take is not told" read/folder.rs 'if !self.left.is_empty() {' 'if self.left.len() > 99 {' gate
+with_mistake "what a folder does not take is not told" read/folder.rs 'if !self.left.is_empty() {' 'if self.left.len() > 99 {'
 with_mistake "hidden sheets are passed over" read/folder.rs \
     '} else if !ends_in(&entry, &OTHERS) {' '} else if !ends_in(&entry, &OTHERS) && !is_hidden(&entry) {'
 with_mistake "strict reading takes a folder as it is" read/sources.rs 'filter(|_| is_strict)' 'filter(|_| is_strict && paths.is_empty())'
@@ -241,7 +241,7 @@ with_mistake "a bracket behind its word makes a directive" read/text/directives.
     "if !comment.text[start..].starts_with(&[' ', '\t'][..]) ||" 'if'
 with_mistake "what clingo does not hear of is not told" commands/audit.rs 'report.lines.extend(unheard_of(group, theirs));' 'drop(unheard_of(group, theirs));'
 with_mistake "a key that clingo hears of is left out" plan/unheard.rs 'token.is("true")' 'token.is("false")'
-with_mistake "keys are not written out for clingo" show/lp.rs 'Setting::Turned => lines.push(' 'Setting::Turned if lines.is_empty() => lines.push(' gate
+with_mistake "keys are not written out for clingo" show/lp.rs 'Setting::Turned => lines.push(' 'Setting::Turned if lines.is_empty() => lines.push('
 with_mistake "contact tables show for clingo" show/lp.rs '.any(|table| table.is_written)' '.any(|table| !table.is_written)'
 
 echo "$tried wrong tools, $unnoticed not noticed"
