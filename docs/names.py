@@ -3,8 +3,8 @@
 
 In docs/PROOF.md each table cell but the first of its row is read from the left. A path (`judge/specs/Answers`, below crates/, without its ending) is a home, and
 each name behind it must be defined in that file: a definition, a record with its fields, a constructor, a function, a struct or an enum. Behind a folder come its
-files. A cell without a home has that of its column's head. `judge::judge` must be a function of that crate; where a home follows before the next semicolon, the
-first name there must stand in its contract. The tables of tests/must-fail/README.md must have just the edits that the gate tries, and the patches of tests/bent.
+files; `../Sheets` is the file beside the last one. A cell without a home has that of its column's head. `judge::judge` must be a function of that crate, and names behind it, up to the next path or
+semicolon, must stand in its contract. The tables of tests/must-fail/README.md must have just the edits that the gate tries, and the patches of tests/bent.
 In the other documents each name in backquotes must stand somewhere in the sources. The status is 1 where one of these does not hold, and each such place is printed.
 """
 import re
@@ -82,9 +82,11 @@ def hold_cell(place, line, cell, head=""):
             contract = None
             continue
         token = token.strip("`")
+        if token.startswith("../") and home:
+            token = home.rsplit("/", 1)[0] + token[2:]
         function = FUNCTION.match(token)
         if HOME.match(token):
-            home, known = token, defined_in(token)
+            home, known, contract = token, defined_in(token), None
             if known is None:
                 tell(place, line, f"there is no file crates/{token}")
         elif function:
@@ -95,14 +97,13 @@ def hold_cell(place, line, cell, head=""):
         elif "/" in token:
             if not any(ROOT.glob(token)) and not any(ROOT.glob(token + ".*")):
                 tell(place, line, f"there is no {token}")
+        elif contract is not None:
+            if not re.search(rf"(?<![\w-]){re.escape(token)}(?![\w-])", contract):
+                tell(place, line, f"`{token}` is not in the contract before it")
         elif home is None:
             tell(place, line, f"`{token}` has no home before it")
         elif known is not None and token not in known:
             tell(place, line, f"`{token}` is not defined in crates/{home}")
-        elif contract is not None:
-            if not re.search(rf"(?<![\w-]){re.escape(token)}(?![\w-])", contract):
-                tell(place, line, f"`{token}` is not in the contract before it")
-            contract = None
 
 
 def cells_of(text):
