@@ -5,7 +5,7 @@ In docs/PROOF.md each table cell but the first of its row is read from the left.
 each name behind it must be defined in that file: a definition, a record with its fields, a constructor, a function, a struct or an enum. Behind a folder come its
 files; `../Sheets` is the file beside the last one. A cell without a home has that of its column's head. `judge::judge` must be a function of that crate, and names behind it, up to the next path or
 semicolon, must stand in its contract. The tables of tests/must-fail/README.md must have just the edits that the gate tries, and the patches of tests/bent.
-In the other documents each name in backquotes must stand somewhere in the sources. The status is 1 where one of these does not hold, and each such place is printed.
+In these and the other DOCUMENTS each name in backquotes must stand somewhere in the sources. The status is 1 where one of these does not hold, and each such place is printed.
 """
 import re
 import sys
@@ -17,7 +17,7 @@ CRATES = ROOT / "crates"
 PROOF = "docs/PROOF.md"
 WRONG = "tests/must-fail/README.md"
 HEADS = ("sentence", "step", "read", "crate", "bent program")
-DOCUMENTS = ["docs/ARCHITECTURE.md", "docs/CHANGING.md", "docs/DECISIONS.md", "bench/TUNING.md"]
+DOCUMENTS = [PROOF, WRONG, "docs/ARCHITECTURE.md", "docs/CHANGING.md", "docs/DECISIONS.md", "bench/TUNING.md"]
 TICKED = re.compile(r"`([^`]+)`")
 HOME = re.compile(r"^(?!tests/)(\w+)/(specs|proofs|src|must-fail)(/[\w/]+)?$")
 FUNCTION = re.compile(r"^(\w+)::(?:(\w+)::)?(\w+)$")
