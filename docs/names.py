@@ -1,11 +1,12 @@
 #!/usr/bin/env python3
 """docs/names.py: holds every name that a document cites against the sources.
 
-In docs/PROOF.md each table cell but the first of its row is read from the left. A path (`judge/specs/Answers`, below crates/, without its ending) is a home, and
-each name behind it must be defined in that file: a definition, a record with its fields, a constructor, a function, a struct or an enum. Behind a folder come its
-files; `../Sheets` is the file beside the last one. A cell without a home has that of its column's head. `judge::judge` must be a function of that crate, and names behind it, up to the next path or
-semicolon, must stand in its contract. The tables of tests/must-fail/README.md must have just the edits that the gate tries, and the patches of tests/bent.
-In these and the other DOCUMENTS each name in backquotes must stand somewhere in the sources. The status is 1 where one of these does not hold, and each such place is printed.
+In docs/PROOF.md each table cell but the first of its row is read from the left. A path (`judge/specs/Answers`, below crates/, without its ending) is a home,
+and each name behind it must be defined in that file: a definition, a record with its fields, a constructor, a function, a struct or an enum. Behind a folder
+come its files; `../Sheets` is the file beside the last one. A cell without a home has that of its column's head. `judge::judge` must be a function of that
+crate, and the names behind it, up to the next path or semicolon, must stand in its contract. The tables of tests/must-fail/README.md must have just the edits
+that the gate tries, and the patches of tests/bent. In these and the other DOCUMENTS each name in backquotes must stand somewhere in the sources. The status is
+1 where one of these does not hold, and each such place is printed.
 """
 import re
 import sys
@@ -28,6 +29,7 @@ SOURCES = ["crates", "tests", "bench", "tools", "host", "include", "examples", "
 ENDINGS = {".rt", ".antt", ".rs", ".py", ".sh", ".c", ".h", ".cc", ".txt", ".toml", ".edit", ".patch", ""}
 
 wrong = []
+bent = set()  # the patches of tests/bent that are named
 
 
 def tell(place, line, what):
@@ -143,9 +145,6 @@ def hold_bent(line, cells):
             tell(WRONG, line, f"there is no tests/bent/{name}.patch")
         bent.add(name)
     hold_cell(WRONG, line, cells[-1])
-
-
-bent = set()
 
 
 def hold_proof():
