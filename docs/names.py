@@ -18,7 +18,9 @@ CRATES = ROOT / "crates"
 PROOF = "docs/PROOF.md"
 WRONG = "tests/must-fail/README.md"
 HEADS = ("sentence", "step", "read", "crate", "bent program")
-DOCUMENTS = [PROOF, WRONG, "docs/ARCHITECTURE.md", "docs/CHANGING.md", "docs/DECISIONS.md", "bench/TUNING.md", "tools/lucarne/DECISIONS.md"]
+DOCUMENTS = [
+    PROOF, WRONG, "docs/ARCHITECTURE.md", "docs/CHANGING.md", "docs/FIRST-HOUR.md", "docs/DECISIONS.md", "bench/TUNING.md", "tools/lucarne/DECISIONS.md",
+]
 TICKED = re.compile(r"`([^`]+)`")
 HOME = re.compile(r"^(?!tests/)(\w+)/(specs|proofs|src|must-fail)(/[\w/]+)?$")
 FUNCTION = re.compile(r"^(\w+)::(?:(\w+)::)?(\w+)$")
