@@ -18,7 +18,7 @@ import tempfile
 from pathlib import Path
 
 ROOT = Path(__file__).resolve().parent.parent
-PAGES = ["README.md", "docs/PLANNER.md", "docs/SHEETS.md", "docs/CLINGO.md"]
+PAGES = ["README.md", "docs/PLANNER.md", "docs/SHEETS.md", "docs/CLINGO.md", "docs/QUALIFICATION.md"]
 STRICT = {"PLANNER.md"}
 SECONDS = 60
 ANY = ".."
