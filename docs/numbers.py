@@ -30,7 +30,7 @@ COMMANDS = ["COUNT", "GIVEN", "TABLE", "RULE", "USE", "UNIT", "EDGE", "SHOW", "E
 LISTED_NUMBERS = {17, 22, 24}  # no faults of a plan: questions, rows, sheets; 20, of readings, is `packed.rs`'s
 FORMAT_LIMITS = {
     "atoms": "ATOMS", "tables": "MAX_TABLES", "rules": "MAX_RULES", "uses of tables": "MAX_USES", "units": "MAX_UNITS", "edges": "MAX_EDGES",
-    "bytes of a plan": "LONGEST_PLAN", "positions in one list": "LIST_WORDS", "positions in a sheet to judge, or to hold against a plan": "MAX_POSITIONS",
+    "bytes of a plan": "LONGEST_PLAN", "positions in one list": "LIST_WORDS", "positions in a list to judge or to audit": "MAX_POSITIONS",
     "words of the table": "TABLE_WORDS",
 }
 HEADER = {
