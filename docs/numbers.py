@@ -2,8 +2,8 @@
 """docs/numbers.py: holds every number that stands outside the proofs against the sources that are proved.
 
 The limits (`plan/src/limits.rt`), the command table (`reading/src/kinds.rt`) and the faults (`plan/src/fault.rt`) are read, with the few constants of other
-crates that a host meets. Their numbers stand again in the C header, in the tests' lister and encoders, in the planner's tool and in README. The status is 1
-where one of these differs or is not found, and each such place is told. Whoever changes a number, adds a command or a fault is led to all of them so.
+crates that a host meets. Their numbers stand again in the C header, in the tests' lister and encoders, in the planner's tool, in FORMAT and in HOST. The
+status is 1 where one of these differs or is not found, and each such place is named. So whoever changes a number, a command or a fault finds all of them.
 """
 import re
 import sys
@@ -28,9 +28,9 @@ SOURCES = [
 ]
 COMMANDS = ["COUNT", "GIVEN", "TABLE", "RULE", "USE", "UNIT", "EDGE", "SHOW", "END"]
 LISTED_NUMBERS = {17, 22, 24}  # no faults of a plan: questions, rows, sheets; 20, of readings, is `packed.rs`'s
-README_LIMITS = {
+FORMAT_LIMITS = {
     "atoms": "ATOMS", "tables": "MAX_TABLES", "rules": "MAX_RULES", "uses of tables": "MAX_USES", "units": "MAX_UNITS", "edges": "MAX_EDGES",
-    "bytes of a plan": "LONGEST_PLAN", "positions in one list": "LIST_WORDS", "positions in a sheet to judge, or to hold against a plan": "MAX_POSITIONS",
+    "bytes of a plan": "LONGEST_PLAN", "positions in one list": "LIST_WORDS", "positions in a list to judge or to audit": "MAX_POSITIONS",
     "words of the table": "TABLE_WORDS",
 }
 HEADER = {
@@ -121,22 +121,41 @@ def bytes_in(source):
     return {name: int(byte, 0) for name, byte in re.findall(r"pub const ([A-Z]+): u8 = (\w+);", source)}
 
 
-def hold_readme(known, faults):
-    page = text("README.md")
+def hold_format(known, faults):
+    place = "docs/FORMAT.md"
+    page = text(place)
     bytes_of = {name: int(byte, 16) for byte, name in re.findall(r"^\| `(\w\w)` \| ([A-Z]+) \|", page, re.M)}
-    hold_commands("README.md, the commands", bytes_of, None, known)
+    hold_commands(f"{place}, the commands", bytes_of, None, known)
     rows = page.split("| no. | fault |")[1].split("\n\n")[0]
     numbers = {int(number) for number in re.findall(r"^\| (\d+) \|", rows, re.M)}
-    same("README.md, the refusals", "numbers", sorted(faults), sorted(numbers))
+    same(f"{place}, the refusals", "numbers", sorted(faults), sorted(numbers))
     limits = dict(re.findall(r"^\| ([^|]+?) \| ([\d,]+)", page.split("## Limits")[1].split("\n## ")[0], re.M))
-    for line, name in README_LIMITS.items():
+    for line, name in FORMAT_LIMITS.items():
         found = limits.get(line)
-        same("README.md, the limits", line, known[name], found and int(found.strip(",").replace(",", "")))
+        same(f"{place}, the limits", line, known[name], found and int(found.strip(",").replace(",", "")))
+
+
+def hold_host(known, header):
+    """What HOST says in words: the stack that is enough for each function, the table's words and where lists start, the step of a refusal's code."""
+    place = "docs/HOST.md"
+    page = text(place)
+    stack = re.search(r"#define LUCARNECRESS_STACK (\d+)u\b", header)
+    told = {
+        "the stack": (r"([\d,]+) bytes \(`LUCARNECRESS_STACK`\)", stack and int(stack.group(1))),
+        "the words of the table": (r"`table` has at least ([\d,]+) words", known["TABLE_WORDS"]),
+        "the start of the last list": (r"the last list at word ([\d,]+)", known["LAST_LIST"]),
+        "a list's words": (r"starts at word (\d+)·i, the last list", known["LIST_WORDS"]),
+        "the step of a code": (r"code is ([\d,]+) times its number", known["CODE_STEP"]),
+        "the words of a row": (r"row i starts at word (\d+)·i", known["ROW_WORDS"]),
+    }
+    for what, (pattern, expected) in told.items():
+        found = re.search(pattern, page)
+        same(place, what, expected, found and int(found.group(1).replace(",", "")))
 
 
 def main():
     known, faults = proved()
-    missing = [name for name in [*HEADER.values(), *README_LIMITS.values()] if name not in known]
+    missing = [name for name in [*HEADER.values(), *FORMAT_LIMITS.values()] if name not in known]
     if missing:
         print(f"docs/numbers.py: not found in the sources: {', '.join(missing)}", file=sys.stderr)
         return 1
@@ -152,7 +171,8 @@ def main():
     hold_commands("tests/commands.py", *python_commands(), known)
     hold_constants("tools/lucarne/src/plan/limits.rs", text("tools/lucarne/src/plan/limits.rs"), TOOL_LIMITS, known)
     hold_commands("tools/lucarne/src/plan/bytes.rs", bytes_in(text("tools/lucarne/src/plan/bytes.rs")), None, known)
-    hold_readme(known, faults)
+    hold_format(known, faults)
+    hold_host(known, header)
     for line in wrong:
         print(line, file=sys.stderr)
     return 1 if wrong else 0

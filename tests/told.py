@@ -1,13 +1,13 @@
 #!/usr/bin/env python3
 """tests/told.py: holds what is written in several places against each other: the version of tool and library; each refusal's words in the library
-against the tool's; every exported function in header, man page, README and the test of all functions. The last line is 'N passed, M failed'."""
+against the tool's; every exported function in header, man page, HOST and the test of all functions. The last line is 'N passed, M failed'."""
 
 import pathlib
 import re
 import sys
 
 HEADER, WORDS = "include/lucarnecress.h", "tools/lucarne/src/plan/words.rs"
-PLACES = ["host/lucarnecress.3", "README.md", "tests/host.c"]  # of every function
+PLACES = ["host/lucarnecress.3", "docs/HOST.md", "tests/host.c"]  # of every function
 MOST_POSITIONS = "256"
 failed = passed = 0
 

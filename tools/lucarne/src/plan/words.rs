@@ -73,7 +73,7 @@ impl<'a> Refused<'a> {
     fn of_command(&self, refusal: Refusal) -> (String, String, &'static str) {
         let (spot, (name, number)) = (refusal.spot, self.command_at(refusal.spot));
         let known = COMMAND_FAULTS.iter().find(|fault| fault.0 == refusal.number);
-        let &(_, what, hint) = known.unwrap_or(&(0, "is refused", "see the README's table of refusals"));
+        let &(_, what, hint) = known.unwrap_or(&(0, "is refused", "see the table of refusals in docs/FORMAT.md"));
         let what = match refusal.number {
             2 if spot == self.plan.bytes.len() => format!("the plan ends at byte {}, before its END", spot),
             3 => format!("byte {}: {:02x} {}", spot, self.byte(spot), what),
