@@ -21,7 +21,7 @@ if [ "${1:-}" = --all ]; then
     all=1
     shift
 fi
-named=${1:-} work=target/lucarne-faulty unnoticed=0 tried=0
+named=${1:-} work=target/lucarne-faulty unnoticed=0 tried=0 first_failure=1
 
 # with_mistake NAME FILE RIGHT WRONG [gate]: a copy with WRONG in place of RIGHT in a file must fail.
 with_mistake() {
@@ -49,7 +49,7 @@ with_mistake() {
         echo "NOT NOTICED: $1"
         unnoticed=$((unnoticed + 1))
     else
-        echo "noticed: $1 ($failed failed)"
+        echo "noticed: $1 ($(grep -m 1 '^FAILED' "$work/output" | cut -c 1-80))"
     fi
 }
 
@@ -216,6 +216,9 @@ with_mistake "a constant of the command line is not set" read/gringo.rs 'format!
 with_mistake "an included file is written over" commands/guard.rs 'if is_file {' 'if is_file && outputs.is_empty() {'
 with_mistake "edges may have circles" read/aspif.rs 'aspif.forbid_circles()?;' ''
 with_mistake "a circle of edges goes through a place twice" read/aspif.rs '|| to > first.0 &&' '|| to > first.0 + 1 &&'
+with_mistake "a theory atom that nothing drives is dropped" read/aspif.rs 'aspif.free_theory_atoms();' ''
+with_mistake "a theory atom that a rule drives is free" read/aspif.rs \
+    'looked_at.contains(atom) && !driven.contains(atom)' 'looked_at.contains(atom) && !driven.contains(&0)'
 with_mistake "NOT is a variable" read/text/traps.rs 'token.text.eq_ignore_ascii_case("not")' 'token.text.is_empty()'
 with_mistake "a name that begins with a digit is gringo's" read/text/traps.rs 'if token.kind != Kind::Number || is_number {' 'if token.kind != Kind::Variable || is_number {'
 with_mistake "what is doubly dropped must be driven where it hangs on itself" read/simplify.rs \
