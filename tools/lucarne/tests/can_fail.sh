@@ -215,7 +215,7 @@ with_mistake "a name under two conditions has one of them" read/aspif.rs 'aspif.
 with_mistake "a constant of the command line is not set" read/gringo.rs 'format!("--const={}", constant)' 'format!("--const={}x", constant)'
 with_mistake "an included file is written over" commands/guard.rs 'if is_file {' 'if is_file && outputs.is_empty() {'
 with_mistake "edges may have circles" read/aspif.rs 'aspif.forbid_circles()?;' ''
-with_mistake "a circle of edges goes through a place twice" read/aspif.rs '|| to > first.0 &&' '|| to > first.0 + 1 &&'
+with_mistake "a circle of edges that comes to its second place late is not found" read/aspif.rs '|| to > first.0 &&' '|| to > first.0 + 1 &&'
 with_mistake "a theory atom that nothing drives is dropped" read/aspif.rs 'aspif.free_theory_atoms();' ''
 with_mistake "a theory atom that a rule drives is free" read/aspif.rs \
     'looked_at.contains(atom) && !driven.contains(atom)' 'looked_at.contains(atom) && !driven.contains(&0)'
