@@ -21,7 +21,7 @@ if [ "${1:-}" = --all ]; then
     all=1
     shift
 fi
-named=${1:-} work=target/lucarne-faulty unnoticed=0 tried=0
+named=${1:-} work=target/lucarne-faulty unnoticed=0 tried=0 first_failure=1
 
 # with_mistake NAME FILE RIGHT WRONG [gate]: a copy with WRONG in place of RIGHT in a file must fail.
 with_mistake() {
@@ -49,7 +49,7 @@ with_mistake() {
         echo "NOT NOTICED: $1"
         unnoticed=$((unnoticed + 1))
     else
-        echo "noticed: $1 ($failed failed)"
+        echo "noticed: $1 ($(grep -m 1 '^FAILED' "$work/output" | cut -c 1-80))"
     fi
 }
 
@@ -81,10 +81,10 @@ with_mistake "a table's truth word in the order of the sheet" plan/bytes.rs 'ord
 with_mistake "a label in the page is more than text" show/html.rs "'<' => out += \"&lt;\"" "'<' => out.push(sign)"
 with_mistake "the page leaves a position out" show/page/grid.rs 'positions.iter().enumerate().map(row)' 'positions.iter().enumerate().skip(1).map(row)'
 with_mistake "the page has another plan" show/page/bytes.rs 'let bytes = &group.plan.bytes;' 'let bytes = &group.plan.bytes[1..].to_vec();'
-with_mistake "the page counts what is hidden" show/page/page.js 'const count = shown.filter' 'const count = rows.filter'
-with_mistake "a question in the address is not asked" show/page/page.js 'const text = location.hash.slice(1);' 'const text = "";'
-with_mistake "a click on a relay asks nothing" show/page/page.js "addEventListener('click', () => press" "addEventListener('dblclick', () => press"
-with_mistake "the largest reading is that of hidden positions" show/page/page.js 'const values = shown.map' 'const values = rows.map'
+with_mistake "the page counts what is hidden" show/page/script/answer.js 'const count = shown.filter' 'const count = rows.filter'
+with_mistake "a question in the address is not asked" show/page/script/question.js 'const text = location.hash.slice(1);' 'const text = "";'
+with_mistake "a click on a relay asks nothing" show/page/script/press.js "addEventListener('click', () => press" "addEventListener('dblclick', () => press"
+with_mistake "the largest reading is that of hidden positions" show/page/script/answer.js 'const values = shown.map' 'const values = rows.map'
 with_mistake "the headings are not printed anew" show/page/page.css '#grid thead{display:table-header-group}' '#grid thead{display:table-row-group}'
 with_mistake "facts that do not show are in the compiled plan" plan/file.rs 'group.shown_always()' 'program.always'
 with_mistake "helpers that no rule has are told" plan/group.rs 'is_helper && used.contains(atom)' 'is_helper'
@@ -163,17 +163,17 @@ with_mistake "a letter is near another" commands/args/faults.rs '[] if !name.sta
 with_mistake "braces are taken for a head" read/text/ground.rs 'brace.map_or(false' 'brace.map_or(true, |_| false) && brace.map_or(false'
 with_mistake "the manual has no options" commands/args/manual.rs '.filter(|argument| is_own(argument)).map(option)' '.filter(|argument| is_own(argument)).skip(99).map(option)'
 with_mistake "the page is no wider than a column of text" show/page/page.css 'section:not(.wide){max-width:76rem}' 'section{max-width:76rem}'
-with_mistake "rows are sorted the other way" show/page/page.js '=== sorted.isUpFirst ? 0 : 1' '=== sorted.isUpFirst ? 1 : 0'
-with_mistake "columns by unit stay as they are" show/page/page.js 'one.place - other.place || one.k - other.k' 'one.k - other.k'
-with_mistake "a hidden column does not come back" show/page/page.js '{ hidden.delete(relay); drawTable(); }' '{ drawTable(); }'
-with_mistake "suggestions go by case" show/page/page.js 'text.toLowerCase().replace' 'text.replace'
-with_mistake "a mistyped question leaves all rows" show/page/page.js 'both.length || faults.length ? []' 'both.length ? []'
-with_mistake "the nearest name is any" show/page/page.js 'steps === least' 'steps >= least'
-with_mistake "a link to a position is a question" show/page/page.js "if (!match || !match[1]" "if (true || !match || !match[1]"
-with_mistake "what is alike is told as differing" show/page/page.js 'up[k] !== known[0].up[k]' 'up[k] === known[0].up[k]'
-with_mistake "another column than that under the pointer is marked" show/page/page.js 'columns[cell.cellIndex - first]' 'columns[cell.cellIndex - first + 1]'
-with_mistake "what is copied has no heads" show/page/page.js 'return [top, ...some.map' 'return [...some.map'
-with_mistake "all is saved, whatever is shown" show/page/page.js 'const toCsv = () => lines(shown)' 'const toCsv = () => lines(rows)'
+with_mistake "rows are sorted the other way" show/page/script/order.js '=== sorted.isUpFirst ? 0 : 1' '=== sorted.isUpFirst ? 1 : 0'
+with_mistake "columns by unit stay as they are" show/page/script/order.js 'one.place - other.place || one.k - other.k' 'one.k - other.k'
+with_mistake "a hidden column does not come back" show/page/script/order.js '{ hidden.delete(relay); drawTable(); }' '{ drawTable(); }'
+with_mistake "suggestions go by case" show/page/script/question.js 'text.toLowerCase().replace' 'text.replace'
+with_mistake "a mistyped question leaves all rows" show/page/script/answer.js 'both.length || faults.length ? []' 'both.length ? []'
+with_mistake "the nearest name is any" show/page/script/question.js 'steps === least' 'steps >= least'
+with_mistake "a link to a position is a question" show/page/script/question.js "if (!match || !match[1]" "if (true || !match || !match[1]"
+with_mistake "what is alike is told as differing" show/page/script/answer.js 'up[k] !== known[0].up[k]' 'up[k] === known[0].up[k]'
+with_mistake "another column than that under the pointer is marked" show/page/script/pointer.js 'columns[cell.cellIndex - first]' 'columns[cell.cellIndex - first + 1]'
+with_mistake "what is copied has no heads" show/page/script/copying.js 'return [top, ...some.map' 'return [...some.map'
+with_mistake "all is saved, whatever is shown" show/page/script/copying.js 'const toCsv = () => lines(shown)' 'const toCsv = () => lines(rows)'
 with_mistake "the file in the page is another" show/page/files.rs 'csv::show(group, Heads::Labels)' 'csv::show(group, Heads::Names)'
 with_mistake "a position has no address" show/page/grid.rs '<tr id=\"{}\">{}' '<tr data-id=\"{}\">{}'
 with_mistake "a dropped relay is not asked for" commands/ask.rs 'question.dropped |= bit;' 'question.dropped |= bit & 0;'
@@ -215,7 +215,10 @@ with_mistake "a name under two conditions has one of them" read/aspif.rs 'aspif.
 with_mistake "a constant of the command line is not set" read/gringo.rs 'format!("--const={}", constant)' 'format!("--const={}x", constant)'
 with_mistake "an included file is written over" commands/guard.rs 'if is_file {' 'if is_file && outputs.is_empty() {'
 with_mistake "edges may have circles" read/aspif.rs 'aspif.forbid_circles()?;' ''
-with_mistake "a circle of edges goes through a place twice" read/aspif.rs '|| to > first.0 &&' '|| to > first.0 + 1 &&'
+with_mistake "a circle of edges that comes to its second place late is not found" read/aspif.rs '|| to > first.0 &&' '|| to > first.0 + 1 &&'
+with_mistake "a theory atom that nothing drives is dropped" read/aspif.rs 'aspif.free_theory_atoms();' ''
+with_mistake "a theory atom that a rule drives is free" read/aspif.rs \
+    'looked_at.contains(atom) && !driven.contains(atom)' 'looked_at.contains(atom) && !driven.contains(&0)'
 with_mistake "NOT is a variable" read/text/traps.rs 'token.text.eq_ignore_ascii_case("not")' 'token.text.is_empty()'
 with_mistake "a name that begins with a digit is gringo's" read/text/traps.rs 'if token.kind != Kind::Number || is_number {' 'if token.kind != Kind::Variable || is_number {'
 with_mistake "what is doubly dropped must be driven where it hangs on itself" read/simplify.rs \

@@ -70,7 +70,8 @@ play() {
     done <"$1"
 }
 
-# try_sessions FOLDER UPDATE: each session must print what it holds. One that needs a program says so in its first line.
+# try_sessions FOLDER UPDATE: each session must print what it holds. One that needs a program says so in its first line. Where first_failure is set, one
+# that does not is enough.
 try_sessions() {
     local session name need
     lucarne() { "$tool" "$@"; }
@@ -84,6 +85,7 @@ try_sessions() {
         [ -z "$2" ] || cp "$1/session-$name.txt" "$session"
         diff "$session" "$1/session-$name.txt" >"$1/session-$name.diff"
         result $? "session $name: $(head -n 6 "$1/session-$name.diff")"
+        if [ -n "${first_failure:-}" ] && [ "$failed" != 0 ]; then return; fi
     done
 }
 

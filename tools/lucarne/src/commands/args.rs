@@ -80,8 +80,9 @@ const WAYS: [(&str, Grounding); 3] = [("auto", Grounding::Auto), ("always", Grou
 
 /// The command line after the program's name.
 pub fn parse(words: Vec<OsString>) -> Result<Asked, Fault> {
-    let words = std::iter::once(OsString::from("lucarne")).chain(needs::shield_question(words));
-    let matches = match line::lucarne().try_get_matches_from(words) {
+    let words = needs::shield_question(words);
+    let known = line::for_words(&words);
+    let matches = match known.try_get_matches_from(std::iter::once(OsString::from("lucarne")).chain(words)) {
         Ok(matches) => matches,
         Err(error) if error.kind() == ErrorKind::DisplayHelp => return Ok(Asked::Text(error.to_string())),
         Err(error) if error.kind() == ErrorKind::DisplayVersion => return Ok(Asked::Text(format!("lucarne {}\n", crate::VERSION))),

@@ -13,9 +13,9 @@ use std::path::{Path, PathBuf};
 /// Refuses an output that is an input of the same run, or another output, or names that are not ours.
 pub fn check(args: &Args) -> Result<(), Fault> {
     let outputs = outputs(args);
-    // What sheets include is looked for only where there is a file to lose.
+    // Inputs, and what they include, are looked for only where there is a file to lose.
     let is_file = outputs.iter().any(|path| fs::metadata(path).map_or(false, |known| known.is_file()));
-    let inputs = if is_file { sources::with_included(inputs(args)) } else { inputs(args) };
+    let inputs = if is_file { sources::with_included(inputs(args)) } else { Vec::new() };
     for (place, output) in outputs.iter().enumerate() {
         if let Some(input) = inputs.iter().find(|input| is_same(input, output)) {
             return Err(Fault::new(format!("{} is read in this run, and would be overwritten{}", told(output), otherwise(input, output)))

@@ -5,12 +5,13 @@ use super::check;
 use crate::fault::{status, Fault};
 use crate::plan::group::Group;
 use crate::show::{self, lp, output, Form};
+use std::mem::ManuallyDrop;
 
 pub fn run(args: &Args) -> Result<i32, Fault> {
     if args.form == Form::Lp && !args.check_with_clingo {
         return written_out(args);
     }
-    let group = Group::open(&args.group)?;
+    let group = ManuallyDrop::new(Group::open(&args.group)?); // the program ends behind it, and gives all back at once
     output::notes(&group.notes, args.is_quiet);
     if args.check_with_clingo {
         return check::check(&group, args);

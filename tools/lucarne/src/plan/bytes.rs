@@ -66,7 +66,9 @@ impl Plan {
 
     /// The atoms that are up in a position, in the order of bits.
     pub fn up(&self, position: u64) -> Vec<Atom> {
-        self.atoms.iter().enumerate().filter(|(bit, _)| position >> bit & 1 == 1).map(|(_, &atom)| atom).collect()
+        let mut up = Vec::with_capacity(position.count_ones() as usize);
+        up.extend(self.atoms.iter().enumerate().filter(|(bit, _)| position >> bit & 1 == 1).map(|(_, &atom)| atom));
+        up
     }
 
     /// The word in which these atoms are up.

@@ -183,17 +183,15 @@ impl Group {
 
     /// The relays of a position by label, or that all are dropped but those that are always up.
     pub fn told(&self, position: u64) -> String {
-        let up: Vec<&str> = self
-            .plan
-            .up(position)
-            .into_iter()
-            .filter(|&atom| !self.program.atoms[atom].is_helper)
-            .map(|atom| self.program.label(atom))
-            .collect();
-        if up.is_empty() {
+        let mut told = String::new();
+        for atom in self.plan.up(position).into_iter().filter(|&atom| !self.program.atoms[atom].is_helper) {
+            told += if told.is_empty() { "" } else { ", " };
+            told += self.program.label(atom);
+        }
+        if told.is_empty() {
             return if self.shown_always().is_empty() { "(all dropped)" } else { "(no other)" }.to_string();
         }
-        up.join(", ")
+        told
     }
 }
 

@@ -167,16 +167,23 @@ impl Program {
 
     /// Everything that a rule looks at: head, body, and the inputs of its tables.
     pub fn looks_at(&self, rule: &Rule) -> BTreeSet<Atom> {
-        let inputs = rule.uses.iter().flat_map(|&(table, _)| self.tables[table].inputs.iter());
-        rule.head.iter().chain(&rule.pos).chain(&rule.neg).chain(inputs).copied().collect()
+        self.places(rule).collect()
+    }
+
+    /// The same, as often as it stands there.
+    fn places<'a>(&'a self, rule: &'a Rule) -> impl Iterator<Item = Atom> + 'a {
+        let inputs = rule.uses.iter().flat_map(move |&(table, _)| self.tables[table].inputs.iter());
+        rule.head.iter().chain(&rule.pos).chain(&rule.neg).chain(inputs).copied()
     }
 
     /// The atoms that a plan must number, relays first, each kind in the order in which the sheets name them.
     pub fn used_atoms(&self) -> Vec<Atom> {
-        let mut used: BTreeSet<Atom> = self.keys.keys().copied().collect();
-        used.extend(self.tables.iter().flat_map(|table| table.inputs.iter().copied()));
-        self.rules.iter().for_each(|rule| used.extend(self.looks_at(rule)));
-        let (helpers, mut relays): (Vec<Atom>, Vec<Atom>) = used.into_iter().partition(|&atom| self.atoms[atom].is_helper);
+        let mut is_used = vec![false; self.atoms.len()];
+        let inputs = self.tables.iter().flat_map(|table| table.inputs.iter().copied());
+        let in_rules = self.rules.iter().flat_map(|rule| self.places(rule));
+        self.keys.keys().copied().chain(inputs).chain(in_rules).for_each(|atom| is_used[atom] = true);
+        let used = (0..self.atoms.len()).filter(|&atom| is_used[atom]);
+        let (helpers, mut relays): (Vec<Atom>, Vec<Atom>) = used.partition(|&atom| self.atoms[atom].is_helper);
         relays.extend(helpers);
         relays
     }

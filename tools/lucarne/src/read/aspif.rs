@@ -51,6 +51,7 @@ pub struct Aspif {
     pub externals: Vec<(Literal, Setting)>,
     /// Arrows between places, each with the literals under which it stands: they must have no circle.
     edges: Vec<(Literal, Literal, Vec<Literal>, usize)>,
+    theory: BTreeSet<Literal>,
     /// Contact tables, which stand as externals here, each with its inputs.
     pub tables: Vec<(Literal, Vec<Literal>)>,
     /// What is passed over, since the list does not hang on it.
@@ -81,6 +82,19 @@ impl Aspif {
         }
         let always: HashSet<&String> = self.always.iter().collect();
         self.shown.retain(|(name, _)| !always.contains(name));
+    }
+
+    /// A theory atom that nothing drives may hold or not, as for clingo, where no program beside it says what the theory means.
+    fn free_theory_atoms(&mut self) {
+        let driven: BTreeSet<Literal> = self.rules.iter().flat_map(|rule| rule.heads.iter().copied()).collect();
+        let in_rules = self.rules.iter().flat_map(RawRule::atoms);
+        let looked_at: BTreeSet<Literal> = in_rules.chain(self.shown.iter().flat_map(|(_, condition)| condition.iter().map(|literal| literal.abs()))).collect();
+        let free: Vec<Literal> = self.theory.iter().copied().filter(|atom| looked_at.contains(atom) && !driven.contains(atom)).collect();
+        if !free.is_empty() {
+            self.notes.push("theory atoms: each may hold or not, as for clingo alone: what the theory says must stand in rules".to_string());
+        }
+        let choice = |atom: Literal| RawRule { is_choice: true, heads: vec![atom], body: Body::default(), is_bound: false, statement: None, line: 0 };
+        self.rules.extend(free.into_iter().map(choice));
     }
 
     /// A constraint for each circle of edges: their conditions do not all hold.
@@ -146,6 +160,7 @@ pub fn read(file: &str, text: &str) -> Result<Aspif, Fault> {
     }
     aspif.one_name_each();
     aspif.forbid_circles()?;
+    aspif.free_theory_atoms();
     Ok(aspif)
 }
 
@@ -217,7 +232,7 @@ fn statement(aspif: &mut Aspif, line: &str, spot: &Spot) -> Result<(), Fault> {
         6 => return refused("assumptions are", "write them as constraints"),
         7 => aspif.pass_over("heuristics", HEURISTICS),
         8 => aspif.edges.push(edge(&mut numbers)?),
-        9 => return refused("theory atoms are", "write out what the theory says as rules"),
+        9 => aspif.theory.extend(theory_atom(&mut numbers)?),
         _ => return Err(numbers.wrong()),
     }
     Ok(())
@@ -263,6 +278,15 @@ fn output(aspif: &mut Aspif, line: &str, spot: &Spot) -> Result<(), Fault> {
         _ => aspif.shown.push((name, condition)),
     }
     Ok(())
+}
+
+/// The atom of `9 5 ATOM ..` or `9 6 ATOM ..`; a directive has none. The other lines say what is written in it.
+fn theory_atom(numbers: &mut Numbers) -> Result<Option<Literal>, Fault> {
+    match numbers.next()? {
+        0..=2 | 4 => Ok(None),
+        5 | 6 => Ok(Some(numbers.next()?).filter(|&atom| atom > 0)),
+        _ => Err(numbers.wrong()),
+    }
 }
 
 fn edge(numbers: &mut Numbers) -> Result<(Literal, Literal, Vec<Literal>, usize), Fault> {

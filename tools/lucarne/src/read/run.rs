@@ -3,7 +3,10 @@
 use crate::fault::Fault;
 use std::io::{ErrorKind, Read, Write};
 use std::process::{Child, Command, Stdio};
-use std::thread;
+use std::thread::{self, JoinHandle};
+
+/// So much every empty pipe takes at once, whoever reads it: no thread is needed to write it.
+const PIPE_HOLDS: usize = 4096;
 
 pub struct Output {
     pub is_fine: bool,
@@ -21,9 +24,16 @@ pub fn run(program: &str, options: &[&str], input: &str, missing: &str) -> Resul
 /// The same, ended when it has written so many bytes.
 pub fn run_at_most(program: &str, options: &[&str], input: &str, missing: &str, most: u64) -> Result<Output, Fault> {
     let mut child = start(program, options, missing)?;
-    let (pipe, text) = (child.stdin.take(), input.to_string());
+    let pipe = child.stdin.take();
     // A program that stops early closes its input: what it says then stands in its output.
-    let writer = thread::spawn(move || pipe.map(|mut pipe| pipe.write_all(text.as_bytes())));
+    let write = |text: &str| drop(pipe.map(|mut pipe| pipe.write_all(text.as_bytes())));
+    let writer = if input.len() <= PIPE_HOLDS {
+        write(input);
+        None
+    } else {
+        let text = input.to_string();
+        Some(thread::spawn(move || write(&text)))
+    };
     let errors = child.stderr.take();
     let reader = thread::spawn(move || read_up_to(errors, u64::MAX).0);
     let (text, is_read) = read_up_to(child.stdout.take(), most);
@@ -32,7 +42,7 @@ pub fn run_at_most(program: &str, options: &[&str], input: &str, missing: &str, 
         drop(child.kill());
     }
     let status = child.wait().ok().filter(|_| is_read).ok_or_else(|| Fault::trouble(format!("{} cannot be read", program)))?;
-    drop(writer.join());
+    drop(writer.map(JoinHandle::join));
     Ok(Output {
         is_fine: status.success(),
         is_cut,

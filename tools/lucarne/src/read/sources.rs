@@ -6,6 +6,7 @@ use super::text::statements::{cut, Sheets, Statement};
 use crate::fault::{Fault, Spot};
 use std::fs::{self, File};
 use std::io::{self, Read};
+use std::os::unix::fs::MetadataExt;
 use std::path::{Path, PathBuf};
 use std::sync::Arc;
 
@@ -72,7 +73,8 @@ fn sheets(texts: Vec<(String, String)>, notes: Vec<String>) -> Result<Source, Fa
     for (path, text) in &texts {
         add(&mut sheets, path, text, &mut faults);
     }
-    let mut files: Vec<PathBuf> = texts.iter().map(|(path, _)| whole(Path::new(path))).collect();
+    let named = if sheets.includes.is_empty() { &[] } else { texts.as_slice() };
+    let mut files: Vec<PathBuf> = named.iter().map(|(path, _)| whole(Path::new(path))).collect();
     let mut next = 0;
     while let Some((name, spot)) = sheets.includes.get(next).cloned() {
         next += 1;
@@ -183,12 +185,22 @@ fn files(paths: &[PathBuf]) -> Result<(Vec<PathBuf>, Vec<String>), Fault> {
         notes.extend(folder.notes(path));
         files.extend(folder.sheets);
     }
-    // One file may be named in several ways.
-    let whole: Vec<PathBuf> = files.iter().map(|file| fs::canonicalize(file).unwrap_or_else(|_| file.clone())).collect();
-    match files.iter().enumerate().find(|(place, _)| whole[..*place].contains(&whole[*place])) {
-        Some((_, file)) => Err(Fault::new(format!("{} is named twice", file.display())).hint("name each sheet once")),
+    match named_twice(&files) {
+        Some(file) => Err(Fault::new(format!("{} is named twice", file.display())).hint("name each sheet once")),
         None => Ok((files, notes)),
     }
+}
+
+/// A file that stands before under the same name or another one. Two links to what is one file are two names in earnest, and are told apart by
+/// their places, which take longer to find.
+fn named_twice(files: &[PathBuf]) -> Option<&PathBuf> {
+    let numbers: Vec<_> = files.iter().map(|file| fs::metadata(file).ok().map(|known| (known.dev(), known.ino()))).collect();
+    let is_before = |place: usize, before: usize| {
+        let (file, other) = (&files[place], &files[before]);
+        file == other || numbers[before].is_some() && numbers[before] == numbers[place] && whole(file) == whole(other)
+    };
+    let place = (0..files.len()).find(|&place| (0..place).any(|before| is_before(place, before)))?;
+    Some(&files[place])
 }
 
 /// The bytes of a file or of the standard input, if they are not too many.
@@ -196,7 +208,12 @@ pub fn read_bytes(path: &Path) -> Result<Vec<u8>, Fault> {
     let mut bytes = Vec::new();
     let read = match path.as_os_str() == STANDARD_INPUT {
         true => io::stdin().take(MOST_BYTES + 1).read_to_end(&mut bytes),
-        false => File::open(path).and_then(|file| file.take(MOST_BYTES + 1).read_to_end(&mut bytes)),
+        false => File::open(path).and_then(|file| {
+            // Room for all of it, so that it is read at once.
+            let length = file.metadata().map_or(0, |known| known.len());
+            bytes.reserve(length.min(MOST_BYTES) as usize + 1);
+            file.take(MOST_BYTES + 1).read_to_end(&mut bytes)
+        }),
     };
     read.map_err(|error| Fault::new(format!("{} cannot be read: {}", path.display(), error)).hint(WHAT_TO_NAME))?;
     if bytes.len() as u64 > MOST_BYTES {

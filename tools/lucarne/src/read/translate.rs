@@ -114,7 +114,7 @@ impl<'a> Translator<'a> {
 
     /// Where a rule comes from. One that names no statement was added by gringo, or its line is not known.
     fn origin(&self, raw: &RawRule) -> Origin {
-        match (&self.origins, raw.statement) {
+        match (&self.origins, raw.statement.or_else(|| self.home(raw))) {
             (Origins::Statements(statements), Some(number)) => Origin::of(&statements[number]),
             (Origins::Statements(_), None) => Origin { text: self.written(raw), line_unknown: !self.is_opposite(raw), ..Origin::default() },
             (Origins::Lines(file), _) => {
@@ -122,6 +122,11 @@ impl<'a> Translator<'a> {
                 Origin { sheet: Some(0), spot: Some(spot), text: self.written(raw), line_unknown: false }
             }
         }
+    }
+
+    /// A nameless atom that is chosen, as a theory's, stands where a rule looks at it.
+    fn home(&self, raw: &RawRule) -> Option<usize> {
+        raw.heads.first().filter(|_| raw.is_choice).and_then(|head| self.homes.get(head)).copied()
     }
 
     /// `:- a, -a.`, which gringo adds for each relay that has an opposite; facts are left out of it.

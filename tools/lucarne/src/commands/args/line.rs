@@ -5,6 +5,7 @@ use crate::fault::Fault;
 use clap::builder::ValueParser;
 use clap::{value_parser, Arg, ArgAction, ArgMatches};
 use clap_complete::Shell;
+use std::ffi::OsString;
 
 pub const COMPLETIONS: &str = "completions";
 pub const MANUAL: &str = "man";
@@ -164,7 +165,19 @@ pub fn names() -> Vec<&'static str> {
     KNOWN.iter().map(|known| known.name).chain(["help", COMPLETIONS, MANUAL]).collect()
 }
 
+/// All commands with their options.
 pub fn lucarne() -> clap::Command {
+    with_options(|_| true)
+}
+
+/// The same for a command line. Where its first word is a command, only that one has its options: to build those of all takes longer than a
+/// small sheet.
+pub fn for_words(words: &[OsString]) -> clap::Command {
+    let first = words.first().and_then(|word| word.to_str()).and_then(|word| KNOWN.iter().find(|known| known.name == word));
+    with_options(|known| first.map_or(true, |first| first.name == known.name))
+}
+
+fn with_options(has_options: impl Fn(&Known) -> bool) -> clap::Command {
     let shell = Arg::new("shell").value_name("SHELL").help("bash, zsh or fish");
     let completions = clap::Command::new(COMPLETIONS).about("What a shell needs to complete commands and options").arg(shell);
     clap::Command::new("lucarne")
@@ -172,7 +185,7 @@ pub fn lucarne() -> clap::Command {
         .propagate_version(true)
         .about("Every settled position of a relay group, by name")
         .override_help(USAGE)
-        .subcommands(KNOWN.iter().map(subcommand))
+        .subcommands(KNOWN.iter().map(|known| if has_options(known) { subcommand(known) } else { clap::Command::new(known.name) }))
         .subcommand(completions)
         .subcommand(clap::Command::new(MANUAL).about("The manual page"))
 }

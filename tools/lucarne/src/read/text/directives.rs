@@ -301,7 +301,6 @@ pub fn kind(statement: &Statement) -> Result<Special, Fault> {
         "#program" if statement.text() == "#program base." => Ok(Special::Idle(None)),
         "#project" => Ok(idle(PROJECTION)),
         "#heuristic" => Ok(idle(HEURISTICS)),
-        "#theory" => Ok(idle("it says nothing by itself, and theory atoms are no part of a plan")),
         _ => no_part_of_a_plan(statement).map_or(Ok(Special::Rule), Err),
     }
 }

@@ -376,10 +376,7 @@ fn not_closed(token: &Token) -> Stop {
 }
 
 fn no_name(token: &Token) -> Stop {
-    if token.is("&") {
-        return Stop::Wrong(Fault::at(&token.spot, "theory atoms are no part of a plan").hint("write out what the theory says as rules"));
-    }
-    let is_larger = matches!(token.kind, Kind::Number | Kind::Hash | Kind::Quoted) || ["{", "(", "@", "$"].contains(&token.text.as_str());
+    let is_larger = matches!(token.kind, Kind::Number | Kind::Hash | Kind::Quoted) || ["{", "(", "@", "$", "&"].contains(&token.text.as_str());
     if is_larger {
         return large(token);
     }

@@ -60,6 +60,7 @@ impl Shape {
         let tokens = &statement.rule()[..end];
         match tokens {
             [first, rest @ ..] if first.is("#external") => builder.external(rest),
+            [first, ..] if first.is("#theory") => {}
             // What starts with another word of gringo's is no rule, but for the sums that may stand in a head.
             [first, ..] if first.kind == Kind::Hash && !tokens.iter().any(|token| token.is("{") || token.kind == Kind::If) => {}
             _ => builder.rule(tokens),
@@ -97,6 +98,7 @@ impl<'a> Builder<'a> {
         let arrow = tokens.iter().position(|token| token.kind == Kind::If);
         let (head, body) = arrow.map_or((tokens, &[][..]), |arrow| (&tokens[..arrow], &tokens[arrow + 1..]));
         match head.iter().position(|token| token.is("{")) {
+            _ if is_theory(head) => self.shape.is_complex = true,
             Some(open) => self.set(head, open, true),
             None => split(head, &[";", "|"]).into_iter().for_each(|part| self.head(part)),
         }
@@ -134,6 +136,10 @@ impl<'a> Builder<'a> {
 
     /// A part of a body.
     fn element(&mut self, part: &[Token]) {
+        if is_theory(part) {
+            self.shape.is_complex = true;
+            return;
+        }
         if let Some(open) = part.iter().position(|token| token.is("{")) {
             return self.set(part, open, false);
         }
@@ -205,6 +211,11 @@ impl<'a> Builder<'a> {
             replaced => replaced,
         }
     }
+}
+
+/// Whether a theory atom stands here, `&diff { x - y } <= 3`: gringo has a nameless atom for it, and what it holds are no relays.
+fn is_theory(part: &[Token]) -> bool {
+    part.iter().find(|token| !token.is("not")).map_or(false, |token| token.is("&"))
 }
 
 /// The parts of a body: a comma does not end a condition, a semicolon does.

@@ -11,9 +11,10 @@ use std::collections::BTreeSet;
 /// word for them says nothing to those who write them.
 pub fn misread(statement: &Statement, constants: &BTreeSet<String>) -> Option<Fault> {
     let tokens = &statement.tokens;
-    let is_const = tokens[0].is("#const");
+    // In theories signs of comparison are what the theory says.
+    let is_other = tokens[0].is("#const") || tokens[0].is("#theory") || tokens.iter().any(|token| token.is("&"));
     let slip = tokens.iter().find_map(digit_first).or_else(|| tokens.windows(2).find_map(|pair| capital_not(&pair[0], &pair[1])));
-    let compared = || (0..tokens.len()).filter(|_| !is_const).find_map(|place| comparison(tokens, place, constants));
+    let compared = || (0..tokens.len()).filter(|_| !is_other).find_map(|place| comparison(tokens, place, constants));
     Some(slip.or_else(compared)?.text(cut(&statement.text(), 100)))
 }
 

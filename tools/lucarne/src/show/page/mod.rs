@@ -18,7 +18,20 @@ use crate::plan::program::{Program, Setting};
 
 const TEMPLATE: &str = include_str!("page.html");
 const STYLE: &str = include_str!("page.css");
-const SCRIPT: &str = include_str!("page.js");
+/// The script, joined of files that go by what they are for. They share their names.
+const SCRIPT: &str = concat!(
+    "'use strict';\n(() => {\n",
+    include_str!("script/table.js"),
+    include_str!("script/question.js"),
+    include_str!("script/answer.js"),
+    include_str!("script/order.js"),
+    include_str!("script/press.js"),
+    include_str!("script/suggestions.js"),
+    include_str!("script/pointer.js"),
+    include_str!("script/copying.js"),
+    include_str!("script/start.js"),
+    "})();\n",
+);
 /// With more columns than this the page is printed across.
 const MOST_UPRIGHT: usize = 40;
 
