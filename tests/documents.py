@@ -89,8 +89,11 @@ def looks_like_root(folder, tool):
 
 
 def run(command, folder, environment):
-    done = subprocess.run(["bash", "-o", "pipefail", "-c", command], cwd=folder, env=environment, stdin=subprocess.DEVNULL, stdout=subprocess.PIPE,
-                          stderr=subprocess.STDOUT, timeout=SECONDS)
+    try:
+        done = subprocess.run(["bash", "-o", "pipefail", "-c", command], cwd=folder, env=environment, stdin=subprocess.DEVNULL, stdout=subprocess.PIPE,
+                              stderr=subprocess.STDOUT, timeout=SECONDS)
+    except subprocess.TimeoutExpired:
+        return None, [f"it took longer than {SECONDS} seconds"]
     return done.returncode, done.stdout.decode().splitlines()
 
 
