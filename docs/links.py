@@ -4,8 +4,8 @@
 - Each relative link of each .md file, and each picture, is there; an anchor is a heading of the page that is named.
 - Each path in backquotes that begins with a folder of the root is there, a sample or a source also without its ending. Paths with a word in capitals are
   forms.
-- In the pages of CITING a path below crates/ without its ending (`splitting/proofs/Last`) is a home: each name behind it in the same line, up to the next
-  home, is defined in that file. `judge::judge` is a function of that crate, in a module or not.
+- In the pages of CITING a path below crates/ without its ending (`splitting/proofs/Last`) is a home: each name behind it in the same paragraph, up to the
+  next home, is defined in that file. `judge::judge` is a function of that crate, in a module or not.
 - No page of SIZES is larger than its bytes there.
 
 The status is 1 where one of these does not hold, and each such place is printed."""
@@ -103,10 +103,21 @@ def has_function(crate, name):
     return any(re.search(rf'^(?:pub )?(?:extern "C" )?fn {name}\b', file.read_text(), re.M) for file in (CRATES / crate / "src").glob("*.rt"))
 
 
-def hold_names(line):
-    """What is wrong with the names of a line, each held against the home before it."""
+def paragraphs(page):
+    """Runs of lines up to a blank one, each with the number of its first line; a row of a table is one of its own."""
+    start, lines = 0, []
+    for number, line in [*lines_of(page), (0, "")]:
+        if lines and (not line.strip() or line.startswith("|") or number != start + len(lines)):
+            yield start, " ".join(lines)
+            lines = []
+        if line.strip():
+            start, lines = (start, [*lines, line]) if lines else (number, [line])
+
+
+def hold_names(paragraph):
+    """What is wrong with the names of a paragraph, each held against the home before it."""
     home = source = None
-    for token in TICKED.findall(line):
+    for token in TICKED.findall(paragraph):
         function = FUNCTION.match(token)
         if HOME.match(token):
             home, source = token, source_of(token)
@@ -125,8 +136,9 @@ def main():
         for number, line in lines_of(page):
             links = [a or b for a, b in LINK.findall(TICKED.sub("", line)) if not re.match(r"[a-z]+:", a or b)]
             found = [hold_link(page, link) for link in links] + [hold_path(page, token) for token in TICKED.findall(line) if place not in PAST]
-            found += hold_names(line) if place in CITING else []
             wrong.extend(f"{place}:{number}: {what}" for what in found if what)
+        for number, paragraph in paragraphs(page) if place in CITING else []:
+            wrong.extend(f"{place}:{number}: {what}" for what in hold_names(paragraph))
     for place, most in SIZES.items():
         size = len((ROOT / place).read_bytes()) if (ROOT / place).exists() else None
         if size is None or size > most:

@@ -3,8 +3,9 @@
 
 A command stands behind '$ ' in an indented block; the lines behind it, up to a blank line or the next command, are its whole output, and '..' alone stands for
 any lines. A command in backquotes that begins with 'lucarne ' or 'gringo ' must run too, and what it prints is not compared; one with a word in capitals,
-such as GROUP, is a form and not a command. The status of each must be 0 or 1, of which 1 says that lists differ or that there is no position. Commands run in
-a folder that looks like the repository's root, so that files which they write do not stay. In STRICT pages every indented block is of commands.
+such as GROUP, is a form and not a command. The status of each must be 0 or 1, of which 1 says that lists differ or that there is no position; one whose output
+is printed may be 2, refused. Commands run in a folder that looks like the repository's root, so that files which they write do not stay. In STRICT pages
+every indented block is of commands.
 
 TOOL is lucarne (default target/lucarne-tests/lucarne). Commands of a program that is not installed or built are skipped with a word. The last line is
 'N passed, M failed'."""
@@ -88,8 +89,11 @@ def looks_like_root(folder, tool):
 
 
 def run(command, folder, environment):
-    done = subprocess.run(["bash", "-o", "pipefail", "-c", command], cwd=folder, env=environment, stdin=subprocess.DEVNULL, stdout=subprocess.PIPE,
-                          stderr=subprocess.STDOUT, timeout=SECONDS)
+    try:
+        done = subprocess.run(["bash", "-o", "pipefail", "-c", command], cwd=folder, env=environment, stdin=subprocess.DEVNULL, stdout=subprocess.PIPE,
+                              stderr=subprocess.STDOUT, timeout=SECONDS)
+    except subprocess.TimeoutExpired:
+        return None, [f"it took longer than {SECONDS} seconds"]
     return done.returncode, done.stdout.decode().splitlines()
 
 
@@ -111,7 +115,7 @@ class Trial:
             print(f"skipped, since {program} is not installed: {place}: {command}")
             return
         status, found = run(command, self.folder, self.environment)
-        self.result(status in (0, 1), place, f"status {status}: {command}\n  " + "\n  ".join(found[-3:]))
+        self.result(status in ((0, 1) if expected is None else (0, 1, 2)), place, f"status {status}: {command}\n  " + "\n  ".join(found[-3:]))
         if expected is not None:
             self.result(fits(expected, found), place, f"prints something else: {command}\n  " + "\n  ".join(found[:12]))
 

@@ -1,5 +1,5 @@
 #!/bin/bash
-# tests/documents_can_fail.sh [TOOL]: shows that tests/documents.py and docs/links.py notice mistakes: each in a copy of the documents with one mistake. The last
+# tests/documents_can_fail.sh [TOOL]: shows that tests/documents.py and docs/links.py notice mistakes, each in a copy of the documents with one. The last
 # line is 'N mistakes noticed, M not'. TOOL is lucarne, as for documents.py.
 cd "$(dirname "$0")/.." || exit 2
 tool=${1:-target/lucarne-tests/lucarne} noticed=0 missed=0
