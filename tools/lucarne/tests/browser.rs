@@ -14,6 +14,7 @@ use std::time::{Duration, Instant};
 const START: &str = "exec \"$0\" --headless --no-sandbox --remote-debugging-pipe --user-data-dir=\"$1\" --no-first-run --disable-gpu \
     --disable-dev-shm-usage --disable-background-networking --disable-component-update --disable-sync --disable-extensions --disable-breakpad \
     --disable-background-timer-throttling --disable-backgrounding-occluded-windows --disable-renderer-backgrounding --hide-scrollbars \
+    --in-process-gpu --no-zygote --disable-default-apps --metrics-recording-only --password-store=basic --disable-features=Translate,MediaRouter \
     about:blank 3<&0 4>&1 </dev/null >\"$2\" 2>&1";
 /// A browser that says nothing for so long is given up, and so is a page that is not there by then.
 const PATIENCE: Duration = Duration::from_secs(60);

@@ -197,8 +197,13 @@ def atoms(ground):
     return len(found)
 
 
+def reason(told):
+    """Why a program is refused, without its own names and numbers."""
+    return re.sub(r"^-:\d+:\d+: |\d+|\"[^\"]*\"|^[^:]* is (?=shown|driven)", "", told)
+
+
 def main():
-    count, reasons, within, refused = {}, {}, 0, 0
+    count, reasons, within = {}, {}, []
     for name, text, wanted in programs(fetch()):
         status, ground, _ = run(["gringo", "--output=intermediate", "--warn=none"], text)
         ways = [("sheet", None)] + ([("ground program", ground)] if status == 0 else [])
@@ -208,18 +213,19 @@ def main():
             if how in ("different", "without end", "trouble", "not listed by clingo"):
                 print(f"{how} as {way}: {name}: {told}\n{text}\n")
             is_small = way == "sheet" and status == 0 and atoms(ground) <= 64
-            if is_small and (how.startswith("the same") or run(CLINGO, text)[0] in (10, 20, 30)):
-                within += 1
-                refused += how == "refused"
+            is_within = is_small and (how.startswith("the same") or run(CLINGO, text)[0] in (10, 20, 30))
+            within += [how] if is_within else []
             if how == "refused" and way == "sheet":
-                reason = re.sub(r"^-:\d+:\d+: |\d+|\"[^\"]*\"|^[^:]* is (?=shown|driven)", "", told)
-                reasons[reason] = reasons.get(reason, 0) + 1
+                both = reasons.setdefault(reason(told), [0, 0])
+                both[0] += 1
+                both[1] += is_within
     if "-v" in sys.argv:
-        for reason, number in sorted(reasons.items(), key=lambda pair: -pair[1]):
-            print(f"{number:5} {reason}")
+        print("refused, and of these within 64 atoms and taken by clingo:")
+        for why, (number, small) in sorted(reasons.items(), key=lambda pair: pair[1], reverse=True):
+            print(f"{number:5} {small:5} {why}")
     for (way, how), number in sorted(count.items()):
         print(f"{way}: {number} {how}")
-    print(f"within 64 atoms and taken by clingo: {within}, of which {refused} are refused")
+    print(f"within 64 atoms and taken by clingo: {len(within)}, of which {within.count('refused')} are refused")
     bad = sum(number for (_, how), number in count.items() if how in ("different", "without end", "trouble"))
     print(f"{sum(count.values()) - bad} passed, {bad} failed")
     return bad > 0 or not count

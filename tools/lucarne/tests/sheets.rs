@@ -54,7 +54,7 @@ fn main() {
 
 const ATOMS: [&str; 9] = ["p(1)", "p(2)", "p(3)", "q", "r", "s", "-q", "t(a,b)", "-g"];
 /// What only gringo reads, in bodies; `d` has three facts, and n is 2.
-const LARGE: [&str; 39] = [
+const LARGE: [&str; 42] = [
     "#count{X:p(X)} > 1",
     "#sum{2,q:q;1,r:r;1,s:not s} >= 2",
     "p(X) : d(X)",
@@ -94,9 +94,12 @@ const LARGE: [&str; 39] = [
     "2 {not p(1); not p(2); p(3); q; not r; s; t(a,b)} 5",
     "not not 4 {p(1..3); q; r; s; t(a,b)}",
     "3 {k; m; p(1..3); q; u; v; s} 6",
+    "&open { q; r }",
+    "not &open { s }",
+    "d(X), &at(X) { q } <= X",
 ];
 /// Heads that only gringo reads.
-const HEADS: [&str; 15] = [
+const HEADS: [&str; 17] = [
     "1 { p(X) : d(X) } 1",
     "1 { p(X) : d(X) } 2",
     "p(X) : d(X), X < 3",
@@ -112,6 +115,8 @@ const HEADS: [&str; 15] = [
     "{ p(1..3); q; r; s; t(a,b) } = 3",
     "1 { p(1..3); q; r; s; t(a,b) } 4",
     "{ p(1..3); q } 1",
+    "&open { s }",
+    "&at(n) { q } <= n",
 ];
 /// Statements that only gringo reads.
 const WHOLE: [&str; 4] = [
@@ -130,6 +135,7 @@ fn draw(random: &mut Random, is_ground: bool) -> Vec<String> {
     if !is_ground {
         // `last` is facts in part, as a predicate that gringo knows and marks would hide from it.
         texts[0] += "d(1..3).\n#const n = 2.\nlast(3). last(X) :- p(X), X < 3.\n#defined t/2.\n";
+        texts[0] += "#theory any { node {}; &open/0 : node, any; &at/1 : node, {<=}, node, any }.\n";
         texts[0] += &format!("#external e(X) : d(X), X > 1. [{}]\n", random.pick(&["true", "false", "free"]));
     }
     if !is_ground && random.chance(40) {

@@ -16,7 +16,7 @@ pub mod svg;
 pub mod table;
 
 use crate::plan::group::Group;
-use csv::Heads;
+use self::csv::Heads;
 use crate::plan::library;
 
 #[derive(Clone, Copy, Debug, PartialEq, Eq)]
