@@ -10,3 +10,5 @@ pub mod Walks
 pub mod AddedWords
 -- The tree over undecided atoms: what is known at a node, its two branches, and that all below the dropped one are below all below the other
 pub mod Trees
+-- Positions that are like the place from an atom on: they are the ones behind it up to the last of them, and all others come later
+pub mod NearPlaces

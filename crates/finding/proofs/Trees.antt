@@ -36,6 +36,7 @@ use Rattle.finding.specs.Whole.{noLists, unitOf, hiddenOf, Fitting, Stan
 use Rattle.finding.specs.Least.{Behind, from-start, above}
 use Rattle.finding.specs.Gather.{Added, Sought, Due, Offered, AllPassed, darkOf, Likely, Hinted, known, unknown, Looked, seen, unseen}
 use Rattle.finding.specs.Gather.{Kept, kept, left, PlaceIn, at-place, elsewhere, Node, Descended}
+use Rattle.finding.specs.Near.{Further}
 use Rattle.finding.specs.declared.least.From.{From}
 use Rattle.finding.specs.declared.least.From.the-variants.{Start, Above}
 use Rattle.finding.specs.declared.gather.Branch.{Branch}
@@ -108,7 +109,7 @@ overlap-nothing {s = s} {b = b} e t = none (λ M f.
     (record { none = λ i u d. f .wanted .completes .no-dropped .none i d (f .wanted .completes .has-up .each i u) }))
 
 -- who fits the state completes it without pilots
-fits-dark : {rules desk : List ℕ} {unit : Unit} {facts : ℕ} {s : State} {M : ℕ} → Fitting rules desk unit facts s M
+pub fits-dark : {rules desk : List ℕ} {unit : Unit} {facts : ℕ} {s : State} {M : ℕ} → Fitting rules desk unit facts s M
     → Completes (darkOf s (hiddenOf unit facts)) M
 fits-dark {unit = unit} {facts} {s} {M} f = rw (f .is) (record {
   has-up = record {
@@ -161,13 +162,13 @@ pub place-kept : {s : State} {from : From} {p : ℕ} {w : Witness} → from ≡ 
 place-kept e (kept l c) = at-place l e c
 place-kept e left = elsewhere
 
-pub hinted-place : {rules desk : List ℕ} {unit : Unit} {facts : ℕ} {from : From} {s t : State} {w : Witness} → t ≡ darkOf s (hiddenOf unit facts)
-    → PlaceIn t from w → Hinted rules desk unit facts from s w
-hinted-place {from = from} g (at-place {p} l e c) = known (record { word = l; completes = rw g at c; fits = λ b. absurd (here b) })
+pub hinted-place : {rules desk : List ℕ} {unit : Unit} {facts : ℕ} {from to : From} {s t : State} {w : Witness} → t ≡ darkOf s (hiddenOf unit facts)
+    → Further from to → PlaceIn t from w → Hinted rules desk unit facts to s w
+hinted-place {from = from} {to} g f (at-place {p} l e c) = known (record { word = l; completes = rw g at c; fits = λ b. absurd (here (f .each p b)) })
   where
     here : ¬ Behind from p
     here b = let k = above-of (rw e at b) in omega arith
-hinted-place g elsewhere = unknown
+hinted-place g f elsewhere = unknown
 
 -- ---- the two branches
 
@@ -242,7 +243,7 @@ descended {rules} {desk} {unit} {facts} {from} s k phase {node = node} {m} {d} r
 -- ---- what is gathered
 
 -- completions agree on all atoms that are decided
-completion-has : {s : State} {M N i : ℕ} → Completes s M → Completes s N → i < ATOMS → ¬ Has (undecided (s .up) (s .dropped)) i → Has M i → Has N i
+pub completion-has : {s : State} {M N i : ℕ} → Completes s M → Completes s N → i < ATOMS → ¬ Has (undecided (s .up) (s .dropped)) i → Has M i → Has N i
 completion-has {s} {M} {N} {i} c d l n h = go (decided-cases (s .up) (s .dropped) i l n)
   where
     go : Has (s .up) i ⊎ Has (s .dropped) i → Has N i

@@ -3,3 +3,4 @@ pub mod Least
 pub mod Few
 pub mod Walk
 pub mod Gather
+pub mod Near

@@ -7,12 +7,15 @@ use crate::ask::unit_of;
 use crate::least::From;
 use crate::least::is_behind;
 use crate::least::put;
+use crate::near::gather_nearest;
 use joining::filter::full_filter;
 use learning::store::empty_store;
 use plan::MAX_UNITS;
 use propagating::Unit;
+use propagating::agenda::woken;
+use propagating::desk::INDEX;
+use propagating::desk::PILOTS;
 use propagating::front::Front;
-use propagating::front::moved;
 use propagating::propagate::propagate;
 use searching::witness::Witness;
 use states::State;
@@ -28,7 +31,7 @@ ghost use Rattle.answer_sets.specs.AnswerSet.{AnswerSet};
 ghost use Rattle.answer_sets.specs.Lent.{lent, Lent};
 ghost use Rattle.states.specs.Narrowing.{Narrows, branchOf};
 ghost use Rattle.learning.specs.Reason.{Remembers};
-ghost use Rattle.propagating.specs.Desk.{Wired};
+ghost use Rattle.propagating.specs.Desk.{DESK_WORDS, Wired};
 ghost use Rattle.finding.specs.Whole.{noLists, hiddenOf, Standing};
 ghost use Rattle.finding.specs.Gather.{Added, Sought, Due, AllPassed, darkOf, Likely, Looked, Kept, PlaceIn, Node, Descended};
 
@@ -66,7 +69,7 @@ fn kept(m: u64, s: State) -> Witness
 }
 
 // The position itself, if it completes the state: no answer set need be looked for on the way to it.
-fn place_in(s: State, from: From) -> Witness
+pub fn place_in(s: State, from: From) -> Witness
     ensures { λ r. ⌜ PlaceIn s from r ⌝ }
 {
     match from {
@@ -76,12 +79,26 @@ fn place_in(s: State, from: From) -> Witness
 }
 
 // The state as it is without pilots: all of them are dropped.
-fn dark_of(s: State, hidden: u64) -> State
+pub fn dark_of(s: State, hidden: u64) -> State
     ensures { λ r. ⌜ r ≡ darkOf s hidden ⌝ }
 {
     State {
         up: atoms::without(s.up, hidden),
         dropped: atoms::union(s.dropped, hidden),
+    }
+}
+
+// The front in another state, with the steps that it wakes beside those that were still to be taken.
+pub fn onward(desk: &[u64], f: Front, after: State) -> Front
+    requires { ⌜ length (now desk) ≡ DESK_WORDS ⌝ }
+    ensures { λ r. ⌜ r .state ≡ after ⌝ }
+{
+    let agenda = f.agenda;
+    let before = f.state;
+    Front {
+        state: after,
+        agenda: woken(&desk[INDEX..PILOTS], agenda, before, after),
+        top: f.top,
     }
 }
 
@@ -135,7 +152,7 @@ fn step_down(
     let table = [0u64; 0];
     let counts = [0usize; MAX_UNITS];
     let mut filter = full_filter(&counts);
-    let g = moved(desk, f, t);
+    let g = onward(desk, f, t);
     propagate(rules, &table, &counts, desk, unit, memory, &mut filter, g)
 }
 
@@ -166,7 +183,7 @@ fn descend(
 
 // Puts the least answer sets that are sought and complete the node's state into the words from `at` on, until none is left or the words are full:
 // the new count. All that lack the highest undecided atom are below all that have it, so that these are not looked for once the words are full.
-fn gather(
+pub fn gather(
     rules: &[u64],
     desk: &[u64],
     memory: &mut [u64],
@@ -222,11 +239,27 @@ pub fn gather_all(
     let unit = unit_of(&desk, which, facts);
     let mut memory = empty_store();
     let front = root_of(rules, &desk, &mut memory, unit, facts);
+    let query = Query { unit, facts, from };
+    let near = gather_nearest(rules, &desk, &mut memory, query, front, passed, out);
     let dark = dark_of(front.state, atoms::without(unit.inputs, facts));
     let root = Branch {
         front,
         known: place_in(dark, from),
     };
-    let query = Query { unit, facts, from };
-    gather(rules, &desk, &mut memory, query, root, passed, out, 0)
+    let further = near.from;
+    let rest = Query {
+        unit,
+        facts,
+        from: further,
+    };
+    gather(
+        rules,
+        &desk,
+        &mut memory,
+        rest,
+        root,
+        passed,
+        out,
+        near.count,
+    )
 }

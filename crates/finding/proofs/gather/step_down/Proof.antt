@@ -24,9 +24,9 @@ propagate-requires c κs =
 returns-2 : tie.Need-returns-2
 returns-2 c =
     let done = c .before .before .before in
-    let at-moved = done .before .before .before .before .before in
-    let decided = at-moved .before .before .before .before .before .before .before .before in
-    let told = rw (at-moved .moved .ensures, decided .decide .ensures) at (done .propagate .ensures) in
+    let here-on = done .before .before .before .before .before in
+    let decided = here-on .before .before .before .before .before .before .before .before in
+    let told = rw (here-on .onward .ensures, decided .decide .ensures) at (done .propagate .ensures) in
     (told .0, told .1 .1)
 
 pub step-down-spec : {M : Type 1} → statement M
