@@ -1,4 +1,5 @@
 -- The loop carries the words that are copied. The measure is how many are left.
+use borrow.Author.Needs.{needs}
 use mathlib.Core.Path.{_≡_, sym, _∙_}
 use Prim.Native.Nat.{ℕ, _-_}
 use native.Mathlib.Omega.{arith}
@@ -23,11 +24,6 @@ loop-holds c = (
   c .pre,
 )
 
-loop-again : tie.Need-loop-again Inv-loop μ-loop
-loop-again c =
-    let loop = c .before .before in
-    (copying-next _ _ _ (loop .loop .inv .0) (omega (arith, loop .loop .inv .1, c .before .loop-test .taken)), loop .loop .inv .1)
-
 returns : tie.Need-returns Inv-loop μ-loop
 returns c = copying-end (c .before .loop .inv .0) (omega (arith, c .before .loop .inv .1, c .loop-test .left))
 
@@ -44,5 +40,5 @@ copied-spec =
     (λ c. omega (arith, c .before .before .loop .inv .0 .same-length, c .before .before .loop .inv .1, c .before .loop-test .taken))
     (λ c. omega arith)
     (λ c. omega arith)
-    loop-again
+    (λ c. search (copying-next, needs))
     returns)

@@ -29,17 +29,8 @@ inside : (c : tie.After-lowest Inv-loop μ-loop) → c .lowest .result < MAX_UNI
 inside c =
     taken-lt MAX_UNITS (c .before .before .before .before .before .before .pre .few) (c .before .before .loop .inv .within) (c .lowest .ensures .0)
 
-mul-contains : tie.Need-mul-contains Inv-loop μ-loop
-mul-contains c = omega (arith, inside c)
-
-mul-contains-2 : tie.Need-mul-contains-2 Inv-loop μ-loop
-mul-contains-2 c = omega (arith, inside c)
-
 shared-slice-read-contains : tie.Need-shared-slice-read-contains Inv-loop μ-loop
 shared-slice-read-contains c = omega (arith, inside (c .before), c .before .before .before .before .before .before .before .pre)
-
-mul-cut : tie.Need-mul-cut Inv-loop μ-loop
-mul-cut c = omega (arith, inside (c .before))
 
 shared-slice-read-cut : tie.Need-shared-slice-read-cut Inv-loop μ-loop
 shared-slice-read-cut c = omega (arith, inside (c .before .before), c .before .before .before .before .before .before .before .before .pre)
@@ -100,10 +91,10 @@ joins-spec =
     μ-loop
     (λ c. taking-start)
     (λ c κs. c .loop-test .taken)
-    mul-contains
-    mul-contains-2
+    (λ c. search needs)
+    (λ c. search needs)
     shared-slice-read-contains
-    mul-cut
+    (λ c. search needs)
     shared-slice-read-cut
     (λ c κs. search needs)
     contains-requires

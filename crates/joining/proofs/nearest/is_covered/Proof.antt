@@ -26,9 +26,6 @@ inside : (c : tie.After-lowest Inv-loop μ-loop) → c .lowest .result < MAX_UNI
 inside c =
     taken-lt MAX_UNITS (c .before .before .before .before .pre .1) (c .before .before .loop .inv .within) (c .lowest .ensures .0)
 
-mul-is-subset : tie.Need-mul-is-subset Inv-loop μ-loop
-mul-is-subset c = omega (arith, inside c)
-
 shared-slice-read-is-subset : tie.Need-shared-slice-read-is-subset Inv-loop μ-loop
 shared-slice-read-is-subset c = omega (arith, inside (c .before), c .before .before .before .before .before .pre .0)
 
@@ -60,7 +57,7 @@ is-covered-spec =
     μ-loop
     (λ c. taking-start)
     (λ c κs. c .loop-test .taken)
-    mul-is-subset
+    (λ c. search needs)
     shared-slice-read-is-subset
     (λ c κs. search needs)
     returns

@@ -36,11 +36,6 @@ without-covered-requires c κs =
       inside start (taken-lent (old .inv .within) (c .lowest .ensures .0)),
     )
 
-loop-again : tie.Need-loop-again Inv-loop μ-loop
-loop-again c =
-    carrying-next (c .before .before .before .before .loop .inv) (c .before .before .lowest .ensures .0) (c .drop .ensures)
-    (λ h f. subset-trans (c .before .without-covered .ensures) f)
-
 returns : tie.Need-returns Inv-loop μ-loop
 returns c =
     let start = c .before .before in
@@ -61,5 +56,5 @@ nearest-spec =
     without-covered-requires
     (λ c κs. c .before .lowest .ensures .1)
     (λ c. taken-less (c .before .before .lowest .ensures .0) (c .drop .ensures))
-    loop-again
+    (λ c. search (carrying-next, subset-trans, needs))
     returns)

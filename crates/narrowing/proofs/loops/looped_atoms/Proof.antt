@@ -1,4 +1,5 @@
 -- The loop carries that every set that holds itself up is within. The measure is how many atoms are left.
+use borrow.Author.Needs.{needs}
 use native.Mathlib.Omega.{arith}
 use lib.Count.{ones}
 use Rattle.atoms.proofs.Counts.{count-proper}
@@ -13,9 +14,6 @@ Inv-loop rules which within₀ held₀ within held = HeldAmong rules which withi
 abbrev μ-loop : tie.MeasureT-loop
 μ-loop rules which within₀ held₀ within held = ones within
 
-loop-less : tie.Need-loop-less Inv-loop μ-loop
-loop-less c = count-proper _ _ (held-within (c .before .before .loop .inv .0)) (c .before .loop-test .taken)
-
 loop-again : tie.Need-loop-again Inv-loop μ-loop
 loop-again c = let inv = c .before .before .loop .inv in (c .held-on-all2 .ensures, above-next (inv .0) (inv .1))
 
@@ -29,6 +27,6 @@ looped-atoms-spec =
     (λ c κs. c .before .before .pre)
     (λ c. (c .held-on-all .ensures, above-all (c .before .first .ensures)))
     (λ c κs. c .before .before .before .before .before .pre)
-    loop-less
+    (λ c. search (count-proper, held-within, needs))
     loop-again
     (λ c. let inv = c .before .loop .inv in looped-end (inv .0) (inv .1) (c .loop-test .left)))

@@ -7,10 +7,6 @@ use borrow.Author.Needs.{needs}
 use Rattle.narrowing.proofs.steps.apply_support.Statement.{statement}
 use Rattle.narrowing.proofs.steps.apply_support.Tie as tie
 
-support-step-requires : tie.Need-support-step-requires
-support-step-requires c κs =
-    let pre = c .before .before .before .before .before .before .pre in (backers-lent (pre .0) (pre .1) _, pre .2)
-
 returns-2 : tie.Need-returns-2
 returns-2 c =
     let test = c .before .before .before in
@@ -30,5 +26,5 @@ apply-support-spec =
     (λ c. search needs)
     (λ c. search needs)
     (λ c. search needs)
-    support-step-requires
+    (λ c κs. search (backers-lent, needs))
     returns-2)

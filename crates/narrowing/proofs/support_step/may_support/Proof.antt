@@ -16,12 +16,6 @@ returns c =
     (c .before .before .drop .ensures ∙ ap (λ (w : ℕ). w ∖ atom (at .atom)) (c .before .before .before .head .ensures))
     (sym (c .before .are-apart .ensures) ∙ not-true (c .before .are-apart .result) (c .if1 .taken))
 
-returns-2 : tie.Need-returns-2
-returns-2 c = may _ _ _ _ _ refl
-
-returns-3 : tie.Need-returns-3
-returns-3 c = body-failed _ _ _ _ _ (c .before .before .body-known .ensures) (c .enum-told2 .given .1)
-
 returns-4 : tie.Need-returns-4
 returns-4 c = may _ _ _ _ _ refl
 
@@ -37,6 +31,6 @@ may-support-spec =
     (λ c. search needs)
     (λ c. search needs)
     (λ c. search needs)
-    returns-2
-    returns-3
+    (λ c. search (may, needs))
+    (λ c. search (body-failed, needs))
     returns-4)

@@ -6,11 +6,6 @@ use borrow.Author.Needs.{needs}
 use Rattle.narrowing.proofs.support_step.support_step.Statement.{statement}
 use Rattle.narrowing.proofs.support_step.support_step.Tie as tie
 
-returns : tie.Need-returns
-returns c =
-    let n = c .before .before .before in
-    none-left _ _ _ _ (n .supporters .ensures) _ _ (c .before .before .if1 .taken) (c .before .single .ensures) (c .union .ensures)
-
 supporters-requires-2 : tie.Need-supporters-requires-2
 supporters-requires-2 c κs =
     let n = c .before .before .before .before .before .before in
@@ -42,7 +37,7 @@ support-step-spec =
     (λ c κs. search needs)
     (λ c κs. search needs)
     (λ c κs. search needs)
-    returns
+    (λ c. search (none-left, needs))
     (λ c κs. search needs)
     (λ c κs. search needs)
     (λ c. search needs)
