@@ -20,11 +20,6 @@ Inv-loop rules which position before₀ p₀ before p =
 abbrev μ-loop : tie.MeasureT-loop
 μ-loop rules which position before₀ p₀ before p = ones (undecided (before .up) (before .dropped))
 
-rule-pass-requires-2 : tie.Need-rule-pass-requires-2 Inv-loop μ-loop
-rule-pass-requires-2 c κs =
-    let at = c .before .before .before in
-    lent-part (at .before .before .before .pre) (at .loop .inv .0 .part)
-
 loop-less : tie.Need-loop-less Inv-loop μ-loop
 loop-less c =
     let test = c .before .before in
@@ -44,7 +39,7 @@ rounds-spec =
     (λ c κs. c .before .pre)
     (λ c. (c .rule-pass .ensures, c .rule-pass .ensures .narrows))
     (λ c κs. search needs)
-    rule-pass-requires-2
+    (λ c κs. search (lent-part, needs))
     loop-less
     loop-again
     (λ c. c .before .before .loop .inv .0))

@@ -11,23 +11,6 @@ tested c = c .before .before .before
 abbrev start : tie.After-head → tie.Start
 start c = c .before .before .before
 
-returns : tie.Need-returns
-returns c =
-    let head = c .before .before .before in
-    sifted-met (start head .args .p) (met-by-head _ _ (head .head .ensures) (c .before .before .are-apart .ensures) (c .before .if1 .taken))
-    (c .without-rule .ensures)
-
-returns-2 : tie.Need-returns-2
-returns-2 c =
-    let step = c .before in
-    let known = step .before .before .before in
-    sifted-on (start (tested known) .args .p) (step .rule-step .ensures .narrows) (c .moved-on .ensures)
-
-returns-3 : tie.Need-returns-3
-returns-3 c =
-    let known = c .before .before .before in
-    sifted-met (start (tested known) .args .p) (met-by-body _ _ (known .body-known .ensures) (c .before .enum-told2 .given .1)) (c .without-rule2 .ensures)
-
 returns-4 : tie.Need-returns-4
 returns-4 c =
     let known = c .before .before .before .before in
@@ -40,7 +23,7 @@ pass-rule-spec =
     (λ c κs. search needs)
     (λ c κs. search needs)
     (λ c κs. search needs)
-    returns
+    (λ c. search (sifted-met, met-by-head, needs))
     (λ c κs. search needs)
     (λ c. search needs)
     (λ c κs. search needs)
@@ -50,6 +33,6 @@ pass-rule-spec =
     (λ c. search needs)
     (λ c κs. search needs)
     (λ c κs. search needs)
-    returns-2
-    returns-3
+    (λ c. search (sifted-on, needs))
+    (λ c. search (sifted-met, met-by-body, needs))
     returns-4)

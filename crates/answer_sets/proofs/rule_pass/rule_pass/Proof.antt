@@ -30,12 +30,6 @@ loop-again c =
     carrying-next (low .before .before .loop .inv) (low .lowest .ensures .0) (c .drop .ensures)
     (λ h k. sifted-next h k (rw (turn .before .round-of .ensures) at (turn .pass-rule .ensures)))
 
-drop-requires : tie.Need-drop-requires Inv-loop μ-loop
-drop-requires c κs = c .before .before .before .lowest .ensures .1
-
-loop-less : tie.Need-loop-less Inv-loop μ-loop
-loop-less c = taken-less (c .before .before .before .before .lowest .ensures .0) (c .drop .ensures)
-
 returns : tie.Need-returns Inv-loop μ-loop
 returns c = rw (c .round-of2 .ensures) (c .before .before .loop .inv .fact)
 
@@ -49,8 +43,8 @@ rule-pass-spec =
     (λ c κs. c .loop-test .taken)
     (λ c κs. search needs)
     pass-rule-requires
-    drop-requires
-    loop-less
+    (λ c κs. search needs)
+    (λ c. search (taken-less, needs))
     loop-again
     (λ c κs. search needs)
     returns)

@@ -4,9 +4,6 @@ use borrow.Author.Needs.{needs}
 use Rattle.answer_sets.proofs.tried.candidates.Statement.{statement}
 use Rattle.answer_sets.proofs.tried.candidates.Tie as tie
 
-returns : tie.Need-returns
-returns c = candidates-head _ _ _ (c .before .before .head .ensures) (c .before .cut .ensures) (c .if1 .taken)
-
 returns-2 : tie.Need-returns-2
 returns-2 c =
     let looked = c .before .before in
@@ -24,7 +21,7 @@ candidates-spec =
     (tie.spec
     (λ c κs. search needs)
     (λ c κs. search needs)
-    returns
+    (λ c. search (candidates-head, needs))
     (λ c κs. search needs)
     (λ c κs. search needs)
     (λ c κs. search needs)

@@ -1,6 +1,5 @@
 -- The inputs gathered use by use.
 use lib.Count.{ones}
-use native.Mathlib.Omega.{arith}
 use Rattle.atoms.proofs.Counts.{taken-less}
 use mathlib.Core.Path.{_∙_, ap}
 use Prim.Native.Nat.{ℕ}
@@ -20,13 +19,6 @@ abbrev μ-loop : tie.MeasureT-loop
 
 loop-holds : tie.Need-loop-holds Inv-loop μ-loop
 loop-holds c = gathers-start (c .before .first .ensures) (c .cut .ensures ∙ ap (λ (w : ℕ). w ∩ c .before .first .result) (c .before .before .uses .ensures))
-
-table-of-requires : tie.Need-table-of-requires Inv-loop μ-loop
-table-of-requires c κs = gathers-lt (c .before .before .loop .inv) (c .lowest .ensures .0)
-
-table-inputs-requires : tie.Need-table-inputs-requires Inv-loop μ-loop
-table-inputs-requires c κs =
-    (omega (arith, c .before .before .before .before .before .before .before .before .pre), c .table-of .ensures .1)
 
 loop-again : tie.Need-loop-again Inv-loop μ-loop
 loop-again c =
@@ -53,8 +45,8 @@ used-inputs-spec =
     (λ c κs. search needs)
     loop-holds
     (λ c κs. c .loop-test .taken)
-    table-of-requires
-    table-inputs-requires
+    (λ c κs. search (gathers-lt, needs))
+    (λ c κs. search needs)
     (λ c κs. search needs)
     (λ c κs. c .before .before .before .lowest .ensures .1)
     (λ c. taken-less (c .before .before .before .before .lowest .ensures .0) (c .drop .ensures))

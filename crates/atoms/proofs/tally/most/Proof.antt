@@ -20,18 +20,6 @@ abbrev μ-loop : tie.MeasureT-loop
 loop-holds : tie.Need-loop-holds Inv-loop μ-loop
 loop-holds c = (record { within = subset-refl; some = c .before .pre }, omega arith, most-start (now (c .before .args .places)) _)
 
-sub-i : tie.Need-sub-i Inv-loop μ-loop
-sub-i c = omega (arith, c .loop-test .taken)
-
-shared-slice-read-prefer : tie.Need-shared-slice-read-prefer Inv-loop μ-loop
-shared-slice-read-prefer c = omega (arith, c .before .before .loop .inv .1, c .before .loop-test .taken)
-
-prefer-requires : tie.Need-prefer-requires Inv-loop μ-loop
-prefer-requires c κs = c .before .before .loop .inv .0 .some
-
-loop-less : tie.Need-loop-less Inv-loop μ-loop
-loop-less c = omega (arith, c .before .before .loop-test .taken)
-
 loop-again : tie.Need-loop-again Inv-loop μ-loop
 loop-again c =
     let inv = c .before .before .before .loop .inv in (
@@ -43,9 +31,6 @@ loop-again c =
       most-next _ _ (c .before .before .loop-test .taken) (inv .1) (inv .2) (c .prefer .ensures .1),
     )
 
-returns : tie.Need-returns Inv-loop μ-loop
-returns c = let end = c .before .loop .inv in (end .0, most-end _ _ (c .loop-test .left) (end .2))
-
 pub most-spec : {M : Type 1} → statement M
 most-spec =
     tie.close
@@ -53,10 +38,10 @@ most-spec =
     Inv-loop
     μ-loop
     loop-holds
-    sub-i
     (λ c. search needs)
-    shared-slice-read-prefer
-    prefer-requires
-    loop-less
+    (λ c. search needs)
+    (λ c. search needs)
+    (λ c κs. search needs)
+    (λ c. search needs)
     loop-again
-    returns)
+    (λ c. search (most-end, needs)))
