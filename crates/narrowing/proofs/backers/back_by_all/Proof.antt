@@ -27,9 +27,6 @@ back-by-requires c κs =
 same-length : tie.Need-same-length Inv-loop μ-loop
 same-length c = search needs
 
-returns : tie.Need-returns Inv-loop μ-loop
-returns c = backing-end (c .before .loop .inv) (c .loop-test .left)
-
 pub back-by-all-spec : {M : Type 1} → statement M
 back-by-all-spec =
     tie.close
@@ -43,4 +40,4 @@ back-by-all-spec =
     (λ c. search (taken-less, needs))
     (λ c. search (backing-next, needs))
     same-length
-    returns)
+    (λ c. search (backing-end, needs)))

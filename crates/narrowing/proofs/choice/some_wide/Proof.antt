@@ -31,10 +31,10 @@ some-wide-spec =
     Inv-loop
     μ-loop
     (λ c. taking-start)
-    (λ c κs. c .loop-test .taken)
+    (λ c κs. search needs)
     is-wide-requires
     (λ c. search (wide-found, taken-lent, needs))
-    (λ c κs. c .before .before .lowest .ensures .1)
-    (λ c. taken-less (c .before .before .before .lowest .ensures .0) (c .drop .ensures))
+    (λ c κs. search needs)
+    (λ c. search (taken-less, needs))
     loop-again
-    (λ c. none-wide (c .before .loop .inv) (c .loop-test .left)))
+    (λ c. search (none-wide, needs)))

@@ -34,6 +34,6 @@ standing-of-spec =
     (λ c. search needs)
     (λ c κs. search needs)
     (λ c. search (held-stopped, needs))
-    (λ c. failing-spent _ _ _ (c .before .before .body-known .ensures) (c .enum-told .given .1))
+    (λ c. search (failing-spent, needs))
     still-open
     live)

@@ -14,9 +14,6 @@ Inv-loop rules which within₀ held₀ within held = HeldAmong rules which withi
 abbrev μ-loop : tie.MeasureT-loop
 μ-loop rules which within₀ held₀ within held = ones within
 
-loop-again : tie.Need-loop-again Inv-loop μ-loop
-loop-again c = let inv = c .before .before .loop .inv in (c .held-on-all2 .ensures, above-next (inv .0) (inv .1))
-
 pub looped-atoms-spec : {M : Type 1} → statement M
 looped-atoms-spec =
     tie.close
@@ -24,9 +21,9 @@ looped-atoms-spec =
     Inv-loop
     μ-loop
     (λ c κs. omega arith)
-    (λ c κs. c .before .before .pre)
-    (λ c. (c .held-on-all .ensures, above-all (c .before .first .ensures)))
-    (λ c κs. c .before .before .before .before .before .pre)
+    (λ c κs. search needs)
+    (λ c. search (above-all, needs))
+    (λ c κs. search needs)
     (λ c. search (count-proper, held-within, needs))
-    loop-again
-    (λ c. let inv = c .before .loop .inv in looped-end (inv .0) (inv .1) (c .loop-test .left)))
+    (λ c. search (above-next, needs))
+    (λ c. search (looped-end, needs)))

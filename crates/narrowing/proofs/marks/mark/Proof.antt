@@ -20,17 +20,8 @@ inside : (c : tie.After-lowest Inv-loop μ-loop)
     → c .before .before .before .before .args .base + c .lowest .result < length (c .before .before .loop .table)
 inside c = omega (arith, c .lowest .ensures .1, c .before .before .loop .inv .done .same-length, c .before .before .before .before .pre)
 
-loop-again : tie.Need-loop-again Inv-loop μ-loop
-loop-again c =
-    let low = c .before .before .before in
-    adding-next (low .before .before .loop .inv) (low .lowest .ensures .0) (c .drop .ensures)
-    (word-added _ _ _ _ (inside low) (c .before .union .ensures))
-
 same-length : tie.Need-same-length Inv-loop μ-loop
 same-length c = search needs
-
-returns : tie.Need-returns Inv-loop μ-loop
-returns c = marked-end (c .before .loop .inv) (c .loop-test .left)
 
 pub mark-spec : {M : Type 1} → statement M
 mark-spec =
@@ -49,6 +40,6 @@ mark-spec =
     (λ c. search needs)
     (λ c κs. search needs)
     (λ c. search (taken-less, needs))
-    loop-again
+    (λ c. search (adding-next, word-added, inside, needs))
     same-length
-    returns)
+    (λ c. search (marked-end, needs)))
