@@ -17,9 +17,6 @@ abbrev μ-loop : tie.MeasureT-loop
 shared-slice-read-union : tie.Need-shared-slice-read-union Inv-loop μ-loop
 shared-slice-read-union c = omega (arith, gathers-lt (c .before .before .before .loop .inv) (c .before .lowest .ensures .0))
 
-returns : tie.Need-returns Inv-loop μ-loop
-returns c = gathers-end (c .before .loop .inv) (c .loop-test .left)
-
 pub union-of-spec : {M : Type 1} → statement M
 union-of-spec =
     tie.close
@@ -36,4 +33,4 @@ union-of-spec =
     (λ c κs. search needs)
     (λ c. search (taken-less, needs))
     (λ c. search (gathers-next, needs))
-    returns)
+    (λ c. search (gathers-end, needs)))

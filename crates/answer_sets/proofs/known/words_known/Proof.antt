@@ -8,9 +8,9 @@ pub words-known-spec : {M : Type 1} → statement M
 words-known-spec =
     tie.close
     (tie.spec
-    (λ c κs. c .before .pre .0)
-    (λ c κs. c .before .before .pre .1)
-    (λ c κs. c .before .before .before .pre .0)
-    (λ c κs. apart-sym (c .before .before .before .before .pre .1))
+    (λ c κs. search needs)
+    (λ c κs. search needs)
+    (λ c κs. search needs)
+    (λ c κs. search (apart-sym, needs))
     (λ c κs. search needs)
     (λ c. search (words-say, needs)))

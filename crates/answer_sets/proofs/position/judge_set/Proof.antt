@@ -13,25 +13,15 @@ start c = c .before .before .before .before .before
 kept-lent : (c : tie.After-kept-rules) → Lent (now (start c .args .rules)) (c .kept-rules .result)
 kept-lent c = lent-kept (start c .args .position) (c .kept-rules .ensures) (start c .pre .0)
 
-returns-3 : tie.Need-returns-3
-returns-3 c =
-    let smaller = c .before .before .before in
-    let tested = smaller .before .before in
-    let k = tested .before .before in (
-      model-judged _ _ _ _ (k .before .before .is-subset .ensures) (k .before .if1 .left) (k .kept-rules .ensures)
-          (tested .before .all-satisfied .ensures) (tested .if2 .left) (smaller .some-smaller .ensures .0 .computed),
-      (refuted-smaller (k .kept-rules .ensures) (smaller .some-smaller .ensures .1 .0), smaller .some-smaller .ensures .1 .1),
-    )
-
 pub judge-set-spec : {M : Type 1} → statement M
 judge-set-spec =
     tie.close
     (tie.spec
     (λ c κs. search needs)
     (λ c. search (no-facts, refuted-facts, needs))
-    (λ c κs. c .before .before .before .before .pre .0)
+    (λ c κs. search needs)
     (λ c κs. kept-lent c)
     (λ c. search (no-model, refuted-model, needs))
-    (λ c κs. let k = c .before .before .before in (kept-lent k, start k .pre .1))
+    (λ c κs. search (kept-lent, needs))
     (λ c. search needs)
-    returns-3)
+    (λ c. search (model-judged, refuted-smaller, needs)))

@@ -25,21 +25,16 @@ loop-less c =
     let test = c .before .before in
     pass-falls (test .before .before .loop .inv .1) refl refl (test .before .is-moving .ensures (test .if1 .taken)) refl
 
-loop-again : tie.Need-loop-again Inv-loop μ-loop
-loop-again c =
-    let inv = c .before .before .before .before .loop .inv in
-    (sifted-more (inv .0) (c .rule-pass2 .ensures), rounds-narrow (inv .0) (c .rule-pass2 .ensures))
-
 pub rounds-spec : {M : Type 1} → statement M
 rounds-spec =
     tie.close
     (tie.spec
     Inv-loop
     μ-loop
-    (λ c κs. c .before .pre)
-    (λ c. (c .rule-pass .ensures, c .rule-pass .ensures .narrows))
+    (λ c κs. search needs)
+    (λ c. search needs)
     (λ c κs. search needs)
     (λ c κs. search (lent-part, needs))
     loop-less
-    loop-again
-    (λ c. c .before .before .loop .inv .0))
+    (λ c. search (sifted-more, rounds-narrow, needs))
+    (λ c. search needs))

@@ -4,18 +4,6 @@ use borrow.Author.Needs.{needs}
 use Rattle.answer_sets.proofs.rule_pass.pass_rule.Statement.{statement}
 use Rattle.answer_sets.proofs.rule_pass.pass_rule.Tie as tie
 
--- the body was asked; a head atom was looked for; the entry
-abbrev tested : tie.After-body-known → tie.After-head
-tested c = c .before .before .before
-
-abbrev start : tie.After-head → tie.Start
-start c = c .before .before .before
-
-returns-4 : tie.Need-returns-4
-returns-4 c =
-    let known = c .before .before .before .before in
-    sifted-on (start (tested known) .args .p) (c .before .denied .ensures) (c .moved-on2 .ensures)
-
 pub pass-rule-spec : {M : Type 1} → statement M
 pass-rule-spec =
     tie.close
@@ -35,4 +23,4 @@ pass-rule-spec =
     (λ c κs. search needs)
     (λ c. search (sifted-on, needs))
     (λ c. search (sifted-met, met-by-body, needs))
-    returns-4)
+    (λ c. search (sifted-on, needs)))

@@ -26,9 +26,6 @@ loop-less c = omega (arith, in-range (c .before .before), c .before .before .bef
 same-length : tie.Need-same-length Inv-loop μ-loop
 same-length c = search needs
 
-returns-2 : tie.Need-returns-2 Inv-loop μ-loop
-returns-2 c = counting-none (c .before .loop .inv) (c .loop-test .left)
-
 pub count-atoms-spec : {M : Type 1} → statement M
 count-atoms-spec =
     tie.close
@@ -47,4 +44,4 @@ count-atoms-spec =
     same-length
     (λ c. search (counting-end, ltb-false, needs))
     (λ c. search needs)
-    returns-2)
+    (λ c. search (counting-none, needs)))

@@ -23,9 +23,6 @@ loop-again c =
     filling-more (head .loop .inv) (c .before .before .before .loop-test .taken)
     (c .union .ensures ∙ ap (λ (w : ℕ). start .args .given ∪ w) (c .before .union-of .ensures))
 
-returns : tie.Need-returns Inv-loop μ-loop
-returns c = filling-end (c .before .loop .inv) (c .loop-test .left)
-
 pub fill-unions-spec : {M : Type 1} → statement M
 fill-unions-spec =
     tie.close
@@ -43,4 +40,4 @@ fill-unions-spec =
     (λ c. search needs)
     loop-again
     (λ c. search needs)
-    returns)
+    (λ c. search (filling-end, needs)))

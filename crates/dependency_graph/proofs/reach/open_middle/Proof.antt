@@ -18,9 +18,6 @@ loop-again c =
     let inv = c .before .before .before .loop .inv in
     filling-more inv (c .before .before .loop-test .taken) (rw (unreached inv) at (c .through .ensures))
 
-returns : tie.Need-returns Inv-loop μ-loop
-returns c = filling-end (c .before .loop .inv) (c .loop-test .left)
-
 pub open-middle-spec : {M : Type 1} → statement M
 open-middle-spec =
     tie.close
@@ -39,4 +36,4 @@ open-middle-spec =
     (λ c. search needs)
     loop-again
     (λ c. search needs)
-    returns)
+    (λ c. search (filling-end, needs)))

@@ -30,7 +30,7 @@ pub learn-once-spec : {M : Type 1} → statement M
 learn-once-spec =
     tie.close
     (tie.spec
-    (λ c. (keeps-refl, once-before (c .if1 .taken)))
+    (λ c. search (keeps-refl, once-before, needs))
     (λ c κs. search needs)
     (λ c κs. search needs)
     (λ c κs. search needs)

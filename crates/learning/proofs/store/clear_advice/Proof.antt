@@ -24,5 +24,5 @@ clear-advice-spec =
     (λ c. search needs)
     (λ c. search needs)
     (λ c. search (same-trans, needs))
-    (λ c. c .before .loop .inv .1 .same-length)
-    (λ c. c .before .loop .inv .1))
+    (λ c. search needs)
+    (λ c. search needs))

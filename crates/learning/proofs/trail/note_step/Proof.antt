@@ -10,8 +10,8 @@ note-step-spec =
     tie.close
     (tie.spec
     (λ c κs. search needs)
-    (λ c. (same-pairs, step-same _ _ _ (c .before .is-same .ensures) (c .if1 .taken)))
-    (λ c. (same-pairs, step-full _ _ _ (c .if2 .taken)))
+    (λ c. search (same-pairs, step-same, needs))
+    (λ c. search (same-pairs, step-full, needs))
     (λ c. search needs)
     (λ c. search needs)
     (λ c κs. search needs)

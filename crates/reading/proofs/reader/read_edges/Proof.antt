@@ -35,11 +35,11 @@ read-edges-spec =
     (tie.spec
     Inv-loop
     μ-loop
-    (λ c. c .before .pre)
+    (λ c. search needs)
     (λ c. search needs)
     (λ c. search (passed-by, needs))
     with-edge-requires
-    (λ c. omega (arith, took (c .before .before) .1 .inside))
+    (λ c. omega arith)
     (λ c κs. taken-fits (took (c .before .before) .1) _ (c .with-edge .ensures))
     (λ c. taken-less (took (c .before .before .before) .1) _ (c .before .with-edge .ensures) _ (c .place .ensures))
     (λ c. taken-there (took (c .before .before .before) .1) _ (c .before .with-edge .ensures) _ (c .place .ensures)))

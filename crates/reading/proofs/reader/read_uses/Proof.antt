@@ -40,11 +40,11 @@ read-uses-spec =
     (tie.spec
     Inv-loop
     μ-loop
-    (λ c. c .before .pre)
+    (λ c. search needs)
     (λ c. search needs)
     (λ c. search (passed-by, needs))
     with-use-requires
-    (λ c. omega (arith, took (c .before .before) .1 .inside))
+    (λ c. omega arith)
     (λ c κs. taken-fits (took (c .before .before) .1) _ (c .with-use .ensures))
     (λ c. taken-less (took (c .before .before .before) .1) _ (c .before .with-use .ensures) _ (c .place .ensures))
     (λ c. taken-there (took (c .before .before .before) .1) _ (c .before .with-use .ensures) _ (c .place .ensures)))

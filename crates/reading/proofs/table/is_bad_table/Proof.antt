@@ -11,5 +11,5 @@ is-bad-table-spec =
     (λ c κs. search needs)
     (λ c. search (bad-many-inputs, needs))
     (λ c. search needs)
-    (λ c κs. rows-few _ 0 _ (c .before .count .ensures) (c .if1 .left))
+    (λ c κs. search (rows-few, needs))
     (λ c. search (bad-above-rows, needs)))

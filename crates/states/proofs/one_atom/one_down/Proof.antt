@@ -17,4 +17,4 @@ one-down-spec =
     (λ c κs. search needs)
     (λ c κs. search needs)
     returns-2
-    (λ c. several (c .before .before .if1 .left)))
+    (λ c. search (several, needs)))
