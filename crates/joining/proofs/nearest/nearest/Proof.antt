@@ -52,9 +52,9 @@ nearest-spec =
     (λ c κs. search needs)
     (λ c κs. search needs)
     (λ c. carrying-start subset-refl)
-    (λ c κs. c .loop-test .taken)
+    (λ c κs. search needs)
     without-covered-requires
-    (λ c κs. c .before .lowest .ensures .1)
-    (λ c. taken-less (c .before .before .lowest .ensures .0) (c .drop .ensures))
+    (λ c κs. search needs)
+    (λ c. search (taken-less, needs))
     (λ c. search (carrying-next, subset-trans, needs))
     returns)
