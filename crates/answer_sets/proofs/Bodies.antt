@@ -42,6 +42,10 @@ module _ (rules : List ℕ) (i M : ℕ) where
 
 -- ---- nothing but what is looked at counts
 
+-- the inputs of the table that a use is of, as they were read
+pub used-inputs-read : (rules : List ℕ) (i : ℕ) {v t : ℕ} → v ≡ inputs rules t → t ≡ usedTable i → v ≡ inputs rules (usedTable i)
+used-inputs-read rules i e f = e ∙ ap (inputs rules) f
+
 pub use-same : (rules : List ℕ) (i M N : ℕ) → inputs rules (usedTable i) ∩ M ≡ inputs rules (usedTable i) ∩ N → useHolds rules i M ≡ useHolds rules i N
 unfolding useHolds
 use-same rules i M N e = ap (asks i) (answer-same (inputs rules (usedTable i)) (truth rules (usedTable i)) M N e)

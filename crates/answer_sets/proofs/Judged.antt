@@ -1,5 +1,6 @@
 -- The computing twins decide what they are twins of. Rule numbers are bits of a word, so `which` is below 2 ^ 64.
-use mathlib.Core.Path.{_≡_, refl}
+use borrow.Author.Tests.{not-true, not-false}
+use mathlib.Core.Path.{_≡_, refl, sym, _∙_}
 use mathlib.Core.Bool.{Bool, true, false, not, _&&_}
 use Prim.Native.Nat.{ℕ, _^_, _<_}
 use Rattle.atoms.specs.Word.{ATOMS, Has, has, _⊆_, _⊂_, subset, apart, _∖_, atom, Lowest}
@@ -32,6 +33,13 @@ module _ (P : Program) where
   unfolding satisfies
   decides-satisfies r M =
       decides-iff (λ f. record { head-up = f }) (λ s. s .head-up) (decides-implies (decides-body r M) (decides-head r M))
+
+  -- as the test that was read says
+  pub satisfies-said : {r M : ℕ} {b : Bool} → b ≡ satisfies P r M → not b ≡ false → Satisfies P r M
+  satisfies-said {r} {M} {b} e f = decides-satisfies r M .yes (sym e ∙ not-false b f)
+
+  pub satisfies-denied : {r M : ℕ} {b : Bool} → b ≡ satisfies P r M → not b ≡ true → ¬ Satisfies P r M
+  satisfies-denied {r} {M} {b} e f = decides-satisfies r M .no (sym e ∙ not-true b f)
 
   pub decides-all-satisfied : (which M : ℕ) → which < 2 ^ ATOMS → Decides (SatisfiesAll P which M) (satisfiesAll P which M)
   unfolding satisfiesAll

@@ -5,7 +5,7 @@ use mathlib.Core.List.{List}
 use Prim.Native.Nat.{ℕ, _^_, _<_, _≤_, min}
 use native.Mathlib.Omega.{arith}
 use lib.ListN.{length, getD}
-use Rattle.atoms.specs.Word.{ATOMS, Has, _⊆_, _∩_, below}
+use Rattle.atoms.specs.Word.{ATOMS, Has, _⊆_, _∩_, below, Lowest}
 use Rattle.atoms.proofs.Sets.{has-cut, cut-left, cut-right, has-below, below-lt, has-lt, lt-of-has}
 use Rattle.plan.specs.Limits.{MAX_RULES}
 use Rattle.answer_sets.specs.AnswerSet.{AnswerSet}
@@ -16,6 +16,10 @@ use Rattle.answer_sets.proofs.Support.{Supported, supported}
 
 pub lent-within : {rules : List ℕ} {v w : ℕ} → v ⊆ w → Lent rules w → Lent rules v
 lent-within f l = record { each = λ r h. l .each r (f .each r h) }
+
+-- a rule that a loop takes from the word
+pub lent-taken : {rules : List ℕ} {which rest r : ℕ} → Lent rules which → rest ⊆ which → Lowest rest r → IsLent rules r
+lent-taken {r = r} l f low = l .each r (f .each r (low .here))
 
 -- the first n rules, where their words are there
 pub lent-below : (rules : List ℕ) (n : ℕ) → ruleAt n ≤ length rules → Lent rules (below n)

@@ -1,16 +1,17 @@
 -- The memo of a subset test that said none: whether a rule is satisfied depends on its own atoms alone, so the same is said of every test that comes
 -- to the same rules and the same atoms of them.
+use borrow.Author.Tests.{not-false}
 use mathlib.Core.Path.{_≡_, refl, sym, ap₂, subst, _∙_}
-use mathlib.Core.Bool.{Bool, true, false, false≢true}
+use mathlib.Core.Bool.{Bool, true, false, not, false≢true}
 use mathlib.Core.Logic.{_↔_, _⊎_, inl, inr}
 use mathlib.Core.List.{List}
 use Prim.Native.Nat.{ℕ, _<_, _^_}
 use lib.ListN.{length, getD, set, replicate, length-set, length-replicate}
 use lib.Seq.{getD-set-same, getD-set-other}
-use Rattle.atoms.specs.Word.{ATOMS, EVERY_ATOM, Has, _⊆_, _⊂_, Apart, apart, _∩_, _∪_, _∖_}
+use Rattle.atoms.specs.Word.{ATOMS, EVERY_ATOM, Has, _⊆_, _⊂_, subset, Apart, apart, _∩_, _∪_, _∖_}
 use Rattle.atoms.specs.Bounded.{Decides}
 use Rattle.atoms.proofs.Sets.{has-dec, has-lt, has-cut, cut-left, cut-right, has-left, has-right, union-cases, has-without, without-left, without-right}
-use Rattle.atoms.proofs.Sets.{decides-apart, subset-le, cut-fits, union-fits, without-fits}
+use Rattle.atoms.proofs.Sets.{decides-subset, decides-apart, subset-le, cut-fits, union-fits, without-fits}
 use Rattle.answer_sets.specs.Program.{Program, Body, Satisfies, SatisfiesAll}
 use Rattle.answer_sets.specs.Lent.{lent, looks}
 use Rattle.answer_sets.specs.SubsetTest.{Between, Finds, Confines, InRule, in-head, in-positive, in-looks}
@@ -223,13 +224,14 @@ untouched-rule {rules} {r} {all} {w} e f g i k = decides-apart all w .yes (sym f
     inside (in-positive h) = has-right (lent rules .head r) (lent rules .positive r ∪ looks rules r) (has-left (lent rules .positive r) (looks rules r) h)
     inside (in-looks h) = has-right (lent rules .head r) (lent rules .positive r ∪ looks rules r) (has-right (lent rules .positive r) (looks rules r) h)
 
-pub alike-memo : {rules : List ℕ} {M w : ℕ} {n m p : Passed} → n ≡ m → n .left ⊆ p .left → Apart (n .state .up) (n .state .dropped)
-    → Apart (p .state .dropped) M → w ≡ differing (n .state) (p .state) → Apart w (undecided (p .state .up) (p .state .dropped))
-    → Untouched rules (n .left) w → Alike rules M m p
-alike-memo {rules} {M} {p = p} e part free inside d free-of same = subst (λ x. Alike rules M x p) e (record {
-  part = part;
-  free = free;
-  in-position = inside;
-  same-open = rw d at free-of;
-  same-rules = rw d at same;
+pub alike-memo : {rules : List ℕ} {M w free-atoms : ℕ} {n m p : Passed} {b₁ b₂ b₃ b₄ b : Bool} → n ≡ m → b₁ ≡ subset (n .left) (p .left) → not b₁ ≡ false
+    → b₂ ≡ apart (n .state .up) (n .state .dropped) → not b₂ ≡ false → b₃ ≡ apart (p .state .dropped) M → not b₃ ≡ false
+    → w ≡ differing (n .state) (p .state) → free-atoms ≡ undecided (p .state .up) (p .state .dropped) → b₄ ≡ apart w free-atoms → not b₄ ≡ false
+    → (b ≡ true → Untouched rules (n .left) w) → b ≡ true → Alike rules M m p
+alike-memo {rules} {M} {w} {free-atoms} {n} {m} {p} e t₁ f₁ t₂ f₂ t₃ f₃ d o t₄ f₄ same f = subst (λ x. Alike rules M x p) e (record {
+  part = decides-subset (n .left) (p .left) .yes (sym t₁ ∙ not-false _ f₁);
+  free = decides-apart (n .state .up) (n .state .dropped) .yes (sym t₂ ∙ not-false _ f₂);
+  in-position = decides-apart (p .state .dropped) M .yes (sym t₃ ∙ not-false _ f₃);
+  same-open = rw (d, o) at (decides-apart w free-atoms .yes (sym t₄ ∙ not-false _ f₄));
+  same-rules = rw d at (same f);
 })

@@ -1,7 +1,7 @@
 -- What is known of a body at a half-decided position, part by part.
 use mathlib.Core.Path.{_≡_, refl, sym, ap, subst, _∙_}
-use mathlib.Core.Bool.{true}
-use mathlib.Core.Logic.{_⊎_, inl, inr}
+use mathlib.Core.Bool.{Bool, true}
+use mathlib.Core.Logic.{_↔_, _⊎_, inl, inr}
 use mathlib.Core.List.{List}
 use Prim.Native.Nat.{ℕ, _<_}
 use native.Mathlib.Decide.{ℕ-discrete}
@@ -249,8 +249,9 @@ module _ {rules : List ℕ} {r : ℕ} {s : State} where
           (λ m. without-right rest (atom i) (rw e at m) (has-atom i)))
 
   -- a part that fails is enough
-  pub uses-fail : {known : Truth} {rest : ℕ} → UsesDone rules r s known rest → known ≡ Fails → PartsSay rules r (InBody rules r) s Fails
-  uses-fail u e = parts-fail (rw e at (u .says)) done-in
+  pub uses-fail : {known : Truth} {rest : ℕ} {b : Bool} → UsesDone rules r s known rest → (b ≡ true) ↔ (known ≡ Fails) → b ≡ true
+      → PartsSay rules r (InBody rules r) s Fails
+  uses-fail u e f = parts-fail (rw (e .0 f) at (u .says)) done-in
 
   pub uses-end : {known : Truth} {rest : ℕ} → UsesDone rules r s known rest → rest ≡ 0 → PartsSay rules r (InBody rules r) s known
   uses-end {rest = rest} u e = parts-same (u .says) done-in back

@@ -1,10 +1,11 @@
 -- The rule pass: what each of its steps does to a state keeps every position that satisfies the rule.
+use Rattle.atoms.specs.Bounded.{Decides}
 use mathlib.Core.Path.{_≡_, refl, sym, _∙_, subst}
-use mathlib.Core.Bool.{Bool, true, not}
+use mathlib.Core.Bool.{Bool, true, false, not}
 use mathlib.Core.Logic.{_↔_}
 use mathlib.Core.List.{List}
 use Prim.Native.Nat.{ℕ}
-use borrow.Author.Tests.{not-true}
+use borrow.Author.Tests.{not-true, not-false}
 use Rattle.atoms.specs.Word.{Has, _⊆_, subset, Apart, apart, _∪_, _∖_, atom, AtMostOne}
 use Rattle.atoms.proofs.Sets.{has-without, without-left, has-dec, decides-subset, decides-apart, shared-atom}
 use Rattle.atoms.proofs.Sets.{apart-of-cut, subset-refl, subset-trans, has-atom, atom-only}
@@ -29,6 +30,12 @@ use Rattle.states.proofs.Narrows.{narrows-trans, narrows-for, completes-back}
 -- what a subset test says of a word that was read
 pub subset-read : {read word whole : ℕ} {r : Bool} → read ≡ word → r ≡ subset read whole → r ≡ true → word ⊆ whole
 subset-read {read} {word} {whole} e f t = rw e at (decides-subset read whole .yes (sym f ∙ t))
+
+pub subset-left : {read word whole : ℕ} {r : Bool} → read ≡ word → r ≡ subset read whole → not r ≡ false → word ⊆ whole
+subset-left {r = r} e f t = subset-read e f (not-false r t)
+
+pub at-most-said : {w : ℕ} {b : Bool} → Decides (AtMostOne w) b → b ≡ true → AtMostOne w
+at-most-said d t = d .yes t
 
 pub held-known : {rules : List ℕ} {r up dropped : ℕ} {t : Truth} {answer : Bool} → BodySays rules r up dropped t
     → (answer ≡ true) ↔ (t ≡ Holds) → HeldInAll rules r up dropped answer
@@ -147,6 +154,11 @@ sifted-next {P} {which} {word} {r} {s} {p} {q} h f g = record {
     cases : (i : ℕ) → Has word i → ¬ Has (q .left) i → Dec (Has (p .left) i) → Met P i (q .state)
     cases i k n (yes l) = g .gone i l n
     cases i k n (no l) = met-later (g .narrows) (f .gone i k l)
+
+-- as the loop finds it: the turn starts from a record that was read
+pub sifted-turn : {P : Program} {which word r : ℕ} {s : State} {x p q : Passed} → Has which r → Sifted P which s word p → x ≡ p
+    → Sifted P (atom r) (x .state) (x .left) q → Sifted P which s word q
+sifted-turn h f e g = sifted-next h f (rw e at g)
 
 -- the rule of the turn: it goes where it is met, and else stays
 module _ {P : Program} {r : ℕ} (p : Passed) {q : Passed} where

@@ -1,6 +1,6 @@
 -- What is known of tests, put together: the three answers are apart, two tests together, and a test the other way round.
 use mathlib.Core.Path.{_≡_, refl, sym, _∙_}
-use mathlib.Core.Bool.{Bool, true, false, not}
+use mathlib.Core.Bool.{Bool, true, false, not, false≢true}
 use mathlib.Core.Logic.{_↔_, _⊎_, inl, inr}
 use Prim.Native.Nat.{ℕ}
 use native.Mathlib.Omega.{arith}
@@ -21,6 +21,19 @@ open-not-holds e = let z : _≡_ {A = ℕ} 0 1 = cc in omega arith
 
 pub open-not-fails : Open ≡ Fails → ⊥
 open-not-fails e = let z : _≡_ {A = ℕ} 0 1 = cc in omega arith
+
+-- a test for one answer says no at the others
+pub holds-no-failure : {t : Truth} → t ≡ Holds → (false ≡ true) ↔ (t ≡ Fails)
+holds-no-failure e = (λ f. absurd (false≢true f), λ f. absurd (holds-not-fails (sym e ∙ f)))
+
+pub open-no-failure : {t : Truth} → t ≡ Open → (false ≡ true) ↔ (t ≡ Fails)
+open-no-failure e = (λ f. absurd (false≢true f), λ f. absurd (open-not-fails (sym e ∙ f)))
+
+pub fails-no-success : {t : Truth} → t ≡ Fails → (false ≡ true) ↔ (t ≡ Holds)
+fails-no-success e = (λ f. absurd (false≢true f), λ f. absurd (holds-not-fails (sym f ∙ e)))
+
+pub open-no-success : {t : Truth} → t ≡ Open → (false ≡ true) ↔ (t ≡ Holds)
+open-no-success e = (λ f. absurd (false≢true f), λ f. absurd (open-not-holds (sym e ∙ f)))
 
 -- ---- two tests together
 

@@ -26,6 +26,10 @@ gathers-start {n} {f} {which} {first} {rest} p q = record {
     e : rest ≡ which ∩ below n
     e = q ∙ ap (λ (w : ℕ). which ∩ w) p
 
+-- where the word was read
+pub gathers-read : {n : ℕ} {f : ℕ → ℕ} {which read first rest : ℕ} → read ≡ which → first ≡ below n → rest ≡ read ∩ first → Gathers n f which 0 rest
+gathers-read {first = first} e p q = gathers-start p (q ∙ ap (λ (w : ℕ). w ∩ first) e)
+
 -- the number taken is below n
 pub gathers-lt : {n : ℕ} {f : ℕ → ℕ} {which all rest i : ℕ} → Gathers n f which all rest → Lowest rest i → i < n
 gathers-lt {i = i} g low = g .bounded i (low .here)

@@ -192,3 +192,7 @@ most-next places (suc j) {word} {best} {r} l m c e =
 pub most-end : (places : List ℕ) (i : ℕ) {word best : ℕ} → i ≤ 0 → MostCounted (drop i places) word best → MostCounted places word best
 most-end places zero l c = c
 most-end places (suc i) l c = absurd (omega arith)
+
+-- a count keeps the tally's length
+pub counted-long : {word n : ℕ} {before after : List ℕ} → Counted word before after → n ≡ length before → n ≡ length after
+counted-long c e = e ∙ sym (c .same-length)

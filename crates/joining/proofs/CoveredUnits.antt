@@ -1,6 +1,6 @@
 -- Units whose head atoms cover a word.
-use mathlib.Core.Path.{_≡_, refl}
-use mathlib.Core.Bool.{true, false, false≢true}
+use mathlib.Core.Path.{_≡_, refl, sym, _∙_}
+use mathlib.Core.Bool.{Bool, true, false, false≢true}
 use mathlib.Core.List.{List}
 use Prim.Native.Nat.{ℕ}
 use lib.ListN.{getD}
@@ -8,11 +8,17 @@ use Rattle.atoms.specs.Word.{Has, _⊆_, subset}
 use Rattle.atoms.specs.Bounded.{Decides}
 use Rattle.atoms.proofs.Sets.{decides-subset}
 use Rattle.atoms.proofs.Tests.{decides}
+use Rattle.atoms.proofs.TakenNumbers.{Taking, taking-end}
 use Rattle.joining.specs.Nearest.{Covered}
 
 module _ (heads : List ℕ) (units word : ℕ) where
-  pub covered-here : (v : ℕ) → Has units v → subset word (getD heads v 0) ≡ true → Decides (Covered heads units word) true
-  covered-here v h e = decides true (λ t. record { by = v; unit = h; within = decides-subset word (getD heads v 0) .yes e }) (λ c. refl)
+  -- as the test of a unit says
+  pub covered-here : (v : ℕ) {b : Bool} → Has units v → b ≡ subset word (getD heads v 0) → b ≡ true → Decides (Covered heads units word) true
+  covered-here v h t e = decides true (λ f. record { by = v; unit = h; within = decides-subset word (getD heads v 0) .yes (sym t ∙ e) }) (λ c. refl)
 
-  pub covered-nowhere : ((v : ℕ) → Has units v → ¬ (word ⊆ getD heads v 0)) → Decides (Covered heads units word) false
-  covered-nowhere none = decides false (λ f. absurd (false≢true f)) (λ c. absurd (none (c .by) (c .unit) (c .within)))
+  pub covered-nowhere : {rest : ℕ} → Taking units rest (λ v. ¬ (word ⊆ getD heads v 0)) → rest ≡ 0 → Decides (Covered heads units word) false
+  covered-nowhere t e = decides false (λ f. absurd (false≢true f)) (λ c. absurd (taking-end t e (c .by) (c .unit) (c .within)))
+
+-- a subset test that was read said no
+pub not-within : (a w : ℕ) {b : Bool} → b ≡ subset a w → b ≡ false → ¬ (a ⊆ w)
+not-within a w t e = decides-subset a w .no (sym t ∙ e)

@@ -1,13 +1,16 @@
 -- The lists of direct predecessors: to join all is to join each.
-use mathlib.Core.Path.{_≡_}
-use mathlib.Core.Bool.{true, false}
+use mathlib.Core.Path.{_≡_, sym, ap, _∙_}
+use mathlib.Core.Bool.{Bool, true, false, not}
 use mathlib.Core.List.{List}
-use Prim.Native.Nat.{ℕ, _*_, _<_}
+use Prim.Native.Nat.{ℕ, _+_, _*_, _<_}
 use native.Mathlib.Omega.{arith}
 use lib.ListN.{getD}
+use lib.Dec.{eqb}
+use borrow.Author.Tests.{not-true, not-false, eq-eqb}
+use Rattle.atoms.proofs.TakenNumbers.{Taking, taking-end}
 use Rattle.atoms.specs.Word.{Has, _⊆_, _∩_}
 use Rattle.atoms.proofs.Sets.{has-lt, subset-le}
-use Rattle.atoms.proofs.Bounded.{all-in-at, all-in-intro, all-in-fails, all-in-none}
+use Rattle.atoms.proofs.Bounded.{some-intro, all-in-at, all-in-intro, all-in-fails, all-in-none}
 use Rattle.plan.specs.Limits.{MAX_UNITS, LIST_WORDS}
 use Rattle.joining.specs.Joins.{isListed, joins, Joinable}
 use Rattle.joining.specs.Filter.{JoinsAll}
@@ -25,11 +28,33 @@ unfolding joins
 joins-each table counts heads w M f =
     all-in-intro MAX_UNITS w (λ v. isListed table (LIST_WORDS * v) (getD counts v 0) (M ∩ getD heads v 0)) (λ v l h. f v h)
 
-pub joins-fails : (table counts heads : List ℕ) (w M v : ℕ) → v < MAX_UNITS → Has w v
+joins-fails : (table counts heads : List ℕ) (w M v : ℕ) → v < MAX_UNITS → Has w v
     → isListed table (LIST_WORDS * v) (getD counts v 0) (M ∩ getD heads v 0) ≡ false → joins table counts heads w M ≡ false
 unfolding joins
 joins-fails table counts heads w M v l h e =
     all-in-fails MAX_UNITS w (λ u. isListed table (LIST_WORDS * u) (getD counts u 0) (M ∩ getD heads u 0)) v l h e
+
+-- as the test of one list says, of the position's cut
+module _ (table counts heads : List ℕ) (M v : ℕ) {cut : ℕ} {b : Bool} (c : cut ≡ M ∩ getD heads v 0)
+    (t : b ≡ isListed table (LIST_WORDS * v) (getD counts v 0) cut) where
+  listed-so : b ≡ isListed table (LIST_WORDS * v) (getD counts v 0) (M ∩ getD heads v 0)
+  listed-so = t ∙ ap (isListed table (LIST_WORDS * v) (getD counts v 0)) c
+
+  pub listed-said : not b ≡ false → isListed table (LIST_WORDS * v) (getD counts v 0) (M ∩ getD heads v 0) ≡ true
+  listed-said f = sym listed-so ∙ not-false b f
+
+  pub joins-not : (w : ℕ) → v < MAX_UNITS → Has w v → not b ≡ true → false ≡ joins table counts heads w M
+  joins-not w l h f = sym (joins-fails table counts heads w M v l h (sym listed-so ∙ not-true b f))
+
+pub joins-all : (table counts heads : List ℕ) (w M : ℕ) {rest : ℕ}
+    → Taking w rest (λ v. isListed table (LIST_WORDS * v) (getD counts v 0) (M ∩ getD heads v 0) ≡ true) → rest ≡ 0 → true ≡ joins table counts heads w M
+joins-all table counts heads w M t e = sym (joins-each table counts heads w M (taking-end t e))
+
+-- a word at a place of the list
+pub listed-here : (words : List ℕ) (base count value i : ℕ) → i < count → getD words (base + i) 0 ≡ value → true ≡ isListed words base count value
+unfolding isListed
+listed-here words base count value i l e =
+    sym (some-intro count (λ (k : ℕ). eqb (getD words (base + k) 0) value) i l (eq-eqb (getD words (base + i) 0) value e))
 
 -- to join one is to be in its list
 pub joins-one : (table counts heads : List ℕ) (predecessors M v : ℕ) → v < MAX_UNITS → Has predecessors v

@@ -1,16 +1,18 @@
 -- The support step: which rules may support an atom, and what follows where none or one is left.
 use mathlib.Core.Path.{_≡_, sym, subst, _∙_}
-use mathlib.Core.Bool.{Bool, true, false, true≢false}
+use mathlib.Core.Bool.{Bool, true, false, not, true≢false}
 use mathlib.Core.Logic.{_⊎_, inl, inr}
 use mathlib.Core.List.{List}
 use Prim.Native.Nat.{ℕ, _^_, _<_}
 use lib.ListN.{getD}
+use borrow.Author.Tests.{not-true}
 use Rattle.atoms.specs.Word.{ATOMS, Has, _∩_, _∪_, _∖_, apart, atom, Lowest}
+use Rattle.atoms.proofs.Singles.{numbered-by}
 use Rattle.atoms.proofs.Sets.{decides-apart, subset-refl, cut-right, has-none, has-atom, atom-only, without-left, without-right}
 use Rattle.atoms.proofs.Sets.{union-cases}
 use Rattle.atoms.proofs.TakenNumbers.{taken-cases}
 use Rattle.atoms.proofs.Counts.{taken-within}
-use Rattle.answer_sets.specs.Lent.{lent, Lent, negative}
+use Rattle.answer_sets.specs.Lent.{lent, IsLent, Lent, negative}
 use Rattle.states.specs.State.{Completes}
 use Rattle.states.specs.Narrowing.{Narrows}
 use Rattle.answer_sets.specs.Known.{BodySays}
@@ -32,13 +34,14 @@ module _ (rules : List ℕ) (r a : ℕ) (s : State) where
   may b e = record { never = λ f. absurd (true≢false (sym e ∙ f)) }
 
   -- another head atom is up
-  pub not-alone : (b : Bool) (others : ℕ) → others ≡ lent rules .head r ∖ atom a → apart others (s .up) ≡ false → Excluded rules r a s b
-  not-alone b others e f = record {
+  pub not-alone : (b : Bool) {head others : ℕ} {t : Bool} → head ≡ lent rules .head r → others ≡ head ∖ atom a → t ≡ apart others (s .up) → not t ≡ true
+      → Excluded rules r a s b
+  not-alone b {others = others} {t} q e d f = record {
     never = λ _ M c p.
-        decides-apart others (s .up) .no f
+        decides-apart others (s .up) .no (sym d ∙ not-true t f)
         (record {
           none = λ i h u.
-              let k = subst (λ (w : ℕ). Has w i) e h in
+              let k = rw (e, q) at h in
               without-right (lent rules .head r) (atom a) k
               (subst (λ (x : ℕ). Has (atom a) x) (sym (p .only i (without-left (lent rules .head r) (atom a) k) (c .has-up .each i u))) (has-atom a));
         });
@@ -65,8 +68,16 @@ module _ {rules : List ℕ} {backing a : ℕ} {s : State} where
       go q M c p (inl h) = h
       go q M c p (inr k) = absurd (x .never f M c (subst (λ (i : ℕ). Supports (lent rules) i M a) (sym k) p))
 
-  pub supporters-lent : {w : ℕ} → Lent rules backing → Supporters rules backing a s w → (v : ℕ) → ((r : ℕ) → Has v r → Has w r) → Lent rules v
-  supporters-lent l w v f = record { each = λ r h. l .each r (w .within .each r (f r h)) }
+  -- the lowest of the rules left is lent, and so are the others
+  pub supporter-lent : {w r : ℕ} → Lent rules backing → Supporters rules backing a s w → Lowest w r → IsLent rules r
+  supporter-lent {r = r} l w low = l .each r (w .within .each r (low .here))
+
+  pub others-lent : (r : ℕ) {w v : ℕ} → Lent rules backing → Supporters rules backing a s w → v ≡ w ∖ atom r → Lent rules v
+  others-lent r {w} l k e = record { each = λ q h. l .each q (k .within .each q (without-left w (atom r) (rw e at h))) }
+
+  -- none is left
+  pub supporters-end : {rest : ℕ} → Supporters rules backing a s rest → rest ≡ 0 → Supporters rules backing a s 0
+  supporters-end w e = subst (Supporters rules backing a s) e w
 
 -- ---- the step
 
@@ -84,10 +95,13 @@ module _ (rules : List ℕ) (backing a : ℕ) (s : State) {left : ℕ} (w : Supp
       }))
 
   -- one is left of an atom that is up
-  pub one-left : (r rest others : ℕ) {t : State} → Has (s .up) a → rest ≡ left ∖ atom r → Supporters rules rest a s others → others ≡ 0
-      → Narrows (λ M. Supports (lent rules) r M a) s t → Narrows (SupportedIfUp rules backing a) s t
-  one-left r rest others u e v z n = narrows-when by-r n
+  pub one-left : {r rest others x : ℕ} {b : Bool} {t : State} → x ≡ atom a → b ≡ apart (s .up) x → b ≡ false → rest ≡ left ∖ atom r
+      → Supporters rules rest a s others → others ≡ 0 → Narrows (λ M. Supports (lent rules) r M a) s t → Narrows (SupportedIfUp rules backing a) s t
+  one-left {r} {rest} {others} ex eb apart-not e v z n = narrows-when by-r n
     where
+      u : Has (s .up) a
+      u = numbered-by (s .up) a ex eb apart-not
+
       same : (q M : ℕ) → Has left q → Completes s M → Supports (lent rules) q M a → Has rest q ⊎ (r ≡ q) → Supports (lent rules) r M a
       same q M h c p (inl k) = absurd (has-none (subst (λ (x : ℕ). Has x q) z (v .every q M k c p)))
       same q M h c p (inr k) = subst (λ (i : ℕ). Supports (lent rules) i M a) (sym k) p
@@ -99,7 +113,7 @@ module _ (rules : List ℕ) (backing a : ℕ) (s : State) {left : ℕ} (w : Supp
           same (p .0) M h c (p .2) (taken-cases e h)
 
 -- what follows of a rule that supports an atom
-pub supports-narrows : (rules : List ℕ) (r a : ℕ) (s : State)
+supports-narrows : (rules : List ℕ) (r a : ℕ) (s : State)
     → Narrows (λ M. Supports (lent rules) r M a) s
     (record { up = s .up ∪ lent rules .positive r; dropped = s .dropped ∪ (negative rules r ∪ (lent rules .head r ∖ atom a)) })
 supports-narrows rules r a s =
@@ -113,6 +127,11 @@ supports-narrows rules r a s =
     down N p i m (inr q) =
         without-right (lent rules .head r) (atom a) q
         (subst (λ (x : ℕ). Has (atom a) x) (sym (p .only i (without-left (lent rules .head r) (atom a) q) m)) (has-atom a))
+
+pub held-narrows : (rules : List ℕ) (r a : ℕ) (s : State) {head others negatives positives down up dropped : ℕ} → head ≡ lent rules .head r
+    → others ≡ head ∖ atom a → negatives ≡ negative rules r → down ≡ negatives ∪ others → positives ≡ lent rules .positive r → up ≡ s .up ∪ positives
+    → dropped ≡ s .dropped ∪ down → Narrows (λ M. Supports (lent rules) r M a) s (record { up = up; dropped = dropped })
+held-narrows rules r a s h o n d p u e = rw (e, d, n, o, h, u, p) (supports-narrows rules r a s)
 
 -- ---- an answer set's atom that is no input is held by its backers
 

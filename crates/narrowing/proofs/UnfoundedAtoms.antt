@@ -1,9 +1,10 @@
 -- Unfounded atoms: by what a rule can do without them, and that an answer set has none.
-use mathlib.Core.Path.{_≡_, sym, subst}
-use mathlib.Core.Bool.{true, false}
-use mathlib.Core.Logic.{_⊎_, inl, inr}
+use mathlib.Core.Path.{_≡_, sym, ap, subst, _∙_}
+use mathlib.Core.Bool.{Bool, true, not}
+use mathlib.Core.Logic.{_↔_, _⊎_, inl, inr}
 use mathlib.Core.List.{List}
 use Prim.Native.Nat.{ℕ}
+use borrow.Author.Tests.{not-true}
 use Rattle.atoms.specs.Word.{Has, _∩_, _∪_, _∖_, apart}
 use Rattle.atoms.proofs.Sets.{cut-left, cut-right, has-left, union-cases, has-without, without-left, without-right, shared-atom, apart-of-cut, decides-apart}
 use Rattle.answer_sets.specs.AnswerSet.{ReductModel}
@@ -30,21 +31,26 @@ module _ (rules : List ℕ) (r x : ℕ) (s : State) where
   lacks M c i m (inr h) = without-right M x m h
 
   -- it has none of them in its head, but for those it wants dropped
-  pub spares-head : (own : ℕ) → own ≡ lent rules .head r ∖ negative rules r → apart own x ≡ true → Spares rules r x s
-  spares-head own e f = record {
+  pub spares-head : {head barred own : ℕ} {b : Bool} → head ≡ lent rules .head r → barred ≡ negative rules r → own ≡ head ∖ barred → b ≡ apart own x → b ≡ true
+      → Spares rules r x s
+  spares-head {own = own} p q d t f = record {
     other = λ M c b n a h m. (
       a,
       h,
       has-without M x m
-          (λ i. decides-apart own x .yes f .none a
+          (λ i. decides-apart own x .yes (sym t ∙ f) .none a
           (subst (λ (w : ℕ). Has w a) (sym e) (has-without (lent rules .head r) (negative rules r) h (λ q. negative-down rules r M b a q m))) i),
     );
   }
+    where
+      e : own ≡ lent rules .head r ∖ negative rules r
+      e = rw (d, p, q)
 
   -- its body wants one of them up, or a dropped atom
-  pub spares-positive : (positive barred : ℕ) → positive ≡ lent rules .positive r → barred ≡ s .dropped ∪ x → apart positive barred ≡ false → Spares rules r x s
-  spares-positive positive barred e g f =
-      let k = shared-atom positive barred (λ q. decides-apart positive barred .no f (apart-of-cut positive barred q)) in
+  pub spares-positive : {positive barred : ℕ} {b : Bool} → positive ≡ lent rules .positive r → barred ≡ s .dropped ∪ x → b ≡ apart positive barred
+      → not b ≡ true → Spares rules r x s
+  spares-positive {positive} {barred} {b} e g t f =
+      let k = shared-atom positive barred (λ q. decides-apart positive barred .no (sym t ∙ not-true b f) (apart-of-cut positive barred q)) in
       let h = subst (λ (w : ℕ). Has w (k .0)) e (k .1) in
       record {
         other = λ M c b n a _ m.
@@ -53,10 +59,10 @@ module _ (rules : List ℕ) (r x : ℕ) (s : State) where
       }
 
   -- another head atom is up
-  pub spares-up : (others : ℕ) → others ≡ lent rules .head r ∖ x → apart others (s .up) ≡ false → Spares rules r x s
-  spares-up others e f =
-      let k = shared-atom others (s .up) (λ q. decides-apart others (s .up) .no f (apart-of-cut others (s .up) q)) in
-      let h = subst (λ (w : ℕ). Has w (k .0)) e (k .1) in
+  pub spares-up : {head others : ℕ} {b : Bool} → head ≡ lent rules .head r → others ≡ head ∖ x → b ≡ apart others (s .up) → not b ≡ true → Spares rules r x s
+  spares-up {others = others} {b} p e t f =
+      let k = shared-atom others (s .up) (λ q. decides-apart others (s .up) .no (sym t ∙ not-true b f) (apart-of-cut others (s .up) q)) in
+      let h = subst (λ (w : ℕ). Has w (k .0)) (e ∙ ap (λ (w : ℕ). w ∖ x) p) (k .1) in
       record {
         other = λ M c b n a _ m. (
           k .0,
@@ -66,14 +72,14 @@ module _ (rules : List ℕ) (r x : ℕ) (s : State) where
       }
 
   -- its body fails
-  pub spares-failed : {t : Truth} → BodySays rules r (s .up) (s .dropped) t → t ≡ Fails → Spares rules r x s
-  spares-failed k e = record { other = λ M c b n a h m. absurd (known-fails rules r (s .up) (s .dropped) k M (completes-known c) e b) }
+  pub spares-failed : {t : Truth} {b : Bool} → BodySays rules r (s .up) (s .dropped) t → (b ≡ true) ↔ (t ≡ Fails) → b ≡ true → Spares rules r x s
+  spares-failed k e f = record { other = λ M c b n a h m. absurd (known-fails rules r (s .up) (s .dropped) k M (completes-known c) (e .0 f) b) }
 
   -- its body fails without them
-  pub spares-without : (up dropped : ℕ) {t : Truth} → up ≡ s .up ∖ x → dropped ≡ s .dropped ∪ x → BodySays rules r up dropped t → t ≡ Fails
-      → Spares rules r x s
-  spares-without up dropped f g k e = record {
-    other = λ M c b n a h m. absurd (known-fails rules r up dropped k (M ∖ x) (completes-known (fewer M c)) e n);
+  pub spares-without : {up dropped : ℕ} {t : Truth} {b : Bool} → up ≡ s .up ∖ x → dropped ≡ s .dropped ∪ x → BodySays rules r up dropped t
+      → (b ≡ true) ↔ (t ≡ Fails) → b ≡ true → Spares rules r x s
+  spares-without {up} {dropped} f g k e y = record {
+    other = λ M c b n a h m. absurd (known-fails rules r up dropped k (M ∖ x) (completes-known (fewer M c)) (e .0 y) n);
   }
     where
       fewer : (M : ℕ) → Completes s M → Completes (record { up = up; dropped = dropped }) (M ∖ x)

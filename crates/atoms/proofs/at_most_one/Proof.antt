@@ -1,13 +1,9 @@
 -- An empty word, or one that is empty without its lowest atom.
-use mathlib.Core.Path.{refl}
 use Rattle.atoms.proofs.Tests.{decides}
 use Rattle.atoms.proofs.Singles.{at-most-none, decides-at-most-one}
 use borrow.Author.Needs.{needs}
 use Rattle.atoms.proofs.at_most_one.Statement.{statement}
 use Rattle.atoms.proofs.at_most_one.Tie as tie
-
-returns : tie.Need-returns
-returns c = decides _ (λ e. at-most-none (c .before .args .w) (c .if1 .taken)) (λ o. refl)
 
 returns-2 : tie.Need-returns-2
 returns-2 c =
@@ -15,4 +11,4 @@ returns-2 c =
     (c .before .lowest .ensures .0 .here) (c .drop .ensures)
 
 pub at-most-one-spec : {M : Type 1} → statement M
-at-most-one-spec = tie.close (tie.spec returns (λ c κs. search needs) (λ c κs. search needs) returns-2)
+at-most-one-spec = tie.close (tie.spec (λ c. search (decides, at-most-none, needs)) (λ c κs. search needs) (λ c κs. search needs) returns-2)

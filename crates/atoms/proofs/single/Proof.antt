@@ -6,7 +6,7 @@ use Rattle.atoms.proofs.single.Tie as tie
 
 returns : tie.Need-returns
 unfolding atom
-returns c = shifted-one (c .args .i) (c .pre)
+returns c = search (shifted-one, needs)
 
 pub single-spec : {M : Type 1} → statement M
 single-spec = tie.close (tie.spec (λ c. search needs) returns)

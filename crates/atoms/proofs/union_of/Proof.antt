@@ -1,5 +1,4 @@
 -- Words gathered number by number: what is gathered and what the rest would add make the whole.
-use mathlib.Core.Path.{refl}
 use native.Mathlib.Omega.{arith}
 use lib.ListN.{getD}
 use lib.Count.{ones}
@@ -15,28 +14,8 @@ Inv-loop words n which all₀ rest₀ all rest = Gathers n (λ i. getD words i 0
 abbrev μ-loop : tie.MeasureT-loop
 μ-loop words n which all₀ rest₀ all rest = ones rest
 
-loop-holds : tie.Need-loop-holds Inv-loop μ-loop
-loop-holds c = gathers-start (c .before .first .ensures) (c .cut .ensures)
-
-mul-union : tie.Need-mul-union Inv-loop μ-loop
-mul-union c = omega (arith, c .lowest .ensures .1)
-
 shared-slice-read-union : tie.Need-shared-slice-read-union Inv-loop μ-loop
 shared-slice-read-union c = omega (arith, gathers-lt (c .before .before .before .loop .inv) (c .before .lowest .ensures .0))
-
-drop-requires : tie.Need-drop-requires Inv-loop μ-loop
-drop-requires c κs = c .before .before .lowest .ensures .1
-
-loop-less : tie.Need-loop-less Inv-loop μ-loop
-loop-less c = taken-less (c .before .before .before .lowest .ensures .0) (c .drop .ensures)
-
-loop-again : tie.Need-loop-again Inv-loop μ-loop
-loop-again c =
-    let low = c .before .before .before .lowest in
-    gathers-next (c .before .before .before .before .before .loop .inv) (low .ensures .0) (c .drop .ensures) refl (c .before .union .ensures)
-
-returns : tie.Need-returns Inv-loop μ-loop
-returns c = gathers-end (c .before .loop .inv) (c .loop-test .left)
 
 pub union-of-spec : {M : Type 1} → statement M
 union-of-spec =
@@ -46,12 +25,12 @@ union-of-spec =
     μ-loop
     (λ c κs. search needs)
     (λ c κs. search needs)
-    loop-holds
+    (λ c. search (gathers-start, needs))
     (λ c κs. search needs)
-    mul-union
+    (λ c. search needs)
     shared-slice-read-union
     (λ c κs. search needs)
-    drop-requires
-    loop-less
-    loop-again
-    returns)
+    (λ c κs. search needs)
+    (λ c. search (taken-less, needs))
+    (λ c. search (gathers-next, needs))
+    (λ c. search (gathers-end, needs)))

@@ -4,23 +4,13 @@ use borrow.Author.Needs.{needs}
 use Rattle.answer_sets.proofs.known.body_known.Statement.{statement}
 use Rattle.answer_sets.proofs.known.body_known.Tie as tie
 
-returns : tie.Need-returns
-returns c =
-    let words = c .before .before in
-    body-of-words (words-told _ _ (words .before .without .ensures) (words .words-known .ensures)) (c .before .uses .ensures) (c .if1 .taken)
-
-with-uses-requires : tie.Need-with-uses-requires
-with-uses-requires c κs =
-    let words = c .before .before in
-    (words .before .before .before .pre, words-told _ _ (words .before .without .ensures) (words .words-known .ensures))
-
 pub body-known-spec : {M : Type 1} → statement M
 body-known-spec =
     tie.close
     (tie.spec
     (λ c κs. search needs)
-    (λ c κs. (c .before .before .pre, up-apart _ _ (c .without .ensures)))
+    (λ c κs. search (up-apart, needs))
     (λ c κs. search needs)
-    returns
-    with-uses-requires
+    (λ c. search (body-of-words, words-told, needs))
+    (λ c κs. search (words-told, needs))
     (λ c. search needs))

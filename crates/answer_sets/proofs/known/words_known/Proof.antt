@@ -4,22 +4,13 @@ use borrow.Author.Needs.{needs}
 use Rattle.answer_sets.proofs.known.words_known.Statement.{statement}
 use Rattle.answer_sets.proofs.known.words_known.Tie as tie
 
-returns : tie.Need-returns
-returns c =
-    let negative = c .before in
-    let positive = negative .before .before in
-    let at-positive-body = positive .before in
-    let start = at-positive-body .before .before in
-    words-say (start .pre .1) (at-positive-body .positive-body .ensures) (negative .before .negative-body .ensures)
-    (positive .word-known .ensures) (negative .word-known2 .ensures) (c .both .ensures)
-
 pub words-known-spec : {M : Type 1} → statement M
 words-known-spec =
     tie.close
     (tie.spec
-    (λ c κs. c .before .pre .0)
-    (λ c κs. c .before .before .pre .1)
-    (λ c κs. c .before .before .before .pre .0)
-    (λ c κs. apart-sym (c .before .before .before .before .pre .1))
     (λ c κs. search needs)
-    returns)
+    (λ c κs. search needs)
+    (λ c κs. search needs)
+    (λ c κs. search (apart-sym, needs))
+    (λ c κs. search needs)
+    (λ c. search (words-say, needs)))

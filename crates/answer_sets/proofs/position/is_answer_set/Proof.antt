@@ -10,4 +10,4 @@ is-answer-set-spec =
     (λ c κs. search needs)
     (λ c. search needs)
     (λ c κs. (c .before .before .before .pre, c .before .blank-memo .ensures .memo _))
-    (λ c. c .before .judge-set .ensures .0))
+    (λ c. search needs))

@@ -5,11 +5,8 @@ use borrow.Author.Needs.{needs}
 use Rattle.answer_sets.proofs.reduct.kept_if.Statement.{statement}
 use Rattle.answer_sets.proofs.reduct.kept_if.Tie as tie
 
-returns : tie.Need-returns
-returns c = kept-if-holds _ _ _ (c .before .body-holds .ensures) _ (c .if1 .taken)
-
 returns-2 : tie.Need-returns-2
 returns-2 c = c .drop .ensures ∙ kept-if-fails _ _ _ (c .before .before .body-holds .ensures) _ (c .before .if1 .left)
 
 pub kept-if-spec : {M : Type 1} → statement M
-kept-if-spec = tie.close (tie.spec (λ c κs. search needs) returns (λ c κs. search needs) returns-2)
+kept-if-spec = tie.close (tie.spec (λ c κs. search needs) (λ c. search (kept-if-holds, needs)) (λ c κs. search needs) returns-2)

@@ -1,10 +1,12 @@
 -- The loop drops from the word the rules whose body fails. The measure is how many are left.
 use lib.Count.{ones}
 use Rattle.atoms.proofs.Counts.{taken-less}
-use Rattle.atoms.proofs.TakenNumbers.{Sifts, sifts-start, sifts-end, taken-lent}
+use Rattle.atoms.proofs.TakenNumbers.{Sifts, sifts-start, sifts-end}
 use Rattle.answer_sets.specs.Program.{Body}
 use Rattle.answer_sets.specs.Lent.{lent}
 use Rattle.answer_sets.proofs.Judged.{sifts-kept-if, kept-collected}
+use borrow.Author.Needs.{needs}
+use Rattle.answer_sets.proofs.Lent.{lent-taken}
 use Rattle.answer_sets.proofs.reduct.kept_rules.Statement.{statement}
 use Rattle.answer_sets.proofs.reduct.kept_rules.Tie as tie
 
@@ -13,11 +15,6 @@ Inv-loop rules which position rest₀ word₀ rest word = Sifts (λ r. Body (len
 
 abbrev μ-loop : tie.MeasureT-loop
 μ-loop rules which position rest₀ word₀ rest word = ones rest
-
-kept-if-requires : tie.Need-kept-if-requires Inv-loop μ-loop
-kept-if-requires c κs =
-    let at = c .before .before in
-    (at .before .before .pre .each _ (taken-lent (at .loop .inv .within) (c .lowest .ensures .0)), c .lowest .ensures .1)
 
 loop-again : tie.Need-loop-again Inv-loop μ-loop
 loop-again c =
@@ -31,9 +28,9 @@ kept-rules-spec =
     Inv-loop
     μ-loop
     (λ c. sifts-start)
-    (λ c κs. c .loop-test .taken)
-    kept-if-requires
-    (λ c κs. c .before .lowest .ensures .1)
-    (λ c. taken-less (c .before .before .lowest .ensures .0) (c .drop .ensures))
+    (λ c κs. search needs)
+    (λ c κs. search (lent-taken, needs))
+    (λ c κs. search needs)
+    (λ c. search (taken-less, needs))
     loop-again
     (λ c. kept-collected _ (c .before .before .before .fits .which .fits) (sifts-end (c .before .loop .inv) (c .loop-test .left))))

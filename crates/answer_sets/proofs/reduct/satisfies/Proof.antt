@@ -4,9 +4,6 @@ use borrow.Author.Needs.{needs}
 use Rattle.answer_sets.proofs.reduct.satisfies.Statement.{statement}
 use Rattle.answer_sets.proofs.reduct.satisfies.Tie as tie
 
-returns : tie.Need-returns
-returns c = satisfies-fails _ _ _ (c .before .body-holds .ensures) (c .if1 .taken)
-
 returns-2 : tie.Need-returns-2
 returns-2 c =
     satisfies-holds _ _ _ (c .before .before .before .body-holds .ensures) (c .before .before .if1 .left) (c .before .head .ensures)
@@ -14,4 +11,4 @@ returns-2 c =
 
 pub satisfies-spec : {M : Type 1} → statement M
 satisfies-spec =
-    tie.close (tie.spec (λ c κs. search needs) returns (λ c κs. search needs) (λ c κs. search needs) returns-2)
+    tie.close (tie.spec (λ c κs. search needs) (λ c. search (satisfies-fails, needs)) (λ c κs. search needs) (λ c κs. search needs) returns-2)

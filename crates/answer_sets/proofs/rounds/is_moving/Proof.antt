@@ -1,5 +1,4 @@
 -- The last test tells.
-use mathlib.Core.Path.{sym, _∙_}
 use mathlib.Core.Bool.{false≢true}
 use borrow.Author.Needs.{needs}
 use Rattle.answer_sets.proofs.rounds.is_moving.Statement.{statement}
@@ -15,4 +14,4 @@ is-moving-spec =
     (λ c κs. search needs)
     (λ c κs. search needs)
     (λ c e f. false≢true e)
-    (λ c e f. c .if3 .left (c .before .before .undecided .ensures ∙ f ∙ sym (c .before .undecided2 .ensures))))
+    (λ c e f. search needs))

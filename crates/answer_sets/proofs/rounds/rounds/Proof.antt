@@ -20,20 +20,10 @@ Inv-loop rules which position before₀ p₀ before p =
 abbrev μ-loop : tie.MeasureT-loop
 μ-loop rules which position before₀ p₀ before p = ones (undecided (before .up) (before .dropped))
 
-rule-pass-requires-2 : tie.Need-rule-pass-requires-2 Inv-loop μ-loop
-rule-pass-requires-2 c κs =
-    let at = c .before .before .before in
-    lent-part (at .before .before .before .pre) (at .loop .inv .0 .part)
-
 loop-less : tie.Need-loop-less Inv-loop μ-loop
 loop-less c =
     let test = c .before .before in
     pass-falls (test .before .before .loop .inv .1) refl refl (test .before .is-moving .ensures (test .if1 .taken)) refl
-
-loop-again : tie.Need-loop-again Inv-loop μ-loop
-loop-again c =
-    let inv = c .before .before .before .before .loop .inv in
-    (sifted-more (inv .0) (c .rule-pass2 .ensures), rounds-narrow (inv .0) (c .rule-pass2 .ensures))
 
 pub rounds-spec : {M : Type 1} → statement M
 rounds-spec =
@@ -41,10 +31,10 @@ rounds-spec =
     (tie.spec
     Inv-loop
     μ-loop
-    (λ c κs. c .before .pre)
-    (λ c. (c .rule-pass .ensures, c .rule-pass .ensures .narrows))
     (λ c κs. search needs)
-    rule-pass-requires-2
+    (λ c. search needs)
+    (λ c κs. search needs)
+    (λ c κs. search (lent-part, needs))
     loop-less
-    loop-again
-    (λ c. c .before .before .loop .inv .0))
+    (λ c. search (sifted-more, rounds-narrow, needs))
+    (λ c. search needs))

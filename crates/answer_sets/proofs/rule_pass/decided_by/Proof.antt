@@ -4,19 +4,6 @@ use borrow.Author.Needs.{needs}
 use Rattle.answer_sets.proofs.rule_pass.decided_by.Statement.{statement}
 use Rattle.answer_sets.proofs.rule_pass.decided_by.Tie as tie
 
-returns : tie.Need-returns
-returns c =
-    let raised = c .before .before .before in
-    let start = raised .before .before in
-    last-dropped _ _ (start .pre .2) (start .pre .1) (raised .union .ensures) (c .before .is-held .ensures) (c .if1 .taken) (c .before .before .union2 .ensures)
-
-returns-2 : tie.Need-returns-2
-returns-2 c =
-    let at-union2 = c .before .before .before .before in
-    let raised = at-union2 .before in
-    let start = raised .before .before in
-    last-up _ _ (start .pre .2) (start .pre .1) (at-union2 .union2 .ensures) (c .before .is-held2 .ensures) (c .if2 .taken) (raised .union .ensures)
-
 pub decided-by-spec : {M : Type 1} → statement M
 decided-by-spec =
     tie.close
@@ -24,7 +11,7 @@ decided-by-spec =
     (λ c κs. search needs)
     (λ c κs. search needs)
     (λ c κs. search needs)
-    returns
+    (λ c. search (last-dropped, needs))
     (λ c κs. search needs)
-    returns-2
+    (λ c. search (last-up, needs))
     (λ c. search needs))

@@ -5,26 +5,15 @@ use borrow.Author.Needs.{needs}
 use Rattle.answer_sets.proofs.rule_pass.is_held.Statement.{statement}
 use Rattle.answer_sets.proofs.rule_pass.is_held.Tie as tie
 
-returns : tie.Need-returns
-returns c =
-    let words = c .before .before .before in
-    held-known (body-of-words (words-told _ _ (words .before .without .ensures) (words .words-known .ensures)) (c .before .before .uses .ensures)
-    (c .before .if1 .taken)) (c .is-success .ensures)
-
-with-uses-requires : tie.Need-with-uses-requires
-with-uses-requires c κs =
-    let words = c .before .before in
-    (words .before .before .before .pre, words-told _ _ (words .before .without .ensures) (words .words-known .ensures))
-
 pub is-held-spec : {M : Type 1} → statement M
 is-held-spec =
     tie.close
     (tie.spec
     (λ c κs. search needs)
-    (λ c κs. (c .before .before .pre, up-apart _ _ (c .without .ensures)))
+    (λ c κs. search (up-apart, needs))
     (λ c κs. search needs)
     (λ c κs. search needs)
-    returns
-    with-uses-requires
+    (λ c. search (held-known, body-of-words, words-told, needs))
+    (λ c κs. search (words-told, needs))
     (λ c κs. search needs)
-    (λ c. held-known (c .before .with-uses .ensures) (c .is-success2 .ensures)))
+    (λ c. search (held-known, needs)))

@@ -2,10 +2,11 @@
 use lib.Count.{ones}
 use borrow.Author.Needs.{needs}
 use Rattle.atoms.proofs.Counts.{taken-less}
-use Rattle.atoms.proofs.TakenNumbers.{Carrying, carrying-start, carrying-next, taken-lent}
+use Rattle.atoms.proofs.TakenNumbers.{Carrying, carrying-start, taken-lent, carrying-more}
 use Rattle.answer_sets.specs.Lent.{lent}
 use Rattle.answer_sets.specs.RulePass.{Sifted}
-use Rattle.answer_sets.proofs.RulePass.{sifted-start, sifted-next}
+use Rattle.answer_sets.proofs.RulePass.{sifted-start, sifted-turn}
+use Rattle.answer_sets.proofs.Lent.{lent-taken}
 use Rattle.answer_sets.proofs.rule_pass.rule_pass.Statement.{statement}
 use Rattle.answer_sets.proofs.rule_pass.rule_pass.Tie as tie
 
@@ -17,28 +18,6 @@ Inv-loop rules which rest₀ up₀ dropped₀ left₀ rest up dropped left =
 abbrev μ-loop : tie.MeasureT-loop
 μ-loop rules which rest₀ up₀ dropped₀ left₀ rest up dropped left = ones rest
 
-pass-rule-requires : tie.Need-pass-rule-requires Inv-loop μ-loop
-pass-rule-requires c κs =
-    let low = c .before in
-    let at = low .before .before in
-    (at .before .before .pre .each _ (taken-lent (at .loop .inv .within) (low .lowest .ensures .0)), low .lowest .ensures .1)
-
-loop-again : tie.Need-loop-again Inv-loop μ-loop
-loop-again c =
-    let turn = c .before .before in
-    let low = turn .before .before in
-    carrying-next (low .before .before .loop .inv) (low .lowest .ensures .0) (c .drop .ensures)
-    (λ h k. sifted-next h k (rw (turn .before .round-of .ensures) at (turn .pass-rule .ensures)))
-
-drop-requires : tie.Need-drop-requires Inv-loop μ-loop
-drop-requires c κs = c .before .before .before .lowest .ensures .1
-
-loop-less : tie.Need-loop-less Inv-loop μ-loop
-loop-less c = taken-less (c .before .before .before .before .lowest .ensures .0) (c .drop .ensures)
-
-returns : tie.Need-returns Inv-loop μ-loop
-returns c = rw (c .round-of2 .ensures) (c .before .before .loop .inv .fact)
-
 pub rule-pass-spec : {M : Type 1} → statement M
 rule-pass-spec =
     tie.close
@@ -46,11 +25,11 @@ rule-pass-spec =
     Inv-loop
     μ-loop
     (λ c. carrying-start sifted-start)
-    (λ c κs. c .loop-test .taken)
     (λ c κs. search needs)
-    pass-rule-requires
-    drop-requires
-    loop-less
-    loop-again
     (λ c κs. search needs)
-    returns)
+    (λ c κs. search (lent-taken, needs))
+    (λ c κs. search needs)
+    (λ c. search (taken-less, needs))
+    (λ c. search (carrying-more, sifted-turn, taken-lent, needs))
+    (λ c κs. search needs)
+    (λ c. rw (c .round-of2 .ensures) (c .before .before .loop .inv .fact)))

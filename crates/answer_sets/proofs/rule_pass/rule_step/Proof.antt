@@ -7,16 +7,6 @@ use borrow.Author.Needs.{needs}
 use Rattle.answer_sets.proofs.rule_pass.rule_step.Statement.{statement}
 use Rattle.answer_sets.proofs.rule_pass.rule_step.Tie as tie
 
-returns : tie.Need-returns
-returns c = head-met _ _ (c .before .before .head .ensures) (c .before .are-apart .ensures) (c .if1 .taken)
-
-returns-2 : tie.Need-returns-2
-returns-2 c =
-    let known = c .before .before .before .before in
-    holds-head _ _ (known .before .before .before .head .ensures) (known .body-known .ensures) (c .before .before .enum-told .given .1)
-    (c .before .without .ensures)
-    (c .one-up .ensures)
-
 returns-3 : tie.Need-returns-3
 returns-3 c =
     not-held _ _ (c .before .before .body-known .ensures) (λ e. holds-not-fails (sym e ∙ c .enum-told2 .given .1)) narrows-refl
@@ -32,7 +22,7 @@ rule-step-spec =
     (tie.spec
     (λ c κs. search needs)
     (λ c κs. search needs)
-    returns
+    (λ c. search (head-met, needs))
     (λ c κs. search needs)
     (λ c. search needs)
     (λ c κs. search needs)
@@ -40,6 +30,6 @@ rule-step-spec =
     (λ c. search needs)
     (λ c. search needs)
     (λ c κs. search needs)
-    returns-2
+    (λ c. search (holds-head, needs))
     returns-3
     returns-4)

@@ -81,16 +81,16 @@ some-smaller-spec =
     tie.close
     (tie.spec
     (λ c κs. search needs)
-    (λ c κs. c .before .before .before .pre .0)
+    (λ c κs. search needs)
     (λ c κs. search needs)
     whole
-    (λ c κs. let p = passed (c .before) in (lent-left p, start p .pre .1 .long))
+    (λ c κs. search (lent-left, needs))
     (λ c κs. search needs)
     (λ c. search needs)
     like-memo
     (λ c κs. let p = passed (unlike c) in (lent-left p, confined p))
     (λ c. search needs)
     found
-    (λ c κs. start (passed (unlike (tried (c .before)))) .pre .1 .long)
+    (λ c κs. search needs)
     (λ c. search needs)
     written)

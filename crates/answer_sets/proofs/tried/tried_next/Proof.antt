@@ -10,5 +10,5 @@ tried-next-spec =
     (tie.spec
     (λ c κs. search needs)
     (λ c. search needs)
-    (λ c κs. (c .before .before .before .pre .0, some-free (c .before .before .before .pre .1)))
+    (λ c κs. search (some-free, needs))
     (λ c. search needs))

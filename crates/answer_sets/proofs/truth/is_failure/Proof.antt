@@ -1,7 +1,5 @@
 -- Fails, and neither of the others.
-use mathlib.Core.Path.{refl, sym, _∙_}
-use mathlib.Core.Bool.{false≢true}
-use Rattle.answer_sets.proofs.Truths.{holds-not-fails, open-not-fails}
+use Rattle.answer_sets.proofs.Truths.{holds-no-failure, open-no-failure}
 use borrow.Author.Needs.{needs}
 use Rattle.answer_sets.proofs.truth.is_failure.Statement.{statement}
 use Rattle.answer_sets.proofs.truth.is_failure.Tie as tie
@@ -13,6 +11,6 @@ is-failure-spec =
     (λ c. search needs)
     (λ c. search needs)
     (λ c. search needs)
-    (λ c. (λ e. c .enum-told .given .1, λ e. refl))
-    (λ c. (λ e. absurd (false≢true e), λ e. absurd (holds-not-fails (sym (c .enum-told2 .given .1) ∙ e))))
-    (λ c. (λ e. absurd (false≢true e), λ e. absurd (open-not-fails (sym (c .enum-told3 .given .1) ∙ e)))))
+    (λ c. search needs)
+    (λ c. search (holds-no-failure, needs))
+    (λ c. search (open-no-failure, needs)))

@@ -31,11 +31,11 @@ pub use-known-spec : {M : Type 1} → statement M
 use-known-spec =
     tie.close
     (tie.spec
-    (λ c κs. c .before .pre .1)
-    (λ c κs. (c .before .before .pre .0, c .table-of .ensures .1))
     (λ c κs. search needs)
-    (λ c κs. (c .before .before .before .before .pre .0, c .before .before .table-of .ensures .1))
-    (λ c κs. rows-some _ _ (c .before .agreeing-rows .ensures))
+    (λ c κs. search needs)
+    (λ c κs. search needs)
+    (λ c κs. search needs)
+    (λ c κs. search (rows-some, needs))
     (λ c κs. search needs)
     returns
     returns-2)

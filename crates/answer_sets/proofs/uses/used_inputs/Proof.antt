@@ -1,14 +1,10 @@
 -- The inputs gathered use by use.
 use lib.Count.{ones}
-use native.Mathlib.Omega.{arith}
 use Rattle.atoms.proofs.Counts.{taken-less}
-use mathlib.Core.Path.{_∙_, ap}
-use Prim.Native.Nat.{ℕ}
-use denote.Ref.{now}
-use Rattle.atoms.specs.Word.{_∩_}
-use Rattle.atoms.proofs.GatheredWords.{Gathers, gathers-start, gathers-lt, gathers-next, gathers-end}
+use Rattle.atoms.proofs.GatheredWords.{Gathers, gathers-lt, gathers-next, gathers-end, gathers-read}
 use Rattle.answer_sets.specs.Lent.{uses, USE_BITS, usedTable, inputs, usedInputs}
 use borrow.Author.Needs.{needs}
+use Rattle.answer_sets.proofs.Bodies.{used-inputs-read}
 use Rattle.answer_sets.proofs.uses.used_inputs.Statement.{statement}
 use Rattle.answer_sets.proofs.uses.used_inputs.Tie as tie
 
@@ -18,29 +14,9 @@ Inv-loop rules rule all₀ rest₀ all rest = Gathers USE_BITS (λ i. inputs rul
 abbrev μ-loop : tie.MeasureT-loop
 μ-loop rules rule all₀ rest₀ all rest = ones rest
 
-loop-holds : tie.Need-loop-holds Inv-loop μ-loop
-loop-holds c = gathers-start (c .before .first .ensures) (c .cut .ensures ∙ ap (λ (w : ℕ). w ∩ c .before .first .result) (c .before .before .uses .ensures))
-
-table-of-requires : tie.Need-table-of-requires Inv-loop μ-loop
-table-of-requires c κs = gathers-lt (c .before .before .loop .inv) (c .lowest .ensures .0)
-
-table-inputs-requires : tie.Need-table-inputs-requires Inv-loop μ-loop
-table-inputs-requires c κs =
-    (omega (arith, c .before .before .before .before .before .before .before .before .pre), c .table-of .ensures .1)
-
-loop-again : tie.Need-loop-again Inv-loop μ-loop
-loop-again c =
-    let low = c .before .before .before .before in
-    let head = low .before .before in
-    let start = head .before .before .before .before .before in
-    gathers-next (head .loop .inv) (low .lowest .ensures .0) (c .drop .ensures)
-    (c .before .before .table-inputs .ensures
-    ∙ ap (inputs (now (start .args .rules))) (c .before .before .before .table-of .ensures .0))
-    (c .before .union .ensures)
-
 returns : tie.Need-returns Inv-loop μ-loop
 unfolding usedInputs
-returns c = gathers-end (c .before .loop .inv) (c .loop-test .left)
+returns c = search (gathers-end, needs)
 
 pub used-inputs-spec : {M : Type 1} → statement M
 used-inputs-spec =
@@ -51,12 +27,12 @@ used-inputs-spec =
     (λ c κs. search needs)
     (λ c κs. search needs)
     (λ c κs. search needs)
-    loop-holds
-    (λ c κs. c .loop-test .taken)
-    table-of-requires
-    table-inputs-requires
+    (λ c. search (gathers-read, needs))
     (λ c κs. search needs)
-    (λ c κs. c .before .before .before .lowest .ensures .1)
-    (λ c. taken-less (c .before .before .before .before .lowest .ensures .0) (c .drop .ensures))
-    loop-again
+    (λ c κs. search (gathers-lt, needs))
+    (λ c κs. search needs)
+    (λ c κs. search needs)
+    (λ c κs. search needs)
+    (λ c. search (taken-less, needs))
+    (λ c. search (gathers-next, used-inputs-read, needs))
     returns)

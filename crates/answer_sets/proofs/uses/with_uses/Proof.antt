@@ -1,5 +1,4 @@
 -- The loop puts together what is known of the words and of the uses that are done. The measure is how many are left.
-use native.Mathlib.Omega.{arith}
 use lib.Count.{ones}
 use Rattle.atoms.proofs.Counts.{taken-less}
 use Rattle.states.specs.State.{halfDecided}
@@ -14,40 +13,22 @@ Inv-loop rules rule up dropped words rest₀ known rest = UsesDone rules rule (h
 abbrev μ-loop : tie.MeasureT-loop
 μ-loop rules rule up dropped words rest₀ known rest = ones rest
 
-loop-holds : tie.Need-loop-holds Inv-loop μ-loop
-loop-holds c =
-    uses-start (c .before .before .before .before .pre .1) (c .before .before .uses .ensures) (c .before .first .ensures) (c .cut .ensures)
-
-returns : tie.Need-returns Inv-loop μ-loop
-returns c = uses-fail (c .before .before .before .loop .inv) (c .before .is-failure .ensures .0 (c .if1 .taken))
-
-use-known-requires : tie.Need-use-known-requires Inv-loop μ-loop
-use-known-requires c κs =
-    let at = c .before .before .before .before in
-    (omega (arith, at .before .before .before .before .before .pre .0), uses-lt (at .loop .inv) (c .lowest .ensures .0))
-
-loop-again : tie.Need-loop-again Inv-loop μ-loop
-loop-again c =
-    let low = c .before .before .before in
-    uses-next (low .before .before .before .before .loop .inv) (low .lowest .ensures .0) (c .drop .ensures) (c .before .before .use-known .ensures)
-    (c .before .both .ensures)
-
 pub with-uses-spec : {M : Type 1} → statement M
 with-uses-spec =
     tie.close
     (tie.spec
     Inv-loop
     μ-loop
-    (λ c κs. c .before .pre .0)
     (λ c κs. search needs)
     (λ c κs. search needs)
-    loop-holds
     (λ c κs. search needs)
-    returns
-    (λ c κs. c .before .before .loop-test .taken)
-    use-known-requires
+    (λ c. search (uses-start, needs))
     (λ c κs. search needs)
-    (λ c κs. c .before .before .lowest .ensures .1)
-    (λ c. taken-less (c .before .before .before .lowest .ensures .0) (c .drop .ensures))
-    loop-again
-    (λ c. uses-end (c .before .loop .inv) (c .loop-test .left)))
+    (λ c. search (uses-fail, needs))
+    (λ c κs. search needs)
+    (λ c κs. search (uses-lt, needs))
+    (λ c κs. search needs)
+    (λ c κs. search needs)
+    (λ c. search (taken-less, needs))
+    (λ c. search (uses-next, needs))
+    (λ c. search (uses-end, needs)))

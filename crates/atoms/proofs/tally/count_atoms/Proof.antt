@@ -20,42 +20,11 @@ in-range c =
     let head = c .before .before in
     ltb-true (head .loop .i) (length (head .loop .places)) (c .if1 .taken)
 
-loop-holds : tie.Need-loop-holds Inv-loop μ-loop
-loop-holds c = counting-start _ _
-
-mul-here : tie.Need-mul-here Inv-loop μ-loop
-mul-here c = omega (arith, in-range c)
-
-slice-read-here : tie.Need-slice-read-here Inv-loop μ-loop
-slice-read-here c = in-range (c .before)
-
-mul-places : tie.Need-mul-places Inv-loop μ-loop
-mul-places c = omega (arith, in-range (c .before))
-
-slice-write-places : tie.Need-slice-write-places Inv-loop μ-loop
-slice-write-places c = in-range (c .before)
-
-add-i : tie.Need-add-i Inv-loop μ-loop
-add-i c = omega (arith, in-range (c .before .before))
-
 loop-less : tie.Need-loop-less Inv-loop μ-loop
 loop-less c = omega (arith, in-range (c .before .before), c .before .before .before .before .loop .inv .same-length)
 
-loop-again : tie.Need-loop-again Inv-loop μ-loop
-loop-again c =
-    counting-next (c .before .before .before .before .loop .inv) (in-range (c .before .before)) (c .cut .ensures)
-
 same-length : tie.Need-same-length Inv-loop μ-loop
-same-length c = c .before .before .loop .inv .same-length
-
-returns : tie.Need-returns Inv-loop μ-loop
-returns c = counting-end (c .before .before .loop .inv) (ltb-false _ _ (c .if1 .left))
-
-same-length-2 : tie.Need-same-length-2 Inv-loop μ-loop
-same-length-2 c = c .before .loop .inv .same-length
-
-returns-2 : tie.Need-returns-2 Inv-loop μ-loop
-returns-2 c = counting-none (c .before .loop .inv) (c .loop-test .left)
+same-length c = search needs
 
 pub count-atoms-spec : {M : Type 1} → statement M
 count-atoms-spec =
@@ -63,16 +32,16 @@ count-atoms-spec =
     (tie.spec
     Inv-loop
     μ-loop
-    loop-holds
-    mul-here
-    slice-read-here
-    mul-places
-    slice-write-places
+    (λ c. search (counting-start, needs))
+    (λ c. search needs)
+    (λ c. search needs)
+    (λ c. search needs)
+    (λ c. search needs)
     (λ c κs. search needs)
-    add-i
+    (λ c. search needs)
     loop-less
-    loop-again
+    (λ c. search (counting-next, needs))
     same-length
-    returns
-    same-length-2
-    returns-2)
+    (λ c. search (counting-end, ltb-false, needs))
+    (λ c. search needs)
+    (λ c. search (counting-none, needs)))

@@ -1,6 +1,7 @@
 -- The words passed so far are copied.
-use mathlib.Core.Path.{_≡_, refl, ap, _∙_}
-use Prim.Native.Nat.{_+_, _-_, _≤_}
+use borrow.Author.Needs.{needs}
+use mathlib.Core.Path.{_≡_, ap, _∙_}
+use Prim.Native.Nat.{_-_, _≤_}
 use native.Mathlib.Omega.{arith}
 use denote.Ref.{now}
 use lib.ListN.{length, getD, length-set}
@@ -16,23 +17,6 @@ Inv-loop words area₀ base i₀ area i =
 abbrev μ-loop : tie.MeasureT-loop
 μ-loop words area₀ base i₀ area i = length words - i
 
-loop-holds : tie.Need-loop-holds Inv-loop μ-loop
-loop-holds c = (omega arith, refl, paste-zero (now (c .args .area)) (c .args .base) (now (c .args .words)))
-
-loop-again : tie.Need-loop-again Inv-loop μ-loop
-loop-again c =
-    let start = c .before .before .before in
-    let at = start .args in
-    let loop = c .before .before .loop in (
-      omega arith,
-      length-set (loop .area) (at .base + loop .i) (getD (now (at .words)) (loop .i) 0) ∙ loop .inv .1,
-      stored-next (now (at .area)) (at .base) (now (at .words)) (loop .area) (loop .i) (start .pre)
-          (c .before .loop-test .taken) (loop .inv .2),
-    )
-
-same-length : tie.Need-same-length Inv-loop μ-loop
-same-length c = c .before .loop .inv .1
-
 returns : tie.Need-returns Inv-loop μ-loop
 returns c =
     let at = c .before .before .args in
@@ -45,7 +29,7 @@ store-spec =
     (tie.spec
     Inv-loop
     μ-loop
-    loop-holds
+    (λ c. search (paste-zero, needs))
     (λ c. omega arith)
     (λ c. omega arith)
     (λ c. omega arith)
@@ -53,6 +37,6 @@ store-spec =
     (λ c. omega arith)
     (λ c. omega arith)
     (λ c. omega arith)
-    loop-again
-    same-length
+    (λ c. search (length-set, getD, stored-next, needs))
+    (λ c. search needs)
     returns)

@@ -19,12 +19,6 @@ Inv-loop inputs up dropped rows₀ rest₀ k₀ rows rest k = Sifting inputs up 
 abbrev μ-loop : tie.MeasureT-loop
 μ-loop inputs up dropped rows₀ rest₀ k₀ rows rest k = ones rest
 
-loop-again : tie.Need-loop-again Inv-loop μ-loop
-loop-again c =
-    let low = c .before .before in
-    sifting-next (low .before .before .before .loop .inv) (low .lowest .ensures .0) (ltb-true _ _ (low .before .if1 .taken)) (c .before .sifted .ensures)
-    (c .drop .ensures)
-
 -- how many inputs are done
 abbrev done : tie.After-single Inv-loop μ-loop → ℕ
 done c = c .before .before .loop .k
@@ -54,14 +48,14 @@ agreeing-rows-spec =
     Inv-loop
     μ-loop
     (λ c κs. search needs)
-    (λ c. sifting-start (c .first .ensures))
-    (λ c κs. c .before .loop-test .taken)
-    (λ c κs. (ltb-true _ _ (c .before .if1 .taken), c .lowest .ensures .1))
-    (λ c κs. c .before .lowest .ensures .1)
-    (λ c. omega (arith, c .before .before .before .before .before .loop .inv .walking .few))
-    (λ c. taken-less (c .before .before .lowest .ensures .0) (c .drop .ensures))
-    loop-again
-    (λ c κs. let l = c .before .loop .inv .walking .few in omega arith)
+    (λ c. search (sifting-start, needs))
+    (λ c κs. search needs)
+    (λ c κs. search (ltb-true, needs))
+    (λ c κs. search needs)
+    (λ c. omega arith)
+    (λ c. search (taken-less, needs))
+    (λ c. search (sifting-next, ltb-true, needs))
+    (λ c κs. omega arith)
     first-requires-2
     (λ c κs. search needs)
     returns)

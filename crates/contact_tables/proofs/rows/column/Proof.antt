@@ -4,8 +4,5 @@ use Rattle.contact_tables.proofs.Columns.{column-collects}
 use Rattle.contact_tables.proofs.rows.column.Statement.{statement}
 use Rattle.contact_tables.proofs.rows.column.Tie as tie
 
-returns : tie.Need-returns
-returns c = column-collects _ (c .pre)
-
 pub column-spec : {M : Type 1} → statement M
-column-spec = tie.close (tie.spec (λ c. search needs) (λ c. search needs) returns)
+column-spec = tie.close (tie.spec (λ c. search needs) (λ c. search needs) (λ c. search (column-collects, needs)))

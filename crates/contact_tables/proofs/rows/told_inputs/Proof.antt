@@ -1,6 +1,5 @@
 -- The loop takes the inputs from the lowest on. The measure is how many are left.
 use mathlib.Core.Logic.{inl, inr}
-use Prim.Native.Nat.{_≤_}
 use native.Mathlib.Omega.{arith}
 use lib.Count.{ones}
 use borrow.Author.Needs.{needs}
@@ -19,19 +18,6 @@ abbrev μ-loop : tie.MeasureT-loop
 abbrev lowest : tie.After-drop Inv-loop μ-loop → tie.After-lowest Inv-loop μ-loop
 lowest c = c .before .before .before .before .before .before .before .before
 
-loop-again : tie.Need-loop-again Inv-loop μ-loop
-loop-again c =
-    let dropped = c .before in
-    let apart = dropped .before .before in
-    let up = apart .before in
-    let within = up .before .before in
-    let column = within .before in
-    let low = column .before in
-    let loop = low .before .before .before in
-    telling-next (loop .before .fits .rows .fits) (loop .loop .inv) (low .lowest .ensures .0) (ltb-true _ _ (low .before .if1 .taken))
-    (column .column .ensures) (within .is-subset .ensures) (up .before .single-if .ensures) (up .union .ensures) (apart .are-apart .ensures)
-    (dropped .before .single-if2 .ensures) (dropped .union2 .ensures) (c .drop .ensures)
-
 pub told-inputs-spec : {M : Type 1} → statement M
 told-inputs-spec =
     tie.close
@@ -39,17 +25,17 @@ told-inputs-spec =
     Inv-loop
     μ-loop
     (λ c. telling-start _ _)
-    (λ c κs. c .before .loop-test .taken)
-    (λ c κs. ltb-true _ _ (c .before .if1 .taken))
     (λ c κs. search needs)
-    (λ c κs. c .before .before .lowest .ensures .1)
+    (λ c κs. search (ltb-true, needs))
     (λ c κs. search needs)
     (λ c κs. search needs)
-    (λ c κs. c .before .before .before .before .before .lowest .ensures .1)
     (λ c κs. search needs)
-    (λ c κs. c .before .before .before .before .before .before .before .lowest .ensures .1)
-    (λ c. omega (arith, lowest c .before .before .before .loop .inv .walking .few))
-    (λ c. taken-less (lowest c .lowest .ensures .0) (c .drop .ensures))
-    loop-again
-    (λ c. let end = inr (ltb-false _ _ (c .if1 .left)) in let inv = c .before .before .loop .inv in (told-up inv end, told-dropped inv end))
-    (λ c. let end = inl (c .loop-test .left) in let inv = c .before .loop .inv in (told-up inv end, told-dropped inv end)))
+    (λ c κs. search needs)
+    (λ c κs. search needs)
+    (λ c κs. search needs)
+    (λ c κs. search needs)
+    (λ c. omega arith)
+    (λ c. search (taken-less, needs))
+    (λ c. search (telling-next, ltb-true, needs))
+    (λ c. search (inr, ltb-false, told-up, told-dropped, needs))
+    (λ c. search (inl, told-up, told-dropped, needs)))

@@ -15,9 +15,6 @@ Inv-loop words n found₀ i₀ found i = Built (λ k. wordBelow k (λ j. has (ge
 abbrev μ-loop : tie.MeasureT-loop
 μ-loop words n found₀ i₀ found i = n - i
 
-loop-holds : tie.Need-loop-holds Inv-loop μ-loop
-loop-holds c = word-start _
-
 loop-again : tie.Need-loop-again Inv-loop μ-loop
 loop-again c =
     let turn = c .before .before .before .before .before in
@@ -34,7 +31,7 @@ own-members-spec =
     (tie.spec
     Inv-loop
     μ-loop
-    loop-holds
+    (λ c. search (word-start, needs))
     (λ c. search needs)
     (λ c. search needs)
     (λ c κs. search needs)

@@ -1,5 +1,4 @@
 -- The rules of which the test holds are picked one by one (Gathering).
-use native.Mathlib.Omega.{arith}
 use lib.Count.{ones}
 use borrow.Author.Needs.{needs}
 use Rattle.atoms.specs.Word.{apart, _∪_}
@@ -24,21 +23,15 @@ taken c = c .before .before .before .before .before .before .before .before .bef
 
 loop-holds : tie.Need-loop-holds Inv-loop μ-loop
 unfolding unitsOf
-loop-holds c = picks-start (c .before .first .ensures) (c .cut .ensures)
+loop-holds c = search (picks-start, needs)
 
 positive-body-requires : tie.Need-positive-body-requires Inv-loop μ-loop
 unfolding unitsOf
-positive-body-requires c κs =
-    omega (arith, picks-lt (c .before .before .before .before .before .loop .inv) (c .before .before .before .lowest .ensures .0))
+positive-body-requires c κs = search (picks-lt, needs)
 
 head-requires : tie.Need-head-requires Inv-loop μ-loop
 unfolding unitsOf
-head-requires c κs =
-    let taken = c .before .before .before .before .before .before .before in
-    omega (arith, picks-lt (taken .before .before .loop .inv) (taken .lowest .ensures .0))
-
-loop-less : tie.Need-loop-less Inv-loop μ-loop
-loop-less c = taken-less (taken c .lowest .ensures .0) (c .drop .ensures)
+head-requires c κs = search (picks-lt, needs)
 
 loop-again : tie.Need-loop-again Inv-loop μ-loop
 unfolding unitsOf
@@ -74,6 +67,6 @@ monotonic-seen-in-spec =
     (λ c κs. search needs)
     (λ c κs. search needs)
     (λ c κs. search needs)
-    loop-less
+    (λ c. search (taken-less, needs))
     loop-again
     returns)

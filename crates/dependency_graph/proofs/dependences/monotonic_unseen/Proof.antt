@@ -13,9 +13,6 @@ Inv-loop plan seen₀ u₀ seen u = Built (λ k. unionBelow k (monotonicSeenIn (
 abbrev μ-loop : tie.MeasureT-loop
 μ-loop plan seen₀ u₀ seen u = plan .«unit_count» - u
 
-loop-holds : tie.Need-loop-holds Inv-loop μ-loop
-loop-holds c = union-start _
-
 loop-again : tie.Need-loop-again Inv-loop μ-loop
 loop-again c =
     union-more _ (c .before .before .before .before .loop .inv) (c .before .before .if1 .taken) (c .before .monotonic-seen-in .ensures) (c .union .ensures)
@@ -31,7 +28,7 @@ monotonic-unseen-spec =
     (tie.spec
     Inv-loop
     μ-loop
-    loop-holds
+    (λ c. search (union-start, needs))
     (λ c κs. search needs)
     (λ c κs. search needs)
     (λ c. search needs)

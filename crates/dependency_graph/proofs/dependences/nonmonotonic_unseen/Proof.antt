@@ -13,9 +13,6 @@ Inv-loop plan found₀ u₀ found u = Built (λ k. unionBelow k (nonmonotonicUns
 abbrev μ-loop : tie.MeasureT-loop
 μ-loop plan found₀ u₀ found u = plan .«unit_count» - u
 
-loop-holds : tie.Need-loop-holds Inv-loop μ-loop
-loop-holds c = union-start _
-
 loop-again : tie.Need-loop-again Inv-loop μ-loop
 loop-again c =
     union-more _ (c .before .before .before .before .loop .inv) (c .before .before .if1 .taken) (c .before .nonmonotonic-unseen-in .ensures) (c .union .ensures)
@@ -30,7 +27,7 @@ nonmonotonic-unseen-spec =
     (tie.spec
     Inv-loop
     μ-loop
-    loop-holds
+    (λ c. search (union-start, needs))
     (λ c κs. search needs)
     (λ c κs. search needs)
     (λ c. search needs)

@@ -1,7 +1,6 @@
 -- The rules of which the test holds are picked one by one (Gathering).
 use mathlib.Core.Path.{ap}
 use mathlib.Core.Bool.{not}
-use native.Mathlib.Omega.{arith}
 use lib.Count.{ones}
 use borrow.Author.Needs.{needs}
 use Rattle.atoms.specs.Word.{apart}
@@ -25,14 +24,11 @@ taken c = c .before .before .before .before .before .before .before .before
 
 loop-holds : tie.Need-loop-holds Inv-loop μ-loop
 unfolding unitsOf
-loop-holds c = picks-start (c .before .first .ensures) (c .cut .ensures)
+loop-holds c = search (picks-start, needs)
 
 looks-requires : tie.Need-looks-requires Inv-loop μ-loop
 unfolding unitsOf
-looks-requires c κs = omega (arith, picks-lt (c .before .before .before .before .before .loop .inv) (c .before .before .before .lowest .ensures .0))
-
-loop-less : tie.Need-loop-less Inv-loop μ-loop
-loop-less c = taken-less (taken c .lowest .ensures .0) (c .drop .ensures)
+looks-requires c κs = search (picks-lt, needs)
 
 loop-again : tie.Need-loop-again Inv-loop μ-loop
 unfolding unitsOf
@@ -63,6 +59,6 @@ nonmonotonic-unseen-in-spec =
     (λ c κs. search needs)
     (λ c κs. search needs)
     (λ c κs. search needs)
-    loop-less
+    (λ c. search (taken-less, needs))
     loop-again
     returns)

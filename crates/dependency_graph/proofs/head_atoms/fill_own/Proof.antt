@@ -1,6 +1,5 @@
 -- The table is filled from the front (Filled).
 use Prim.Native.Nat.{_-_}
-use native.Mathlib.Omega.{arith}
 use borrow.Author.Needs.{needs}
 use Rattle.dependency_graph.specs.Heads.{own}
 use Rattle.dependency_graph.specs.PlanUnits.{unitsOf}
@@ -14,18 +13,9 @@ Inv-loop table₀ plan u₀ table u = Filling (plan .«unit_count») u (own (uni
 abbrev μ-loop : tie.MeasureT-loop
 μ-loop table₀ plan u₀ table u = plan .«unit_count» - u
 
-loop-holds : tie.Need-loop-holds Inv-loop μ-loop
-loop-holds c = filling-start (omega arith)
-
 loop-again : tie.Need-loop-again Inv-loop μ-loop
 unfolding own unitsOf
-loop-again c = filling-more (c .before .before .before .loop .inv) (c .before .before .loop-test .taken) (c .rule-heads .ensures)
-
-same-length : tie.Need-same-length Inv-loop μ-loop
-same-length c = c .before .loop .inv .so-far .same-length
-
-returns : tie.Need-returns Inv-loop μ-loop
-returns c = filling-end (c .before .loop .inv) (c .loop-test .left)
+loop-again c = search (filling-more, needs)
 
 pub fill-own-spec : {M : Type 1} → statement M
 fill-own-spec =
@@ -33,7 +23,7 @@ fill-own-spec =
     (tie.spec
     Inv-loop
     μ-loop
-    loop-holds
+    (λ c. search (filling-start, needs))
     (λ c. search needs)
     (λ c. search needs)
     (λ c κs. search needs)
@@ -42,5 +32,5 @@ fill-own-spec =
     (λ c. search needs)
     (λ c. search needs)
     loop-again
-    same-length
-    returns)
+    (λ c. search needs)
+    (λ c. search (filling-end, needs)))

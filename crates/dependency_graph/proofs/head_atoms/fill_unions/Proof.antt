@@ -1,7 +1,6 @@
 -- The table is filled from the front (Filled).
 use mathlib.Core.Path.{ap, _∙_}
 use Prim.Native.Nat.{ℕ, _-_}
-use native.Mathlib.Omega.{arith}
 use lib.ListN.{getD}
 use borrow.Author.Needs.{needs}
 use Rattle.atoms.specs.Word.{_∪_}
@@ -17,9 +16,6 @@ Inv-loop given words which unit-count table₀ u₀ table u =
 abbrev μ-loop : tie.MeasureT-loop
 μ-loop given words which unit-count table₀ u₀ table u = unit-count - u
 
-loop-holds : tie.Need-loop-holds Inv-loop μ-loop
-loop-holds c = filling-start (omega arith)
-
 loop-again : tie.Need-loop-again Inv-loop μ-loop
 loop-again c =
     let head = c .before .before .before .before in
@@ -27,19 +23,13 @@ loop-again c =
     filling-more (head .loop .inv) (c .before .before .before .loop-test .taken)
     (c .union .ensures ∙ ap (λ (w : ℕ). start .args .given ∪ w) (c .before .union-of .ensures))
 
-same-length : tie.Need-same-length Inv-loop μ-loop
-same-length c = c .before .loop .inv .so-far .same-length
-
-returns : tie.Need-returns Inv-loop μ-loop
-returns c = filling-end (c .before .loop .inv) (c .loop-test .left)
-
 pub fill-unions-spec : {M : Type 1} → statement M
 fill-unions-spec =
     tie.close
     (tie.spec
     Inv-loop
     μ-loop
-    loop-holds
+    (λ c. search (filling-start, needs))
     (λ c. search needs)
     (λ c. search needs)
     (λ c κs. search needs)
@@ -49,5 +39,5 @@ fill-unions-spec =
     (λ c. search needs)
     (λ c. search needs)
     loop-again
-    same-length
-    returns)
+    (λ c. search needs)
+    (λ c. search (filling-end, needs)))

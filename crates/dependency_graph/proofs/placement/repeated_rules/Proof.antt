@@ -17,9 +17,6 @@ Inv-loop plan once₀ twice₀ u₀ once twice u =
 abbrev μ-loop : tie.MeasureT-loop
 μ-loop plan once₀ twice₀ u₀ once twice u = plan .«unit_count» - u
 
-loop-holds : tie.Need-loop-holds Inv-loop μ-loop
-loop-holds c = (union-start _, twice-start _)
-
 loop-again : tie.Need-loop-again Inv-loop μ-loop
 loop-again c =
     let turn = c .before .before .before .before .before in
@@ -38,7 +35,7 @@ repeated-rules-spec =
     (tie.spec
     Inv-loop
     μ-loop
-    loop-holds
+    (λ c. search (union-start, twice-start, needs))
     (λ c. search needs)
     (λ c. search needs)
     (λ c κs. search needs)

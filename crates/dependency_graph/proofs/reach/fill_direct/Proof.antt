@@ -1,6 +1,5 @@
 -- The table is filled from the front with paths of one edge (Filled).
 use Prim.Native.Nat.{_-_}
-use native.Mathlib.Omega.{arith}
 use borrow.Author.Needs.{needs}
 use Rattle.dependency_graph.specs.Heads.{reachVia}
 use Rattle.dependency_graph.specs.PlanUnits.{unitsOf}
@@ -14,20 +13,11 @@ Inv-loop table₀ plan all u₀ table u = Filling (plan .«unit_count») u (reac
 abbrev μ-loop : tie.MeasureT-loop
 μ-loop table₀ plan all u₀ table u = plan .«unit_count» - u
 
-loop-holds : tie.Need-loop-holds Inv-loop μ-loop
-loop-holds c = filling-start (omega arith)
-
 loop-again : tie.Need-loop-again Inv-loop μ-loop
 unfolding reachVia unitsOf
 loop-again c =
     filling-more (c .before .before .before .loop .inv) (c .before .before .loop-test .taken)
     (rw (c .before .before .before .before .first .ensures) at (c .cut .ensures))
-
-same-length : tie.Need-same-length Inv-loop μ-loop
-same-length c = c .before .loop .inv .so-far .same-length
-
-returns : tie.Need-returns Inv-loop μ-loop
-returns c = filling-end (c .before .loop .inv) (c .loop-test .left)
 
 pub fill-direct-spec : {M : Type 1} → statement M
 fill-direct-spec =
@@ -36,7 +26,7 @@ fill-direct-spec =
     Inv-loop
     μ-loop
     (λ c κs. search needs)
-    loop-holds
+    (λ c. search (filling-start, needs))
     (λ c. search needs)
     (λ c. search needs)
     (λ c κs. search needs)
@@ -45,5 +35,5 @@ fill-direct-spec =
     (λ c. search needs)
     (λ c. search needs)
     loop-again
-    same-length
-    returns)
+    (λ c. search needs)
+    (λ c. search (filling-end, needs)))

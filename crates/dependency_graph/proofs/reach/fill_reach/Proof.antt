@@ -1,5 +1,5 @@
 -- After k turns the table has the paths whose middle units are below k: Warshall's recursion.
-use mathlib.Core.Path.{_≡_, ap, _∙_}
+use mathlib.Core.Path.{_≡_, ap}
 use Prim.Native.Nat.{ℕ, _-_, _≤_}
 use native.Mathlib.Omega.{arith}
 use borrow.Author.Needs.{needs}
@@ -17,9 +17,6 @@ Inv-loop plan table₀ k₀ table k = Filled (plan .«unit_count») (reachVia (u
 abbrev μ-loop : tie.MeasureT-loop
 μ-loop plan table₀ k₀ table k = plan .«unit_count» - k
 
-loop-holds : tie.Need-loop-holds Inv-loop μ-loop
-loop-holds c = (filled-itself (c .before .before .fill-direct .ensures), omega arith)
-
 loop-again : tie.Need-loop-again Inv-loop μ-loop
 loop-again c =
     let at-if1 = c .before .before .before .before in
@@ -29,9 +26,6 @@ loop-again c =
           (via-next _ _ _ (old .table) (at-if1 .if1 .taken) (old .inv .0 .filled)),
       omega arith,
     )
-
-same-length : tie.Need-same-length Inv-loop μ-loop
-same-length c = c .before .before .loop .inv .0 .same-length ∙ c .before .before .before .before .before .fill-direct .ensures .same-length
 
 returns : tie.Need-returns Inv-loop μ-loop
 unfolding reach unitsOf
@@ -49,10 +43,10 @@ fill-reach-spec =
     Inv-loop
     μ-loop
     (λ c κs. search needs)
-    loop-holds
+    (λ c. search (filled-itself, needs))
     (λ c κs. search needs)
     (λ c. search needs)
     (λ c. search needs)
     loop-again
-    same-length
+    (λ c. search needs)
     returns)

@@ -6,9 +6,6 @@ use Rattle.dependency_graph.proofs.Heads.{through-miss, through-hit}
 use Rattle.dependency_graph.proofs.reach.through.Statement.{statement}
 use Rattle.dependency_graph.proofs.reach.through.Tie as tie
 
-returns : tie.Need-returns
-returns c = through-miss _ _ _ (lacks-of-test _ _ (c .before .before .single .ensures) (c .before .are-apart .ensures) (c .if1 .taken))
-
 returns-2 : tie.Need-returns-2
 returns-2 c =
     c .union .ensures
@@ -20,6 +17,6 @@ through-spec =
     (tie.spec
     (λ c κs. search needs)
     (λ c κs. search needs)
-    returns
+    (λ c. search (through-miss, lacks-of-test, needs))
     (λ c κs. search needs)
     returns-2)

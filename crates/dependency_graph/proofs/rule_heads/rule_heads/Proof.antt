@@ -1,5 +1,4 @@
 -- Head atoms gathered rule by rule (Gathering).
-use native.Mathlib.Omega.{arith}
 use lib.Count.{ones}
 use borrow.Author.Needs.{needs}
 use Rattle.atoms.proofs.Counts.{taken-less}
@@ -14,29 +13,17 @@ Inv-loop which plan all₀ rest₀ all rest = Gathers (unitsOf plan .rules) (λ 
 abbrev μ-loop : tie.MeasureT-loop
 μ-loop which plan all₀ rest₀ all rest = ones rest
 
--- the point of a turn at which a rule is taken
-abbrev taken : tie.After-drop Inv-loop μ-loop → tie.After-lowest Inv-loop μ-loop
-taken c = c .before .before .before .before .before .before
-
 loop-holds : tie.Need-loop-holds Inv-loop μ-loop
 unfolding unitsOf
-loop-holds c = gathers-start (c .before .first .ensures) (c .cut .ensures)
+loop-holds c = search (gathers-start, needs)
 
 head-requires : tie.Need-head-requires Inv-loop μ-loop
 unfolding unitsOf
-head-requires c κs = omega (arith, gathers-lt (c .before .before .before .before .before .loop .inv) (c .before .before .before .lowest .ensures .0))
-
-loop-less : tie.Need-loop-less Inv-loop μ-loop
-loop-less c = taken-less (taken c .lowest .ensures .0) (c .drop .ensures)
+head-requires c κs = search (gathers-lt, needs)
 
 loop-again : tie.Need-loop-again Inv-loop μ-loop
 unfolding unitsOf
-loop-again c =
-    gathers-next (taken c .before .before .loop .inv) (taken c .lowest .ensures .0) (c .drop .ensures)
-    (c .before .before .head .ensures) (c .before .union .ensures)
-
-returns : tie.Need-returns Inv-loop μ-loop
-returns c = gathers-end (c .before .loop .inv) (c .loop-test .left)
+loop-again c = search (gathers-next, needs)
 
 pub rule-heads-spec : {M : Type 1} → statement M
 rule-heads-spec =
@@ -51,6 +38,6 @@ rule-heads-spec =
     head-requires
     (λ c κs. search needs)
     (λ c κs. search needs)
-    loop-less
+    (λ c. search (taken-less, needs))
     loop-again
-    returns)
+    (λ c. search (gathers-end, needs)))

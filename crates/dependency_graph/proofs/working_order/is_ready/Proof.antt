@@ -8,9 +8,6 @@ use Rattle.dependency_graph.proofs.Order.{done-not-ready, ready-of-wait
 use Rattle.dependency_graph.proofs.working_order.is_ready.Statement.{statement}
 use Rattle.dependency_graph.proofs.working_order.is_ready.Tie as tie
 
-returns : tie.Need-returns
-returns c = done-not-ready _ _ _ (has-of-test _ _ (c .before .before .single .ensures) (c .before .are-apart .ensures) (not-true _ (c .if1 .taken)))
-
 returns-2 : tie.Need-returns-2
 unfolding unitsOf
 returns-2 c =
@@ -27,7 +24,7 @@ is-ready-spec =
     (tie.spec
     (λ c κs. search needs)
     (λ c κs. search needs)
-    returns
+    (λ c. search (done-not-ready, has-of-test, not-true, needs))
     (λ c. search needs)
     (λ c. search needs)
     (λ c κs. search needs)

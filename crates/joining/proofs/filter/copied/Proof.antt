@@ -1,8 +1,9 @@
 -- The loop carries the words that are copied. The measure is how many are left.
-use mathlib.Core.Path.{_≡_, sym, _∙_}
-use Prim.Native.Nat.{ℕ, _-_}
+use borrow.Author.Needs.{needs}
+use mathlib.Core.Path.{_≡_}
+use Prim.Native.Nat.{_-_}
 use native.Mathlib.Omega.{arith}
-use lib.ListN.{length, length-replicate}
+use lib.ListN.{length}
 use Rattle.joining.specs.Filter.{FILTER_WORDS}
 use Rattle.atoms.proofs.StoredWords.{Copying, copying-next, copying-end}
 use Rattle.joining.proofs.filter.copied.Statement.{statement}
@@ -14,20 +15,6 @@ Inv-loop filter r₀ i₀ r i = Copying filter r i × (length filter ≡ FILTER_
 abbrev μ-loop : tie.MeasureT-loop
 μ-loop filter r₀ i₀ r i = FILTER_WORDS - i
 
-loop-holds : tie.Need-loop-holds Inv-loop μ-loop
-loop-holds c = (
-  record {
-    same-length = length-replicate {A = ℕ} FILTER_WORDS 0 ∙ sym (c .pre);
-    done = λ j m. absurd (omega (arith, m));
-  },
-  c .pre,
-)
-
-loop-again : tie.Need-loop-again Inv-loop μ-loop
-loop-again c =
-    let loop = c .before .before in
-    (copying-next _ _ _ (loop .loop .inv .0) (omega (arith, loop .loop .inv .1, c .before .loop-test .taken)), loop .loop .inv .1)
-
 returns : tie.Need-returns Inv-loop μ-loop
 returns c = copying-end (c .before .loop .inv .0) (omega (arith, c .before .loop .inv .1, c .loop-test .left))
 
@@ -37,12 +24,12 @@ copied-spec =
     (tie.spec
     Inv-loop
     μ-loop
-    loop-holds
-    (λ c. omega arith)
-    (λ c. omega (arith, c .before .before .loop .inv .1, c .before .loop-test .taken))
-    (λ c. omega arith)
-    (λ c. omega (arith, c .before .before .loop .inv .0 .same-length, c .before .before .loop .inv .1, c .before .loop-test .taken))
     (λ c. omega arith)
     (λ c. omega arith)
-    loop-again
+    (λ c. omega arith)
+    (λ c. omega arith)
+    (λ c. omega arith)
+    (λ c. omega arith)
+    (λ c. omega arith)
+    (λ c. search (copying-next, needs))
     returns)

@@ -15,19 +15,6 @@ join-step-requires c κs =
       omega (arith, start .pre .1, start .pre .2 .long),
     )
 
-returns-2 : tie.Need-returns-2
-returns-2 c =
-    let step = c .before .before in
-    let at-if1 = step .before .before .before in
-    let test = at-if1 .before in
-    let at-single = test .before in
-    let start = at-single .before .before .before .before .before in
-    let pre = start .pre in
-    let here = numbered-by _ _ (at-single .single .ensures) (test .are-apart .ensures) (at-if1 .if1 .left) in (
-      step-narrows here (pre .2) (step .join-step .ensures .0) (step .join-step .ensures .1),
-      step-filtered here (pre .2) (step .join-step .ensures .0) (step .join-step .ensures .1),
-    )
-
 pub filter-step-spec : {M : Type 1} → statement M
 filter-step-spec =
     tie.close
@@ -41,4 +28,4 @@ filter-step-spec =
     (λ c. search needs)
     join-step-requires
     (λ c. search needs)
-    returns-2)
+    (λ c. search (numbered-by, step-narrows, step-filtered, needs)))

@@ -1,19 +1,17 @@
 -- The loop takes the predecessors: each that is done has the position's cut in its list. The measure is how many are left.
-use mathlib.Core.Path.{_≡_, ap, sym, _∙_}
+use mathlib.Core.Path.{_≡_}
 use mathlib.Core.Bool.{true}
-use Prim.Native.Nat.{ℕ, _*_, _<_}
-use denote.Ref.{now}
-use borrow.Author.Tests.{not-true, not-false}
+use Prim.Native.Nat.{_*_, _<_}
 use lib.ListN.{getD}
 use lib.Count.{ones}
 use borrow.Author.Needs.{needs}
 use native.Mathlib.Omega.{arith}
 use Rattle.atoms.specs.Word.{_∩_}
 use Rattle.atoms.proofs.Counts.{taken-less}
-use Rattle.atoms.proofs.TakenNumbers.{Taking, taking-start, taking-next, taking-end, taken-lent, taken-lt}
+use Rattle.atoms.proofs.TakenNumbers.{Taking, taking-start, taken-lent, taken-lt, taking-more}
 use Rattle.plan.specs.Limits.{MAX_UNITS, LIST_WORDS}
 use Rattle.joining.specs.Joins.{isListed}
-use Rattle.joining.proofs.JoinedLists.{joins-each, joins-fails}
+use Rattle.joining.proofs.JoinedLists.{joins-not, joins-all, listed-said}
 use Rattle.joining.proofs.join.joins.Statement.{statement}
 use Rattle.joining.proofs.join.joins.Tie as tie
 
@@ -29,17 +27,8 @@ inside : (c : tie.After-lowest Inv-loop μ-loop) → c .lowest .result < MAX_UNI
 inside c =
     taken-lt MAX_UNITS (c .before .before .before .before .before .before .pre .few) (c .before .before .loop .inv .within) (c .lowest .ensures .0)
 
-mul-contains : tie.Need-mul-contains Inv-loop μ-loop
-mul-contains c = omega (arith, inside c)
-
-mul-contains-2 : tie.Need-mul-contains-2 Inv-loop μ-loop
-mul-contains-2 c = omega (arith, inside c)
-
 shared-slice-read-contains : tie.Need-shared-slice-read-contains Inv-loop μ-loop
 shared-slice-read-contains c = omega (arith, inside (c .before), c .before .before .before .before .before .before .before .pre)
-
-mul-cut : tie.Need-mul-cut Inv-loop μ-loop
-mul-cut c = omega (arith, inside (c .before))
 
 shared-slice-read-cut : tie.Need-shared-slice-read-cut Inv-loop μ-loop
 shared-slice-read-cut c = omega (arith, inside (c .before .before), c .before .before .before .before .before .before .before .before .pre)
@@ -52,46 +41,6 @@ contains-requires c κs =
     let v = low .lowest .result in
     omega (arith, c9 .pre .table-long v (taken-lent (head .loop .inv .within) (low .lowest .ensures .0)), c9 .pre .small v (inside low))
 
-abbrev start : tie.After-contains Inv-loop μ-loop → tie.Start Inv-loop μ-loop
-start c = c .before .before .before .before .before .before .before .before .before .before
-
-abbrev joined : tie.After-contains Inv-loop μ-loop → ℕ
-joined c = c .before .before .before .before .lowest .result
-
--- the answer is the definition's test
-listed : (c : tie.After-contains Inv-loop μ-loop)
-    → c .contains .result
-    ≡ isListed (now (start c .args .table)) (LIST_WORDS * joined c) (getD (now (start c .args .counts)) (joined c) 0)
-    (start c .args .position ∩ getD (now (start c .args .heads)) (joined c) 0)
-listed c =
-    let at = start c .args in
-    c .contains .ensures
-    ∙ ap (λ (w : ℕ). isListed (now (at .table)) (LIST_WORDS * joined c) (getD (now (at .counts)) (joined c) 0) w) (c .before .cut .ensures)
-
-returns : tie.Need-returns Inv-loop μ-loop
-returns c =
-    let found = c .before in
-    let low = found .before .before .before .before in
-    let at = start found .args in
-    sym
-    (joins-fails (now (at .table)) (now (at .counts)) (now (at .heads)) (at .predecessors) (at .position) (joined found) (inside low)
-    (taken-lent (low .before .before .loop .inv .within) (low .lowest .ensures .0))
-    (sym (listed found) ∙ not-true (found .contains .result) (c .if1 .taken)))
-
-loop-again : tie.Need-loop-again Inv-loop μ-loop
-loop-again c =
-    let found = c .before .before in
-    let low = found .before .before .before .before in
-    taking-next (low .before .before .loop .inv) (low .lowest .ensures .0) (c .drop .ensures) (λ v h. h)
-    (sym (listed found) ∙ not-false (found .contains .result) (c .before .if1 .left))
-
-returns-2 : tie.Need-returns-2 Inv-loop μ-loop
-returns-2 c =
-    let at = c .before .before .before .before .before .args in
-    sym
-    (joins-each (now (at .table)) (now (at .counts)) (now (at .heads)) (at .predecessors) (at .position)
-    (taking-end (c .before .loop .inv) (c .loop-test .left)))
-
 pub joins-spec : {M : Type 1} → statement M
 joins-spec =
     tie.close
@@ -99,16 +48,16 @@ joins-spec =
     Inv-loop
     μ-loop
     (λ c. taking-start)
-    (λ c κs. c .loop-test .taken)
-    mul-contains
-    mul-contains-2
+    (λ c κs. search needs)
+    (λ c. search needs)
+    (λ c. search needs)
     shared-slice-read-contains
-    mul-cut
+    (λ c. search needs)
     shared-slice-read-cut
     (λ c κs. search needs)
     contains-requires
-    returns
-    (λ c κs. c .before .before .before .before .before .lowest .ensures .1)
-    (λ c. taken-less (c .before .before .before .before .before .before .lowest .ensures .0) (c .drop .ensures))
-    loop-again
-    returns-2)
+    (λ c. search (joins-not, taken-lent, inside, needs))
+    (λ c κs. search needs)
+    (λ c. search (taken-less, needs))
+    (λ c. search (taking-more, listed-said, needs))
+    (λ c. search (joins-all, needs)))

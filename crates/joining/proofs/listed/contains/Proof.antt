@@ -4,12 +4,13 @@ use mathlib.Core.Path.{_≡_, sym}
 use denote.Ref.{now}
 use borrow.Author.Count.{below-none, below-more}
 use borrow.Author.Needs.{needs}
-use borrow.Author.Tests.{eqb-true, eq-eqb}
+use borrow.Author.Tests.{eqb-true}
 use Prim.Native.Nat.{ℕ, _+_, _-_, _≤_, _<_}
 use lib.Dec.{eqb}
 use lib.ListN.{getD}
-use Rattle.atoms.proofs.Bounded.{some-intro, some-none}
+use Rattle.atoms.proofs.Bounded.{some-none}
 use Rattle.joining.specs.Joins.{isListed}
+use Rattle.joining.proofs.JoinedLists.{listed-here}
 use Rattle.joining.proofs.listed.contains.Statement.{statement}
 use Rattle.joining.proofs.listed.contains.Tie as tie
 
@@ -18,26 +19,6 @@ Inv-loop words base count value likely i₀ i = (i ≤ count) × ((k : ℕ) → 
 
 abbrev μ-loop : tie.MeasureT-loop
 μ-loop words base count value likely i₀ i = count - i
-
-returns : tie.Need-returns Inv-loop μ-loop
-unfolding isListed
-returns c =
-    let likely = c .before .before .before in
-    let at = likely .before .before .args in
-    let i = likely .likely-place .result in
-    sym
-    (some-intro (at .count) (λ (k : ℕ). eqb (getD (now (at .words)) (at .base + k) 0) (at .value)) i (c .before .before .if1 .taken)
-    (eq-eqb (getD (now (at .words)) (at .base + i) 0) (at .value) (c .if2 .taken)))
-
-returns-2 : tie.Need-returns-2 Inv-loop μ-loop
-unfolding isListed
-returns-2 c =
-    let loop = c .before .before .before in
-    let at = loop .before .before .before .before .args in
-    let i = loop .loop .i in
-    sym
-    (some-intro (at .count) (λ (k : ℕ). eqb (getD (now (at .words)) (at .base + k) 0) (at .value)) i (c .before .before .loop-test .taken)
-    (eq-eqb (getD (now (at .words)) (at .base + i) 0) (at .value) (c .if3 .taken)))
 
 loop-again : tie.Need-loop-again Inv-loop μ-loop
 loop-again c = (omega arith, below-more _ _ (c .before .before .before .loop .inv .1) (c .if3 .left))
@@ -61,12 +42,12 @@ contains-spec =
     (λ c. omega arith)
     (λ c. omega arith)
     (λ c. omega arith)
-    returns
+    (λ c. search (listed-here, needs))
     (λ c. (omega arith, below-none _))
     (λ c. omega arith)
     (λ c. omega arith)
     (λ c. omega arith)
-    returns-2
+    (λ c. search (listed-here, needs))
     (λ c. omega arith)
     (λ c. omega arith)
     loop-again

@@ -36,11 +36,6 @@ without-covered-requires c κs =
       inside start (taken-lent (old .inv .within) (c .lowest .ensures .0)),
     )
 
-loop-again : tie.Need-loop-again Inv-loop μ-loop
-loop-again c =
-    carrying-next (c .before .before .before .before .loop .inv) (c .before .before .lowest .ensures .0) (c .drop .ensures)
-    (λ h f. subset-trans (c .before .without-covered .ensures) f)
-
 returns : tie.Need-returns Inv-loop μ-loop
 returns c =
     let start = c .before .before in
@@ -57,9 +52,9 @@ nearest-spec =
     (λ c κs. search needs)
     (λ c κs. search needs)
     (λ c. carrying-start subset-refl)
-    (λ c κs. c .loop-test .taken)
+    (λ c κs. search needs)
     without-covered-requires
-    (λ c κs. c .before .lowest .ensures .1)
-    (λ c. taken-less (c .before .before .lowest .ensures .0) (c .drop .ensures))
-    loop-again
+    (λ c κs. search needs)
+    (λ c. search (taken-less, needs))
+    (λ c. search (carrying-next, subset-trans, needs))
     returns)

@@ -23,15 +23,6 @@ returns c =
       list-refined _ _ _ _ _ _ _ _ _ _ (at-cut .cut .ensures) (union .union .ensures) (found .sift-list .ensures),
     )
 
-returns-2 : tie.Need-returns-2
-returns-2 c =
-    let found = c .before .before .before .before .before .before .before in
-    let union = found .before .before in (
-      list-narrows _ _ _ _ _ _ _ _ _ _ (union .before .cut .ensures) (union .union .ensures) (found .sift-list .ensures) _ _ _
-          (c .before .before .union2 .ensures) (c .before .without .ensures) (c .union3 .ensures),
-      list-refined _ _ _ _ _ _ _ _ _ _ (union .before .cut .ensures) (union .union .ensures) (found .sift-list .ensures),
-    )
-
 pub join-step-spec : {M : Type 1} → statement M
 join-step-spec =
     tie.close
@@ -47,4 +38,4 @@ join-step-spec =
     (λ c κs. search needs)
     (λ c κs. search needs)
     (λ c. search needs)
-    returns-2)
+    (λ c. search (list-narrows, list-refined, needs)))

@@ -11,6 +11,6 @@ merge-spec =
     (λ c κs. search needs)
     (λ c. search needs)
     (λ c κs. search needs)
-    (λ c. resolves-either (c .resolve .ensures .1))
+    (λ c. search (resolves-either, needs))
     (λ c κs. search needs)
     (λ c. search needs))

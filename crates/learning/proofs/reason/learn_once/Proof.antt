@@ -11,22 +11,6 @@ use Rattle.learning.proofs.reason.learn_once.Tie as tie
 unlearnt : (c : tie.After-score-atoms) → c .before .before .before .before .before .before .before .args .learnt ≡ false
 unlearnt c = c .before .before .before .before .before .if1 .left
 
-returns-2 : tie.Need-returns-2
-returns-2 c =
-    let score = c .before .before .before .before in (
-      keeps-same (score .score-atoms .ensures .0),
-      once-not (unlearnt score) (contradicts (c .before .are-apart .ensures) (c .if2 .taken)) (score .score-atoms .ensures .0),
-    )
-
-returns-3 : tie.Need-returns-3
-returns-3 c =
-    let all = c .before .before in
-    let score = all .before .before .before .before .before .before in (
-      keeps-same (score .score-atoms .ensures .0),
-      once-not (unlearnt score) (names-many _ _ (all .before .beyond .ensures) (all .union3 .ensures) (c .before .at-most-one .ensures) (c .if3 .taken))
-          (score .score-atoms .ensures .0),
-    )
-
 returns-4 : tie.Need-returns-4
 returns-4 c =
     let score = c .before .before in
@@ -46,19 +30,19 @@ pub learn-once-spec : {M : Type 1} → statement M
 learn-once-spec =
     tie.close
     (tie.spec
-    (λ c. (keeps-refl, once-before (c .if1 .taken)))
+    (λ c. search (keeps-refl, once-before, needs))
     (λ c κs. search needs)
     (λ c κs. search needs)
     (λ c κs. search needs)
     (λ c κs. search needs)
     (λ c κs. search needs)
     (λ c. search needs)
-    returns-2
+    (λ c. search (keeps-same, once-not, contradicts, needs))
     (λ c κs. search needs)
     (λ c κs. search needs)
     (λ c κs. search needs)
     (λ c. search needs)
-    returns-3
+    (λ c. search (keeps-same, once-not, names-many, needs))
     (λ c κs. search needs)
     (λ c κs. search needs)
     (λ c. search needs)

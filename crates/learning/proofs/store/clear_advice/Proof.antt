@@ -13,17 +13,6 @@ Inv-loop memory₀ i₀ memory i = (2 * PAIRS ≤ i) × SamePairs memory₀ memo
 abbrev μ-loop : tie.MeasureT-loop
 μ-loop memory₀ i₀ memory i = MEMORY_WORDS - i
 
-note-requires : tie.Need-note-requires Inv-loop μ-loop
-note-requires c κs =
-    let at = c .before .before in
-    (at .loop .inv .0, omega (arith, c .before .loop-test .taken, at .loop .inv .1 .same-length, at .before .before .pre))
-
-loop-again : tie.Need-loop-again Inv-loop μ-loop
-loop-again c =
-    let call = c .before .before in
-    let inv = call .before .before .before .loop .inv in
-    (omega (arith, inv .0), same-trans (inv .1) (call .note .ensures .0))
-
 pub clear-advice-spec : {M : Type 1} → statement M
 clear-advice-spec =
     tie.close
@@ -31,9 +20,9 @@ clear-advice-spec =
     Inv-loop
     μ-loop
     (λ c. (omega arith, same-pairs))
-    note-requires
+    (λ c κs. search needs)
     (λ c. search needs)
     (λ c. search needs)
-    loop-again
-    (λ c. c .before .loop .inv .1 .same-length)
-    (λ c. c .before .loop .inv .1))
+    (λ c. search (same-trans, needs))
+    (λ c. search needs)
+    (λ c. search needs))

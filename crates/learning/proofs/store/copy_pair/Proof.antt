@@ -26,5 +26,5 @@ copy-pair-spec =
     returns
     (λ c. search needs)
     (λ c κs. search needs)
-    (λ c. c .before .before .write-pair .ensures .0 .same-length)
+    (λ c. search needs)
     returns-2)

@@ -1,4 +1,5 @@
 -- The loop carries that the rules that are done are noted. The measure is how many are left.
+use borrow.Author.Needs.{needs}
 use lib.Count.{ones}
 use native.Mathlib.Omega.{arith}
 use Rattle.atoms.proofs.Counts.{taken-less}
@@ -13,12 +14,6 @@ Inv-loop rules which table₀ rest₀ table rest = Backing rules which rest tabl
 abbrev μ-loop : tie.MeasureT-loop
 μ-loop rules which table₀ rest₀ table rest = ones rest
 
-loop-holds : tie.Need-loop-holds Inv-loop μ-loop
-loop-holds c = backing-start
-
-lowest-requires : tie.Need-lowest-requires Inv-loop μ-loop
-lowest-requires c κs = c .loop-test .taken
-
 back-by-requires : tie.Need-back-by-requires Inv-loop μ-loop
 back-by-requires c κs =
     let low = c .before in
@@ -29,22 +24,8 @@ back-by-requires c κs =
       omega (arith, start .pre .1, at .loop .inv .same-length),
     )
 
-drop-requires : tie.Need-drop-requires Inv-loop μ-loop
-drop-requires c κs = c .before .before .before .before .lowest .ensures .1
-
-loop-less : tie.Need-loop-less Inv-loop μ-loop
-loop-less c = taken-less (c .before .before .before .before .before .lowest .ensures .0) (c .drop .ensures)
-
-loop-again : tie.Need-loop-again Inv-loop μ-loop
-loop-again c =
-    let low = c .before .before .before .before .before in
-    backing-next (low .before .before .loop .inv) (low .lowest .ensures .0) (c .drop .ensures) (c .before .before .before .back-by .ensures)
-
 same-length : tie.Need-same-length Inv-loop μ-loop
-same-length c = c .before .loop .inv .same-length
-
-returns : tie.Need-returns Inv-loop μ-loop
-returns c = backing-end (c .before .loop .inv) (c .loop-test .left)
+same-length c = search needs
 
 pub back-by-all-spec : {M : Type 1} → statement M
 back-by-all-spec =
@@ -52,11 +33,11 @@ back-by-all-spec =
     (tie.spec
     Inv-loop
     μ-loop
-    loop-holds
-    lowest-requires
+    (λ c. search (backing-start, needs))
+    (λ c κs. search needs)
     back-by-requires
-    drop-requires
-    loop-less
-    loop-again
+    (λ c κs. search needs)
+    (λ c. search (taken-less, needs))
+    (λ c. search (backing-next, needs))
     same-length
-    returns)
+    (λ c. search (backing-end, needs)))

@@ -30,7 +30,7 @@ choose-spec =
     (λ c. search needs)
     (λ c. search needs)
     (λ c κs. search needs)
-    (λ c κs. c .most .ensures .0 .some)
-    (λ c κs. c .most2 .ensures .0 .some)
+    (λ c κs. search needs)
+    (λ c κs. search needs)
     stopped
     chosen)

@@ -77,16 +77,16 @@ count-rules-spec =
     Inv-loop
     μ-loop
     (λ c. (taking-start, refl, refl))
-    (λ c κs. c .loop-test .taken)
+    (λ c κs. search needs)
     standing-of-requires
     (λ c κs. search needs)
-    (λ c. c .before .before .before .before .before .loop .inv .1)
-    (λ c. c .before .before .before .before .before .loop .inv .2)
+    (λ c. search needs)
+    (λ c. search needs)
     stopped
     count-rule-requires
-    (λ c κs. taken (c .before .before .before .before .before .before .before .before .before) .lowest .ensures .1)
-    (λ c. taken-less (taken (tested c .before) .lowest .ensures .0) (c .drop .ensures))
+    (λ c κs. search needs)
+    (λ c. search (taken-less, needs))
     loop-again
-    (λ c. c .before .loop .inv .1)
-    (λ c. c .before .loop .inv .2)
+    (λ c. search needs)
+    (λ c. search needs)
     none-stopped)

@@ -1,4 +1,5 @@
 -- The rules that are done are not wide. The measure is how many are left.
+use borrow.Author.Needs.{needs}
 use lib.Count.{ones}
 use Rattle.atoms.proofs.Counts.{taken-less}
 use Rattle.atoms.proofs.TakenNumbers.{Taking, taking-start, taking-next, taken-lent}
@@ -17,11 +18,6 @@ is-wide-requires : tie.Need-is-wide-requires Inv-loop μ-loop
 is-wide-requires c κs =
     let at = c .before .before in at .before .before .pre .each _ (taken-lent (at .loop .inv .within) (c .lowest .ensures .0))
 
-found : tie.Need-returns Inv-loop μ-loop
-found c =
-    let low = c .before .before in
-    wide-found _ (taken-lent (low .before .before .loop .inv .within) (low .lowest .ensures .0)) (c .before .is-wide .ensures) (c .if1 .taken)
-
 loop-again : tie.Need-loop-again Inv-loop μ-loop
 loop-again c =
     let test = c .before .before in
@@ -35,10 +31,10 @@ some-wide-spec =
     Inv-loop
     μ-loop
     (λ c. taking-start)
-    (λ c κs. c .loop-test .taken)
+    (λ c κs. search needs)
     is-wide-requires
-    found
-    (λ c κs. c .before .before .lowest .ensures .1)
-    (λ c. taken-less (c .before .before .before .lowest .ensures .0) (c .drop .ensures))
+    (λ c. search (wide-found, taken-lent, needs))
+    (λ c κs. search needs)
+    (λ c. search (taken-less, needs))
     loop-again
-    (λ c. none-wide (c .before .loop .inv) (c .loop-test .left)))
+    (λ c. search (none-wide, needs)))

@@ -4,18 +4,6 @@ use borrow.Author.Needs.{needs}
 use Rattle.narrowing.proofs.choice.standing_of.Statement.{statement}
 use Rattle.narrowing.proofs.choice.standing_of.Tie as tie
 
-returns : tie.Need-returns
-returns c = met-spent _ _ _ (c .before .before .head .ensures) (c .before .are-apart .ensures) (c .if1 .taken)
-
-stopped : tie.Need-returns-2
-stopped c =
-    let known = c .before .before .before .before in
-    let at-if1 = known .before in
-    let at-are-apart = at-if1 .before in
-    let at-head = at-are-apart .before in
-    held-stopped _ _ _ (at-head .head .ensures) (at-are-apart .are-apart .ensures) (at-if1 .if1 .left)
-    (known .body-known .ensures) (c .before .before .enum-told3 .given .1) (c .before .is-subset .ensures) (c .if2 .taken)
-
 still-open : tie.Need-returns-4
 still-open c =
     let known = c .before .before in
@@ -39,13 +27,13 @@ standing-of-spec =
     (tie.spec
     (λ c κs. search needs)
     (λ c κs. search needs)
-    returns
+    (λ c. search (met-spent, needs))
     (λ c κs. search needs)
     (λ c. search needs)
     (λ c. search needs)
     (λ c. search needs)
     (λ c κs. search needs)
-    stopped
-    (λ c. failing-spent _ _ _ (c .before .before .body-known .ensures) (c .enum-told .given .1))
+    (λ c. search (held-stopped, needs))
+    (λ c. search (failing-spent, needs))
     still-open
     live)

@@ -3,6 +3,7 @@ use lib.Count.{ones}
 use Rattle.atoms.proofs.Counts.{taken-less}
 use Rattle.atoms.proofs.TakenNumbers.{taken-lent}
 use Rattle.narrowing.proofs.LoopedAtoms.{Holding, holding-start, holding-next, holding-end}
+use borrow.Author.Needs.{needs}
 use Rattle.narrowing.proofs.loops.held_on_all.Statement.{statement}
 use Rattle.narrowing.proofs.loops.held_on_all.Tie as tie
 
@@ -17,10 +18,6 @@ held-on-requires c κs =
     let at = c .before .before in
     at .before .before .pre .each _ (taken-lent (at .loop .inv .part) (c .lowest .ensures .0))
 
-loop-again : tie.Need-loop-again Inv-loop μ-loop
-loop-again c =
-    holding-next (c .before .before .before .before .loop .inv) (c .before .before .lowest .ensures .0) (c .drop .ensures) (c .before .held-on .ensures)
-
 pub held-on-all-spec : {M : Type 1} → statement M
 held-on-all-spec =
     tie.close
@@ -28,9 +25,9 @@ held-on-all-spec =
     Inv-loop
     μ-loop
     (λ c. holding-start)
-    (λ c κs. c .loop-test .taken)
+    (λ c κs. search needs)
     held-on-requires
-    (λ c κs. c .before .lowest .ensures .1)
-    (λ c. taken-less (c .before .before .lowest .ensures .0) (c .drop .ensures))
-    loop-again
-    (λ c. holding-end (c .before .loop .inv) (c .loop-test .left)))
+    (λ c κs. search needs)
+    (λ c. search (taken-less, needs))
+    (λ c. search (holding-next, needs))
+    (λ c. search (holding-end, needs)))

@@ -1,4 +1,5 @@
 -- The loop carries that every set that holds itself up is within. The measure is how many atoms are left.
+use borrow.Author.Needs.{needs}
 use native.Mathlib.Omega.{arith}
 use lib.Count.{ones}
 use Rattle.atoms.proofs.Counts.{count-proper}
@@ -13,12 +14,6 @@ Inv-loop rules which within₀ held₀ within held = HeldAmong rules which withi
 abbrev μ-loop : tie.MeasureT-loop
 μ-loop rules which within₀ held₀ within held = ones within
 
-loop-less : tie.Need-loop-less Inv-loop μ-loop
-loop-less c = count-proper _ _ (held-within (c .before .before .loop .inv .0)) (c .before .loop-test .taken)
-
-loop-again : tie.Need-loop-again Inv-loop μ-loop
-loop-again c = let inv = c .before .before .loop .inv in (c .held-on-all2 .ensures, above-next (inv .0) (inv .1))
-
 pub looped-atoms-spec : {M : Type 1} → statement M
 looped-atoms-spec =
     tie.close
@@ -26,9 +21,9 @@ looped-atoms-spec =
     Inv-loop
     μ-loop
     (λ c κs. omega arith)
-    (λ c κs. c .before .before .pre)
-    (λ c. (c .held-on-all .ensures, above-all (c .before .first .ensures)))
-    (λ c κs. c .before .before .before .before .before .pre)
-    loop-less
-    loop-again
-    (λ c. let inv = c .before .loop .inv in looped-end (inv .0) (inv .1) (c .loop-test .left)))
+    (λ c κs. search needs)
+    (λ c. search (above-all, needs))
+    (λ c κs. search needs)
+    (λ c. search (count-proper, held-within, needs))
+    (λ c. search (above-next, needs))
+    (λ c. search (looped-end, needs)))

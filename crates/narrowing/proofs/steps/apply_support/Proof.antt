@@ -1,25 +1,10 @@
 -- The atom is no input, so that its backers hold it.
-use denote.Ref.{now}
 use borrow.Author.Tests.{not-false}
 use Rattle.narrowing.proofs.NumberedSteps.{backers-lent, support-narrows}
 use Rattle.atoms.proofs.Singles.{lacked-by}
 use borrow.Author.Needs.{needs}
 use Rattle.narrowing.proofs.steps.apply_support.Statement.{statement}
 use Rattle.narrowing.proofs.steps.apply_support.Tie as tie
-
-support-step-requires : tie.Need-support-step-requires
-support-step-requires c κs =
-    let pre = c .before .before .before .before .before .before .pre in (backers-lent (pre .0) (pre .1) _, pre .2)
-
-returns-2 : tie.Need-returns-2
-returns-2 c =
-    let test = c .before .before .before in
-    let at-single = test .before in
-    let start = at-single .before .before .before in
-    let at = start .args in
-    support-narrows (now (at .rules)) (at .which) (at .inputs) (now (at .backers)) (at .atom) (start .fits .which .fits) (start .pre .1)
-    (lacked-by _ _ (at-single .single .ensures) (test .are-apart .ensures) (not-false (test .are-apart .result) (c .before .before .if1 .left)))
-    (c .support-step .ensures)
 
 pub apply-support-spec : {M : Type 1} → statement M
 apply-support-spec =
@@ -30,5 +15,5 @@ apply-support-spec =
     (λ c. search needs)
     (λ c. search needs)
     (λ c. search needs)
-    support-step-requires
-    returns-2)
+    (λ c κs. search (backers-lent, needs))
+    (λ c. search (support-narrows, lacked-by, not-false, needs)))

@@ -1,9 +1,9 @@
 -- The loop carries that the rules left are all that may support the atom. The measure is how many are left.
+use borrow.Author.Needs.{needs}
 use lib.Count.{ones}
 use Rattle.atoms.proofs.Counts.{taken-less}
 use Rattle.narrowing.specs.Support.{Supporters}
-use Rattle.narrowing.proofs.SupportSteps.{supporters-all, supporters-next}
-use mathlib.Core.Path.{subst}
+use Rattle.narrowing.proofs.SupportSteps.{supporters-all, supporters-next, supporter-lent, supporters-end}
 use Rattle.narrowing.proofs.support_step.supporters.Statement.{statement}
 use Rattle.narrowing.proofs.support_step.supporters.Tie as tie
 
@@ -13,37 +13,17 @@ Inv-loop rules backing atom s rest₀ rest = Supporters rules backing atom s res
 abbrev μ-loop : tie.MeasureT-loop
 μ-loop rules backing atom s rest₀ rest = ones rest
 
-loop-holds : tie.Need-loop-holds Inv-loop μ-loop
-loop-holds c = supporters-all
-
-may-support-requires : tie.Need-may-support-requires Inv-loop μ-loop
-may-support-requires c κs =
-    let at = c .before .before in
-    let start = at .before .before in
-    (start .pre .0 .each _ (at .loop .inv .within .each _ (c .lowest .ensures .0 .here)), start .pre .1)
-
-returns : tie.Need-returns Inv-loop μ-loop
-returns c = c .before .before .before .before .loop .inv
-
-loop-again : tie.Need-loop-again Inv-loop μ-loop
-loop-again c =
-    supporters-next (c .before .before .before .before .before .loop .inv) (c .before .before .before .lowest .ensures .0) (c .drop .ensures)
-    (c .before .before .may-support .ensures) (c .before .if1 .left)
-
-returns-2 : tie.Need-returns-2 Inv-loop μ-loop
-returns-2 c = subst (Supporters _ _ _ _) (c .loop-test .left) (c .before .loop .inv)
-
 pub supporters-spec : {M : Type 1} → statement M
 supporters-spec =
     tie.close
     (tie.spec
     Inv-loop
     μ-loop
-    loop-holds
-    (λ c κs. c .loop-test .taken)
-    may-support-requires
-    returns
-    (λ c κs. c .before .before .lowest .ensures .1)
-    (λ c. taken-less (c .before .before .before .lowest .ensures .0) (c .drop .ensures))
-    loop-again
-    returns-2)
+    (λ c. search (supporters-all, needs))
+    (λ c κs. search needs)
+    (λ c κs. search (supporter-lent, needs))
+    (λ c. search needs)
+    (λ c κs. search needs)
+    (λ c. search (taken-less, needs))
+    (λ c. search (supporters-next, needs))
+    (λ c. search (supporters-end, needs)))

@@ -5,6 +5,7 @@ use borrow.Author.Tests.{not-false}
 use Rattle.atoms.proofs.Counts.{taken-less}
 use Rattle.atoms.proofs.TakenNumbers.{Taking, taking-start, taking-next, taking-end, taken-lent}
 use Rattle.narrowing.specs.Unfounded.{Spares}
+use borrow.Author.Needs.{needs}
 use Rattle.narrowing.proofs.unfounded.is_unfounded.Statement.{statement}
 use Rattle.narrowing.proofs.unfounded.is_unfounded.Tie as tie
 
@@ -32,10 +33,10 @@ is-unfounded-spec =
     Inv-loop
     μ-loop
     (λ c. taking-start)
-    (λ c κs. c .loop-test .taken)
+    (λ c κs. search needs)
     spares-requires
     (λ c. λ e. absurd (false≢true e))
-    (λ c κs. c .before .before .lowest .ensures .1)
-    (λ c. taken-less (c .before .before .before .lowest .ensures .0) (c .drop .ensures))
+    (λ c κs. search needs)
+    (λ c. search (taken-less, needs))
     loop-again
     (λ c. λ _. record { each = taking-end (c .before .loop .inv) (c .loop-test .left) }))

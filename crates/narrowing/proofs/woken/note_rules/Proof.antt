@@ -5,6 +5,7 @@ use Rattle.atoms.proofs.Counts.{taken-less}
 use Rattle.atoms.proofs.TakenNumbers.{taken-lent}
 use Rattle.narrowing.specs.Woken.{Wakes}
 use Rattle.narrowing.proofs.MarkedTables.{Adding, adding-start, adding-next, adding-end}
+use borrow.Author.Needs.{needs}
 use Rattle.narrowing.proofs.woken.note_rules.Statement.{statement}
 use Rattle.narrowing.proofs.woken.note_rules.Tie as tie
 
@@ -24,11 +25,6 @@ note-rule-requires c κs =
       omega (arith, start .pre .1, at .loop .inv .done .same-length),
     )
 
-loop-again : tie.Need-loop-again Inv-loop μ-loop
-loop-again c =
-    let low = c .before .before .before .before .before in
-    adding-next (low .before .before .loop .inv) (low .lowest .ensures .0) (c .drop .ensures) (c .before .before .before .note-rule .ensures)
-
 pub note-rules-spec : {M : Type 1} → statement M
 note-rules-spec =
     tie.close
@@ -36,10 +32,10 @@ note-rules-spec =
     Inv-loop
     μ-loop
     (λ c. adding-start)
-    (λ c κs. c .loop-test .taken)
+    (λ c κs. search needs)
     note-rule-requires
-    (λ c κs. c .before .before .before .before .lowest .ensures .1)
-    (λ c. taken-less (c .before .before .before .before .before .lowest .ensures .0) (c .drop .ensures))
-    loop-again
-    (λ c. c .before .loop .inv .done .same-length)
+    (λ c κs. search needs)
+    (λ c. search (taken-less, needs))
+    (λ c. search (adding-next, needs))
+    (λ c. search needs)
     (λ c. adding-end (c .before .loop .inv) (c .loop-test .left)))

@@ -1,5 +1,4 @@
 -- `with_rule` meets its contract: the words stand where the definition puts them.
-use mathlib.Core.Path.{refl}
 use Rattle.plan.specs.Record.{withRule}
 use borrow.Author.Needs.{needs}
 use Rattle.plan.proofs.record.with_rule.Statement.{statement}
@@ -7,7 +6,7 @@ use Rattle.plan.proofs.record.with_rule.Tie as tie
 
 returns : tie.Need-returns
 unfolding withRule
-returns c = refl
+returns c = search needs
 
 pub with-rule-spec : {M : Type 1} → statement M
 with-rule-spec =

@@ -1,5 +1,4 @@
 -- `with_table` meets its contract: the words stand where the definition puts them.
-use mathlib.Core.Path.{refl}
 use Rattle.plan.specs.Record.{withTable}
 use borrow.Author.Needs.{needs}
 use Rattle.plan.proofs.record.with_table.Statement.{statement}
@@ -7,7 +6,7 @@ use Rattle.plan.proofs.record.with_table.Tie as tie
 
 returns : tie.Need-returns
 unfolding withTable
-returns c = refl
+returns c = search needs
 
 pub with-table-spec : {M : Type 1} → statement M
 with-table-spec =

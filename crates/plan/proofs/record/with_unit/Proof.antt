@@ -1,5 +1,4 @@
 -- `with_unit` meets its contract: its word stands behind the units that are there.
-use mathlib.Core.Path.{refl}
 use Rattle.plan.specs.Record.{withUnit}
 use borrow.Author.Needs.{needs}
 use Rattle.plan.proofs.record.with_unit.Statement.{statement}
@@ -7,7 +6,7 @@ use Rattle.plan.proofs.record.with_unit.Tie as tie
 
 returns : tie.Need-returns
 unfolding withUnit
-returns c = refl
+returns c = search needs
 
 pub with-unit-spec : {M : Type 1} → statement M
 with-unit-spec = tie.close (tie.spec (λ c. search needs) (λ c. search needs) (λ c. search needs) returns)

@@ -8,24 +8,19 @@ use Rattle.reading.proofs.edge.is_bad_edge.Tie as tie
 
 returns : tie.Need-returns
 unfolding badEdge
-returns c = simp (le-leb _ _ (c .if1 .taken))
+returns c = search (le-leb, needs)
 
 returns-2 : tie.Need-returns-2
 unfolding badEdge
-returns-2 c = simp (lt-leb _ _ (c .before .before .if1 .left), le-leb _ _ (c .if2 .taken))
+returns-2 c = search (lt-leb, le-leb, needs)
 
 returns-3 : tie.Need-returns-3
 unfolding badEdge
-returns-3 c = simp (lt-leb _ _ (c .before .before .before .if1 .left), lt-leb _ _ (c .before .if2 .left), eq-eqb _ _ (c .if3 .taken))
+returns-3 c = search (lt-leb, eq-eqb, needs)
 
 returns-4 : tie.Need-returns-4
 unfolding badEdge
-returns-4 c =
-    let new = c .before .before .before in
-    let at-if2 = new .before in
-    let at-if1 = at-if2 .before .before in
-    simp (lt-leb _ _ (at-if1 .if1 .left), lt-leb _ _ (at-if2 .if2 .left), ne-eqb _ _ (new .if3 .left))
-    (has-by-subset _ _ _ _ (c .before .single .ensures) (c .is-subset .ensures))
+returns-4 c = search (lt-leb, ne-eqb, has-by-subset, needs)
 
 pub is-bad-edge-spec : {M : Type 1} → statement M
 is-bad-edge-spec =

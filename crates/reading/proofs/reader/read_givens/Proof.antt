@@ -1,7 +1,7 @@
 -- `read_givens` meets its contract: behind a GIVEN comes no second one, so one look is enough.
 use mathlib.Core.Path.{refl}
 use native.Mathlib.Omega.{arith}
-use Rattle.reading.specs.Commands.{single, given, table}
+use Rattle.reading.specs.Commands.{single, given}
 use Rattle.reading.proofs.Groups.{Turn, taken, taken-fits, taken-there, passed-by}
 use borrow.Author.Needs.{needs}
 use Rattle.reading.proofs.reader.read_givens.Statement.{statement}
@@ -16,8 +16,8 @@ read-givens-spec =
     tie.close
     (tie.spec
     (λ c. search needs)
-    (λ c. passed-by (single given) table _ _ (c .before .before .pre) (c .match .keys2) refl)
+    (λ c. search (passed-by, needs))
     (λ c κs. search needs)
-    (λ c. omega (arith, took (c .before .before) .1 .inside))
+    (λ c. omega arith)
     (λ c κs. taken-fits (took (c .before .before) .1) _ (c .with-given .ensures))
     (λ c. taken-there (took (c .before .before .before) .1) _ (c .before .with-given .ensures) _ (c .place .ensures)))

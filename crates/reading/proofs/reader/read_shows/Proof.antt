@@ -1,7 +1,7 @@
 -- `read_shows` meets its contract: behind a SHOW comes no second one, so one look is enough.
 use mathlib.Core.Path.{refl}
 use native.Mathlib.Omega.{arith}
-use Rattle.reading.specs.Commands.{single, show, end}
+use Rattle.reading.specs.Commands.{single, show}
 use Rattle.reading.proofs.Groups.{Turn, taken, taken-fits, taken-there, passed-by}
 use borrow.Author.Needs.{needs}
 use Rattle.reading.proofs.reader.read_shows.Statement.{statement}
@@ -16,8 +16,8 @@ read-shows-spec =
     tie.close
     (tie.spec
     (λ c. search needs)
-    (λ c. passed-by (single show) end _ _ (c .before .before .pre) (c .match .keys2) refl)
+    (λ c. search (passed-by, needs))
     (λ c κs. search needs)
-    (λ c. omega (arith, took (c .before .before) .1 .inside))
+    (λ c. omega arith)
     (λ c κs. taken-fits (took (c .before .before) .1) _ (c .with-show .ensures))
     (λ c. taken-there (took (c .before .before .before) .1) _ (c .before .with-show .ensures) _ (c .place .ensures)))

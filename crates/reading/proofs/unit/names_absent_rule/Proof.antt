@@ -7,7 +7,7 @@ use Rattle.reading.proofs.unit.names_absent_rule.Tie as tie
 
 returns : tie.Need-returns
 unfolding absentRule
-returns c = absent-above-below _ _ _ (c .first .ensures)
+returns c = search (absent-above-below, needs)
 
 pub names-absent-rule-spec : {M : Type 1} → statement M
 names-absent-rule-spec = tie.close (tie.spec (λ c κs. search needs) returns)

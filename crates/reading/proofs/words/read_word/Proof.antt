@@ -44,4 +44,4 @@ read-word-spec =
     add-word
     (λ c. search needs)
     loop-again
-    (λ c. built-whole _ (c .before .loop .inv) (c .loop-test .left)))
+    (λ c. search (built-whole, needs)))

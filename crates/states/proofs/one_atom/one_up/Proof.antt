@@ -4,9 +4,6 @@ use borrow.Author.Needs.{needs}
 use Rattle.states.proofs.one_atom.one_up.Statement.{statement}
 use Rattle.states.proofs.one_atom.one_up.Tie as tie
 
-returns : tie.Need-returns
-returns c = none-up (c .before .if1 .taken) (c .clash .ensures)
-
 returns-2 : tie.Need-returns-2
 returns-2 c =
     last-up (c .before .before .before .if1 .left) (c .before .before .at-most-one .ensures .yes (c .before .if2 .taken)) (c .union .ensures)
@@ -16,8 +13,8 @@ one-up-spec =
     tie.close
     (tie.spec
     (λ c κs. search needs)
-    returns
+    (λ c. search (none-up, needs))
     (λ c κs. search needs)
     (λ c κs. search needs)
     returns-2
-    (λ c. several (c .before .before .if1 .left)))
+    (λ c. search (several, needs)))
