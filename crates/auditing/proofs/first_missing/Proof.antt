@@ -15,7 +15,8 @@ small : (c : tie.After-read-plan) → All IsByte (now (c .before .before .before
 small c = all-bytes (now (c .before .before .before .args .positions)) (λ i. c .before .shared-slice-known2 .given i .fits)
 
 returns : tie.Need-returns
-returns c = let read = c .before .before .before in refused-audited _ _ (small read) (read .read-plan .ensures .0) (c .before .outcome .given .1)
+returns c =
+    let read = c .before .before .before in refused-audited _ _ (small read) (read .read-plan .ensures .0) (search needs)
 
 returns-2 : tie.Need-returns-2
 returns-2 c =

@@ -1,5 +1,5 @@
 -- The words before this place are read (WordsBefore).
-use mathlib.Core.Path.{_≡_, refl, _∙_}
+use mathlib.Core.Path.{_≡_, refl}
 use Prim.Native.Nat.{_-_}
 use native.Mathlib.Omega.{arith}
 use lib.ListN.{length, length-set}
@@ -15,9 +15,6 @@ Inv-loop positions words₀ count place₀ words place = WordsBefore positions w
 abbrev μ-loop : tie.MeasureT-loop
 μ-loop positions words₀ count place₀ words place = count - place
 
-loop-holds : tie.Need-loop-holds Inv-loop μ-loop
-loop-holds c = (record { each = λ q l. absurd (omega arith) }, refl)
-
 loop-again : tie.Need-loop-again Inv-loop μ-loop
 loop-again c =
     let turn = c .before .before in
@@ -25,7 +22,7 @@ loop-again c =
       words-more (now (c .before .before .before .before .before .args .positions)) (turn .loop .words) (turn .loop .place)
           (omega (arith, l, turn .loop .inv .1, c .before .before .before .before .before .pre))
           (turn .loop .inv .0) (c .read-word .ensures),
-      length-set (turn .loop .words) (turn .loop .place) (c .read-word .result) ∙ turn .loop .inv .1,
+      search (length-set, needs),
     )
 
 returns : tie.Need-returns Inv-loop μ-loop
@@ -33,7 +30,7 @@ returns c =
     let inv = c .before .loop .inv in
     record {
       all = refl;
-      room = omega (arith, inv .1, c .before .before .before .before .pre);
+      room = search needs;
       each = λ place l. inv .0 .each place (omega (arith, c .loop-test .left));
     }
 
@@ -43,13 +40,13 @@ read-words-spec =
     (tie.spec
     Inv-loop
     μ-loop
-    loop-holds
-    (λ c. omega (arith, c .loop-test .taken))
-    (λ c κs. omega (arith, c .loop-test .taken))
     (λ c. search needs)
-    (λ c. omega (arith, c .before .loop-test .taken, c .before .before .loop .inv .1, c .before .before .before .before .before .pre))
+    (λ c. search needs)
+    (λ c κs. search needs)
+    (λ c. search needs)
+    (λ c. search needs)
     (λ c. search needs)
     (λ c. search needs)
     loop-again
-    (λ c. c .before .loop .inv .1)
+    (λ c. search needs)
     returns)

@@ -1,4 +1,5 @@
 -- The loop drops from the word the rules with a head. The measure is how many are left.
+use borrow.Author.Needs.{needs}
 use lib.Count.{ones}
 use Rattle.atoms.proofs.Counts.{taken-less}
 use Rattle.atoms.proofs.TakenNumbers.{Sifts, sifts-start, sifts-end, taken-lent}
@@ -17,7 +18,7 @@ abbrev μ-loop : tie.MeasureT-loop
 unless-headed-requires : tie.Need-unless-headed-requires Inv-loop μ-loop
 unless-headed-requires c κs =
     let at = c .before .before in
-    (at .before .before .pre .each _ (taken-lent (at .loop .inv .within) (c .lowest .ensures .0)), c .lowest .ensures .1)
+    (at .before .before .pre .each _ (taken-lent (at .loop .inv .within) (c .lowest .ensures .0)), search needs)
 
 loop-again : tie.Need-loop-again Inv-loop μ-loop
 loop-again c =
@@ -31,9 +32,9 @@ constraints-of-spec =
     Inv-loop
     μ-loop
     (λ c. sifts-start)
-    (λ c κs. c .loop-test .taken)
+    (λ c κs. search needs)
     unless-headed-requires
-    (λ c κs. c .before .lowest .ensures .1)
-    (λ c. taken-less (c .before .before .lowest .ensures .0) (c .drop .ensures))
+    (λ c κs. search needs)
+    (λ c. search (taken-less, needs))
     loop-again
     (λ c. sifts-end (c .before .loop .inv) (c .loop-test .left)))

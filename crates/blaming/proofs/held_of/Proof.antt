@@ -12,10 +12,6 @@ start c = c .before .before .before .before
 abbrev collected : tie.After-few-constraints-arg2 → tie.After-constraints-of
 collected c = c .before .before .before .before
 
-constraints-of-requires : tie.Need-constraints-of-requires
-constraints-of-requires c κs =
-    whole-lent (start c .args .t1) _ (start c .pre .0) (search needs) (c .before .before .before .first .ensures)
-
 few-constraints-requires : tie.Need-few-constraints-requires
 few-constraints-requires c κs =
     let made = collected c in
@@ -39,7 +35,7 @@ held-of-spec =
     tie.close
     (tie.spec
     (λ c κs. search needs)
-    constraints-of-requires
+    (λ c κs. search (whole-lent, needs))
     (λ c κs. search needs)
     few-constraints-requires
     returns)

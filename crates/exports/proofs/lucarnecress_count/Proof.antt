@@ -8,7 +8,7 @@ use Rattle.exports.proofs.lucarnecress_count.Tie as tie
 returns : tie.Need-returns
 returns c =
     let answered = c .before .before .before .count-words .ensures in
-    record { code-is = c .counted-code .ensures ∙ ap code (answered .outcome-is); words-are = answered .words-are; meaning = answered .meaning }
+    record { code-is = c .counted-code .ensures ∙ ap code (answered .outcome-is); words-are = search needs; meaning = answered .meaning }
 
 pub lucarnecress-count-spec : {M : Type 1} → statement M
 lucarnecress-count-spec = tie.close (tie.spec (λ c κs. search needs) (λ c κs. search needs) (λ c. search needs) returns)

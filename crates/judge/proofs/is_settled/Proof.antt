@@ -8,12 +8,6 @@ use borrow.Author.Needs.{needs}
 use Rattle.judge.proofs.is_settled.Statement.{statement}
 use Rattle.judge.proofs.is_settled.Tie as tie
 
-is-answer-set-requires : tie.Need-is-answer-set-requires
-is-answer-set-requires c κs =
-    let read = c .before .before .before in
-    let start = read .before in
-    whole-lent (start .args .t1) _ (start .pre) (search needs) (read .first .ensures)
-
 returns : tie.Need-returns
 returns c =
     let read = c .before .before .before .before in
@@ -21,4 +15,4 @@ returns c =
     c .is-answer-set .ensures ∙ ap (λ (w : ℕ). answerSet (lent (at .t1 .rules)) w (at .t1 .once .given .word) (at .position)) (read .first .ensures)
 
 pub is-settled-spec : {M : Type 1} → statement M
-is-settled-spec = tie.close (tie.spec (λ c κs. search needs) is-answer-set-requires returns)
+is-settled-spec = tie.close (tie.spec (λ c κs. search needs) (λ c κs. search (whole-lent, needs)) returns)

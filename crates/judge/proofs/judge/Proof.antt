@@ -10,9 +10,6 @@ use borrow.Author.Needs.{needs}
 use Rattle.judge.proofs.judge.Statement.{statement}
 use Rattle.judge.proofs.judge.Tie as tie
 
-returns : tie.Need-returns
-returns c = refused-judged _ _ _ (c .before .before .before .read-plan .ensures .0) _ (c .before .outcome .given .1)
-
 is-settled-requires : tie.Need-is-settled-requires
 is-settled-requires c κs =
     let at = c .before .before .before in
@@ -22,13 +19,13 @@ returns-2 : tie.Need-returns-2
 returns-2 c =
     let accepted = c .before .before .before in
     let test = sym (c .if1 .taken) ∙ c .before .is-settled .ensures in
-    accepted-judged _ _ _ (accepted .before .before .read-plan .ensures .0) true (accepted .enum-told .given .1) test
+    accepted-judged _ _ _ (accepted .before .before .read-plan .ensures .0) true (search needs) test
 
 returns-3 : tie.Need-returns-3
 returns-3 c =
     let accepted = c .before .before .before in
     let test = sym (c .if1 .left) ∙ c .before .is-settled .ensures in
-    accepted-judged _ _ _ (accepted .before .before .read-plan .ensures .0) false (accepted .enum-told .given .1) test
+    accepted-judged _ _ _ (accepted .before .before .read-plan .ensures .0) false (search needs) test
 
 pub judge-spec : {M : Type 1} → statement M
 judge-spec =
@@ -36,7 +33,7 @@ judge-spec =
     (tie.spec
     (λ c κs. search needs)
     (λ c. search needs)
-    returns
+    (λ c. search (refused-judged, needs))
     (λ c. search needs)
     is-settled-requires
     returns-2

@@ -1,11 +1,10 @@
 -- `put` meets its contract: after i turns the first i bytes are written.
 use Prim.Native.Nat.{ℕ, _+_, _-_, _≤_}
-use mathlib.Core.Path.{_≡_, refl}
+use mathlib.Core.Path.{_≡_}
 use mathlib.Core.List.{List}
-use native.Mathlib.Nat.{add-zero}
 use native.Mathlib.Omega.{arith}
 use borrow.Author.Needs.{needs}
-use lib.ListN.{length, take, length-set}
+use lib.ListN.{length, take}
 use lib.Seq.{take-all}
 use Rattle.sheet.specs.Lent.{Put}
 use Rattle.sheet.proofs.WrittenBytes.{put-nothing, put-next}
@@ -23,18 +22,6 @@ Inv-loop bytes at sheet₀ i₀ sheet i = FirstBytes bytes at sheet₀ sheet i
 abbrev μ-loop : tie.MeasureT-loop
 μ-loop bytes at sheet₀ i₀ sheet i = length bytes - i
 
-loop-holds : tie.Need-loop-holds Inv-loop μ-loop
-loop-holds c = record { within = search needs; same = refl; first = rw add-zero (put-nothing _ _) }
-
-loop-again : tie.Need-loop-again Inv-loop μ-loop
-loop-again c =
-    let inv = c .before .before .loop .inv in
-    record {
-      within = omega arith;
-      same = simp length-set (inv .same);
-      first = put-next _ _ (c .before .loop-test .taken) (inv .first);
-    }
-
 returns : tie.Need-returns Inv-loop μ-loop
 returns c = rw (take-all _ _ (c .loop-test .left)) at (c .before .loop .inv .first)
 
@@ -44,13 +31,13 @@ put-spec =
     (tie.spec
     Inv-loop
     μ-loop
-    loop-holds
+    (λ c. search (put-nothing, needs))
     (λ c. search needs)
     (λ c. omega arith)
     (λ c. omega arith)
     (λ c. omega arith)
     (λ c. omega arith)
-    loop-again
+    (λ c. search (put-next, needs))
     (λ c. omega arith)
     (λ c. search needs)
     returns)

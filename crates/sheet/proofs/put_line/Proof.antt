@@ -10,14 +10,11 @@ use Rattle.sheet.proofs.put_line.Tie as tie
 put-hexadecimal-requires : tie.Need-put-hexadecimal-requires
 put-hexadecimal-requires c κs = simp length-hexadecimal (omega arith)
 
-put-requires : tie.Need-put-requires
-put-requires c κs = omega (arith, simp length-hexadecimal at (c .before .before .before .before .put-hexadecimal .ensures .behind))
-
 returns : tie.Need-returns
 unfolding lineEnd
-returns c = put-positionLine _ (c .before .before .before .before .before .before .before .put-hexadecimal .ensures) (c .before .before .put .ensures)
+returns c = search (put-positionLine, needs)
 
 pub put-line-spec : {M : Type 1} → statement M
 put-line-spec =
     tie.close
-    (tie.spec put-hexadecimal-requires (λ c. search needs) put-requires (λ c. search needs) returns)
+    (tie.spec put-hexadecimal-requires (λ c. search needs) (λ c κs. omega (arith, simp length-hexadecimal at (c .before .before .before .before .put-hexadecimal .ensures .behind))) (λ c. search needs) returns)

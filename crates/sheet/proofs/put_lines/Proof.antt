@@ -1,6 +1,6 @@
 -- `put_lines` meets its contract: after i turns the lines of the first i words are written.
 use Prim.Native.Nat.{ℕ, _+_, _-_, _*_, _≤_}
-use mathlib.Core.Path.{_≡_, refl}
+use mathlib.Core.Path.{_≡_}
 use mathlib.Core.List.{List}
 use native.Mathlib.Omega.{arith}
 use borrow.Author.Needs.{needs}
@@ -24,9 +24,6 @@ Inv-loop words at sheet₀ next₀ i₀ sheet next i = FirstLines words at sheet
 abbrev μ-loop : tie.MeasureT-loop
 μ-loop words at sheet₀ next₀ i₀ sheet next i = length words - i
 
-loop-holds : tie.Need-loop-holds Inv-loop μ-loop
-loop-holds c = record { within = search needs; behind = omega arith; same = refl; first = put-no-line _ _ }
-
 loop-again : tie.Need-loop-again Inv-loop μ-loop
 loop-again c =
     let test = c .before .before .before .before .before in
@@ -38,7 +35,7 @@ loop-again c =
       within = omega arith;
       behind = omega (arith, line .ensures .behind, length-positionLine word);
       same = omega arith;
-      first = put-next-line _ _ (test .loop-test .taken) (head .loop .inv .first) (line .ensures);
+      first = search (put-next-line, needs);
     }
 
 returns : tie.Need-returns Inv-loop μ-loop
@@ -50,7 +47,7 @@ put-lines-spec =
     (tie.spec
     Inv-loop
     μ-loop
-    loop-holds
+    (λ c. search (put-no-line, needs))
     (λ c. omega arith)
     (λ c. omega arith)
     (λ c κs. omega arith)

@@ -20,7 +20,7 @@ returns-2 c =
     let first = number .before .before .before .before in
     let test = first .before .before .before in
     put-fills (simp length-refusalSheet (omega (arith, test)))
-    (put-refusalSheet _ _ (first .put .ensures) (number .put-decimal .ensures) (word .put2 .ensures) (spot .put-decimal2 .ensures) (end .put3 .ensures))
+    (search (put-refusalSheet, needs))
 
 pub write-refusal-spec : {M : Type 1} → statement M
 write-refusal-spec =

@@ -22,7 +22,7 @@ returns-3 c =
     let at-start = at-count .before .before .before .before in
     let test = at-start .before .before .before in
     put-fills (simp length-positionsSheet (omega (arith, test)))
-    (put-positionsSheet _ (at-start .put .ensures) (at-count .put-decimal .ensures) (at-end .put2 .ensures) (at-lines .put-lines .ensures))
+    (search (put-positionsSheet, needs))
 
 pub write-words-spec : {M : Type 1} → statement M
 write-words-spec =

@@ -5,15 +5,10 @@ use borrow.Author.Needs.{needs}
 use Rattle.stepping.proofs.gather_of.Statement.{statement}
 use Rattle.stepping.proofs.gather_of.Tie as tie
 
-gather-all-requires : tie.Need-gather-all-requires
-gather-all-requires c κs =
-    let start = c .before .before .before .before .before .before .before in
-    whole-lent (start .args .t1) _ (start .pre) (search needs) (c .before .first .ensures)
-
 returns : tie.Need-returns
 returns c =
     gathered-of (c .before .before .before .before .before .before .before .before .before .before .args .t1)
     (c .before .before .before .before .first .ensures) (c .before .before .gather-all .ensures)
 
 pub gather-of-spec : {M : Type 1} → statement M
-gather-of-spec = tie.close (tie.spec (λ c κs. search needs) gather-all-requires (λ c. search needs) returns)
+gather-of-spec = tie.close (tie.spec (λ c κs. search needs) (λ c κs. search (whole-lent, needs)) (λ c. search needs) returns)

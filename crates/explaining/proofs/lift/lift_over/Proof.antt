@@ -4,11 +4,6 @@ use borrow.Author.Needs.{needs}
 use Rattle.explaining.proofs.lift.lift_over.Statement.{statement}
 use Rattle.explaining.proofs.lift.lift_over.Tie as tie
 
-returns-2 : tie.Need-returns-2
-returns-2 c =
-    let part = c .before in
-    replaced-leads _ _ _ (part .before .before .before .beyond .ensures) (part .explain .ensures) (c .replace .ensures)
-
 pub lift-over-spec : {M : Type 1} → statement M
 lift-over-spec =
     tie.close
@@ -19,4 +14,4 @@ lift-over-spec =
     (λ c. leads-refl)
     (λ c κs. search needs)
     (λ c κs. search needs)
-    returns-2)
+    (λ c. search (replaced-leads, needs)))

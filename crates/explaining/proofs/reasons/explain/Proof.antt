@@ -5,14 +5,6 @@ use borrow.Author.Needs.{needs}
 use Rattle.explaining.proofs.reasons.explain.Statement.{statement}
 use Rattle.explaining.proofs.reasons.explain.Tie as tie
 
-unfounded-atoms-requires : tie.Need-unfounded-atoms-requires
-unfounded-atoms-requires c κs = let pre = c .before .before .before .before .before .before .pre in (pre .0 .searchable .rules-lent, pre .1)
-
-looked-at-requires : tie.Need-looked-at-requires
-looked-at-requires c κs =
-    let pre = c .before .before .before .before .before .before .before .before .pre in
-    (pre .0 .searchable .rules-lent, pre .0 .linked .there, pre .0 .long, pre .1)
-
 shrink-requires : tie.Need-shrink-requires
 shrink-requires c κs =
     let told = c .before .still-tells in
@@ -23,12 +15,12 @@ pub explain-spec : {M : Type 1} → statement M
 explain-spec =
     tie.close
     (tie.spec
-    unfounded-atoms-requires
     (λ c κs. search needs)
-    looked-at-requires
+    (λ c κs. search needs)
+    (λ c κs. search needs)
     (λ c κs. search needs)
     (λ c κs. search needs)
     (λ c κs. search needs)
     (λ c. explains-refl)
     shrink-requires
-    (λ c. c .before .shrink .ensures .explains))
+    (λ c. search needs))

@@ -2,7 +2,6 @@
 use native.Mathlib.Omega.{arith}
 use Prim.Native.Nat.{_<_}
 use Rattle.plan.specs.Limits.{MAX_TABLES, MAX_UNITS}
-use denote.Ref.{now}
 use Rattle.answer_sets.proofs.Lent.{lent-within}
 use Rattle.propagating.proofs.Desks.{pilots-long}
 use borrow.Author.Needs.{needs}
@@ -15,15 +14,12 @@ start c = c .before .before .before .before
 numbered-atoms-requires : tie.Need-numbered-atoms-requires
 numbered-atoms-requires c κs =
     let decoded = c .before .before .before .before in
-    (start decoded .pre .1, (rw (c .before .before .rule .given .1) at (decoded .decode .ensures)) .0)
+    (search needs, (rw (c .before .before .rule .given .1) at (decoded .decode .ensures)) .0)
 
 backing-requires : tie.Need-backing-requires
 backing-requires c κs =
     let decoded = c .before .before .before .before in
-    (start decoded .pre .2, (rw (c .before .before .atom .given .1) at (decoded .decode .ensures)) .0)
-
-excluding-requires : tie.Need-excluding-requires
-excluding-requires c κs = lent-within (c .backing .ensures .0) (start (c .before .before .before .before .before) .pre .1)
+    (search needs, (rw (c .before .before .atom .given .1) at (decoded .decode .ensures)) .0)
 
 -- the list is one of those on the desk
 on-desk : (c : tie.After-known-told3) → c .before .list .given .0 .0 < MAX_UNITS
@@ -33,16 +29,10 @@ on-desk c = (rw (c .before .list .given .1) at (c .before .before .before .decod
 few : (c : tie.After-known-told4) → c .before .t .given .0 .0 < MAX_TABLES
 few c = (rw (c .before .t .given .1) at (c .before .before .before .decode .ensures)) .0
 
-mul-either-way : tie.Need-mul-either-way
-mul-either-way c = omega (arith, on-desk c)
-
-shared-slice-read-either-way : tie.Need-shared-slice-read-either-way
-shared-slice-read-either-way c = omega (arith, on-desk (c .before), start (c .before .before .before .before) .pre .2)
-
 read-pair-requires : tie.Need-read-pair-requires
 read-pair-requires c κs =
     let decoded = c .before .before .before in
-    (start decoded .pre .3, (rw (c .before .i .given .1) at (decoded .decode .ensures)) .0)
+    (search needs, (rw (c .before .i .given .1) at (decoded .decode .ensures)) .0)
 
 pub looked-at-spec : {M : Type 1} → statement M
 looked-at-spec =
@@ -60,10 +50,10 @@ looked-at-spec =
     (λ c. search needs)
     (λ c. search needs)
     backing-requires
-    excluding-requires
+    (λ c κs. search (lent-within, needs))
     (λ c. search needs)
-    mul-either-way
-    shared-slice-read-either-way
+    (λ c. omega (arith, on-desk c))
+    (λ c. omega (arith, on-desk (c .before), start (c .before .before .before .before) .pre .2))
     (λ c κs. search needs)
     (λ c. search needs)
     (λ c κs. search needs)
@@ -72,14 +62,14 @@ looked-at-spec =
     (λ c. omega (arith, few c))
     (λ c. omega (arith, few c))
     (λ c. omega (arith, few (c .before), start (c .before .before .before .before) .pre .2))
-    (λ c κs. few (c .before))
+    (λ c κs. search (few, needs))
     (λ c κs. search needs)
     (λ c. search needs)
     (λ c. search needs)
     (λ c. search needs)
     (λ c. search needs)
-    (λ c κs. let at = start (c .before .before .before) in pilots-long (now (at .args .desk)) (at .pre .2))
-    (λ c κs. start (c .before .before .before .before) .pre .0)
+    (λ c κs. search (pilots-long, needs))
+    (λ c κs. search needs)
     (λ c κs. search needs)
     (λ c κs. search needs)
     (λ c. search needs)
@@ -87,7 +77,7 @@ looked-at-spec =
     (λ c κs. search needs)
     (λ c κs. search needs)
     (λ c. search needs)
-    (λ c κs. start (c .before .before) .pre .0)
+    (λ c κs. search needs)
     (λ c. search needs)
     (λ c. search needs)
     (λ c. search needs)

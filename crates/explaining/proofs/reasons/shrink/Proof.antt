@@ -16,27 +16,9 @@ Inv-loop rules table counts desk memory unit at c₀ i₀ rest₀ c i rest =
 abbrev μ-loop : tie.MeasureT-loop
 μ-loop rules table counts desk memory unit at c₀ i₀ rest₀ c i rest = i
 
-loop-holds : tie.Need-loop-holds Inv-loop μ-loop
-loop-holds c = let pre = c .before .before .before .before .before .before .pre in (pre .3, pre .2)
-
 -- a step of the trail is left
 in-trail : (c : tie.Then1 Inv-loop μ-loop) → 0 < c .before .before .loop .i
 in-trail c = omega (arith, c .before .loop-test .taken)
-
-decided-since-requires : tie.Need-decided-since-requires Inv-loop μ-loop
-decided-since-requires c κs =
-    let loop = c .before .before in
-    (loop .before .before .before .before .before .before .before .pre .1, omega (arith, in-trail c, loop .loop .inv .1))
-
-spare-each-requires : tie.Need-spare-each-requires Inv-loop μ-loop
-spare-each-requires c κs =
-    let loop = c .before .before .before in
-    let pre = loop .before .before .before .before .before .before .before .pre in (pre .0, pre .1, told-own (loop .loop .inv .0))
-
-loop-again : tie.Need-loop-again Inv-loop μ-loop
-loop-again c =
-    let inv = c .before .before .before .before .before .loop .inv in
-    (told-on (inv .0) (c .before .spare-each .ensures), omega (arith, inv .1))
 
 pub shrink-spec : {M : Type 1} → statement M
 shrink-spec =
@@ -45,12 +27,12 @@ shrink-spec =
     Inv-loop
     μ-loop
     (λ c κs. search needs)
-    loop-holds
+    (λ c. search needs)
     (λ c. omega (arith, in-trail c))
-    decided-since-requires
-    spare-each-requires
     (λ c κs. search needs)
-    (λ c. omega (arith, in-trail (c .before .before .before)))
-    loop-again
-    (λ c. c .before .before .loop .inv .0)
-    (λ c. c .before .loop .inv .0))
+    (λ c κs. search (told-own, needs))
+    (λ c κs. search needs)
+    (λ c. search needs)
+    (λ c. search (told-on, needs))
+    (λ c. search needs)
+    (λ c. search needs))

@@ -1,4 +1,5 @@
 -- The loop carries what the claim tells. The measure is how many atoms were not tried yet.
+use borrow.Author.Needs.{needs}
 use lib.Count.{ones}
 use Rattle.atoms.proofs.Counts.{taken-less}
 use Rattle.propagating.specs.Desk.{Wired}
@@ -13,28 +14,16 @@ Inv-loop rules table counts desk memory unit which c₀ rest₀ c rest = Told (W
 abbrev μ-loop : tie.MeasureT-loop
 μ-loop rules table counts desk memory unit which c₀ rest₀ c rest = ones rest
 
-loop-holds : tie.Need-loop-holds Inv-loop μ-loop
-loop-holds c = c .before .before .before .before .before .pre .2
-
-spare-requires : tie.Need-spare-requires Inv-loop μ-loop
-spare-requires c κs =
-    let loop = c .before .before in
-    let pre = loop .before .before .before .before .before .before .pre in
-    (pre .0, pre .1, c .lowest .ensures .1, told-own (loop .loop .inv))
-
-loop-again : tie.Need-loop-again Inv-loop μ-loop
-loop-again c = told-on (c .before .before .before .before .loop .inv) (c .before .spare .ensures)
-
 pub spare-each-spec : {M : Type 1} → statement M
 spare-each-spec =
     tie.close
     (tie.spec
     Inv-loop
     μ-loop
-    loop-holds
-    (λ c κs. c .loop-test .taken)
-    spare-requires
-    (λ c κs. c .before .lowest .ensures .1)
-    (λ c. taken-less (c .before .before .lowest .ensures .0) (c .drop .ensures))
-    loop-again
-    (λ c. c .before .loop .inv))
+    (λ c. search needs)
+    (λ c κs. search needs)
+    (λ c κs. search (told-own, needs))
+    (λ c κs. search needs)
+    (λ c. search (taken-less, needs))
+    (λ c. search (told-on, needs))
+    (λ c. search needs))

@@ -25,9 +25,9 @@ unfounding-spec =
     Inv-loop
     μ-loop
     (λ c. subset-refl)
-    (λ c κs. c .loop-test .taken)
+    (λ c κs. search needs)
     unfounded-by-requires
-    (λ c κs. c .before .lowest .ensures .1)
-    (λ c. taken-less (c .before .before .lowest .ensures .0) (c .drop .ensures))
-    (λ c. taken-within (c .before .before .before .before .loop .inv) (c .before .before .lowest .ensures .0) (c .drop .ensures))
+    (λ c κs. search needs)
+    (λ c. search (taken-less, needs))
+    (λ c. search (taken-within, needs))
     (λ c. search needs))

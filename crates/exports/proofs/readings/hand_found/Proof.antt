@@ -2,7 +2,7 @@
 use mathlib.Core.Path.{sym, ap, _∙_}
 use borrow.Author.Needs.{needs}
 use Rattle.packed_decimal.specs.declared.largest.LargestFound.{LargestFound}
-use Rattle.exports.specs.Readings.{foundCode, foundWords}
+use Rattle.exports.specs.Readings.{foundWords}
 use Rattle.exports.proofs.readings.hand_found.Statement.{statement}
 use Rattle.exports.proofs.readings.hand_found.Tie as tie
 
@@ -12,7 +12,7 @@ returns-2 c =
     let start = at-what .before .before .before in
     let is-at = at-what .what .given .1 in
     let found = start .args .found .now in
-    (ap foundCode (sym is-at), c .before .before .write-pair .ensures ∙ ap (λ (what : LargestFound). foundWords what found) (sym is-at))
+    (search needs, c .before .before .write-pair .ensures ∙ ap (λ (what : LargestFound). foundWords what found) (sym is-at))
 
 pub hand-found-spec : {M : Type 1} → statement M
 hand-found-spec =

@@ -8,8 +8,8 @@ use Rattle.exports.proofs.readings.lucarnecress_reading_of.Tie as tie
 
 returns : tie.Need-returns
 returns c =
-    reading-handed (c .before .before .before .to-reading .ensures) (c .before .before .before .before .asked .ensures)
-    (ap readingCode (sym (c .before .word .given .1)))
+    reading-handed (c .before .before .before .to-reading .ensures) (search needs)
+    (search needs)
 
 returns-2 : tie.Need-returns-2
 returns-2 c =

@@ -10,7 +10,7 @@ returns : tie.Need-returns
 returns c =
     let known = c .before .before .before in
     let plan = known .before .args .plan in
-    sheet-judge-handed (now plan) _ (all-bytes (now plan) (λ i. known .shared-slice-known .given i .fits)) (c .sheet-code .ensures)
+    sheet-judge-handed (now plan) _ (all-bytes (now plan) (λ i. known .shared-slice-known .given i .fits)) (search needs)
     (c .before .judge-sheet .ensures)
 
 pub lucarnecress-judge-sheet-spec : {M : Type 1} → statement M

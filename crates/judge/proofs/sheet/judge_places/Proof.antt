@@ -29,13 +29,6 @@ whole c = turn c .before .before
 abbrev word : tie.After-judge-set Inv-loop μ-loop → tie.After-read-word Inv-loop μ-loop
 word c = c .before .before .before .before .before
 
-judge-set-requires : tie.Need-judge-set-requires Inv-loop μ-loop
-judge-set-requires c κs =
-    let loop = c .before .before .before .before .before .before in
-    let whole = loop .before .before in
-    let start = whole .before .before in
-    (whole-lent (start .args .t1) _ (start .pre) (search needs) (whole .first .ensures), loop .loop .inv .1)
-
 -- the answer is that of the position at the place
 told : (c : tie.After-judge-set Inv-loop μ-loop)
     → c .judge-set .result .answers
@@ -53,7 +46,7 @@ loop-again : tie.Need-loop-again Inv-loop μ-loop
 loop-again c =
     let judged = c .before .before .before in (
       passed-more (whole judged .before .before .args .t1) _ _ (turn judged .loop .inv .0) (sym (told judged) ∙ not-false _ (c .if1 .left)),
-      judged .judge-set .ensures .1 .1,
+      search needs,
     )
 
 returns-2 : tie.Need-returns-2 Inv-loop μ-loop
@@ -69,9 +62,9 @@ judge-places-spec =
     (λ c κs. search needs)
     (λ c. ((λ q l. absurd (omega arith)), c .blank-memo .ensures .memo _))
     (λ c. search needs)
-    (λ c κs. omega (arith, c .loop-test .taken))
-    (λ c. sym (c .before .before .before .before .before .before .loop .inv .1 .long))
-    judge-set-requires
+    (λ c κs. search needs)
+    (λ c. search needs)
+    (λ c κs. search (whole-lent, needs))
     returns
     (λ c. search needs)
     (λ c. search needs)

@@ -14,10 +14,6 @@ use Rattle.judge.proofs.sheet.judge_sheet.Tie as tie
 small : (c : tie.After-read-plan) → All IsByte (now (c .before .before .before .args .positions))
 small c = all-bytes (now (c .before .before .before .args .positions)) (λ i. c .before .shared-slice-known2 .given i .fits)
 
-returns : tie.Need-returns
-returns c =
-    let read = c .before .before .before in refused-sheet _ _ (small read) _ (read .read-plan .ensures .0) _ (c .before .outcome .given .1)
-
 returns-2 : tie.Need-returns-2
 returns-2 c =
     let accepted = c .before .before in
@@ -43,7 +39,7 @@ judge-sheet-spec =
     (tie.spec
     (λ c κs. search needs)
     (λ c. search needs)
-    returns
+    (λ c. search (refused-sheet, small, needs))
     (λ c. search needs)
     (λ c κs. search needs)
     returns-2

@@ -28,11 +28,6 @@ mul-place c =
     let pre = c .before .before .pre in
     record { fits = omega (arith, next-fits (c .before .loop .inv) (c .loop-test .taken) (pre .0) (pre .1) (pre .2)) }
 
-loop-again : tie.Need-loop-again Inv-loop μ-loop
-loop-again c =
-    let pre = c .before .before .pre in
-    respelling-more (c .before .loop .inv) (c .loop-test .taken) (pre .0) (pre .1) (pre .2)
-
 pub respell-spec : {M : Type 1} → statement M
 respell-spec =
     tie.close
@@ -47,5 +42,5 @@ respell-spec =
     mul-place
     (λ c. search needs)
     (λ c. search needs)
-    loop-again
-    (λ c. respelling-all (c .before .loop .inv) (c .loop-test .left)))
+    (λ c. search (respelling-more, needs))
+    (λ c. search (respelling-all, needs)))

@@ -11,9 +11,6 @@ use Rattle.packed_decimal.proofs.LargestReading.{larger-unmeasured, lar
 use Rattle.packed_decimal.proofs.largest.larger.Statement.{statement}
 use Rattle.packed_decimal.proofs.largest.larger.Tie as tie
 
-returns : tie.Need-returns
-returns c = let args = c .before .args in sym (larger-unmeasured (args .found) (args .word) (args .place) (c .if1 .taken))
-
 returns-2 : tie.Need-returns-2
 returns-2 c =
     let args = c .before .before .before .args in
@@ -47,4 +44,4 @@ returns-4 c =
     ∙ ap (λ (f : LargestFound). larger f (says (args .word)) (args .word) (args .place)) (sym is-at)
 
 pub larger-spec : {M : Type 1} → statement M
-larger-spec = tie.close (tie.spec returns (λ c. search needs) (λ c. search needs) returns-2 returns-3 returns-4)
+larger-spec = tie.close (tie.spec (λ c. search (larger-unmeasured, needs)) (λ c. search needs) (λ c. search needs) returns-2 returns-3 returns-4)

@@ -17,7 +17,7 @@ returns c =
 order-of-requires : tie.Need-order-of-requires
 order-of-requires c κs =
     let start = c .before .before in
-    pair-good (start .args .word) (start .args .limit) (omega (arith, c .before .first-bad .ensures, c .if1 .left))
+    pair-good (search needs) (start .args .limit) (search needs)
 
 returns-2 : tie.Need-returns-2
 returns-2 c =

@@ -17,7 +17,7 @@ returns c =
 sum-of-requires : tie.Need-sum-of-requires
 sum-of-requires c κs =
     let start = c .before .before in
-    pair-good (start .args .a) (start .args .b) (omega (arith, c .before .first-bad .ensures, c .if1 .left))
+    pair-good (start .args .a) (start .args .b) (search needs)
 
 returns-2 : tie.Need-returns-2
 returns-2 c =

@@ -10,9 +10,5 @@ bit-of-spec =
     (tie.spec
     (λ c κs. c .pre)
     (λ c κs. search needs)
-    (λ c.
-    let single = c .before .before in
-    bit-zero (single .before .args .bits) (single .before .args .i) (single .single .ensures) (c .before .are-apart .ensures) (c .if1 .taken))
-    (λ c.
-    let single = c .before .before in
-    bit-one (single .before .args .bits) (single .before .args .i) (single .single .ensures) (c .before .are-apart .ensures) (c .if1 .left)))
+    (λ c. search (bit-zero, needs))
+    (λ c. search (bit-one, needs)))

@@ -9,9 +9,7 @@ put-bit-spec =
     tie.close
     (tie.spec
     (λ c κs. search needs)
-    (λ c. bit-none-put _ _ (c .before .if1 .taken) (c .drop .ensures))
+    (λ c. search (bit-none-put, needs))
     (λ c κs. search needs)
     (λ c κs. search needs)
-    (λ c.
-    let one = c .before in
-    bit-one-put _ _ (one .before .before .pre .1) (one .before .if1 .left) (one .single .ensures) (c .union .ensures)))
+    (λ c. search (bit-one-put, needs)))

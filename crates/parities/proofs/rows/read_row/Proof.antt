@@ -10,14 +10,14 @@ returns-3 : tie.Need-returns-3
 returns-3 c =
     let one = c .before .before in
     let start = one .before .before in
-    row-drops (start .args .s) (start .pre) (one .before .if1 .left) (one .at-most-one .ensures .yes (not-false _ (c .before .if2 .left))) (c .union .ensures)
+    row-drops (start .args .s) (start .pre) (search needs) (one .at-most-one .ensures .yes (not-false _ (c .before .if2 .left))) (search needs)
 
 pub read-row-spec : {M : Type 1} → statement M
 read-row-spec =
     tie.close
     (tie.spec
     (λ c κs. search needs)
-    (λ c. narrows-for (λ N h. row-some (c .before .if1 .taken) h) (c .one-up .ensures .narrows))
+    (λ c. search (narrows-for, row-some, needs))
     (λ c κs. search needs)
     (λ c. narrows-refl)
     (λ c κs. search needs)

@@ -11,6 +11,4 @@ sum-spec =
     (λ c κs. search needs)
     (λ c κs. search needs)
     (λ c κs. search needs)
-    (λ c.
-    let at = c .before .before .before .args in
-    sum-is (at .a) (at .b) (c .before .before .without .ensures) (c .before .without2 .ensures) (c .union .ensures)))
+    (λ c. search (sum-is, needs)))

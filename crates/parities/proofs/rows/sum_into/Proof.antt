@@ -15,4 +15,4 @@ sum-into-spec =
     (λ c. same-rows-refl)
     (λ c κs. search needs)
     (λ c. search needs)
-    (λ c. c .before .before .add-row .ensures))
+    (λ c. search needs))

@@ -1,7 +1,5 @@
 -- The loop carries that the rows are the same. The measure is how many are left.
-use mathlib.Core.Path.{_∙_}
 use Prim.Native.Nat.{_-_}
-use native.Mathlib.Omega.{arith}
 use Rattle.parities.specs.Rows.{ROWS, SameRows}
 use Rattle.parities.proofs.SummedRows.{same-rows-refl, same-rows-trans}
 use borrow.Author.Needs.{needs}
@@ -14,12 +12,6 @@ Inv-loop words₀ bits row word atom sums₀ to₀ words sums to = SameRows word
 abbrev μ-loop : tie.MeasureT-loop
 μ-loop words₀ bits row word atom sums₀ to₀ words sums to = ROWS - to
 
-sum-into-requires : tie.Need-sum-into-requires Inv-loop μ-loop
-sum-into-requires c κs =
-    let loop = c .before .before in
-    let pre = loop .before .before .before .before .before .before .pre in
-    (loop .loop .inv .same-length ∙ pre .0, pre .1, c .before .loop-test .taken)
-
 pub sum-out-spec : {M : Type 1} → statement M
 sum-out-spec =
     tie.close
@@ -29,12 +21,12 @@ sum-out-spec =
     (λ c. search needs)
     (λ c. search needs)
     (λ c. same-rows-refl)
-    (λ c κs. c .if1 .left)
-    (λ c κs. c .lowest .ensures .1)
+    (λ c κs. search needs)
+    (λ c κs. search needs)
     (λ c. same-rows-refl)
-    sum-into-requires
+    (λ c κs. search needs)
     (λ c. search needs)
-    (λ c. omega (arith, c .before .before .before .before .loop-test .taken))
-    (λ c. same-rows-trans (c .before .before .before .before .before .loop .inv) (c .before .before .sum-into .ensures))
-    (λ c. c .before .loop .inv .same-length)
-    (λ c. c .before .loop .inv))
+    (λ c. search needs)
+    (λ c. search (same-rows-trans, needs))
+    (λ c. search needs)
+    (λ c. search needs))

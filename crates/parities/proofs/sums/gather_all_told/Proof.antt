@@ -1,5 +1,4 @@
 -- The loop carries that the rows are right. The measure is how many rules are left.
-use mathlib.Core.Path.{_∙_}
 use lib.Count.{ones}
 use Rattle.atoms.proofs.Counts.{taken-less}
 use Rattle.atoms.proofs.TakenNumbers.{Carrying, carrying-start, carrying-next, taken-lent}
@@ -25,14 +24,14 @@ gather-told-requires c κs =
     let telling = loop .before in
     let start = telling .before .before .before in
     let k = telling .telling-rules .ensures .each _ (taken-lent (loop .loop .inv .within) (low .lowest .ensures .0)) in
-    (start .pre .0 .each _ (k .0), k .1, loop .loop .inv .fact .same-length ∙ start .pre .1)
+    (start .pre .0 .each _ (k .0), k .1, search needs)
 
 loop-again : tie.Need-loop-again Inv-loop μ-loop
 loop-again c =
     let told = c .before .before .before in
     let low = told .before .before in
     let loop = low .before .before in
-    carrying-next (loop .loop .inv) (low .lowest .ensures .0) (c .drop .ensures)
+    carrying-next (loop .loop .inv) (search needs) (search needs)
     (λ h f. gathered-trans f (gathered-for (λ N k. k .each _ (loop .before .telling-rules .ensures .each _ h .0)) (told .gather-told .ensures)))
 
 pub gather-all-told-spec : {M : Type 1} → statement M
@@ -43,10 +42,10 @@ gather-all-told-spec =
     μ-loop
     (λ c κs. search needs)
     (λ c. carrying-start gathered-refl)
-    (λ c κs. c .loop-test .taken)
+    (λ c κs. search needs)
     gather-told-requires
-    (λ c κs. c .before .before .before .before .lowest .ensures .1)
-    (λ c. taken-less (c .before .before .before .before .before .lowest .ensures .0) (c .drop .ensures))
+    (λ c κs. search needs)
+    (λ c. search (taken-less, needs))
     loop-again
-    (λ c. c .before .loop .inv .fact .same-length)
-    (λ c. c .before .loop .inv .fact))
+    (λ c. search needs)
+    (λ c. search needs))

@@ -1,6 +1,4 @@
 -- The row of a parity table is right where its pilot follows it.
-use denote.Ref.{now}
-use native.Mathlib.Omega.{arith}
 use borrow.Author.Tests.{not-false}
 use Rattle.parities.proofs.SummedRows.{gathered-refl, row-put, gathered-row, row-bit-small, open-bit-small}
 use borrow.Author.Needs.{needs}
@@ -21,7 +19,7 @@ returns-2 c =
     (known .before .shared-slice-known2 .given _ .fits)
     (opened .before .table-row .ensures)
     (opened .open-row .ensures))
-    (c .put-bit .ensures)
+    (search needs)
 
 pub gather-row-spec : {M : Type 1} → statement M
 gather-row-spec =
@@ -32,11 +30,9 @@ gather-row-spec =
     (λ c κs.
     let at = start (c .before) in
     (c .before .is-parity-table .ensures .yes (not-false _ (c .if1 .left)) .there, at .pre .0, at .pre .1))
-    (λ c κs.
-    let at = start (c .before .before) .args in
-    row-bit-small (now (at .rules)) (now (at .pilots)) (at .t) (c .table-row .ensures))
+    (λ c κs. search (row-bit-small, needs))
     (λ c. search needs)
-    (λ c. omega (arith, start (c .before .before .before) .pre .1, start (c .before .before .before) .pre .2))
-    (λ c κs. (omega (arith, start (c .before .before .before) .pre .1), open-bit-small _ _ (c .open-row .ensures)))
+    (λ c. search needs)
+    (λ c κs. search (open-bit-small, needs))
     (λ c. search needs)
     returns-2)

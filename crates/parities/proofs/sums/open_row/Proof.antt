@@ -12,11 +12,6 @@ add-t7 c =
     let e = c .before .count .ensures in
     search needs
 
-returns : tie.Need-returns
-returns c =
-    let up = c .before .before in
-    open-is _ _ (up .before .before .undecided .ensures) (up .before .cut .ensures) (up .cut2 .ensures) (c .before .count .ensures)
-
 pub open-row-spec : {M : Type 1} → statement M
 open-row-spec =
     tie.close
@@ -26,4 +21,4 @@ open-row-spec =
     (λ c κs. search needs)
     (λ c κs. search needs)
     add-t7
-    returns)
+    (λ c. search (open-is, needs)))

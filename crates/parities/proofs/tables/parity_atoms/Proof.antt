@@ -12,23 +12,15 @@ Inv-loop rules pilots all₀ rest₀ all rest = Gathering rules pilots all rest
 abbrev μ-loop : tie.MeasureT-loop
 μ-loop rules pilots all₀ rest₀ all rest = ones rest
 
-loop-again : tie.Need-loop-again Inv-loop μ-loop
-loop-again c =
-    let joined = c .before .before in
-    let words = joined .before .before in
-    let low = words .before in
-    gathering-next (low .before .before .loop .inv) (low .lowest .ensures .0) (c .drop .ensures) (words .table-inputs .ensures) (joined .union .ensures)
-    (c .before .union2 .ensures)
-
 pub parity-atoms-spec : {M : Type 1} → statement M
 parity-atoms-spec =
     tie.close
     (tie.spec
     Inv-loop
     μ-loop
-    (λ c κs. c .before .before .pre)
-    (λ c. gathering-start (c .parity-tables .ensures))
-    (λ c κs. c .loop-test .taken)
+    (λ c κs. search needs)
+    (λ c. search (gathering-start, needs))
+    (λ c κs. search needs)
     (λ c κs. let t = gathering-lent (c .before .before .loop .inv) (c .lowest .ensures .0) in (t .there, t .number))
     (λ c. search needs)
     (λ c.
@@ -38,7 +30,7 @@ parity-atoms-spec =
     search needs)
     (λ c κs. search needs)
     (λ c κs. search needs)
-    (λ c κs. c .before .before .before .before .lowest .ensures .1)
-    (λ c. taken-less (c .before .before .before .before .before .lowest .ensures .0) (c .drop .ensures))
-    loop-again
-    (λ c. gathering-end (c .before .loop .inv) (c .loop-test .left)))
+    (λ c κs. search needs)
+    (λ c. search (taken-less, needs))
+    (λ c. search (gathering-next, needs))
+    (λ c. search (gathering-end, needs)))

@@ -1,6 +1,5 @@
 -- The loop carries the word of those tables that are done. The measure is how many are left.
 use Prim.Native.Nat.{_-_}
-use native.Mathlib.Omega.{arith}
 use Rattle.plan.specs.Limits.{MAX_TABLES}
 use Rattle.parities.specs.Parity.{ParityTable}
 use Rattle.parities.proofs.ParityTables.{Found, found-none, found-next, found-all}
@@ -21,12 +20,10 @@ parity-tables-spec =
     Inv-loop
     μ-loop
     (λ c. found-none)
-    (λ c κs. (c .before .before .before .before .pre, c .loop-test .taken))
-    (λ c κs. let l = c .before .loop-test .taken in search needs)
+    (λ c κs. search needs)
+    (λ c κs. search needs)
     (λ c κs. search needs)
     (λ c. search needs)
-    (λ c. omega (arith, c .before .before .before .loop-test .taken))
-    (λ c.
-    let test = c .before .before in
-    found-next (test .before .before .loop .inv) (test .is-parity-table .ensures) (c .before .single-if .ensures) (c .union .ensures))
-    (λ c. found-all (c .before .loop .inv) (c .loop-test .left)))
+    (λ c. search needs)
+    (λ c. search (found-next, needs))
+    (λ c. search (found-all, needs)))

@@ -1,5 +1,4 @@
 -- The rule has a head, or makes no use, several, or one, of a table that is a parity or not.
-use native.Mathlib.Omega.{arith}
 use borrow.Author.Tests.{not-true, not-false}
 use Rattle.parities.proofs.ToldRows.{some-head, no-use, several-uses, one-use, use-small}
 use borrow.Author.Needs.{needs}
@@ -12,11 +11,6 @@ returns-3 c =
     let used = one .before .before in
     several-uses _ _ (used .before .before .uses .ensures) (used .before .first .ensures) (used .cut .ensures)
     (one .at-most-one .ensures .no (not-true _ (c .if3 .taken)))
-
-used-table-requires : tie.Need-used-table-requires
-used-table-requires c κs =
-    let used = c .before .before .before .before in
-    use-small _ (used .before .first .ensures) (used .cut .ensures) (c .lowest .ensures .0)
 
 returns-4 : tie.Need-returns-4
 returns-4 c =
@@ -39,20 +33,16 @@ is-telling-spec =
     tie.close
     (tie.spec
     (λ c κs. search needs)
-    (λ c. some-head (c .before .head .ensures) (c .if1 .taken))
+    (λ c. search (some-head, needs))
     (λ c κs. search needs)
     (λ c κs. search needs)
     (λ c κs. search needs)
-    (λ c.
-    let used = c .before in
-    no-use _ _ (used .before .before .uses .ensures) (used .before .first .ensures) (used .cut .ensures) (c .if2 .taken))
+    (λ c. search (no-use, needs))
     (λ c κs. search needs)
     returns-3
-    (λ c κs. c .before .before .if2 .left)
-    used-table-requires
-    (λ c κs.
-    (omega (arith, c .before .before .before .before .before .before .before .before .before .before .before .pre), c .used-table .ensures .1))
-    (λ c κs.
-    (omega (arith, c .before .before .before .before .before .before .before .before .before .before .before .before .pre), c .before .used-table .ensures .1))
+    (λ c κs. search needs)
+    (λ c κs. search (use-small, needs))
+    (λ c κs. search needs)
+    (λ c κs. search needs)
     (λ c κs. search needs)
     returns-4)

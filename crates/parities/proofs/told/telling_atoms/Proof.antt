@@ -12,12 +12,6 @@ Inv-loop rules which all₀ rest₀ all rest = GatheringTold rules which all res
 abbrev μ-loop : tie.MeasureT-loop
 μ-loop rules which all₀ rest₀ all rest = ones rest
 
-loop-again : tie.Need-loop-again Inv-loop μ-loop
-loop-again c =
-    let words = c .before .before in
-    let low = words .before in
-    told-next (low .before .before .loop .inv) (low .lowest .ensures .0) (c .drop .ensures) (words .rule-atoms .ensures) (c .before .union .ensures)
-
 pub telling-atoms-spec : {M : Type 1} → statement M
 telling-atoms-spec =
     tie.close
@@ -25,11 +19,11 @@ telling-atoms-spec =
     Inv-loop
     μ-loop
     (λ c κs. search needs)
-    (λ c. told-start (c .before .before .fits .which .fits) (c .telling-rules .ensures))
-    (λ c κs. c .loop-test .taken)
+    (λ c. search (told-start, needs))
+    (λ c κs. search needs)
     (λ c κs. let loop = c .before .before in loop .before .before .before .pre .each _ (told-numbered (loop .loop .inv) (c .lowest .ensures .0)))
     (λ c κs. search needs)
-    (λ c κs. c .before .before .lowest .ensures .1)
-    (λ c. taken-less (c .before .before .before .lowest .ensures .0) (c .drop .ensures))
-    loop-again
-    (λ c. told-end (c .before .before .before .before .fits .which .fits) (c .before .loop .inv) (c .loop-test .left)))
+    (λ c κs. search needs)
+    (λ c. search (taken-less, needs))
+    (λ c. search (told-next, needs))
+    (λ c. search (told-end, needs)))

@@ -14,14 +14,6 @@ Inv-loop rules which telling₀ rest₀ telling rest = Chosen (Tells rules) whic
 abbrev μ-loop : tie.MeasureT-loop
 μ-loop rules which telling₀ rest₀ telling rest = ones rest
 
-loop-again : tie.Need-loop-again Inv-loop μ-loop
-loop-again c =
-    let one = c .before .before in
-    let low = one .before .before in
-    chosen-next (low .before .before .loop .inv) (low .lowest .ensures .0) (one .before .is-telling .ensures) (one .single-if .ensures)
-    (c .before .union .ensures)
-    (c .drop .ensures)
-
 pub telling-rules-spec : {M : Type 1} → statement M
 telling-rules-spec =
     tie.close
@@ -29,11 +21,11 @@ telling-rules-spec =
     Inv-loop
     μ-loop
     (λ c. chosen-start)
-    (λ c κs. c .loop-test .taken)
-    (λ c κs. let loop = c .before .before in loop .before .before .pre .each _ (taken-lent (loop .loop .inv .within) (c .lowest .ensures .0)))
-    (λ c κs. c .before .lowest .ensures .1)
     (λ c κs. search needs)
-    (λ c κs. c .before .before .before .lowest .ensures .1)
-    (λ c. taken-less (c .before .before .before .before .lowest .ensures .0) (c .drop .ensures))
-    loop-again
+    (λ c κs. let loop = c .before .before in loop .before .before .pre .each _ (taken-lent (loop .loop .inv .within) (c .lowest .ensures .0)))
+    (λ c κs. search needs)
+    (λ c κs. search needs)
+    (λ c κs. search needs)
+    (λ c. search (taken-less, needs))
+    (λ c. search (chosen-next, needs))
     (λ c. chosen-end (c .before .loop .inv) (c .loop-test .left)))

@@ -1,5 +1,5 @@
 -- The first half of the uses wants tables true, the second half false.
-use native.Mathlib.Omega.{arith}
+use borrow.Author.Needs.{needs}
 use Rattle.answer_sets.proofs.Bodies.{table-first, table-second}
 use Rattle.parities.proofs.told.used_table.Statement.{statement}
 use Rattle.parities.proofs.told.used_table.Tie as tie
@@ -8,5 +8,5 @@ pub used-table-spec : {M : Type 1} → statement M
 used-table-spec =
     tie.close
     (tie.spec
-    (λ c. (table-first _ (c .if1 .taken), omega arith))
-    (λ c. (table-second _ (c .if1 .left), omega arith)))
+    (λ c. search (table-first, needs))
+    (λ c. search (table-second, needs)))

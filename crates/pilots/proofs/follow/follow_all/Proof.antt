@@ -1,6 +1,5 @@
 -- The loop carries that the tables so far are followed.
 use Prim.Native.Nat.{_-_}
-use native.Mathlib.Omega.{arith}
 use borrow.Author.Tests.{not-true, not-false}
 use Rattle.plan.specs.Limits.{MAX_TABLES}
 use Rattle.pilots.proofs.FollowedTables.{Followed, followed-start, followed-next, followed-end, not-followed, none-follow}
@@ -25,9 +24,9 @@ follow-all-spec =
     (λ c. followed-start)
     (λ c. search needs)
     (λ c. search needs)
-    (λ c κs. c .before .loop-test .taken)
-    (λ c. not-followed (c .before .before .before .loop-test .taken) (c .before .follows .ensures .no (not-true _ (c .if2 .taken))))
+    (λ c κs. search needs)
+    (λ c. not-followed (search needs) (c .before .follows .ensures .no (not-true _ (c .if2 .taken))))
     (λ c. search needs)
-    (λ c. omega (arith, c .before .before .before .loop-test .taken))
-    (λ c. followed-next (c .before .before .before .before .loop .inv) (c .before .follows .ensures .yes (not-false _ (c .if2 .left))))
-    (λ c. followed-end (c .before .loop .inv) (omega (arith, c .loop-test .left))))
+    (λ c. search needs)
+    (λ c. followed-next (search needs) (c .before .follows .ensures .yes (not-false _ (c .if2 .left))))
+    (λ c. search (followed-end, needs)))

@@ -32,7 +32,7 @@ pub follows-spec : {M : Type 1} → statement M
 follows-spec =
     tie.close
     (tie.spec
-    (λ c. follows-nothing (c .if1 .taken))
+    (λ c. search (follows-nothing, needs))
     (λ c. search needs)
     (λ c κs. search needs)
     (λ c. search needs)

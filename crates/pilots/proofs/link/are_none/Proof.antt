@@ -14,18 +14,11 @@ Inv-loop pilots all₀ t₀ all t = NoneBelow pilots t all × (t ≤ MAX_TABLES)
 abbrev μ-loop : tie.MeasureT-loop
 μ-loop pilots all₀ t₀ all t = MAX_TABLES - t
 
-loop-again : tie.Need-loop-again Inv-loop μ-loop
-loop-again c =
-    let test = c .before .before in
-    let loop = test .before in
-    let at = loop .loop in
-    (none-next (now (loop .before .before .args .pilots)) (at .t) (at .all) (at .inv .0) (c .union .ensures), omega (arith, test .loop-test .taken))
-
 returns : tie.Need-returns Inv-loop μ-loop
 returns c =
     let loop = c .before in
     let at = loop .loop in
-    none-end (now (loop .before .before .args .pilots)) (at .t) (at .all) (at .inv .0) (omega (arith, at .inv .1, c .loop-test .left))
+    none-end (now (loop .before .before .args .pilots)) (at .t) (at .all) (at .inv .0) (search needs)
 
 pub are-none-spec : {M : Type 1} → statement M
 are-none-spec =
@@ -39,5 +32,5 @@ are-none-spec =
     (λ c κs. search needs)
     (λ c. search needs)
     (λ c. search needs)
-    loop-again
+    (λ c. search (none-next, needs))
     returns)

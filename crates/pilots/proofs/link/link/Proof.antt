@@ -15,20 +15,12 @@ fits c = omega arith
 abbrev start : tie.After-is-plain → tie.Start
 start c = c .before .before .before .before
 
-returns : tie.Need-returns
-returns c = linked-none (c .if1 .taken) (c .before .before .before .pre .0) (search needs)
-
 returns-2 : tie.Need-returns-2
 returns-2 c =
     let stored = c .before in
     let test = stored .before .before .before in
     let plain = test .before in
-    linked-copy _ (plain .is-plain .ensures .yes (test .if2 .taken)) (search needs) (fits (start plain)) (stored .store .ensures) (search needs)
-
-link-all-requires : tie.Need-link-all-requires
-link-all-requires c κs =
-    let begin = start (c .before .before .before .before .before .before .before) in
-    (begin .pre .0, lent-linked (search needs) (fits begin), begin .pre .1)
+    linked-copy _ (plain .is-plain .ensures .yes (test .if2 .taken)) (search needs) (search needs) (stored .store .ensures) (search needs)
 
 returns-3 : tie.Need-returns-3
 returns-3 c =
@@ -43,7 +35,7 @@ pub link-spec : {M : Type 1} → statement M
 link-spec =
     tie.close
     (tie.spec
-    returns
+    (λ c. search (linked-none, needs))
     (λ c κs. search needs)
     (λ c. search needs)
     (λ c. search needs)
@@ -58,5 +50,5 @@ link-spec =
     (λ c κs. search needs)
     (λ c κs. search needs)
     (λ c. search needs)
-    link-all-requires
+    (λ c κs. search (lent-linked, needs))
     returns-3)

@@ -1,5 +1,4 @@
 -- The loop carries that the rules that are done are linked. The measure is how many are left.
-use mathlib.Core.Path.{_≡_}
 use lib.Count.{ones}
 use native.Mathlib.Omega.{arith}
 use Rattle.atoms.proofs.Counts.{taken-less}
@@ -23,12 +22,6 @@ link-rule-requires c κs =
     let h = taken-lent (at .loop .inv .taking .within) (low .lowest .ensures .0) in
     (start .pre .0 .each _ h, omega (arith, start .pre .1 .each _ h, at .loop .inv .same-length), start .pre .2)
 
-loop-again : tie.Need-loop-again Inv-loop μ-loop
-loop-again c =
-    let done = c .before .before .before in
-    let low = done .before .before in
-    linking-next (low .before .before .loop .inv) (low .lowest .ensures .0) (c .drop .ensures) (done .link-rule .ensures)
-
 pub link-all-spec : {M : Type 1} → statement M
 link-all-spec =
     tie.close
@@ -36,10 +29,10 @@ link-all-spec =
     Inv-loop
     μ-loop
     (λ c. linking-start)
-    (λ c κs. c .loop-test .taken)
+    (λ c κs. search needs)
     link-rule-requires
-    (λ c κs. c .before .before .before .before .lowest .ensures .1)
-    (λ c. taken-less (c .before .before .before .before .before .lowest .ensures .0) (c .drop .ensures))
-    loop-again
-    (λ c. c .before .loop .inv .same-length)
-    (λ c. linking-end (c .before .loop .inv) (c .loop-test .left)))
+    (λ c κs. search needs)
+    (λ c. search (taken-less, needs))
+    (λ c. search (linking-next, needs))
+    (λ c. search needs)
+    (λ c. search (linking-end, needs)))

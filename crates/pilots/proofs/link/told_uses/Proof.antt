@@ -1,6 +1,5 @@
 -- The loop carries that what is told so far is of tables with a pilot.
 use Prim.Native.Nat.{_-_}
-use native.Mathlib.Omega.{arith}
 use Rattle.plan.specs.Limits.{MAX_TABLES}
 use Rattle.pilots.specs.Linked.{ToldUses}
 use Rattle.pilots.proofs.Linking.{told-none}
@@ -21,8 +20,8 @@ told-uses-spec =
     Inv-loop
     μ-loop
     (λ c. told-none)
-    (λ c κs. (c .before .before .before .pre, c .loop-test .taken, c .before .loop .inv))
+    (λ c κs. search needs)
     (λ c. search needs)
-    (λ c. omega (arith, c .before .loop-test .taken))
-    (λ c. c .told-with .ensures)
-    (λ c. c .before .loop .inv))
+    (λ c. search needs)
+    (λ c. search needs)
+    (λ c. search needs))

@@ -9,14 +9,14 @@ returns-2 : tie.Need-returns-2
 returns-2 c =
     let test = c .before .before in
     let words = test .before in
-    pilot-up _ (tested-shared _ _ (test .are-apart .ensures) (c .before .if2 .taken))
+    pilot-up _ (search (tested-shared, needs))
     (rw (words .before .table-inputs .ensures, words .table-truth .ensures) at (c .tell-inputs .ensures))
 
 returns-3 : tie.Need-returns-3
 returns-3 c =
     let test = c .before .before .before in
     let words = test .before .before .before in
-    pilot-dropped _ (tested-shared _ _ (test .are-apart2 .ensures) (c .before .before .if3 .taken))
+    pilot-dropped _ (search (tested-shared, needs))
     (rw (words .table-truth .ensures) at (c .before .outside .ensures))
     (rw (words .before .table-inputs .ensures) at (c .tell-inputs2 .ensures))
 

@@ -4,17 +4,6 @@ use borrow.Author.Needs.{needs}
 use Rattle.pilots.proofs.table_step.tell_pilot.Statement.{statement}
 use Rattle.pilots.proofs.table_step.tell_pilot.Tie as tie
 
-returns : tie.Need-returns
-returns c =
-    let test = c .before .before in
-    all-true _ (test .before .agreeing-rows .ensures) (tested-within _ _ (test .is-subset .ensures) (c .before .if1 .taken)) (c .union .ensures)
-
-returns-2 : tie.Need-returns-2
-returns-2 c =
-    let test = c .before .before in
-    all-false _ (test .before .before .before .agreeing-rows .ensures) (tested-apart _ _ (test .are-apart .ensures) (c .before .if2 .taken))
-    (c .union2 .ensures)
-
 pub tell-pilot-spec : {M : Type 1} → statement M
 tell-pilot-spec =
     tie.close
@@ -22,8 +11,8 @@ tell-pilot-spec =
     (λ c κs. search needs)
     (λ c κs. search needs)
     (λ c κs. search needs)
-    returns
+    (λ c. search (all-true, tested-within, needs))
     (λ c κs. search needs)
     (λ c κs. search needs)
-    returns-2
+    (λ c. search (all-false, tested-apart, needs))
     (λ c. search needs))

@@ -1,5 +1,5 @@
 -- Each word is told by its operations.
-use mathlib.Core.Path.{refl, ap, _∙_}
+use mathlib.Core.Path.{ap, _∙_}
 use Prim.Native.Nat.{ℕ}
 use Rattle.atoms.specs.Word.{_∪_}
 use borrow.Author.Needs.{needs}
@@ -10,7 +10,7 @@ returns : tie.Need-returns
 returns c =
     let founded = c .before in
     let outside = founded .before in (
-      (refl, outside .outside .ensures),
+      search needs,
       c .union .ensures ∙ ap (λ (w : ℕ). outside .before .args .unit .nearest ∪ w) (founded .single-if .ensures),
     )
 

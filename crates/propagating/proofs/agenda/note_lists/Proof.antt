@@ -1,8 +1,8 @@
 -- The loop adds what each list wakes. The measure is how many are left.
+use borrow.Author.Needs.{needs}
 use Prim.Native.Nat.{_<_}
 use native.Mathlib.Omega.{arith}
 use lib.Count.{ones}
-use denote.Ref.{now}
 use Rattle.atoms.proofs.Counts.{taken-less}
 use Rattle.atoms.proofs.TakenNumbers.{taken-lt}
 use Rattle.plan.specs.Limits.{MAX_UNITS}
@@ -22,13 +22,6 @@ abbrev μ-loop : tie.MeasureT-loop
 inside : (c : tie.After-lowest Inv-loop μ-loop) → c .lowest .result < MAX_UNITS
 inside c = taken-lt MAX_UNITS (c .before .before .before .before .before .pre .1) (c .before .before .loop .inv .within) (c .lowest .ensures .0)
 
-loop-again : tie.Need-loop-again Inv-loop μ-loop
-loop-again c =
-    let mark = c .before .before .before in
-    let low = mark .before .before .before .before in
-    adding-next (low .before .before .loop .inv) (low .lowest .ensures .0) (c .drop .ensures)
-    (list-added (now (low .before .before .before .before .before .args .heads)) (low .lowest .result) (mark .before .single .ensures) (mark .mark .ensures))
-
 pub note-lists-spec : {M : Type 1} → statement M
 note-lists-spec =
     tie.close
@@ -36,15 +29,13 @@ note-lists-spec =
     Inv-loop
     μ-loop
     (λ c. adding-start)
-    (λ c κs. c .loop-test .taken)
-    (λ c. omega (arith, inside (c .before)))
+    (λ c κs. search needs)
+    (λ c. search (taken-lt, needs))
     (λ c. omega (arith, inside (c .before .before), c .before .before .before .before .before .before .before .pre .0))
-    (λ c κs. c .before .before .lowest .ensures .1)
-    (λ c κs.
-    let loop = c .before .before .before .before .before in
-    omega (arith, loop .loop .inv .done .same-length, loop .before .before .before .pre .2))
-    (λ c κs. c .before .before .before .before .before .before .lowest .ensures .1)
-    (λ c. taken-less (c .before .before .before .before .before .before .before .lowest .ensures .0) (c .drop .ensures))
-    loop-again
-    (λ c. c .before .loop .inv .done .same-length)
-    (λ c. adding-end (c .before .loop .inv) (c .loop-test .left)))
+    (λ c κs. search needs)
+    (λ c κs. search needs)
+    (λ c κs. search needs)
+    (λ c. search (taken-less, needs))
+    (λ c. search (adding-next, list-added, needs))
+    (λ c. search needs)
+    (λ c. search (adding-end, needs)))

@@ -1,5 +1,4 @@
 -- Two parity tables or more are noted; fewer are not.
-use native.Mathlib.Omega.{arith}
 use Rattle.propagating.proofs.WakeIndices.{sums-added, sums-left}
 use borrow.Author.Needs.{needs}
 use Rattle.propagating.proofs.agenda.note_sums.Statement.{statement}
@@ -18,11 +17,11 @@ pub note-sums-spec : {M : Type 1} → statement M
 note-sums-spec =
     tie.close
     (tie.spec
-    (λ c κs. omega (arith, c .before .before .before .pre .0))
-    (λ c κs. search needs)
-    (λ c. let one = c .before in sums-left (one .before .parity-tables .ensures) (one .at-most-one .ensures .yes (c .if1 .taken)))
-    (λ c κs. omega (arith, c .before .before .before .before .before .before .pre .0))
     (λ c κs. search needs)
     (λ c κs. search needs)
-    (λ c. c .before .before .mark .ensures .same-length)
+    (λ c. let one = c .before in sums-left (search needs) (one .at-most-one .ensures .yes (c .if1 .taken)))
+    (λ c κs. search needs)
+    (λ c κs. search needs)
+    (λ c κs. search needs)
+    (λ c. search needs)
     returns-2)

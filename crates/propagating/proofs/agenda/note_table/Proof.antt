@@ -2,7 +2,6 @@
 use mathlib.Core.Path.{ap, _∙_}
 use Prim.Native.Nat.{ℕ}
 use denote.Ref.{now}
-use native.Mathlib.Omega.{arith}
 use lib.ListN.{getD}
 use Rattle.atoms.specs.Word.{_∪_}
 use Rattle.propagating.proofs.WakeIndices.{table-added, table-left}
@@ -27,11 +26,11 @@ note-table-spec =
     (tie.spec
     (λ c. search needs)
     (λ c. search needs)
-    (λ c. table-left (c .if1 .taken))
+    (λ c. search (table-left, needs))
     (λ c κs. search needs)
     (λ c κs. search needs)
     (λ c. search needs)
     (λ c κs. search needs)
     (λ c κs. search needs)
-    (λ c. c .before .before .mark .ensures .same-length)
+    (λ c. search needs)
     returns-2)

@@ -19,9 +19,9 @@ note-told-spec =
     (tie.spec
     (λ c κs. search needs)
     (λ c κs. search needs)
-    (λ c. let one = c .before in told-left (one .before .telling-rules .ensures) (one .at-most-one .ensures .yes (c .if1 .taken)))
+    (λ c. let one = c .before in told-left (search needs) (one .at-most-one .ensures .yes (c .if1 .taken)))
     (λ c κs. search needs)
     (λ c κs. search needs)
     (λ c κs. search needs)
-    (λ c. c .before .before .mark .ensures .same-length)
+    (λ c. search needs)
     returns-2)

@@ -7,15 +7,6 @@ use Rattle.propagating.proofs.agenda.woken.Tie as tie
 returns : tie.Need-returns
 returns c = woken-none _ _ _
 
-returns-3 : tie.Need-returns-3
-returns-3 c =
-    let at-if2 = c .before .before .before .before .before in
-    let new = at-if2 .before in
-    let at-undecided2 = new .before in
-    let at-undecided = at-undecided2 .before in
-    woken-new _ _ _ _ _ _ _ (at-undecided .undecided .ensures) (at-undecided2 .undecided2 .ensures) (new .without .ensures)
-    (at-if2 .if2 .left)
-
 pub woken-spec : {M : Type 1} → statement M
 woken-spec =
     tie.close
@@ -31,4 +22,4 @@ woken-spec =
     (λ c κs. search needs)
     (λ c κs. search needs)
     (λ c κs. search needs)
-    returns-3)
+    (λ c. search (woken-new, needs)))

@@ -15,27 +15,25 @@ returns c =
     let backed = index .before .before .before in
     let linked = backed .before .before in
     let start = linked .before .before .before .before in
-    laid-out _ _ _ (index .wake-index .result) _ _ (search needs) (start .pre .1) (linked .link .ensures) (search needs) (linked .link .ensures .long)
+    laid-out _ _ _ (index .wake-index .result) _ _ (search needs) (start .pre .1) (search needs) (search needs) (search needs)
     (backed .backers .ensures)
-    (index .wake-index .ensures .long)
+    (search needs)
     (first .store .ensures)
     (second .store2 .ensures)
     (third .store3 .ensures)
     (fourth .store4 .ensures)
-    (fifth .store5 .ensures)
+    (search needs)
     (search needs)
 
 pub lay-out-spec : {M : Type 1} → statement M
 lay-out-spec =
     tie.close
     (tie.spec
-    (λ c κs. (c .before .before .before .pre .0, search needs))
+    (λ c κs. search needs)
     (λ c. search needs)
-    (λ c κs. c .before .link .ensures .there)
+    (λ c κs. search needs)
     (λ c. search needs)
-    (λ c κs.
-    let pre = c .before .before .before .before .before .before .before .before .pre in
-    (pre .0, c .before .before .before .before .link .ensures .there, c .before .before .before .before .link .ensures .long, search needs, pre .1, pre .2))
+    (λ c κs. search needs)
     (λ c. search needs)
     (λ c. search needs)
     (λ c. search needs)

@@ -12,17 +12,6 @@ Inv-loop list all₀ some₀ at₀ all some at = CommonSoFar list all some at
 abbrev μ-loop : tie.MeasureT-loop
 μ-loop list all₀ some₀ at₀ all some at = length list - at
 
-loop-holds : tie.Need-loop-holds Inv-loop μ-loop
-loop-holds c = common-start _ (c .first .ensures)
-
-loop-again : tie.Need-loop-again Inv-loop μ-loop
-loop-again c =
-    common-more (c .before .before .before .before .loop .inv) (c .before .before .before .loop-test .taken) (c .before .cut .ensures)
-    (c .union .ensures)
-
-returns : tie.Need-returns Inv-loop μ-loop
-returns c = common-end (c .before .loop .inv) (c .loop-test .left)
-
 pub common-atoms-spec : {M : Type 1} → statement M
 common-atoms-spec =
     tie.close
@@ -30,12 +19,12 @@ common-atoms-spec =
     Inv-loop
     μ-loop
     (λ c κs. search needs)
-    loop-holds
+    (λ c. search (common-start, needs))
     (λ c. search needs)
     (λ c. search needs)
     (λ c κs. search needs)
     (λ c κs. search needs)
     (λ c. search needs)
     (λ c. search needs)
-    loop-again
-    returns)
+    (λ c. search (common-more, needs))
+    (λ c. search (common-end, needs)))

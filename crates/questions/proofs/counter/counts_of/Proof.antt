@@ -1,5 +1,4 @@
 -- The counts are right for the first `at` positions (Tally).
-use mathlib.Core.Path.{sym}
 use Prim.Native.Nat.{_-_}
 use lib.ListN.{length}
 use borrow.Author.Needs.{needs}
@@ -13,41 +12,20 @@ Inv-loop list n up dropped counts₀ at₀ counts at = Tally list n up dropped c
 abbrev μ-loop : tie.MeasureT-loop
 μ-loop list n up dropped counts₀ at₀ counts at = length list - at
 
-loop-holds : tie.Need-loop-holds Inv-loop μ-loop
-loop-holds c = tally-start (c .before .before .before .pre) (search needs) (search needs)
-
-slice-aggregate-hold-3 : tie.Need-slice-aggregate-hold-3 Inv-loop μ-loop
-slice-aggregate-hold-3 c = sym (tally-long (c .before .before .before .before .before .loop .inv))
-
-hold-requires : tie.Need-hold-requires Inv-loop μ-loop
-hold-requires c κs =
-    let test = c .before .before .before .before in
-    let head = test .before in
-    tally-holdable (head .loop .inv) (test .loop-test .taken) (search needs)
-
-loop-again : tie.Need-loop-again Inv-loop μ-loop
-loop-again c =
-    let test = c .before .before .before .before .before .before in
-    let head = test .before in
-    tally-more (head .loop .inv) (test .loop-test .taken) (c .before .hold .ensures)
-
-returns : tie.Need-returns Inv-loop μ-loop
-returns c = tally-end (c .before .loop .inv) (c .loop-test .left)
-
 pub counts-of-spec : {M : Type 1} → statement M
 counts-of-spec =
     tie.close
     (tie.spec
     Inv-loop
     μ-loop
-    loop-holds
+    (λ c. search (tally-start, needs))
     (λ c. search needs)
     (λ c. search needs)
     (λ c. search needs)
     (λ c. search needs)
-    slice-aggregate-hold-3
-    hold-requires
+    (λ c. search (tally-long, needs))
+    (λ c κs. search (tally-holdable, needs))
     (λ c. search needs)
     (λ c. search needs)
-    loop-again
-    returns)
+    (λ c. search (tally-more, needs))
+    (λ c. search (tally-end, needs)))

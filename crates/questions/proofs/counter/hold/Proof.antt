@@ -11,48 +11,24 @@ Inv-loop position n up dropped counts₀ i₀ counts i = Holding position up dro
 abbrev μ-loop : tie.MeasureT-loop
 μ-loop position n up dropped counts₀ i₀ counts i = n - i
 
-abbrev turn : tie.After-slice-known2 Inv-loop μ-loop → tie.In-loop Inv-loop μ-loop
-turn c = c .before .before .before .before
-
-loop-holds : tie.Need-loop-holds Inv-loop μ-loop
-loop-holds c = holding-start _ _ _ _ (c .before .before .before .pre)
-
-slice-read-counts : tie.Need-slice-read-counts Inv-loop μ-loop
-slice-read-counts c = within-now _ _ _ _ (turn c .before .loop .inv) (turn c .loop-test .taken)
-
-add-counts : tie.Need-add-counts Inv-loop μ-loop
-add-counts c = record { fits = holding-fits _ _ _ _ (turn c .before .loop .inv) (turn c .loop-test .taken) (c .before .one-if-fits .ensures) }
-
-slice-write-counts : tie.Need-slice-write-counts Inv-loop μ-loop
-slice-write-counts c = within-now _ _ _ _ (turn c .before .loop .inv) (turn c .loop-test .taken)
-
-loop-again : tie.Need-loop-again Inv-loop μ-loop
-loop-again c = holding-more _ _ _ _ (turn c .before .loop .inv) (turn c .loop-test .taken) (c .before .one-if-fits .ensures)
-
-same-length : tie.Need-same-length Inv-loop μ-loop
-same-length c = holding-long _ _ _ _ (c .before .loop .inv)
-
-returns : tie.Need-returns Inv-loop μ-loop
-returns c = holding-end _ _ _ _ (c .before .loop .inv) (c .loop-test .left)
-
 pub hold-spec : {M : Type 1} → statement M
 hold-spec =
     tie.close
     (tie.spec
     Inv-loop
     μ-loop
-    loop-holds
+    (λ c. search (holding-start, needs))
     (λ c. search needs)
     (λ c. search needs)
     (λ c. search needs)
     (λ c. search needs)
     (λ c κs. search needs)
     (λ c. search needs)
-    slice-read-counts
-    add-counts
-    slice-write-counts
+    (λ c. search (within-now, needs))
+    (λ c. search (holding-fits, needs))
+    (λ c. search (within-now, needs))
     (λ c. search needs)
     (λ c. search needs)
-    loop-again
-    same-length
-    returns)
+    (λ c. search (holding-more, needs))
+    (λ c. search (holding-long, needs))
+    (λ c. search (holding-end, needs)))

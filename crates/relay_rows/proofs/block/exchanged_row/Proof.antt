@@ -26,24 +26,6 @@ shared-slice-read-low-row-2 c =
           (start .pre) (at-single .single .ensures) (c .before .before .union .ensures),
     )
 
-low-row-requires : tie.Need-low-row-requires
-low-row-requires c κs =
-    let at-single = c .before .before .before .before .before in
-    let start = at-single .before .before in
-    half-lt (start .pre .alternates .small) (at-single .single .ensures)
-
-returns : tie.Need-returns
-returns c =
-    let at-if1 = c .before .before .before .before in
-    let at-are-apart = at-if1 .before in
-    let at-single = at-are-apart .before in
-    let start = at-single .before .before in
-    low-word (start .pre) (at-single .single .ensures) (at-are-apart .are-apart .ensures)
-    (at-if1 .if1 .taken) (c .before .before .before .union .ensures) (c .low-row .ensures)
-
-mul-high-row : tie.Need-mul-high-row
-mul-high-row c = omega (arith, high-across (c .before .before .before .before .before .pre) (c .before .before .before .single .ensures) (c .without .ensures))
-
 shared-slice-read-high-row : tie.Need-shared-slice-read-high-row
 shared-slice-read-high-row c =
     let at-single = c .before .before .before .before in
@@ -54,12 +36,6 @@ shared-slice-read-high-row c =
       high-across (start .pre)
           (at-single .single .ensures) (c .before .without .ensures),
     )
-
-high-row-requires : tie.Need-high-row-requires
-high-row-requires c κs =
-    let at-single = c .before .before .before .before .before in
-    let start = at-single .before .before in
-    half-lt (start .pre .alternates .small) (at-single .single .ensures)
 
 returns-2 : tie.Need-returns-2
 returns-2 c =
@@ -87,12 +63,12 @@ exchanged-row-spec =
     (λ c. search needs)
     mul-low-row-2
     shared-slice-read-low-row-2
-    low-row-requires
-    returns
+    (λ c κs. search (half-lt, needs))
+    (λ c. search (low-word, needs))
     (λ c κs. search needs)
-    mul-high-row
+    (λ c. omega (arith, high-across (c .before .before .before .before .before .pre) (c .before .before .before .single .ensures) (c .without .ensures)))
     shared-slice-read-high-row
     (λ c. search needs)
     (λ c. search needs)
-    high-row-requires
+    (λ c κs. search (half-lt, needs))
     returns-2)

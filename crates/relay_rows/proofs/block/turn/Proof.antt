@@ -5,24 +5,6 @@ use Rattle.relay_rows.proofs.Exchanging.{mask-5, mask-4, mask-3, mask-2
 use Rattle.relay_rows.proofs.block.turn.Statement.{statement}
 use Rattle.relay_rows.proofs.block.turn.Tie as tie
 
-exchange-requires : tie.Need-exchange-requires
-exchange-requires c κs = record { from-whole = search needs; to-whole = search needs; alternates = mask-5 }
-
-exchange-requires-2 : tie.Need-exchange-requires-2
-exchange-requires-2 c κs = record { from-whole = search needs; to-whole = search needs; alternates = mask-4 }
-
-exchange-requires-3 : tie.Need-exchange-requires-3
-exchange-requires-3 c κs = record { from-whole = search needs; to-whole = search needs; alternates = mask-3 }
-
-exchange-requires-4 : tie.Need-exchange-requires-4
-exchange-requires-4 c κs = record { from-whole = search needs; to-whole = search needs; alternates = mask-2 }
-
-exchange-requires-5 : tie.Need-exchange-requires-5
-exchange-requires-5 c κs = record { from-whole = search needs; to-whole = search needs; alternates = mask-1 }
-
-exchange-requires-6 : tie.Need-exchange-requires-6
-exchange-requires-6 c κs = record { from-whole = search needs; to-whole = search needs; alternates = mask-0 }
-
 returns : tie.Need-returns
 returns c =
     let r5 = c .before .before .before .before .before in
@@ -43,20 +25,20 @@ turn-spec =
     (tie.spec
     (λ c. search needs)
     (λ c. search needs)
-    exchange-requires
+    (λ c κs. search (mask-5, needs))
     (λ c. search needs)
     (λ c. search needs)
-    exchange-requires-2
+    (λ c κs. search (mask-4, needs))
     (λ c. search needs)
     (λ c. search needs)
-    exchange-requires-3
+    (λ c κs. search (mask-3, needs))
     (λ c. search needs)
     (λ c. search needs)
-    exchange-requires-4
+    (λ c κs. search (mask-2, needs))
     (λ c. search needs)
     (λ c. search needs)
-    exchange-requires-5
+    (λ c κs. search (mask-1, needs))
     (λ c. search needs)
     (λ c. search needs)
-    exchange-requires-6
+    (λ c κs. search (mask-0, needs))
     returns)

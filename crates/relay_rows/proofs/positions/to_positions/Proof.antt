@@ -16,7 +16,7 @@ returns-2 c =
     let at-if1 = c .before .before .before .before in
     let at-suits = at-if1 .before in
     let s = at-suits .suits .ensures .yes (not-false _ (at-if1 .if1 .left)) in
-    answer-written s (positions-written _ (s .count-le) (s .written-long) (c .before .before .write-positions .ensures))
+    answer-written s (search (positions-written, needs))
 
 pub to-positions-spec : {M : Type 1} → statement M
 to-positions-spec = tie.close (tie.spec (λ c κs. search needs) returns write-positions-requires (λ c. search needs) returns-2)

@@ -16,7 +16,7 @@ returns-2 c =
     let at-if1 = c .before .before .before .before in
     let at-suits = at-if1 .before in
     let s = at-suits .suits .ensures .yes (not-false _ (at-if1 .if1 .left)) in
-    answer-written s (rows-written _ (s .written-long) (c .before .before .write-rows .ensures))
+    answer-written s (search (rows-written, needs))
 
 pub to-rows-spec : {M : Type 1} → statement M
 to-rows-spec = tie.close (tie.spec (λ c κs. search needs) returns write-rows-requires (λ c. search needs) returns-2)

@@ -23,29 +23,6 @@ there c = start c .pre .there (c .before .loop .k) (c .loop-test .taken)
 loop-holds : tie.Need-loop-holds Inv-loop μ-loop
 loop-holds c = reading-start _ _ _ _ _
 
-mul-cut : tie.Need-mul-cut Inv-loop μ-loop
-mul-cut c = omega (arith, there c)
-
-add-cut : tie.Need-add-cut Inv-loop μ-loop
-add-cut c = omega (arith, there c)
-
-mul-cut-2 : tie.Need-mul-cut-2 Inv-loop μ-loop
-mul-cut-2 c = omega (arith, there c)
-
-shared-slice-read-cut : tie.Need-shared-slice-read-cut Inv-loop μ-loop
-shared-slice-read-cut c = there (c .before)
-
-array-write-block : tie.Need-array-write-block Inv-loop μ-loop
-array-write-block c = omega (arith, start (c .before .before) .pre .few)
-
-loop-again : tie.Need-loop-again Inv-loop μ-loop
-loop-again c =
-    let test = c .before .before in
-    reading-more (test .before .loop .inv) (test .loop-test .taken) (start (test) .pre .few) (c .cut .ensures)
-
-returns : tie.Need-returns Inv-loop μ-loop
-returns c = reading-end (c .before .loop .inv) (c .loop-test .left)
-
 pub read-block-spec : {M : Type 1} → statement M
 read-block-spec =
     tie.close
@@ -53,14 +30,14 @@ read-block-spec =
     Inv-loop
     μ-loop
     loop-holds
-    mul-cut
-    add-cut
-    mul-cut-2
-    shared-slice-read-cut
+    (λ c. omega (arith, there c))
+    (λ c. omega (arith, there c))
+    (λ c. search (there, needs))
+    (λ c. search (there, needs))
     (λ c κs. search needs)
     (λ c. search needs)
-    array-write-block
     (λ c. search needs)
     (λ c. search needs)
-    loop-again
-    returns)
+    (λ c. search needs)
+    (λ c. search (reading-more, needs))
+    (λ c. search (reading-end, needs)))

@@ -1,5 +1,4 @@
 -- The first k words are written (Scattering).
-use mathlib.Core.Path.{refl}
 use Prim.Native.Nat.{_+_, _-_, _*_, _<_}
 use native.Mathlib.Omega.{arith}
 use lib.ListN.{length, getD}
@@ -26,26 +25,8 @@ long c = c .before .before .pre .there (c .before .loop .k) (c .loop-test .taken
 loop-holds : tie.Need-loop-holds Inv-loop μ-loop
 loop-holds c = scattering-start _ (c .pre)
 
-mul-area-2 : tie.Need-mul-area-2 Inv-loop μ-loop
-mul-area-2 c = omega (arith, long c)
-
-add-area : tie.Need-add-area Inv-loop μ-loop
-add-area c = omega (arith, long c)
-
-mul-area-3 : tie.Need-mul-area-3 Inv-loop μ-loop
-mul-area-3 c = omega (arith, long c)
-
 slice-write-area : tie.Need-slice-write-area Inv-loop μ-loop
 slice-write-area c = there c
-
-loop-again : tie.Need-loop-again Inv-loop μ-loop
-loop-again c = scattering-more (c .before .loop .inv) (c .loop-test .taken) refl
-
-same-length : tie.Need-same-length Inv-loop μ-loop
-same-length c = c .before .loop .inv .so-far .long
-
-returns : tie.Need-returns Inv-loop μ-loop
-returns c = scattering-end (c .before .loop .inv) (c .loop-test .left)
 
 pub write-block-spec : {M : Type 1} → statement M
 write-block-spec =
@@ -56,12 +37,12 @@ write-block-spec =
     loop-holds
     (λ c. search needs)
     (λ c. search needs)
-    mul-area-2
-    add-area
-    mul-area-3
+    (λ c. omega (arith, long c))
+    (λ c. omega (arith, long c))
+    (λ c. search (long, needs))
     slice-write-area
     (λ c. search needs)
     (λ c. search needs)
-    loop-again
-    same-length
-    returns)
+    (λ c. search (scattering-more, needs))
+    (λ c. search needs)
+    (λ c. search (scattering-end, needs)))

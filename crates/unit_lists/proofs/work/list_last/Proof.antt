@@ -35,11 +35,10 @@ listable c =
 
 list-one-requires : tie.Need-list-one-requires
 list-one-requires c κs =
-    let told = c .before .before .before .before .before .before .before in
-    let pre = start told .pre in (
+    let told = c .before .before .before .before .before .before .before in (
       searchable (listable told) (told .last-unit .ensures),
-      omega (arith, pre .1 .table-long),
-      omega (arith, pre .1 .counts-long),
+      search needs,
+      search needs,
     )
 
 returns : tie.Need-returns

@@ -14,16 +14,13 @@ use Rattle.unit_lists.proofs.work.list_one.Tie as tie
 abbrev start : tie.After-search → tie.Start
 start c = c .before .before .before .before .before .before .before .before
 
-search-requires : tie.Need-search-requires
-search-requires c κs = (c .before .before .before .before .before .before .before .pre .0, zeros-ordered)
-
 returns : tie.Need-returns
 returns c =
     let done = c .before .before in
     record {
       list = done .search .last .1 .1 .1 .1 .1 .1 .0;
-      count = done .search .result;
-      gathered = done .search .ensures;
+      count = search needs;
+      gathered = search needs;
       when-fits = λ e. absurd (false≢true e);
       when-long = λ e. (c .if1 .taken, refl, refl);
     }
@@ -36,8 +33,8 @@ returns-2 c =
     let list = done .search .last .1 .1 .1 .1 .1 .1 .0 in
     record {
       list = list;
-      count = done .search .result;
-      gathered = done .search .ensures;
+      count = search needs;
+      gathered = search needs;
       when-fits = λ e. (
         few .if1 .left,
         stored .store .ensures ∙ ap (paste (now (start done .args .table)) (LIST_WORDS * start done .args .place) list)
@@ -52,7 +49,7 @@ list-one-spec =
     tie.close
     (tie.spec
     (λ c. search needs)
-    search-requires
+    (λ c κs. search (zeros-ordered, needs))
     (λ c. search needs)
     (λ c. search needs)
     returns

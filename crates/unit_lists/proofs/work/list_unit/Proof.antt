@@ -3,7 +3,7 @@ use mathlib.Core.Path.{_≡_}
 use native.Mathlib.Omega.{arith}
 use borrow.Author.Needs.{needs}
 use denote.Ref.{now}
-use lib.ListN.{length, getD}
+use lib.ListN.{length}
 use Rattle.plan.specs.Limits.{MAX_UNITS, PROGRAM_WORDS}
 use Rattle.dependency_graph.specs.PlanUnits.{unitsOf}
 use Rattle.unit_lists.proofs.Joined.{ReadyToList, searchable, unit-stored}
@@ -31,15 +31,6 @@ listable c =
     let heads = heads-long (start c) in
     unit-listable (pre .0) (at .u) (omega (arith, pre .0 .workable .fits .rules-fit)) (omega arith) (pre .1) (pre .2)
 
-list-one-requires : tie.Need-list-one-requires
-list-one-requires c κs =
-    let told = c .before .before .before .before .before .before .before in
-    let pre = start told .pre in (
-      searchable (listable told) (told .unit-at .ensures),
-      omega (arith, pre .1, pre .2 .table-long, pre .0 .workable .fits .units-fit),
-      omega (arith, pre .1, pre .2 .counts-long, pre .0 .workable .fits .units-fit),
-    )
-
 returns : tie.Need-returns
 unfolding unitsOf
 returns c =
@@ -59,8 +50,8 @@ list-unit-spec =
     (λ c. search needs)
     (λ c. search needs)
     (λ c κs. search needs)
-    (λ c. search (heads-long (start (c .before .before .before .before .before)), needs))
-    list-one-requires
+    (λ c. search (heads-long, needs))
+    (λ c κs. search (searchable, listable, needs))
     (λ c. search needs)
     (λ c. search needs)
     returns)

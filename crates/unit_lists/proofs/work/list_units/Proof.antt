@@ -39,41 +39,21 @@ counts-kept c = held-counts-long (c .loop .inv .working .holding) ∙ sym (held-
 
 loop-holds : tie.Need-loop-holds Inv-loop μ-loop
 unfolding unitsOf
-loop-holds c =
-    let start-2 = c .before .before in
-    turn-start (start-2 .pre .0 .workable .passes .acyclic) (start-2 .pre .1)
-
-next-unit-requires : tie.Need-next-unit-requires Inv-loop μ-loop
-next-unit-requires c κs = start (c .before) .pre .0 .workable .fits
+loop-holds c = search (turn-start, needs)
 
 returns : tie.Need-returns Inv-loop μ-loop
 unfolding unitsOf
 returns c =
     let next = c .before .before in
-    turn-stop (turn next .loop .inv) (rw (next .next-unit .ensures) at (c .if1 .taken))
+    turn-stop (turn next .loop .inv) (search needs)
 
 list-unit-requires : tie.Need-list-unit-requires Inv-loop μ-loop
 unfolding unitsOf
-list-unit-requires c κs =
-    let point = c .before .before in
-    let next = found (point) in (
-      start (turn next) .pre .0,
-      there (point),
-      turn-there (turn next .loop .inv) (next .before .loop-test .taken) (next .next-unit .ensures) (there (point)),
-    )
+list-unit-requires c κs = search (turn-there, needs)
 
 returns-2 : tie.Need-returns-2 Inv-loop μ-loop
 unfolding unitsOf
-returns-2 c =
-    let done = c .before .before .before .before .before in
-    let next = found (listed done) in
-    turn-too-long (turn next .loop .inv) (next .before .loop-test .taken) (next .next-unit .ensures) (there (listed done)) (done .list-unit .ensures)
-    (not-true (done .list-unit .result) (c .if2 .taken))
-
-single-requires : tie.Need-single-requires Inv-loop μ-loop
-single-requires c κs =
-    let next = listed (c .before .before .before .before .before) in
-    omega (arith, there next, start (turn (found next)) .pre .0 .workable .fits .units-fit)
+returns-2 c = search (turn-too-long, not-true, needs)
 
 loop-again : tie.Need-loop-again Inv-loop μ-loop
 unfolding unitsOf
@@ -84,9 +64,6 @@ loop-again c =
     (turn-next (turn next .loop .inv) (next .before .loop-test .taken) (next .next-unit .ensures) (there (listed done)) (done .list-unit .ensures)
     (not-false (done .list-unit .result) (c .before .before .if2 .left)))
 
-returns-3 : tie.Need-returns-3 Inv-loop μ-loop
-returns-3 c = turn-end (c .before .loop .inv) (omega arith)
-
 pub list-units-spec : {M : Type 1} → statement M
 list-units-spec =
     tie.close
@@ -94,9 +71,9 @@ list-units-spec =
     Inv-loop
     μ-loop
     loop-holds
-    next-unit-requires
-    (λ c. held-long (turn (c .before .before) .loop .inv .working .holding))
-    (λ c. counts-kept (turn (c .before .before)))
+    (λ c κs. search needs)
+    (λ c. search (held-long, needs))
+    (λ c. search (counts-kept, needs))
     returns
     list-unit-requires
     (λ c.
@@ -106,11 +83,11 @@ list-units-spec =
     let done = c .before .before .before .before .before in
     done .list-unit .kept .1 .1 .1 .1 .0 ∙ counts-kept (turn (found (listed done))))
     returns-2
-    single-requires
+    (λ c κs. search needs)
     (λ c κs. search needs)
     (λ c. omega arith)
     (λ c. omega arith)
     loop-again
-    (λ c. held-long (c .before .loop .inv .working .holding))
-    (λ c. counts-kept (c .before))
-    returns-3)
+    (λ c. search (held-long, needs))
+    (λ c. search (counts-kept, needs))
+    (λ c. search (turn-end, needs)))

@@ -18,7 +18,7 @@ returns c =
       rules-are = done .cut .ensures ∙ ap (λ (w : ℕ). getD (start .args .t1 .units) (start .args .u) 0 ∩ w) (at-first .first .ensures);
       inputs-are = start .pre .0 .heads-of .inputs-are (start .args .u) (start .pre .1);
       predecessors-are = refl;
-      near = c .nearest .ensures;
+      near = search needs;
     }
 
 pub unit-at-spec : {M : Type 1} → statement M

@@ -59,7 +59,7 @@ unfolding unitsOf
 list-last-requires c κs =
     let fit = c .before .before in
     let units = fit .before .before .before .before .before in
-    (setting (prepared units), working-there (units .list-units .ensures .working) _ (units .list-units .ensures .all-done (fit .enum-told .given .1)))
+    (search needs, working-there (units .list-units .ensures .working) _ (units .list-units .ensures .all-done (fit .enum-told .given .1)))
 
 abbrev units : tie.After-list-last → tie.After-list-units
 units c = c .before .before .before .before .before .before .before .before
