@@ -20,7 +20,7 @@
  * Stack. Each function needs as much stack as its constant below says (LUCARNECRESS_LIST_STACK and so on) and always returns on so much. On less it may
  * crash: a thread of 64 kB is too small for most.
  *
- * Time. A call cannot be stopped, and nothing is proved about its time. Measured (2026-11-17 and 18, lists): at most 40 milliseconds on 215 plans of a
+ * Time. A call cannot be stopped, and nothing is proved about its time. Measured (2026-11-18, lists): at most 30 milliseconds on 226 plans of a
  * benchmark; at most 0.4 seconds on eleven plans that were made to be slow; seconds and longer where one unit uses all 64 atoms and has constraints over the
  * answers of several tables. A plan may take longer than anyone waits. A host that must answer in time makes the call in a process of its own, which it
  * can end (examples/walk.c), or in a thread that it leaves to itself, with areas that stay lent.
