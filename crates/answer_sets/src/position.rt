@@ -45,7 +45,7 @@ pub fn judge_set(rules: &[u64], which: u64, facts: u64, position: u64, memo: &mu
     }
 }
 
-// The first of both, told alone.
+// Only whether the position is an answer set.
 pub fn is_answer_set(rules: &[u64], which: u64, facts: u64, position: u64) -> bool
     requires { ⌜ Lent (now rules) which ⌝ }
     ensures { λ r. ⌜ r ≡ answerSet (lent (now (rules .entry))) which facts position ⌝ }

@@ -1,4 +1,4 @@
-// The rule pass: what every position that satisfies the rules must have or lack, told from what is known of it.
+// The rule pass: atoms that every position which satisfies the rules must have or lack, by what is known of it.
 use crate::known::body_known;
 use crate::known::words_known;
 use crate::rule::head;
@@ -33,8 +33,7 @@ fn is_held(rules: &[u64], rule: usize, up: u64, dropped: u64) -> bool
     is_success(with_uses(rules, rule, up, dropped, words))
 }
 
-// The state in which the body does not hold by its last open atom: where it would with the atom up, the atom is dropped,
-// and the other way round.
+// The state in which the last open atom makes the body fail: if the body would hold with the atom up, the atom is dropped, and the other way round.
 fn decided_by(rules: &[u64], rule: usize, left: u64, s: State) -> State
     requires { ⌜ IsLent (now rules) rule × AtMostOne left × (lent (now rules) .head rule ⊆ s .dropped) ⌝ }
     ensures { λ t. ⌜ Narrows (Satisfies (lent (now (rules .entry))) rule) s t ⌝ }
@@ -150,7 +149,7 @@ fn pass_rule(rules: &[u64], rule: usize, p: Passed) -> Passed
     }
 }
 
-// The state after one round over the rules of the word, and those of them that some completion of it may not satisfy. The loop has the words apart: a
+// The state after one round over the rules of the word, and those of them that some completion of it may not satisfy. The loop keeps the words apart: a
 // struct that is written by halves and read as a whole makes the processor wait at each rule.
 pub fn rule_pass(rules: &[u64], which: u64, s: State) -> Passed
     requires { ⌜ Lent (now rules) which ⌝ }

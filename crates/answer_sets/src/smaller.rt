@@ -33,8 +33,8 @@ fn none_smaller() -> Smaller
     }
 }
 
-// Whether some completion of the state, to which the rounds have nothing to say, is a proper subset of the position and satisfies each rule of the word,
-// and one that does.
+// Whether some completion of the state is a proper subset of the position and satisfies each rule of the word, and one that does. The rounds have nothing
+// more to say of the state.
 fn some_between(rules: &[u64], which: u64, position: u64, s: State) -> Smaller
     requires { ⌜ Lent (now rules) which × Confines position (s .dropped) ⌝ }
     ensures { λ r. ⌜ Finds (lent (now (rules .entry))) which position s (r .found) (r .set) ⌝ }
@@ -68,8 +68,8 @@ fn some_between(rules: &[u64], which: u64, position: u64, s: State) -> Smaller
     some_between(rules, down.left, position, down.state)
 }
 
-// Whether some proper subset of the position has all the facts and satisfies each rule of the word, and one that does. Where the rounds leave what the
-// last test left that said none, as far as the rules look, nothing is tried.
+// Whether some proper subset of the position has all the facts and satisfies each rule of the word, and one that does. Where the memo tells of what the
+// rounds leave, nothing is tried.
 pub fn some_smaller(
     rules: &[u64],
     which: u64,

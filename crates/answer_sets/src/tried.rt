@@ -40,8 +40,8 @@ fn most_wanted(rules: &[u64], which: u64, free: u64) -> u64
     most(&places, free)
 }
 
-// Some of the free atoms: while no atom of the position is dropped those that most bodies want, since all that is left may hang on one of them, and
-// then those of the choice.
+// Some of the free atoms. While no atom of the position is dropped, those that most bodies want: all that is left may depend on one of them. Then those of
+// the choice.
 pub fn tried_next(
     rules: &[u64],
     which: u64,

@@ -81,8 +81,8 @@ pub data Right (p : Plan) (positions : List ℕ) : Audit → Type 0 where
   is-full : IsFull p positions → Right p positions Full
   lacks-first : {M : ℕ} → FirstMissing p positions M → Right p positions (Lacks M)
 
--- the answer is the definition's: the fault that reading found; 24 for what is no sheet; and otherwise whether each answer set of the whole program, whose
--- rules and facts are those of the plan's lists, is among the positions, or the least that is not. What is a sheet has positions
+-- The answer equals the definition. By meaning: the fault that reading found; else 24, if the bytes are no sheet; else each answer set of the whole program
+-- is among the positions, or this is the least that is not. The rules and facts are those of the plan's lists. Bytes that are a sheet have positions
 pub record Audited (bytes sheet : List ℕ) (answer : Audit) : Type 0 where
   pub is : answer ≡ audited bytes sheet
   pub refused : (f : Fault) → reading bytes .outcome ≡ RefusedWith f → answer ≡ Refused f

@@ -134,7 +134,7 @@ pub record BlameMeans (bytes : List ℕ) : Type 0 where
 
 -- ---- the contract
 
--- the result is that; the fault that reading found, and otherwise what is said of the plan, whose rules and facts are those of its lists
+-- The result equals the definition. By meaning: the fault that reading found, or what is said of the plan. Its rules and facts are those of its lists
 pub record Blamed (bytes : List ℕ) (r : Blame) : Type 0 where
   pub is : r ≡ blamed bytes
   pub refused : (f : Fault) → reading bytes .outcome ≡ RefusedWith f → r ≡ Refused f

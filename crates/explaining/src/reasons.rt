@@ -48,8 +48,7 @@ ghost use Rattle.joining.specs.Filter.{JoinsAll};
 ghost use Rattle.propagating.specs.Desk.{DESK_WORDS, linkedOf, Prepared, Wired};
 ghost use Rattle.explaining.specs.Claims.{Told};
 
-// A step, a part of a state, and what the step is to tell from it; and the atoms that it drops if they are unfounded, where it is the step for that:
-// `explain` finds these by itself.
+// A claim: from this part of a state the step tells the goal. For the unfounded step also the atoms that it drops; `explain` finds these itself.
 pub struct Claim {
     pub step: usize,
     pub part: State,
@@ -125,7 +124,7 @@ fn numbered_atoms(rules: &[u64], which: u64, rule: usize) -> u64
     rule_atoms(rules, rule)
 }
 
-// What is seen so far, with the atoms that keep the rule from supporting one where they are up, and those that do where they are dropped.
+// What is seen so far, and the atoms that keep the rule from supporting the atom: those that do so when up, and those that do so when dropped.
 fn excluded_by(rules: &[u64], rule: usize, seen: State) -> State
     requires { ⌜ IsLent (now rules) rule ⌝ }
 {
@@ -153,8 +152,8 @@ fn excluding(rules: &[u64], which: u64) -> State
     seen
 }
 
-// What is seen so far, with the atoms that keep the rule from founding one of x: those of rules with an atom of x in the head and none in the
-// positive word, since the others cannot.
+// What is seen so far, and the atoms that keep the rule from founding an atom of x. Only a rule with an atom of x in the head and none in the positive word
+// could found one.
 fn unfounded_by(rules: &[u64], rule: usize, x: u64, seen: State) -> State
     requires { ⌜ IsLent (now rules) rule ⌝ }
 {
@@ -313,7 +312,7 @@ fn spare_each(
     c
 }
 
-// The claim without what its step can spare, what was decided last being tried first: the trail is gone back from step `at`.
+// The claim without what its step can spare. What was decided last is tried first, going back in the trail from step `at`.
 fn shrink(
     rules: &[u64],
     table: &[u64],
@@ -354,7 +353,7 @@ fn unfounded_atoms(rules: &[u64], memory: &[u64], unit: Unit, step: usize, s: St
     }
 }
 
-// The step that is run again for this one. What the founded step drops is unfounded, and that is told without another closure.
+// The step that is run again for this one: for the founded step the unfounded one, which needs no other closure.
 fn rerun_as(step: usize) -> usize {
     match decode(step) {
         Step::Founded => UNFOUNDED_STEP,
@@ -362,8 +361,8 @@ fn rerun_as(step: usize) -> usize {
     }
 }
 
-// A reason of the claim's goal, which step `at` of the trail told from the state that is the claim's part: those atoms of it that the step looks at
-// and cannot spare. The goal itself where the step does not tell it from these.
+// A reason of the claim's goal. Step `at` of the trail told the goal from the claim's part; the reason is those atoms of the part that the step looks at and
+// cannot spare. Where the step does not tell the goal from these, the reason is the goal itself.
 pub fn explain(
     rules: &[u64],
     table: &[u64],

@@ -25,8 +25,8 @@ pub record TellsAudit (said : Audit) (found found′ : List ℕ) (r : ℕ) : Typ
   pub code-is : r ≡ auditCode said
   pub found-is : found′ ≡ lackIn said found
 
--- that each answer set of the plan's rules with its given atoms as facts is on the sheet, or the least that is not; 0 exactly in the first case; the number
--- and the spot of a reading fault, and after these 24 at 0, and nothing written. What is a sheet has positions
+-- 0 exactly if each answer set of the plan's rules, with its given atoms as facts, is on the sheet; else the least that is not is written. A reading fault by
+-- its number and spot, then 24 at 0; both write nothing. Bytes that are a sheet have positions
 pub record MissingHanded (bytes sheet found found′ : List ℕ) (r : ℕ) : Type 0 where
   pub tells : TellsAudit (audited bytes sheet) found found′ r
   pub says : (c : Contents) → Lays bytes c → (positions : List ℕ) → Laid positions sheet

@@ -30,9 +30,8 @@ pub record TellsBatch (said : Batch) (count count′ : List ℕ) (r : ℕ) : Typ
   pub code-is : r ≡ batchCode said
   pub count-is : count′ ≡ countIn said count
 
--- the words are those of single calls, one after the other, and behind them what was there: the least answer sets of the plan's rules with its given
--- atoms as facts behind the place, rising, and all of them where fewer than there are words; the number and the spot of a reading fault, and nothing
--- written
+-- The words are those of single calls in turn: the least answer sets of the plan's rules behind the place, with its given atoms as facts, rising, and all of
+-- them if they are fewer than the words. Words behind them stay. A reading fault by its number and spot; it writes nothing
 pub record BatchHanded (bytes : List ℕ) (from : From) (found found′ count count′ : List ℕ) (r : ℕ) : Type 0 where
   pub tells : TellsBatch (batch bytes from (length found)) count count′ r
   pub found-are : found′ ≡ filled (steps bytes from (length found)) found

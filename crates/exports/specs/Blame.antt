@@ -21,8 +21,8 @@ pub record TellsBlame (said : Blame) (found found′ : List ℕ) (r : ℕ) : Typ
   pub code-is : r ≡ code said
   pub found-is : found′ ≡ wordIn said found
 
--- the least answer set of the plan's rules with its given atoms as facts, or what is blamed where there is none; the number and the spot of a
--- reading fault, and nothing written
+-- The least answer set of the plan's rules with its given atoms as facts, or what is blamed where there is none. A reading fault by its number and spot; it
+-- writes nothing
 pub record BlameHanded (bytes found found′ : List ℕ) (r : ℕ) : Type 0 where
   pub tells : TellsBlame (blamed bytes) found found′ r
   pub says : (c : Contents) → Lays bytes c → (x : Blame) × LeastOrBlamed (recordOf c) x × TellsBlame x found found′ r

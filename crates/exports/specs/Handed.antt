@@ -33,8 +33,8 @@ outcomeCode (Refused f) = refusalCode f
 unfoldable pub copied : List ℕ → List ℕ → List ℕ
 copied from counts = take (length counts) from ++ drop (length from) counts
 
--- a listing: code, table and counts are the answer's; demands 1 to 3 hold of it, with 0 for a plan that is listed, and the number and the
--- spot of the first fault in the code of a refusal
+-- A listing: code, table and counts are the answer's. Demands 1 to 3 hold of it: 0 for a plan that is listed, else the code has the number and spot of the
+-- first fault
 pub record ListHanded (bytes table table′ counts counts′ : List ℕ) (r : ℕ) : Type 0 where
   pub code-is : r ≡ outcomeCode (answer bytes table .outcome)
   pub table-is : table′ ≡ answer bytes table .table
@@ -45,8 +45,8 @@ pub record ListHanded (bytes table table′ counts counts′ : List ℕ) (r : �
   pub listed : listing .outcome ≡ Accepted → r ≡ 0
   pub refused : (n s : ℕ) → FirstFault bytes table n s → r ≡ CODE_STEP * n + s
 
--- a judged position: 1 exactly if it is an answer set of the rules of the plan's lists with their given atoms as facts, and otherwise 0; the number and the
--- spot of a reading fault
+-- A judged position: 1 exactly if it is an answer set of the rules of the plan's lists with their given atoms as facts, and otherwise 0. A reading fault by
+-- its number and spot
 pub record JudgeHanded (bytes : List ℕ) (position r : ℕ) : Type 0 where
   pub code-is : r ≡ code (judged bytes position)
   pub settled : (c : Contents) → Lays bytes c → (r ≡ 1) ↔ PlanAnswerSet c position

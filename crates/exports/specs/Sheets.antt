@@ -9,9 +9,9 @@ use Rattle.reading.specs.Refusals.{Stopped}
 use Rattle.plan_meaning.specs.Read.{ReadMeans}
 use Rattle.judge.specs.Sheets.{sheetJudged, sheetCode, NoSheet, Laid, AllSettle, FirstNot}
 
--- 256 exactly if all positions are answer sets of the plan's rules with its given atoms as facts; a place exactly if the position there is the
--- first that is not, and then below 256, since a sheet has at most 256 positions; the number and the spot of a reading fault, and after these 24 at 0.
--- What is a sheet has positions
+-- 256 exactly if all positions are answer sets of the plan's rules with its given atoms as facts; a place exactly if the position there is the first that is
+-- not. A place is below 256, since a sheet has at most 256 positions. A reading fault by its number and spot, then 24 at 0. Bytes that are a sheet have
+-- positions
 pub record SheetJudgeHanded (bytes sheet : List ℕ) (r : ℕ) : Type 0 where
   pub code-is : r ≡ sheetCode (sheetJudged bytes sheet)
   pub refused : (n s : ℕ) → Stopped bytes n s → r ≡ CODE_STEP * n + s

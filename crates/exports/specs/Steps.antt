@@ -23,8 +23,7 @@ pub record Tells (next : Next) (found found′ : List ℕ) (r : ℕ) : Type 0 wh
   pub code-is : r ≡ code next
   pub found-is : found′ ≡ foundIn next found
 
--- the next answer set of the plan's rules with its given atoms as facts, or that none is left; the number and the spot of a reading fault, and
--- nothing written
+-- The next answer set of the plan's rules with its given atoms as facts, or that none is left. A reading fault by its number and spot; it writes nothing
 pub record NextHanded (bytes : List ℕ) (from : From) (found found′ : List ℕ) (r : ℕ) : Type 0 where
   pub tells : Tells (followed bytes from) found found′ r
   pub next : (c : Contents) → Lays bytes c → (x : Next) × Follows (recordOf c) from x × Tells x found found′ r

@@ -37,7 +37,7 @@ fn try_without(rules: &[u64], headed: u64, held: u64, facts: u64, c: usize) -> u
     }
 }
 
-// Going up by rule number, each constraint without which there still is no answer set is dropped: what is held.
+// Constraints are tried in rule order; each one whose removal still leaves no answer set is dropped. The answer is what remains.
 pub fn few_constraints(rules: &[u64], headed: u64, constraints: u64, facts: u64) -> u64
     requires { ⌜ Lent (now rules) (headed ∪ constraints) × Constraints (now rules) constraints × NoneSettled (now rules) (headed ∪ constraints) facts ⌝ }
     ensures { λ r. ⌜ FewBlamed (now (rules .entry)) headed constraints facts r ⌝ }

@@ -1,5 +1,5 @@
-// One predecessor's list: what every position that is in it, cut to its head atoms, must have or lack, told from a state and from the entries that
-// still agree; those that do not leave the filter for good.
+// One predecessor's list: atoms that every position whose cut is in the list must have or lack, by the state and the entries that still agree with it. An
+// entry that does not agree leaves the filter for good.
 use atoms::ATOMS;
 use plan::LIST_WORDS;
 use states::State;

@@ -92,8 +92,8 @@ pub data Right (p : Plan) (positions : List ℕ) : SheetAnswer → Type 0 where
   all-settled : AllSettle p positions → Right p positions AllSettled
   first-not : {place : ℕ} → FirstNot p positions place → Right p positions (NotSettledAt place)
 
--- the answer is the definition's: the fault that reading found; 24 for what is no sheet; and otherwise whether all positions are answer sets of the
--- whole program, whose rules and facts are those of the plan's lists, or the place of the first that is not, which is below 256. What is a sheet has
+-- The answer equals the definition. By meaning: the fault that reading found; else 24, if the bytes are no sheet; else all positions are answer sets of the
+-- whole program, or this place has the first that is not, and it is below 256. The rules and facts are those of the plan's lists. Bytes that are a sheet have
 -- positions
 pub record SheetJudged (bytes sheet : List ℕ) (answer : SheetAnswer) : Type 0 where
   pub is : answer ≡ sheetJudged bytes sheet

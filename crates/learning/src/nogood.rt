@@ -37,8 +37,8 @@ fn resolve(first: State, second: State, atom: usize) -> State
     }
 }
 
-// What is left of the pairs of two branches, of which the first has the atom in the phase: the second where that lies within the state that they
-// began from, and else both without the atom.
+// The pair that is left of two branches' pairs; the first branch has the atom in the phase. It is the second pair where that lies within the state that they
+// began from, and otherwise both pairs without the atom.
 pub fn merge(first: State, second: State, s: State, atom: usize, phase: bool) -> State
     requires { ⌜ atom < ATOMS ⌝ }
     ensures { λ r. ⌜ Resolves second first r ⌝ }

@@ -41,8 +41,8 @@ pub fn replace(n: State, s: State, part: State) -> State
     }
 }
 
-// Learns the pair if none was learnt, something might complete it, and it names at most one atom beyond the base; whether one is learnt now. Until
-// then the atoms score that were replaced since the pair before.
+// Learns the pair if none was learnt yet, something might complete it, and it names at most one atom beyond the base: whether one is learnt now. Until then
+// the atoms score that were replaced since the pair before.
 pub fn learn_once(memory: &mut [u64], base: State, old: State, n: State, learnt: bool) -> bool
     requires { ⌜ MEMORY_WORDS ≤ length (now memory) ⌝ }
     ensures keeps { λ _. ⌜ Keeps (Avoids n) (now (memory .entry)) (now (memory .exit)) ⌝ }

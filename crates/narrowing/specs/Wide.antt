@@ -1,4 +1,4 @@
--- Inner: rules with a wide head, from which it is told in which phase an atom is tried first. That is free: either phase is right.
+-- Inner: rules with a wide head, which say in which phase an atom is tried first. Either phase is right.
 use mathlib.Core.List.{List}
 use Prim.Native.Nat.{ℕ, _≤_}
 use lib.Count.{ones}

@@ -1,4 +1,4 @@
-// Which rules may back an atom, told once for a unit from the rules' words alone.
+// Which rules may back an atom: a table made once per unit from the rules' words alone.
 use crate::marks::mark;
 use answer_sets::rule::head;
 use answer_sets::rule::negative_body;

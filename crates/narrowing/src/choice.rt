@@ -113,8 +113,8 @@ fn is_unfailed(rules: &[u64], rule: usize, s: State) -> bool
     atoms::are_apart(negative_body(rules, rule), s.up)
 }
 
-// Counts the free atoms of a rule that is live, as `counted` has it, unless its body fails there: among the first where the rule has a near atom, and
-// else among the others.
+// Counts the free atoms of a live rule as `counted` has it, unless its body fails there. They count among the first if the rule has a near atom, and
+// otherwise among the others.
 fn count_rule(
     counted: &[u64],
     rule: usize,
@@ -173,9 +173,9 @@ fn count_rules(
     FoundRule::Nothing
 }
 
-// What comes next: a rule of the word that is at a stop, if there is one; else the lowest of those free atoms that stand in most live rules, those
-// with a near atom before the others. The rules that are counted may have other atoms than those that are tested for a stop: which free atom and
-// which rule it is is not promised.
+// What comes next: a rule of the word that is at a stop, if there is one. Otherwise the lowest of the free atoms that stand in most live rules, where rules
+// with a near atom come first. The rules that are counted may have other atoms than those that are tested for a stop. Which rule and which free atom is
+// handed out is not promised.
 pub fn choose(rules: &[u64], counted: &[u64], which: u64, s: State, free: u64, near: u64) -> Choice
     requires { ⌜ Lent (now rules) which × Lent (now counted) which × (free ≡ 0 → ⊥) ⌝ }
     ensures { λ r. ⌜ Chosen (now (rules .entry)) which s free r ⌝ }

@@ -21,8 +21,8 @@ pub struct Closure {
     pub left: u64,
 }
 
-// The closure after a rule whose positive atoms are founded and whose body does not fail: its head atoms are, or of those that are up the one; with
-// more than one up it waits.
+// The closure after a rule whose positive atoms are founded and whose body does not fail: its head atoms are founded too. With one head atom up it founds
+// that one alone; with several it waits.
 fn found_by(rules: &[u64], rule: usize, s: State, c: Closure) -> Closure
     requires { ⌜ IsLent (now rules) rule × (rule < ATOMS) ⌝ }
 {

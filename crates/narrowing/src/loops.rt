@@ -1,4 +1,4 @@
-// Which atoms may hold each other up, told from the rules' words: for whoever asks when the founded step is worth its while.
+// Which atoms may hold each other up, by the rules' words. It shows where the founded step is worth its time.
 use answer_sets::rule::head;
 use answer_sets::rule::positive_body;
 use atoms::ATOMS;

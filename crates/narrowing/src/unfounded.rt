@@ -37,7 +37,7 @@ fn spares(rules: &[u64], rule: usize, x: u64, s: State) -> bool
     is_failure(body_known(rules, rule, up, dropped))
 }
 
-// Whether all rules of the word are known to.
+// Whether all rules of the word are known to do without the atoms.
 fn is_unfounded(rules: &[u64], which: u64, x: u64, s: State) -> bool
     requires { ⌜ Lent (now rules) which ⌝ }
     ensures { λ r. ⌜ (r ≡ true → Unfounded (now (rules .entry)) which x s) ⌝ }

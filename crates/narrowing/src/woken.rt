@@ -1,5 +1,5 @@
-// Which steps may have something new to say once an atom is decided, told once from the rules' words. Which ones are named is free: a step that is
-// left out costs pruning and no member.
+// Which steps may have something new to say once an atom is decided: an index made once per unit from the rules' words. Which steps it names is free: a step
+// that is left out costs pruning and no member.
 use crate::marks::mark;
 use answer_sets::rule::head;
 use answer_sets::rule::looks;

@@ -16,14 +16,14 @@ onPilots rules pilots r = unionIn MAX_TABLES (uses rules r) (λ t. getD pilots t
 abbrev pub offPilots : List ℕ → List ℕ → ℕ → ℕ
 offPilots rules pilots r = unionIn MAX_TABLES (uses rules r / 2 ^ MAX_TABLES) (λ t. getD pilots t 0)
 
--- rule r has the pilots in its words, and no longer the uses that are told by them
+-- rule r has the pilots in its words, in place of the uses that they stand for
 pub record LinkedRule (rules pilots : List ℕ) (told : ℕ) (linked : List ℕ) (r : ℕ) : Type 0 where
   pub head : lent linked .head r ≡ lent rules .head r
   pub positive : lent linked .positive r ≡ lent rules .positive r ∪ onPilots rules pilots r
   pub negative : negative linked r ≡ negative rules r ∪ offPilots rules pilots r
   pub uses : uses linked r ≡ uses rules r ∖ told
 
--- uses that are told are of tables with a pilot
+-- the uses that pilots stand for are of tables with a pilot
 pub record ToldUses (pilots : List ℕ) (told : ℕ) : Type 0 where
   pub piloted : (i : ℕ) → Has told i → ¬ (getD pilots (usedTable i) 0 ≡ 0)
 

@@ -19,7 +19,7 @@ ghost use Rattle.pilots.specs.Linked.{written, NoPilots, Plain, ToldUses
 
 pub const LINKED_WORDS: usize = FIRST_RULE + RULE_WORDS * MAX_RULES;
 
-// The uses that are told so far, with those of table t if it has a pilot.
+// The uses gathered so far, with those of table t if it has a pilot.
 fn told_with(pilots: &[u64], t: usize, told: u64) -> u64
     requires { ⌜ (MAX_TABLES ≤ length (now pilots)) × (t < MAX_TABLES) × ToldUses (now pilots) told ⌝ }
     ensures { λ r. ⌜ ToldUses (now (pilots .entry)) r ⌝ }
@@ -57,7 +57,7 @@ fn put_rule(linked: &mut [u64], rule: usize, head: u64, positive: u64, negative:
     linked[at + USES] = used;
 }
 
-// Writes one rule with the pilots in its words, and without the uses that they tell.
+// Writes one rule with the pilots in its words, and without the uses that they replace.
 fn link_rule(rules: &[u64], pilots: &[u64], told: u64, rule: usize, linked: &mut [u64])
     requires { ⌜ IsLent (now rules) rule × IsLent (now linked) rule × (MAX_TABLES ≤ length (now pilots)) ⌝ }
     ensures { λ _. ⌜ RuleLinked (now (rules .entry)) (now (pilots .entry)) told rule (now (linked .entry)) (now (linked .exit)) ⌝ }

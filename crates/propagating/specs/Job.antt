@@ -1,4 +1,4 @@
--- Inner: what a search looks for: the positions that belong to the list of one unit, told from the lists of its direct predecessors.
+-- Inner: what a search looks for: the positions that belong to the list of one unit, by the lists of its direct predecessors.
 use mathlib.Core.Path.{_≡_}
 use mathlib.Core.Bool.{true}
 use mathlib.Core.List.{List}

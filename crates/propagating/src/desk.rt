@@ -1,5 +1,5 @@
-// The desk: what is told once for a unit and looked at by every step, in one area of words. In front stand the head atoms of each list, then the
-// rules that may back each atom, the index of woken steps, the pilots of the tables, and the rules with pilots in place of uses.
+// The desk: data computed once per unit, in one array, at which every step looks. First the head atoms of each list, then the rules that may back each atom,
+// the index of woken steps, the pilots of the tables, and the rules with pilots in place of uses.
 use crate::agenda::INDEX_WORDS;
 use crate::agenda::wake_index;
 use crate::unit::Unit;

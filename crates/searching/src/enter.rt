@@ -9,7 +9,7 @@ ghost use Rattle.joining.specs.Filter.{Filtered};
 ghost use Rattle.propagating.specs.Desk.{Prepared, Wired};
 ghost use Rattle.searching.specs.Entered.{Entered};
 
-// The node of a branch: steps are taken until none has anything new to say, and then it is looked at what the state leaves to search.
+// The node of a branch: steps are taken until none has anything new to say, and then the state's outlook is found.
 pub fn enter(
     rules: &[u64],
     table: &[u64],

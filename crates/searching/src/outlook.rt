@@ -30,7 +30,7 @@ pub enum Outlook {
     Open(usize),
 }
 
-// The atoms whose rules come first in the choice: those that are decided, once a stop has shown that it matters what hangs together.
+// The atoms whose rules come first in the choice: once there was a stop, those that are decided.
 fn near_atoms(memory: &[u64], s: State) -> u64
     requires { ⌜ MEMORY_WORDS ≤ length (now memory) ⌝ }
 {
@@ -40,8 +40,8 @@ fn near_atoms(memory: &[u64], s: State) -> u64
     atoms::union(s.up, s.dropped)
 }
 
-// What comes next: a rule that is at a stop, if there is one; else a free atom, of those that show, if there are any, and of these one of those that
-// stood most often in what was learnt; the linked rules are counted.
+// What comes next: a rule that is at a stop, if there is one. Otherwise a free atom: first of those that show, then of those that stood most often in what
+// was learnt, then by counts over the linked rules.
 fn pick(
     rules: &[u64],
     linked: &[u64],

@@ -39,10 +39,10 @@ ghost use Rattle.propagating.specs.Desk.{Prepared, Wired};
 ghost use Rattle.propagating.specs.Job.{Belongs, Searchable};
 ghost use Rattle.states.specs.Narrowing.{Wanted};
 
-// Adds to the list the cut of every position that belongs there and completes the node's state, of which the filter says which entries may be joined:
-// the new count, or OVERFULL where that is more than LIST_WORDS. Beside it stands a member that was met, or that there is none. The memory keeps what is
-// learnt on the way, and the memo what the last subset test left. It goes no further where a rule of the unit is at a stop: a node is open only where none
-// is. The pair that is handed back is completed by no member; where it lies within the state that the first branch began from, the second branch has none.
+// Adds the cut of every member that completes the node's state to the list; the filter has the entries that may be joined. It hands back the new count, or
+// OVERFULL above LIST_WORDS, and a member that was met, or that there is none. The memory keeps what is learnt on the way, and the memo what the last subset
+// test left. A node is open only where no rule of the unit is at a stop, so the search goes no further there. No member completes the pair that is handed
+// back; where the first branch's pair lies within the state that it began from, the second branch has no member.
 pub fn explore(
     rules: &[u64],
     table: &[u64],

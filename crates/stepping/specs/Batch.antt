@@ -34,8 +34,8 @@ batch bytes from n = elim (reading bytes .outcome) [ RefusedWith f ↦ BatchRefu
 abbrev pub filled : List ℕ → List ℕ → List ℕ
 filled xs words = xs ++ drop (length xs) words
 
--- the result and the words are those; the fault that reading found, and then nothing is written; and otherwise the words are the least answer sets of
--- the whole program behind the place, whose rules and facts are those of the plan's lists, rising, and all of them where fewer than there are words
+-- The result and the words equal the definition. By meaning: the fault that reading found, and nothing is written; else the words are the least answer sets
+-- of the whole program behind the place, rising, and all of them if they are fewer than the words. The rules and facts are those of the plan's lists
 pub record Stepped (bytes : List ℕ) (from : From) (words words′ : List ℕ) (r : Batch) : Type 0 where
   pub is : r ≡ batch bytes from (length words)
   pub words-are : words′ ≡ filled (steps bytes from (length words)) words

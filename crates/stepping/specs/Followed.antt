@@ -51,8 +51,8 @@ unfoldable pub followed : List ℕ → From → Next
 followed bytes from =
     elim (reading bytes .outcome) [ RefusedWith f ↦ Refused f | Accepted ↦ nextIn (reading bytes .plan) from ]
 
--- the result is that; the fault that reading found, and otherwise the next answer set of the whole program, whose rules and facts are those of the
--- plan's lists
+-- The result equals the definition. By meaning: the fault that reading found, or the next answer set of the whole program. Its rules and facts are those of
+-- the plan's lists
 pub record Followed (bytes : List ℕ) (from : From) (r : Next) : Type 0 where
   pub is : r ≡ followed bytes from
   pub refused : (f : Fault) → reading bytes .outcome ≡ RefusedWith f → r ≡ Refused f

@@ -29,7 +29,7 @@ use Rattle.unit_lists.specs.declared.work.Work.the-variants.{Fits, Long}
 
 -- ---- one list
 
--- what the search is told of unit u
+-- unit u as the search gets it
 pub record UnitTold (T : Units) (u : ℕ) (unit : Unit) : Type 0 where
   pub rules-are : unit .rules ≡ T .unit u ∩ below (T .rules)
   pub inputs-are : unit .inputs ≡ inputHeads T u

@@ -77,7 +77,7 @@ fn list_one(
     true
 }
 
-// What the search is told of unit u.
+// Unit u as the search gets it.
 fn unit_at(plan: Plan, head_atoms: HeadAtoms, u: usize) -> Unit
     requires { ⌜ Setting plan «head_atoms» × (u < plan .«unit_count») ⌝ }
     ensures { λ r. ⌜ UnitTold (unitsOf plan) u r ⌝ }
@@ -139,7 +139,7 @@ fn list_units(plan: Plan, head_atoms: HeadAtoms, table: &mut [u64], counts: &mut
     Work::Fits
 }
 
-// What the search is told of the one more unit, with no rules and an edge to every unit.
+// The one more unit as the search gets it: no rules, and an edge to every unit.
 fn last_unit(plan: Plan, head_atoms: HeadAtoms) -> Unit
     requires { ⌜ Setting plan «head_atoms» ⌝ }
     ensures { λ r. ⌜ UnitTold (withLast (unitsOf plan)) (plan .«unit_count») r ⌝ }
