@@ -27,6 +27,13 @@ SIZES = {
     "docs/HOST.md": 7_700,
     "docs/THEOREMS.md": 4_400,
     "docs/QUALIFICATION.md": 4_400,
+    "docs/PROMISES.md": 15_400,
+    "docs/PROOF.md": 38_500,
+    "docs/ARCHITECTURE.md": 13_200,
+    "docs/CHANGING.md": 11_000,
+    "docs/DECISIONS.md": 27_500,
+    "docs/LANDINGS.md": 33_000,
+    "bench/TUNING.md": 19_800,
 }
 PAST = {"docs/LANDINGS.md"}  # tells of files that are gone
 SKIPPED = {"target", ".git"}  # folders whose files are nobody's documents

@@ -20,7 +20,7 @@
  * Stack. Each function needs as much stack as its constant below says (LUCARNECRESS_LIST_STACK and so on) and always returns on so much. On less it may
  * crash: a thread of 64 kB is too small for most.
  *
- * Time. A call cannot be stopped, and nothing is proved about its time. Measured (2026-11-17 and 18, lists): at most 40 milliseconds on 215 plans of a
+ * Time. A call cannot be stopped, and nothing is proved about its time. Measured (2026-11-18, lists): at most 30 milliseconds on 226 plans of a
  * benchmark; at most 0.4 seconds on eleven plans that were made to be slow; seconds and longer where one unit uses all 64 atoms and has constraints over the
  * answers of several tables. A plan may take longer than anyone waits. A host that must answer in time makes the call in a process of its own, which it
  * can end (examples/walk.c), or in a thread that it leaves to itself, with areas that stay lent.
@@ -206,9 +206,8 @@ uint64_t lucarnecress_missing(const uint8_t *plan, size_t plan_length, const uin
 
 /* Says which few constraints leave a plan without a position. Gives LUCARNECRESS_HELD with the word of these constraints in found[0]: bit i
  * stands for rule i, and only rules without a head have a bit. With exactly these, the given facts and all rules with a head there is no position,
- * and without any one of them there is one; 0 says that the rules with a head and the given facts have none by themselves. Of several such groups
- * it is the one that is left where the constraints are gone through by rule number, the lowest first, and each is dropped without which there
- * still is no position.
+ * and without any one of them there is one; 0 says that the rules with a head and the given facts have none by themselves. Constraints are tried in
+ * rule order; each one whose removal still leaves no position is dropped. The answer is what remains.
  * A plan that has a position gives LUCARNECRESS_FOUND with the least one in found[0], all its atoms, as lucarnecress_first does. A word is
  * written as far as there is room; words behind it are left alone. Or gives the code of a refusal in reading, with nothing written. Units and
  * edges are not looked at. */
@@ -244,7 +243,7 @@ uint64_t lucarnecress_common(const uint64_t *list, size_t list_length, uint64_t 
 
 #define LUCARNECRESS_ROW_WORDS 4u /* words of a row, a bit for each position of a list */
 
-/* Rearranges the first `count` positions of a list into 64 rows: bit j of row i tells whether position j has atom i up. Row i starts at word
+/* Rearranges the first `count` positions of a list into 64 rows: bit j of row i says whether position j has atom i up. Row i starts at word
  * LUCARNECRESS_ROW_WORDS * i, and bit j is bit j % 64 of its word j / 64; bits from the count on are 0. The first LUCARNECRESS_LIST_WORDS words of
  * the rows are written and those behind left alone. Gives 0, or LUCARNECRESS_NO_SHEET at 0, with nothing written, where the list or the rows have
  * fewer words than that or the count is above it. */

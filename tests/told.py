@@ -35,6 +35,7 @@ def check_versions():
     version = one(r'^version = "(.*)"$', "tools/lucarne/Cargo.toml")
     told = one(r'^#define LUCARNECRESS_VERSION "(.*)"$', HEADER)
     expect(version == told, f"the tool's version is {version}, the library's {told}")
+    expect(f"lucarne_{version}_amd64.deb" in text("README.md"), f"README.md names another package than that of {version}")
     one(r'^pub const VERSION: &str = env!\("CARGO_PKG_VERSION"\);', "tools/lucarne/src/lib.rs")
 
 

@@ -21,7 +21,7 @@ install -m 755 target/lucarne/lucarne "$root/usr/bin/lucarne"
 install_beside "$root/usr/bin/lucarne" "$root/usr/share" vendor-completions
 install -m 644 README.md "$root/usr/share/doc/lucarne/README.md"
 install -d "$root/usr/share/doc/lucarne/docs/planner"
-install -m 644 docs/PLANNER.md docs/SHEETS.md docs/FORMAT.md docs/CLINGO.md docs/page-asked.png "$root/usr/share/doc/lucarne/docs/"
+install -m 644 docs/PLANNER.md docs/SHEETS.md docs/FORMAT.md docs/CLINGO.md docs/page.png docs/page-asked.png "$root/usr/share/doc/lucarne/docs/"
 install -m 644 docs/planner/* "$root/usr/share/doc/lucarne/docs/planner/"
 for group in north yard found story; do
     install -d "$root/usr/share/doc/lucarne/examples/$group"
