@@ -8,7 +8,7 @@ use borrow.Author.Tests.{lt-ltb, le-ltb}
 use Rattle.atoms.specs.Word.{apart}
 use Rattle.plan.specs.declared.record.Plan.{Plan}
 use Rattle.plan.specs.declared.fault.Fault.the-variants.{Truncated, OutOfOrder, TooMany, EmptyRule, ContradictoryBody, BadTable, BadUse, AbsentRule, BadEdge}
-use Rattle.reading.specs.declared.command.Command.the-variants.{Table, Rule, Use, Unit as UnitOf, Edge, Fault as Faulty}
+use Rattle.reading.specs.declared.command.Command.the-variants.{Table, Use, Unit as UnitOf, Edge, Fault as Faulty}
 use Rattle.reading.specs.Words.{WORD_BYTES, wordAt}
 use Rattle.reading.specs.Commands.{Kind, table, rule, usage, unit, edge, ofKind, carrying, late, full, orderOf, operandBytes}
 use Rattle.reading.specs.Commands.{emptyRule, contradictory, badTable, badUse, absentRule, badEdge}
@@ -53,10 +53,6 @@ module _ (p : Plan) (at : ℕ) (operands : List ℕ) {b d : Bool} where
       pub contradictory-refused : not a ≡ true → Faulty (ContradictoryBody at) ≡ ofKind p at rule operands
       unfolding ofKind contradictory
       contradictory-refused f = simp (sym t ∙ o, room, le-ltb _ _ long, ← e₁, ← e₂, ← e₃, sym q ∙ said, ap not (sym s) ∙ f)
-
-      pub rule-read : not a ≡ false → Rule head positive negative ≡ ofKind p at rule operands
-      unfolding ofKind contradictory carrying
-      rule-read f = simp (sym t ∙ o, room, le-ltb _ _ long, ← e₁, ← e₂, ← e₃, sym q ∙ said, ap not (sym s) ∙ f)
 
   module _ (t : b ≡ late p (orderOf usage)) (o : b ≡ false) (room : full p usage ≡ false) (long : operandBytes usage ≤ length operands)
       (q : d ≡ badUse p (getD operands 0 0) (getD operands 1 0) (getD operands 2 0)) where
