@@ -115,10 +115,13 @@ memo-whole {P} {M} {p} fits conf d e = record { up-fits = fits; has-all = all }
         go (no h) (no m) = absurd (n (conf .outside i b m))
 
 -- and where another test is like it, that one says none too
-pub memo-none : {rules : List ℕ} {M : ℕ} {n p : Passed} → M < 2 ^ ATOMS → OnlyWhole (lent rules) n → Alike rules M n p
+pub memo-none : {rules : List ℕ} {M : ℕ} {n p : Passed} {b : Bool} → M < 2 ^ ATOMS → OnlyWhole (lent rules) n → (b ≡ true → Alike rules M n p) → b ≡ true
     → Finds (lent rules) (p .left) M (p .state) false 0
-memo-none {rules} {M} {n} {p} fits o a = finds-none none
+memo-none {rules} {M} {n} {p} fits o says f = finds-none none
   where
+    a : Alike rules M n p
+    a = says f
+
     w : ℕ
     w = differing (n .state) (p .state)
 

@@ -1,12 +1,10 @@
 -- A loop takes the numbers of a word `which`, the lowest first; those of the word `rest` are still to come.
 -- What a turn takes is in `which` (taken-lent), and the rest gets smaller (taken-less of Counting).
 use mathlib.Core.Path.{_≡_, refl, sym, subst}
-use mathlib.Core.Bool.{Bool, true, false}
 use mathlib.Core.Logic.{_⊎_, inl, inr}
 use Prim.Native.Nat.{ℕ, _^_, _<_}
 use native.Mathlib.Decide.{ℕ-discrete}
 use Rattle.atoms.specs.Word.{Has, _⊆_, _∖_, atom, Lowest}
-use Rattle.atoms.specs.Bounded.{Decides}
 use Rattle.atoms.specs.Collected.{Collects}
 use Rattle.atoms.proofs.Sets.{has-dec, has-lt, has-none, has-atom, has-without, without-left, without-right, atom-only, subset-refl}
 use Rattle.atoms.proofs.Counts.{taken-within}
@@ -64,15 +62,6 @@ taking-next {which} {rest} {rest′} {i} {Done} {Done′} t low e f d = record {
 pub taking-more : {which rest rest′ i : ℕ} {Done : ℕ → Type 0} → Taking which rest Done → Lowest rest i → rest′ ≡ rest ∖ atom i → Done i
     → Taking which rest′ Done
 taking-more t low e d = taking-next t low e (λ j k. k) d
-
--- and where a test says of the number that it holds, or that it does not
-pub taking-yes : {which rest rest′ i : ℕ} {b : Bool} {Done : ℕ → Type 0} → Taking which rest Done → Lowest rest i → rest′ ≡ rest ∖ atom i
-    → Decides (Done i) b → b ≡ true → Taking which rest′ Done
-taking-yes t low e d y = taking-more t low e (d .yes y)
-
-pub taking-no : {which rest rest′ i : ℕ} {b : Bool} {P : ℕ → Type 0} → Taking which rest (λ j. ¬ P j) → Lowest rest i → rest′ ≡ rest ∖ atom i
-    → Decides (P i) b → b ≡ false → Taking which rest′ (λ j. ¬ P j)
-taking-no t low e d n = taking-more t low e (d .no n)
 
 pub taking-end : {which rest : ℕ} {Done : ℕ → Type 0} → Taking which rest Done → rest ≡ 0 → (i : ℕ) → Has which i → Done i
 taking-end t e i h = t .done i h (λ p. has-none (subst (λ (w : ℕ). Has w i) e p))

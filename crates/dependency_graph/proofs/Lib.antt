@@ -22,3 +22,5 @@ pub mod Built
 pub mod PlanUnits
 -- Small circuits of document 01 at the graph place: the definitions give the verdicts that the paper has
 pub mod Circuits
+-- Tests of words that were read, and the rules of a unit held against the head atoms that it does not see
+pub mod UnseenRules

@@ -2,13 +2,15 @@
 use mathlib.Core.Path.{_≡_, refl, sym, _∙_}
 use mathlib.Core.Bool.{Bool, true, false, false≢true}
 use mathlib.Core.List.{List}
-use Prim.Native.Nat.{ℕ}
-use lib.ListN.{getD}
-use Rattle.atoms.specs.Word.{Has, _⊆_, subset}
+use Prim.Native.Nat.{ℕ, _^_, _≤_, _<_}
+use native.Mathlib.Omega.{arith}
+use lib.ListN.{length, getD}
+use Rattle.atoms.specs.Word.{Has, _⊆_, subset, Lowest}
 use Rattle.atoms.specs.Bounded.{Decides}
 use Rattle.atoms.proofs.Sets.{decides-subset}
 use Rattle.atoms.proofs.Tests.{decides}
-use Rattle.atoms.proofs.TakenNumbers.{Taking, taking-end}
+use Rattle.atoms.proofs.TakenNumbers.{Taking, taking-end, taken-lt}
+use Rattle.plan.specs.Limits.{MAX_UNITS}
 use Rattle.joining.specs.Nearest.{Covered}
 
 module _ (heads : List ℕ) (units word : ℕ) where
@@ -18,6 +20,10 @@ module _ (heads : List ℕ) (units word : ℕ) where
 
   pub covered-nowhere : {rest : ℕ} → Taking units rest (λ v. ¬ (word ⊆ getD heads v 0)) → rest ≡ 0 → Decides (Covered heads units word) false
   covered-nowhere t e = decides false (λ f. absurd (false≢true f)) (λ c. absurd (taking-end t e (c .by) (c .unit) (c .within)))
+
+-- the head atoms of a unit that a loop takes are there
+pub unit-there : (heads : List ℕ) {units rest v : ℕ} → MAX_UNITS ≤ length heads → units < 2 ^ MAX_UNITS → rest ⊆ units → Lowest rest v → v < length heads
+unit-there heads l s f low = omega (arith, taken-lt MAX_UNITS s f low)
 
 -- a subset test that was read said no
 pub not-within : (a w : ℕ) {b : Bool} → b ≡ subset a w → b ≡ false → ¬ (a ⊆ w)

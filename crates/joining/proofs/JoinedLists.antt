@@ -2,13 +2,13 @@
 use mathlib.Core.Path.{_≡_, sym, ap, _∙_}
 use mathlib.Core.Bool.{Bool, true, false, not}
 use mathlib.Core.List.{List}
-use Prim.Native.Nat.{ℕ, _+_, _*_, _<_}
+use Prim.Native.Nat.{ℕ, _+_, _*_, _≤_, _<_}
 use native.Mathlib.Omega.{arith}
-use lib.ListN.{getD}
+use lib.ListN.{length, getD}
 use lib.Dec.{eqb}
 use borrow.Author.Tests.{not-true, not-false, eq-eqb}
-use Rattle.atoms.proofs.TakenNumbers.{Taking, taking-end}
-use Rattle.atoms.specs.Word.{Has, _⊆_, _∩_}
+use Rattle.atoms.proofs.TakenNumbers.{Taking, taking-end, taken-lent, taken-lt}
+use Rattle.atoms.specs.Word.{Has, _⊆_, _∩_, Lowest}
 use Rattle.atoms.proofs.Sets.{has-lt, subset-le}
 use Rattle.atoms.proofs.Bounded.{some-intro, all-in-at, all-in-intro, all-in-fails, all-in-none}
 use Rattle.plan.specs.Limits.{MAX_UNITS, LIST_WORDS}
@@ -33,6 +33,20 @@ joins-fails : (table counts heads : List ℕ) (w M v : ℕ) → v < MAX_UNITS �
 unfolding joins
 joins-fails table counts heads w M v l h e =
     all-in-fails MAX_UNITS w (λ u. isListed table (LIST_WORDS * u) (getD counts u 0) (M ∩ getD heads u 0)) v l h e
+
+-- the list of a predecessor that a loop takes is there, with its count and its head atoms
+module _ {table counts heads : List ℕ} {w : ℕ} (j : Joinable table counts heads w) {rest v : ℕ} (f : rest ⊆ w) (low : Lowest rest v) where
+  pub unit-taken : v < MAX_UNITS
+  unit-taken = taken-lt MAX_UNITS (j .few) f low
+
+  pub count-there : v < length counts
+  count-there = omega (arith, unit-taken, j .counts-long)
+
+  pub heads-there : v < length heads
+  heads-there = omega (arith, unit-taken, j .heads-long)
+
+  pub list-there : LIST_WORDS * v + getD counts v 0 ≤ length table
+  list-there = omega (arith, j .table-long v (taken-lent f low), j .small v unit-taken)
 
 -- as the test of one list says, of the position's cut
 module _ (table counts heads : List ℕ) (M v : ℕ) {cut : ℕ} {b : Bool} (c : cut ≡ M ∩ getD heads v 0)

@@ -148,6 +148,10 @@ next-high place l = go (ltb place RING) (le-ltb place RING l)
     go true e = absurd (true≢false e)
     go false e = refl
 
+pub learnt-keeps : {n : State} {before memory between after : List ℕ} → SamePairs before memory → Learnt n memory between → SamePairs between after
+    → Keeps (Avoids n) before after
+learnt-keeps a l b = keeps-trans (keeps-same a) (keeps-trans (l .keeps) (keeps-same b))
+
 pub learnt-is : (n : State) (memory : List ℕ) {between after : List ℕ} {next : ℕ} → next ≡ nextPlace (getD memory PLACE 0) → between ≡ set memory PLACE next
     → after ≡ withPair between (getD memory PLACE 0 % RING) n → after ≡ learntIn memory n
 learnt-is n memory e m w =

@@ -13,16 +13,19 @@ use Rattle.narrowing.specs.Marks.{NotedAt, Marked}
 use Rattle.narrowing.specs.Backers.{Backs, RuleBacks, RulesBack, Backers}
 
 -- one rule
-pub rule-backs : (rules : List ℕ) (r which word : ℕ) (before after : List ℕ)
-    → which ≡ lent rules .head r ∖ (lent rules .positive r ∪ negative rules r) → word ≡ atom r → Marked 0 which word before after
-    → RuleBacks rules r before after
-rule-backs rules r which word before after e f m = record {
+pub rule-backs : (rules : List ℕ) (r : ℕ) {head positives negatives body which word : ℕ} {before after : List ℕ} → head ≡ lent rules .head r
+    → positives ≡ lent rules .positive r → negatives ≡ negative rules r → body ≡ positives ∪ negatives → which ≡ head ∖ body → word ≡ atom r
+    → Marked 0 which word before after → RuleBacks rules r before after
+rule-backs rules r {which = which} {word} {before} {after} h p n b w f m = record {
   same-length = m .same-length;
   noted = λ a b. m .added a r (record { atom = a; in-set = rw e (backed a b); place = sym (zero-add a); in-word = rw f (has-atom r) });
   grown = m .grown;
   no-more = λ a q h. go a q (m .no-more a q h);
 }
   where
+    e : which ≡ lent rules .head r ∖ (lent rules .positive r ∪ negative rules r)
+    e = rw (w, b, h, p, n)
+
     backed : (a : ℕ) → Backs rules r a → Has (lent rules .head r ∖ (lent rules .positive r ∪ negative rules r)) a
     backed a b =
         has-without (lent rules .head r) (lent rules .positive r ∪ negative rules r) (b .in-head)

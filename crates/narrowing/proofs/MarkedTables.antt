@@ -2,7 +2,7 @@
 use mathlib.Core.Path.{_≡_, refl, sym, subst, _∙_}
 use mathlib.Core.Logic.{_⊎_, inl, inr}
 use mathlib.Core.List.{List}
-use Prim.Native.Nat.{ℕ, _+_, _<_}
+use Prim.Native.Nat.{ℕ, _+_, _<_, _≤_}
 use native.Mathlib.Decide.{ℕ-discrete}
 use lib.ListN.{length, getD, set, length-set}
 use lib.Seq.{getD-set-same, getD-set-other}
@@ -11,6 +11,10 @@ use Rattle.atoms.proofs.Sets.{subset-refl, subset-trans, has-left, has-right, u
 use Rattle.atoms.proofs.Counts.{taken-within}
 use Rattle.atoms.proofs.TakenNumbers.{none-done, all-done, done-cases, taken-lent}
 use Rattle.narrowing.specs.Marks.{Adds, ByOne, Marked}
+
+-- a table that keeps its length is still long enough
+pub still-long : (n : ℕ) (before table : List ℕ) → length table ≡ length before → n ≤ length before → n ≤ length table
+still-long n before table e l = rw e l
 
 -- ---- one after the other
 

@@ -1,14 +1,17 @@
 -- Rules at a stop (document 02, S-7): what that means, where a rule stands, and that no answer set completes the state there.
 use mathlib.Core.Path.{_≡_, refl, sym, _∙_, subst}
-use mathlib.Core.Bool.{Bool, true, false, not}
+use mathlib.Core.Bool.{Bool, true, false, not, true≢false, false≢true}
 use mathlib.Core.Logic.{_↔_}
 use mathlib.Core.List.{List}
 use Prim.Native.Nat.{ℕ}
 use native.Mathlib.Omega.{arith}
 use borrow.Author.Tests.{not-true, not-false}
-use Rattle.atoms.specs.Word.{Has, _⊆_, subset, Apart, apart, _∩_}
+use Rattle.atoms.specs.Word.{Has, _⊆_, subset, Apart, apart, _∩_, _∖_, atom, Lowest}
 use Rattle.atoms.proofs.Sets.{has-without, without-left, without-right, decides-subset, decides-apart}
+use Rattle.atoms.proofs.TakenNumbers.{Taking, taking-start, taking-next, taking-end}
 use Rattle.answer_sets.specs.Lent.{lent}
+use Rattle.answer_sets.specs.declared.reduct.FoundRule.{FoundRule}
+use Rattle.answer_sets.specs.declared.reduct.FoundRule.the-variants.{Rule, Nothing}
 use Rattle.states.specs.State.{Completes, halfDecided}
 use Rattle.answer_sets.specs.Known.{Part, PartHolds, InBody, BodySays}
 use Rattle.states.specs.declared.state.State.{State}
@@ -19,7 +22,7 @@ use Rattle.answer_sets.proofs.Parts.{up-apart, up-completes, completes-known}
 use Rattle.answer_sets.proofs.HalfKnown.{none-satisfies}
 use Rattle.answer_sets.proofs.Support.{satisfied}
 use Rattle.narrowing.specs.Inputs.{AnswersInputs}
-use Rattle.narrowing.specs.Stops.{AtStop, IsSpent, head-up, body-fails, Stands, Chosen}
+use Rattle.narrowing.specs.Stops.{AtStop, NoStop, Met, Counted, IsSpent, IsLive, SameLengths, head-up, body-fails, Stands, Chosen}
 use Rattle.narrowing.specs.declared.choice.Choice.{Choice}
 use Rattle.narrowing.specs.declared.choice.Choice.the-variants.{Atom, Stop}
 use Rattle.narrowing.specs.declared.choice.Standing.{Standing}
@@ -80,8 +83,8 @@ module _ (rules : List ℕ) (r : ℕ) (s : State) where
       not-spent n (head-up m) = m (rw reads at none-up)
       not-spent n (body-fails f) = n (k .fails .1 (f .fails .0 refl))
 
-      pub open-live : t ≡ Open → (¬ IsSpent rules r s) × (¬ AtStop rules r s)
-      open-live e = (not-spent (λ f. open-not-fails (sym e ∙ f)), λ h. open-not-holds (sym e ∙ holds-told k h))
+      pub open-live : t ≡ Open → IsLive rules r s
+      open-live e = record { unspent = not-spent (λ f. open-not-fails (sym e ∙ f)); unstopped = λ h. open-not-holds (sym e ∙ holds-told k h) }
 
       module _ {b : Bool} (e : t ≡ Holds) (eb : b ≡ subset head (s .dropped)) where
         pub held-stopped : b ≡ true → AtStop rules r s
@@ -93,24 +96,61 @@ module _ (rules : List ℕ) (r : ℕ) (s : State) where
           };
         }
 
-        pub held-live : b ≡ false → (¬ IsSpent rules r s) × (¬ AtStop rules r s)
-        held-live f = (
-          not-spent (λ g. holds-not-fails (sym e ∙ g)),
-          λ h. decides-subset head (s .dropped) .no (sym eb ∙ f)
-              (record { each = λ i p. without-left (s .dropped) (s .up) (h .gone .each i (rw reads at p)) }),
-        )
+        pub held-live : b ≡ false → IsLive rules r s
+        held-live f = record {
+          unspent = not-spent (λ g. holds-not-fails (sym e ∙ g));
+          unstopped = λ h. decides-subset head (s .dropped) .no (sym eb ∙ f)
+              (record { each = λ i p. without-left (s .dropped) (s .up) (h .gone .each i (rw reads at p)) });
+        }
 
 -- a rule that does not stand at a stop is at none
-pub stands-no-stop : (rules : List ℕ) (r : ℕ) (s : State) (t : Standing) → Stands rules r s t → ¬ (t ≡ Stopped) → ¬ AtStop rules r s
+stands-no-stop : (rules : List ℕ) (r : ℕ) (s : State) (t : Standing) → Stands rules r s t → ¬ (t ≡ Stopped) → ¬ AtStop rules r s
 stands-no-stop rules r s Spent k n = spent-no-stop rules r s k
 stands-no-stop rules r s Stopped k n = absurd (n refl)
-stands-no-stop rules r s Live k n = k .1
+stands-no-stop rules r s Live k n = k .unstopped
 
-pub spent-not-stopped : Spent ≡ Stopped → ⊥
-spent-not-stopped e = let z : _≡_ {A = ℕ} 0 1 = cc in omega arith
+pub spent-no : {t : Standing} → t ≡ Spent → (false ≡ true) ↔ (t ≡ Stopped)
+spent-no e = (λ f. absurd (false≢true f), λ f. let z : _≡_ {A = ℕ} 0 1 = cc in absurd (omega arith))
 
-pub live-not-stopped : Live ≡ Stopped → ⊥
-live-not-stopped e = let z : _≡_ {A = ℕ} 0 1 = cc in omega arith
+pub live-no : {t : Standing} → t ≡ Live → (false ≡ true) ↔ (t ≡ Stopped)
+live-no e = (λ f. absurd (false≢true f), λ f. let z : _≡_ {A = ℕ} 0 1 = cc in absurd (omega arith))
+
+-- ---- a loop over the rules: those that are done are at no stop
+
+pub stop-found : (rules : List ℕ) (r : ℕ) (s : State) {t : Standing} {b : Bool} → Stands rules r s t → (b ≡ true) ↔ (t ≡ Stopped) → b ≡ true
+    → AtStop rules r s
+stop-found rules r s k e f = subst (Stands rules r s) (e .0 f) k
+
+pub record Passing (rules : List ℕ) (which rest : ℕ) (s : State) : Type 0 where
+  pub passed : Taking which rest (λ r. ¬ AtStop rules r s)
+
+pub passing-start : {rules : List ℕ} {which : ℕ} {s : State} → Passing rules which which s
+passing-start = record { passed = taking-start }
+
+pub passing-next : {rules : List ℕ} {which rest rest′ r : ℕ} {s : State} {t : Standing} {b : Bool} → Passing rules which rest s → Lowest rest r
+    → rest′ ≡ rest ∖ atom r → Stands rules r s t → (b ≡ true) ↔ (t ≡ Stopped) → b ≡ false → Passing rules which rest′ s
+passing-next {rules} {r = r} {s} {t} p low e k d f = record {
+  passed = taking-next (p .passed) low e (λ j n. n) (stands-no-stop rules r s t k (λ g. true≢false (sym (d .1 g) ∙ f)));
+}
+
+pub passing-end : {rules : List ℕ} {which rest : ℕ} {s : State} → Passing rules which rest s → rest ≡ 0 → NoStop rules which s
+passing-end p e = record { each = taking-end (p .passed) e }
+
+pub same-lengths : {first others : List ℕ} → SameLengths first others first others
+same-lengths = record { of-first = refl; of-others = refl }
+
+pub lengths-kept : {first others first′ others′ first″ others″ : List ℕ} → SameLengths first others first′ others′
+    → SameLengths first′ others′ first″ others″ → SameLengths first others first″ others″
+lengths-kept k l = record { of-first = l .of-first ∙ k .of-first; of-others = l .of-others ∙ k .of-others }
+
+-- what was met
+module _ {rules : List ℕ} {which : ℕ} {s : State} {first others first′ others′ : List ℕ} {f : FoundRule}
+    (k : Counted rules which s first others first′ others′ f) where
+  pub met-stop : {r : ℕ} → f ≡ Rule r → Has which r × AtStop rules r s
+  met-stop e = subst (Met rules which s) e (k .met)
+
+  pub met-none : f ≡ Nothing → NoStop rules which s
+  met-none e = subst (Met rules which s) e (k .met)
 
 -- what comes next of some of the free atoms comes next of all
 pub chosen-within : (rules : List ℕ) (which : ℕ) (s : State) {some free : ℕ} (c : Choice) → some ⊆ free → Chosen rules which s some c

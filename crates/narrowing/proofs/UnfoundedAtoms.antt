@@ -1,10 +1,10 @@
 -- Unfounded atoms: by what a rule can do without them, and that an answer set has none.
 use mathlib.Core.Path.{_≡_, sym, ap, subst, _∙_}
-use mathlib.Core.Bool.{Bool, true, not}
+use mathlib.Core.Bool.{Bool, true, false, not}
 use mathlib.Core.Logic.{_↔_, _⊎_, inl, inr}
 use mathlib.Core.List.{List}
 use Prim.Native.Nat.{ℕ}
-use borrow.Author.Tests.{not-true}
+use borrow.Author.Tests.{not-true, not-false}
 use Rattle.atoms.specs.Word.{Has, _∩_, _∪_, _∖_, apart}
 use Rattle.atoms.proofs.Sets.{cut-left, cut-right, has-left, union-cases, has-without, without-left, without-right, shared-atom, apart-of-cut, decides-apart}
 use Rattle.answer_sets.specs.AnswerSet.{ReductModel}
@@ -92,12 +92,17 @@ module _ (rules : List ℕ) (r x : ℕ) (s : State) where
         no-dropped = record { none = λ i h m. lacks M c i m (union-cases (s .dropped) x (subst (λ (w : ℕ). Has w i) g h)) };
       }
 
+-- a test said so
+pub spared : {rules : List ℕ} {r x : ℕ} {s : State} {b : Bool} → (b ≡ true → Spares rules r x s) → not b ≡ false → Spares rules r x s
+spared {b = b} f n = f (not-false b n)
+
 -- ---- the step
 
 -- an answer set without them has its inputs and satisfies its kept rules, so that it is the answer set
-pub unfounded-narrows : (rules : List ℕ) (which inputs all barred x dropped : ℕ) (s : State) → barred ≡ inputs ∪ s .dropped → x ≡ all ∖ barred
-    → Unfounded rules which x s → dropped ≡ s .dropped ∪ x → Narrows (AnswersInputs rules which inputs) s (record { up = s .up; dropped = dropped })
-unfounded-narrows rules which inputs all barred x dropped s b e u d =
+pub unfounded-narrows : (rules : List ℕ) (which inputs all : ℕ) (s : State) {barred x dropped : ℕ} {t : Bool} → barred ≡ inputs ∪ s .dropped
+    → x ≡ all ∖ barred → (t ≡ true → Unfounded rules which x s) → not t ≡ false → dropped ≡ s .dropped ∪ x
+    → Narrows (AnswersInputs rules which inputs) s (record { up = s .up; dropped = dropped })
+unfounded-narrows rules which inputs all s {barred} {x} {dropped} {t} b e says left d =
     rw d
     (down-narrows s x
     (λ M a c. record {
@@ -106,6 +111,9 @@ unfounded-narrows rules which inputs all barred x dropped s b e u d =
           h;
     }))
   where
+    u : Unfounded rules which x s
+    u = says (not-false t left)
+
     no-input : (i : ℕ) → Has inputs i → ¬ Has x i
     no-input i h k =
         without-right all barred (subst (λ (w : ℕ). Has w i) e k) (subst (λ (w : ℕ). Has w i) (sym b) (has-left inputs (s .dropped) h))

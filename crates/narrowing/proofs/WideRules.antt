@@ -22,13 +22,13 @@ module _ {rules : List ℕ} {r : ℕ} {s : State} where
   pub spent-narrow : {t : Standing} → Stands rules r s t → t ≡ Spent → Decides (IsWide rules r s) false
   spent-narrow k e = record {
     yes = λ f. absurd (false≢true f);
-    no = λ f w. w .live .0 (subst (Stands rules r s) e k);
+    no = λ f w. w .live .unspent (subst (Stands rules r s) e k);
   }
 
   pub stopped-narrow : {t : Standing} → Stands rules r s t → t ≡ Stopped → Decides (IsWide rules r s) false
   stopped-narrow k e = record {
     yes = λ f. absurd (false≢true f);
-    no = λ f w. w .live .1 (subst (Stands rules r s) e k);
+    no = λ f w. w .live .unstopped (subst (Stands rules r s) e k);
   }
 
   -- a live rule is where its head is
@@ -40,6 +40,10 @@ module _ {rules : List ℕ} {r : ℕ} {s : State} where
     where
       same : count ≡ ones (lent rules .head r ∖ s .dropped)
       same = n ∙ ap ones (l ∙ ap (λ (x : ℕ). x ∖ s .dropped) h)
+
+-- the test said no
+pub not-wide : {rules : List ℕ} {r : ℕ} {s : State} {b : Bool} → Decides (IsWide rules r s) b → b ≡ false → ¬ IsWide rules r s
+not-wide d e = d .no e
 
 module _ {rules : List ℕ} {which : ℕ} {s : State} where
   pub wide-found : (r : ℕ) → Has which r → {b : Bool} → Decides (IsWide rules r s) b → b ≡ true → Decides (SomeWide rules which s) true

@@ -1,6 +1,8 @@
 -- Where a search goes no further (document 02, S-7), and what the choice of the next atom says of it.
+use mathlib.Core.Path.{_≡_}
 use mathlib.Core.List.{List}
 use Prim.Native.Nat.{ℕ, _<_}
+use lib.ListN.{length}
 use Rattle.atoms.specs.Word.{ATOMS, Has, _⊆_, Apart, _∖_}
 use Rattle.answer_sets.specs.Lent.{lent, negative}
 use Rattle.answer_sets.specs.Known.{BodySays}
@@ -32,16 +34,31 @@ abbrev pub Met : List ℕ → ℕ → State → FoundRule → Type 0
 Met rules which s (Rule r) = Has which r × AtStop rules r s
 Met rules which s Nothing = NoStop rules which s
 
+-- Inner: two tallies keep their lengths
+pub record SameLengths (first others first′ others′ : List ℕ) : Type 0 where
+  pub of-first : length first′ ≡ length first
+  pub of-others : length others′ ≡ length others
+
+-- Inner: what a count of the rules says, and that both tallies keep their lengths
+pub record Counted (rules : List ℕ) (which : ℕ) (s : State) (first others first′ others′ : List ℕ) (r : FoundRule) : Type 0 where
+  pub met : Met rules which s r
+  pub lengths : SameLengths first others first′ others′
+
 -- Inner: rule r has nothing more to ask for: a head atom is up, or its body fails
 pub data IsSpent (rules : List ℕ) (r : ℕ) (s : State) : Type 0 where
   head-up : ¬ Apart (lent rules .head r) (s .up) → IsSpent rules r s
   body-fails : BodySays rules r (s .up) (s .dropped) Fails → IsSpent rules r s
 
+-- Inner: rule r is live: neither spent nor at a stop
+pub record IsLive (rules : List ℕ) (r : ℕ) (s : State) : Type 0 where
+  pub unspent : ¬ IsSpent rules r s
+  pub unstopped : ¬ AtStop rules r s
+
 -- Inner: where rule r stands
 abbrev pub Stands : List ℕ → ℕ → State → Standing → Type 0
 Stands rules r s Spent = IsSpent rules r s
 Stands rules r s Stopped = AtStop rules r s
-Stands rules r s Live = (¬ IsSpent rules r s) × (¬ AtStop rules r s)
+Stands rules r s Live = IsLive rules r s
 
 -- Inner: no atom of its own makes the body of rule r fail; what its tables say is not looked at
 pub record Unfailed (rules : List ℕ) (r : ℕ) (s : State) : Type 0 where

@@ -13,11 +13,10 @@ use states::State;
 ghost use mathlib.Core.Path.{_≡_};
 ghost use mathlib.Core.Bool.{true};
 ghost use mathlib.Core.Logic.{_↔_};
-ghost use lib.ListN.{length};
 ghost use Rattle.atoms.specs.Bounded.{Decides};
 ghost use Rattle.answer_sets.specs.Lent.{IsLent, Lent};
 ghost use Rattle.narrowing.specs.declared.choice.Standing.the-variants.{Stopped};
-ghost use Rattle.narrowing.specs.Stops.{Stands, Unfailed, Met, Chosen};
+ghost use Rattle.narrowing.specs.Stops.{Stands, Unfailed, SameLengths, Counted, Chosen};
 ghost use Rattle.narrowing.specs.Wide.{IsWide, SomeWide};
 
 // Seven binary places count up to 127, for at most MAX_RULES rules.
@@ -126,8 +125,7 @@ fn count_rule(
     others: &mut [u64],
 )
     requires { ⌜ IsLent (now counted) rule ⌝ }
-    ensures first { λ _. ⌜ length (now (first .exit)) ≡ length (now (first .entry)) ⌝ }
-    ensures others { λ _. ⌜ length (now (others .exit)) ≡ length (now (others .entry)) ⌝ }
+    ensures { λ _. ⌜ SameLengths (now (first .entry)) (now (others .entry)) (now (first .exit)) (now (others .exit)) ⌝ }
 {
     let Standing::Live = standing else {
         return;
@@ -156,9 +154,7 @@ fn count_rules(
     others: &mut [u64],
 ) -> FoundRule
     requires { ⌜ Lent (now rules) which × Lent (now counted) which ⌝ }
-    ensures met { λ r. ⌜ Met (now (rules .entry)) which s r ⌝ }
-    ensures first { λ _. ⌜ length (now (first .exit)) ≡ length (now (first .entry)) ⌝ }
-    ensures others { λ _. ⌜ length (now (others .exit)) ≡ length (now (others .entry)) ⌝ }
+    ensures { λ r. ⌜ Counted (now (rules .entry)) which s (now (first .entry)) (now (others .entry)) (now (first .exit)) (now (others .exit)) r ⌝ }
 {
     let mut rest = which;
     while rest != 0 {

@@ -129,6 +129,18 @@ module _ {k : Kind} {bytes : List ℕ} {r : Progress} {q : Plan} (t : Taken k by
   pub taken-less : (next : Progress) → next ≡ placeAt bytes p (r .at + commandBytes k) → length bytes - next .at < length bytes - r .at
   taken-less next f = let z : next .at ≡ r .at + commandBytes k = ap (λ (x : Progress). x .at) f in omega (arith, t .inside)
 
+-- the same, as the code finds it: the command that was read, and the record behind it
+module _ (k : Kind) {bytes : List ℕ} {r : Progress} {x : Command} {p q : Plan} (R : Reached k bytes r) (c : r .command ≡ x) (e : p ≡ q)
+    (s : stepOf (r .plan) x ≡ onward k q) where
+  pub next-fits : Fitting p
+  next-fits = taken-fits (taken k bytes r x q R c s) p e
+
+  pub next-there : {next : Progress} → next ≡ placeAt bytes p (r .at + commandBytes k) → Reached (earliestBehind k) bytes next
+  next-there {next} f = taken-there (taken k bytes r x q R c s) p e next f
+
+  pub next-less : {next : Progress} → next ≡ placeAt bytes p (r .at + commandBytes k) → length bytes - next .at < length bytes - r .at
+  next-less {next} f = taken-less (taken k bytes r x q R c s) p e next f
+
 pub place-is : (bytes : List ℕ) (taken : Plan) (at : ℕ) (x : Command) → x ≡ commandAt taken at (drop at bytes)
     → _≡_ {A = Progress} (record { plan = taken; at = at; command = x }) (placeAt bytes taken at)
 place-is bytes taken at x e = ap (λ (y : Command). record { plan = taken; at = at; command = y }) e

@@ -36,6 +36,8 @@ pub mod Elements
 pub mod Sizes
 -- The rows of the fault table in their two forms
 pub mod Rows
+-- The rows as the code tries them, one after the other
+pub mod RowsInTurn
 -- Reading the layout of lists within the limits accepts and gives their record
 pub mod RoundTrip
 -- Whenever reading accepts bytes they are the layout of lists within the limits, and the record is theirs

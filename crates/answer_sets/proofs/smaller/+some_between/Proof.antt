@@ -14,7 +14,7 @@ use Rattle.answer_sets.specs.Program.{Satisfies}
 use Rattle.answer_sets.specs.Lent.{lent}
 use Rattle.states.specs.State.{undecided}
 use Rattle.answer_sets.proofs.Between.{lent-part, confines-more, confines-branch, finds-passed, between-clash, between-whole, between-model}
-use Rattle.answer_sets.proofs.Between.{between-stuck, branch-yes, branch-no}
+use Rattle.answer_sets.proofs.Between.{between-stuck, branch-no, branch-found, none-so}
 use Rattle.states.proofs.Branches.{decided-falls}
 use Rattle.answer_sets.proofs.smaller.some_between.Reads as some-between
 use Rattle.answer_sets.proofs.smaller.some_between.Kinds as some-between-kinds
@@ -121,10 +121,10 @@ module _ (t : ℕ) where
   -- ---- the needs
 
   overlap : some-between-lts.Need-returns (calls t) (some-between-at t) some-between.Post
-  overlap c = rw (c .none-smaller .ensures) (between-clash (c .before .before .are-apart .ensures) (c .before .if1 .taken))
+  overlap c = search (none-so, between-clash, needs)
 
   whole : some-between-lts.Need-returns-2 (calls t) (some-between-at t) some-between.Post
-  whole c = rw (c .none-smaller2 .ensures) (between-whole (c .before .if2 .taken))
+  whole c = search (none-so, between-whole, needs)
 
   satisfied : some-between-lts.Need-returns-3 (calls t) (some-between-at t) some-between.Post
   satisfied c =
@@ -142,10 +142,7 @@ module _ (t : ℕ) where
       (between-stuck (free .undecided .ensures) (c .before .before .candidates .ensures) (c .before .if3 .taken) (unsatisfied (free .before .before)))
 
   tried-next-requires : some-between-lts.Need-tried-next-requires (calls t) (some-between-at t) some-between.Post
-  tried-next-requires c κs = (
-    start (opened (c .before .before .before .before)) .pre .1 .0,
-    record { within = c .before .candidates .ensures .within; some = c .if3 .left },
-  )
+  tried-next-requires c κs = search needs
 
   up-requires : some-between-lts.Need-some-between-requires (calls t) (some-between-at t) some-between.Post
   up-requires c κs =
@@ -160,11 +157,7 @@ module _ (t : ℕ) where
       )
 
   up-found : some-between-lts.Need-returns-5 (calls t) (some-between-at t) some-between.Post
-  up-found c =
-      let up = c .before .before in
-      rw (c .if4 .taken)
-      (branch-yes (chosen up .lowest .result) (up .before .decide .ensures) (finds-passed (up .rounds .ensures) (c .before .some-between .ensures))
-      (c .if4 .taken))
+  up-found c = search (branch-found, finds-passed, needs)
 
   dropped-requires : some-between-lts.Need-some-between-requires-2 (calls t) (some-between-at t) some-between.Post
   dropped-requires c κs =

@@ -52,7 +52,7 @@ like-memo : tie.Need-returns-2
 like-memo c =
     let test = c .before .before in
     let p = passed (test .before .before) in
-    let t = told p (memo-none (start p .fits .position .fits) (start p .pre .1 .only-whole) (test .memo-tells .ensures (c .before .if2 .taken))) in
+    let t = told p (memo-none (start p .fits .position .fits) (start p .pre .1 .only-whole) (test .memo-tells .ensures) (c .before .if2 .taken)) in
     rw (c .none-smaller2 .ensures) (t .0, (t .1, start p .pre .1))
 
 found : tie.Need-returns-3

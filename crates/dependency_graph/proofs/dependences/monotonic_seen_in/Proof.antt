@@ -3,9 +3,9 @@ use lib.Count.{ones}
 use borrow.Author.Needs.{needs}
 use Rattle.atoms.specs.Word.{apart, _∪_}
 use Rattle.atoms.proofs.Counts.{taken-less}
-use Rattle.atoms.proofs.GatheredWords.{Picks, picks-start, picks-lt, picks-next, picks-end}
+use Rattle.atoms.proofs.GatheredWords.{Picks, picks-start, picks-lt, picks-next}
 use Rattle.dependency_graph.specs.PlanUnits.{unitsOf}
-use Rattle.dependency_graph.specs.Offenders.{monotonicSeenIn}
+use Rattle.dependency_graph.proofs.UnseenRules.{apart-read, union-read, seen-end}
 use Rattle.dependency_graph.proofs.dependences.monotonic_seen_in.Statement.{statement}
 use Rattle.dependency_graph.proofs.dependences.monotonic_seen_in.Tie as tie
 
@@ -16,10 +16,6 @@ Inv-loop u plan unseen found₀ rest₀ found rest =
 
 abbrev μ-loop : tie.MeasureT-loop
 μ-loop u plan unseen found₀ rest₀ found rest = ones rest
-
--- the point of a turn at which a rule is taken
-abbrev taken : tie.After-drop Inv-loop μ-loop → tie.After-lowest Inv-loop μ-loop
-taken c = c .before .before .before .before .before .before .before .before .before .before .before .before .before
 
 loop-holds : tie.Need-loop-holds Inv-loop μ-loop
 unfolding unitsOf
@@ -35,17 +31,7 @@ head-requires c κs = search (picks-lt, needs)
 
 loop-again : tie.Need-loop-again Inv-loop μ-loop
 unfolding unitsOf
-loop-again c =
-    let needed = c .before .before .before .before in
-    let at-head = needed .before in
-    let positive = at-head .before .before .before .before in
-    picks-next (taken c .before .before .loop .inv) (taken c .lowest .ensures .0) (c .drop .ensures)
-    (rw (needed .union .ensures, positive .positive-body .ensures, at-head .head .ensures) at (c .before .before .before .are-apart .ensures))
-    (c .before .before .single-if .ensures) (c .before .union2 .ensures)
-
-returns : tie.Need-returns Inv-loop μ-loop
-unfolding monotonicSeenIn
-returns c = rw (c .before .before .before .before .before .unseen-heads .ensures) at (picks-end (c .before .loop .inv) (c .loop-test .left))
+loop-again c = search (picks-next, apart-read, union-read, needs)
 
 pub monotonic-seen-in-spec : {M : Type 1} → statement M
 monotonic-seen-in-spec =
@@ -69,4 +55,4 @@ monotonic-seen-in-spec =
     (λ c κs. search needs)
     (λ c. search (taken-less, needs))
     loop-again
-    returns)
+    (λ c. search (seen-end, needs)))

@@ -1,13 +1,12 @@
 -- The rules of which the test holds are picked one by one (Gathering).
-use mathlib.Core.Path.{ap}
 use mathlib.Core.Bool.{not}
 use lib.Count.{ones}
 use borrow.Author.Needs.{needs}
 use Rattle.atoms.specs.Word.{apart}
 use Rattle.atoms.proofs.Counts.{taken-less}
-use Rattle.atoms.proofs.GatheredWords.{Picks, picks-start, picks-lt, picks-next, picks-end}
+use Rattle.atoms.proofs.GatheredWords.{Picks, picks-start, picks-lt, picks-next}
 use Rattle.dependency_graph.specs.PlanUnits.{unitsOf}
-use Rattle.dependency_graph.specs.Offenders.{nonmonotonicUnseenIn}
+use Rattle.dependency_graph.proofs.UnseenRules.{shares-read, unseen-end}
 use Rattle.dependency_graph.proofs.dependences.nonmonotonic_unseen_in.Statement.{statement}
 use Rattle.dependency_graph.proofs.dependences.nonmonotonic_unseen_in.Tie as tie
 
@@ -17,10 +16,6 @@ Inv-loop u plan unseen found₀ rest₀ found rest =
 
 abbrev μ-loop : tie.MeasureT-loop
 μ-loop u plan unseen found₀ rest₀ found rest = ones rest
-
--- the point of a turn at which a rule is taken
-abbrev taken : tie.After-drop Inv-loop μ-loop → tie.After-lowest Inv-loop μ-loop
-taken c = c .before .before .before .before .before .before .before .before
 
 loop-holds : tie.Need-loop-holds Inv-loop μ-loop
 unfolding unitsOf
@@ -32,14 +27,7 @@ looks-requires c κs = search (picks-lt, needs)
 
 loop-again : tie.Need-loop-again Inv-loop μ-loop
 unfolding unitsOf
-loop-again c =
-    picks-next (taken c .before .before .loop .inv) (taken c .lowest .ensures .0) (c .drop .ensures)
-    (ap not (rw (c .before .before .before .before .looks .ensures) at (c .before .before .before .are-apart .ensures)))
-    (c .before .before .single-if .ensures) (c .before .union .ensures)
-
-returns : tie.Need-returns Inv-loop μ-loop
-unfolding nonmonotonicUnseenIn
-returns c = rw (c .before .before .before .before .before .unseen-heads .ensures) at (picks-end (c .before .loop .inv) (c .loop-test .left))
+loop-again c = search (picks-next, shares-read, needs)
 
 pub nonmonotonic-unseen-in-spec : {M : Type 1} → statement M
 nonmonotonic-unseen-in-spec =
@@ -61,4 +49,4 @@ nonmonotonic-unseen-in-spec =
     (λ c κs. search needs)
     (λ c. search (taken-less, needs))
     loop-again
-    returns)
+    (λ c. search (unseen-end, needs)))

@@ -2,9 +2,9 @@
 use lib.Count.{ones}
 use Rattle.atoms.specs.Word.{_⊆_}
 use Rattle.atoms.proofs.Counts.{taken-less, taken-within}
-use Rattle.atoms.proofs.TakenNumbers.{taken-lent}
 use Rattle.narrowing.proofs.NumberedSteps.{cut-within}
 use borrow.Author.Needs.{needs}
+use Rattle.answer_sets.proofs.Lent.{lent-taken}
 use Rattle.narrowing.proofs.founded_step.found_by_all.Statement.{statement}
 use Rattle.narrowing.proofs.founded_step.found_by_all.Tie as tie
 
@@ -13,11 +13,6 @@ Inv-loop rules which s rest₀ c₀ rest c = rest ⊆ which
 
 abbrev μ-loop : tie.MeasureT-loop
 μ-loop rules which s rest₀ c₀ rest c = ones rest
-
-found-by-requires : tie.Need-found-by-requires Inv-loop μ-loop
-found-by-requires c κs =
-    let at = c .before .before in
-    (at .before .before .before .pre .each _ (taken-lent (at .loop .inv) (c .lowest .ensures .0)), c .lowest .ensures .1)
 
 pub found-by-all-spec : {M : Type 1} → statement M
 found-by-all-spec =
@@ -28,7 +23,7 @@ found-by-all-spec =
     (λ c κs. search needs)
     (λ c. search (cut-within, needs))
     (λ c κs. search needs)
-    found-by-requires
+    (λ c κs. search (lent-taken, needs))
     (λ c κs. search needs)
     (λ c. search (taken-less, needs))
     (λ c. search (taken-within, needs))

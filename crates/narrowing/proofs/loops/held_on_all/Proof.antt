@@ -1,9 +1,9 @@
 -- The loop carries what the rules that are done hold. The measure is how many are left.
 use lib.Count.{ones}
 use Rattle.atoms.proofs.Counts.{taken-less}
-use Rattle.atoms.proofs.TakenNumbers.{taken-lent}
 use Rattle.narrowing.proofs.LoopedAtoms.{Holding, holding-start, holding-next, holding-end}
 use borrow.Author.Needs.{needs}
+use Rattle.answer_sets.proofs.Lent.{lent-taken}
 use Rattle.narrowing.proofs.loops.held_on_all.Statement.{statement}
 use Rattle.narrowing.proofs.loops.held_on_all.Tie as tie
 
@@ -13,11 +13,6 @@ Inv-loop rules which within rest₀ held₀ rest held = Holding rules which with
 abbrev μ-loop : tie.MeasureT-loop
 μ-loop rules which within rest₀ held₀ rest held = ones rest
 
-held-on-requires : tie.Need-held-on-requires Inv-loop μ-loop
-held-on-requires c κs =
-    let at = c .before .before in
-    at .before .before .pre .each _ (taken-lent (at .loop .inv .part) (c .lowest .ensures .0))
-
 pub held-on-all-spec : {M : Type 1} → statement M
 held-on-all-spec =
     tie.close
@@ -26,7 +21,7 @@ held-on-all-spec =
     μ-loop
     (λ c. holding-start)
     (λ c κs. search needs)
-    held-on-requires
+    (λ c κs. search (lent-taken, needs))
     (λ c κs. search needs)
     (λ c. search (taken-less, needs))
     (λ c. search (holding-next, needs))

@@ -1,52 +1,18 @@
 -- `read_edge` meets its contract: at each return the tests that led there say which row of the fault table fits.
-use mathlib.Core.Path.{sym, _∙_}
-use borrow.Author.Tests.{lt-ltb, le-ltb}
-use Rattle.reading.specs.Commands.{ofKind, carrying}
 use borrow.Author.Needs.{needs}
+use Rattle.reading.proofs.RowsInTurn.{late-row, short-row, edge-refused, edge-read}
 use Rattle.reading.proofs.edge.read_edge.Statement.{statement}
 use Rattle.reading.proofs.edge.read_edge.Tie as tie
-
-returns : tie.Need-returns
-unfolding ofKind
-returns c = simp (sym (c .before .is-late .ensures) ∙ c .if1 .taken)
-
-returns-2 : tie.Need-returns-2
-unfolding ofKind
-returns-2 c = simp (sym (c .before .before .is-late .ensures) ∙ c .before .if1 .left, lt-ltb _ _ (c .if2 .taken))
-
-returns-3 : tie.Need-returns-3
-unfolding ofKind
-returns-3 c =
-    let whole = c .before .before .before .before in
-    let at-if1 = whole .before in
-    let at-is-late = at-if1 .before in
-    simp (
-      sym (at-is-late .is-late .ensures) ∙ at-if1 .if1 .left,
-      le-ltb _ _ (whole .if2 .left),
-      sym (c .before .is-bad-edge .ensures) ∙ c .if3 .taken,
-    )
-
-returns-4 : tie.Need-returns-4
-unfolding ofKind carrying
-returns-4 c =
-    let whole = c .before .before .before .before in
-    let at-if1 = whole .before in
-    let at-is-late = at-if1 .before in
-    simp (
-      sym (at-is-late .is-late .ensures) ∙ at-if1 .if1 .left,
-      le-ltb _ _ (whole .if2 .left),
-      sym (c .before .is-bad-edge .ensures) ∙ c .if3 .left,
-    )
 
 pub read-edge-spec : {M : Type 1} → statement M
 read-edge-spec =
     tie.close
     (tie.spec
     (λ c κs. search needs)
-    returns
-    returns-2
+    (λ c. search (late-row, needs))
+    (λ c. search (short-row, needs))
     (λ c. search needs)
     (λ c. search needs)
     (λ c κs. search needs)
-    returns-3
-    returns-4)
+    (λ c. search (edge-refused, needs))
+    (λ c. search (edge-read, needs)))

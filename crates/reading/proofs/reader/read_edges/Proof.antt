@@ -6,7 +6,7 @@ use Prim.Native.Nat.{_-_}
 use lib.ListN.{length}
 use Rattle.reading.specs.Commands.{edge}
 use Rattle.reading.specs.Progress.{Reached}
-use Rattle.reading.proofs.Groups.{Turn, taken, taken-fits, taken-there, taken-less, passed-by, edge-there}
+use Rattle.reading.proofs.Groups.{Turn, taken, passed-by, edge-there, next-fits, next-there, next-less}
 use borrow.Author.Needs.{needs}
 use Rattle.reading.proofs.reader.read_edges.Statement.{statement}
 use Rattle.reading.proofs.reader.read_edges.Tie as tie
@@ -40,6 +40,6 @@ read-edges-spec =
     (λ c. search (passed-by, needs))
     with-edge-requires
     (λ c. omega arith)
-    (λ c κs. taken-fits (took (c .before .before) .1) _ (c .with-edge .ensures))
-    (λ c. taken-less (took (c .before .before .before) .1) _ (c .before .with-edge .ensures) _ (c .place .ensures))
-    (λ c. taken-there (took (c .before .before .before) .1) _ (c .before .with-edge .ensures) _ (c .place .ensures)))
+    (λ c κs. search (next-fits edge, needs))
+    (λ c. search (next-less edge, needs))
+    (λ c. search (next-there edge, needs)))

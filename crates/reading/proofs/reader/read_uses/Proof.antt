@@ -7,7 +7,7 @@ use lib.ListN.{length}
 use Rattle.reading.specs.Commands.{usage}
 use Rattle.reading.specs.Progress.{Reached}
 use Rattle.reading.proofs.Commands.{room-left}
-use Rattle.reading.proofs.Groups.{Turn, taken, taken-fits, taken-there, taken-less, passed-by, use-there}
+use Rattle.reading.proofs.Groups.{Turn, taken, passed-by, use-there, next-fits, next-there, next-less}
 use borrow.Author.Needs.{needs}
 use Rattle.reading.proofs.reader.read_uses.Statement.{statement}
 use Rattle.reading.proofs.reader.read_uses.Tie as tie
@@ -45,6 +45,6 @@ read-uses-spec =
     (λ c. search (passed-by, needs))
     with-use-requires
     (λ c. omega arith)
-    (λ c κs. taken-fits (took (c .before .before) .1) _ (c .with-use .ensures))
-    (λ c. taken-less (took (c .before .before .before) .1) _ (c .before .with-use .ensures) _ (c .place .ensures))
-    (λ c. taken-there (took (c .before .before .before) .1) _ (c .before .with-use .ensures) _ (c .place .ensures)))
+    (λ c κs. search (next-fits usage, needs))
+    (λ c. search (next-less usage, needs))
+    (λ c. search (next-there usage, needs)))

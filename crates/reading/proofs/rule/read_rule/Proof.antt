@@ -1,66 +1,12 @@
 -- `read_rule` meets its contract: at each return the tests that led there say which row of the fault table fits.
+use borrow.Author.Tests.{le-leb, lt-leb, le-ltb}
+use borrow.Author.Needs.{needs}
+use Rattle.reading.proofs.RowsInTurn.{late-row, full-row, short-row, empty-refused, contradictory-refused}
 use mathlib.Core.Path.{sym, ap, _∙_}
 use mathlib.Core.Bool.{not}
-use borrow.Author.Tests.{lt-ltb, le-ltb, le-leb, lt-leb}
 use Rattle.reading.specs.Commands.{ofKind, contradictory, carrying}
-use borrow.Author.Needs.{needs}
 use Rattle.reading.proofs.rule.read_rule.Statement.{statement}
 use Rattle.reading.proofs.rule.read_rule.Tie as tie
-
-returns : tie.Need-returns
-unfolding ofKind
-returns c = simp (sym (c .before .is-late .ensures) ∙ c .if1 .taken)
-
-returns-2 : tie.Need-returns-2
-unfolding ofKind
-returns-2 c = simp (sym (c .before .before .is-late .ensures) ∙ c .before .if1 .left, le-leb _ _ (c .if2 .taken))
-
-returns-3 : tie.Need-returns-3
-unfolding ofKind
-returns-3 c =
-    let room = c .before .before in
-    simp (sym (room .before .is-late .ensures) ∙ room .if1 .left, lt-leb _ _ (c .before .if2 .left), lt-ltb _ _ (c .if3 .taken))
-
-returns-4 : tie.Need-returns-4
-unfolding ofKind
-returns-4 c =
-    let words = c .before .before in
-    let at-read-word = words .before .before in
-    let whole = at-read-word .before in
-    let at-if2 = whole .before in
-    let at-if1 = at-if2 .before in
-    let at-is-late = at-if1 .before in
-    simp (
-      sym (at-is-late .is-late .ensures) ∙ at-if1 .if1 .left,
-      lt-leb _ _ (at-if2 .if2 .left),
-      le-ltb _ _ (whole .if3 .left),
-      ← at-read-word .read-word .ensures,
-      ← words .before .read-word2 .ensures,
-      ← words .read-word3 .ensures,
-      sym (c .before .is-empty-rule .ensures) ∙ c .if4 .taken,
-    )
-
-returns-5 : tie.Need-returns-5
-unfolding ofKind contradictory
-returns-5 c =
-    let tested = c .before .before in
-    let words = tested .before .before in
-    let at-read-word2 = words .before in
-    let at-read-word = at-read-word2 .before in
-    let whole = at-read-word .before in
-    let at-if2 = whole .before in
-    let at-if1 = at-if2 .before in
-    let at-is-late = at-if1 .before in
-    simp (
-      sym (at-is-late .is-late .ensures) ∙ at-if1 .if1 .left,
-      lt-leb _ _ (at-if2 .if2 .left),
-      le-ltb _ _ (whole .if3 .left),
-      ← at-read-word .read-word .ensures,
-      ← at-read-word2 .read-word2 .ensures,
-      ← words .read-word3 .ensures,
-      sym (tested .before .is-empty-rule .ensures) ∙ tested .if4 .left,
-      ap not (sym (c .before .are-apart .ensures)) ∙ c .if5 .taken,
-    )
 
 returns-6 : tie.Need-returns-6
 unfolding ofKind contradictory carrying
@@ -89,15 +35,15 @@ read-rule-spec =
     tie.close
     (tie.spec
     (λ c κs. search needs)
-    returns
-    returns-2
-    returns-3
+    (λ c. search (late-row, needs))
+    (λ c. search (full-row, le-leb, needs))
+    (λ c. search (short-row, lt-leb, needs))
     (λ c κs. search needs)
     (λ c κs. search needs)
     (λ c. search needs)
     (λ c κs. search needs)
     (λ c κs. search needs)
-    returns-4
+    (λ c. search (empty-refused, lt-leb, needs))
     (λ c κs. search needs)
-    returns-5
+    (λ c. search (contradictory-refused, lt-leb, needs))
     returns-6)
