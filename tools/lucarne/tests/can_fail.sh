@@ -197,6 +197,8 @@ with_mistake "strict reading takes a folder as it is" read/sources.rs 'filter(|_
 with_mistake "an empty sheet is not told" read/sources.rs 'if statements.iter().any(is_rule) {' 'if statements.is_empty() || statements.iter().any(is_rule) {'
 with_mistake "a group that drives nothing is not told" plan/group.rs 'filter(|_| drives_nothing(&program))' 'filter(|_| drives_nothing(&program) && false)'
 with_mistake "an empty ground program is listed" read/reader.rs 'if aspif.is_empty() {' 'if aspif.is_empty() && text.is_empty() {'
+with_mistake "a sheet by another spelling is read twice" read/sources.rs \
+    'file == other || numbers[before].is_some() &&' 'file == other || numbers[before].is_none() &&'
 with_mistake "a file is cut where it is too long" read/sources.rs 'if bytes.len() as u64 > MOST_BYTES {' 'if bytes.len() as u64 > 2 * MOST_BYTES {'
 with_mistake "brackets go on" read/sources.rs 'if depth > MOST_NESTED {' 'if depth > 9999 * MOST_NESTED {'
 with_mistake "each name is looked for among all" read/aspif.rs \
