@@ -64,8 +64,10 @@ module _ (S : Units) {given : ℕ} (e₁ : given ≡ givenInHead S) where
           module _ (z₅ : nonmonotonic ≡ 0) {monotonic : ℕ} (e₆ : monotonic ≡ monotonicUnseen S) where
             pub row-14-found : {r : ℕ} → Lowest monotonic r × (r < ATOMS) → Refused (MonotonicUnseen r) ≡ verdict S
             unfolding verdict
-            row-14-found l = row-found _ _ e₆ l ∙ row-passed _ _ e₅ z₅ ∙ row-passed _ _ e₄ z₄ ∙ row-passed _ _ e₃ z₃ ∙ row-passed _ _ e₂ z₂ ∙ row-passed _ _ e₁ z₁
+            row-14-found l =
+                row-found _ _ e₆ l ∙ row-passed _ _ e₅ z₅ ∙ row-passed _ _ e₄ z₄ ∙ row-passed _ _ e₃ z₃ ∙ row-passed _ _ e₂ z₂ ∙ row-passed _ _ e₁ z₁
 
             pub rows-passed : monotonic ≡ 0 → Accepted ≡ verdict S
             unfolding verdict
-            rows-passed z₆ = row-passed _ _ e₆ z₆ ∙ row-passed _ _ e₅ z₅ ∙ row-passed _ _ e₄ z₄ ∙ row-passed _ _ e₃ z₃ ∙ row-passed _ _ e₂ z₂ ∙ row-passed _ _ e₁ z₁
+            rows-passed z₆ =
+                row-passed _ _ e₆ z₆ ∙ row-passed _ _ e₅ z₅ ∙ row-passed _ _ e₄ z₄ ∙ row-passed _ _ e₃ z₃ ∙ row-passed _ _ e₂ z₂ ∙ row-passed _ _ e₁ z₁

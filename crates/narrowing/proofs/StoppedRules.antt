@@ -22,7 +22,7 @@ use Rattle.answer_sets.proofs.Parts.{up-apart, up-completes, completes-known}
 use Rattle.answer_sets.proofs.HalfKnown.{none-satisfies}
 use Rattle.answer_sets.proofs.Support.{satisfied}
 use Rattle.narrowing.specs.Inputs.{AnswersInputs}
-use Rattle.narrowing.specs.Stops.{AtStop, NoStop, Met, Counted, IsSpent, IsLive, SameLengths, head-up, body-fails, Stands, Chosen}
+use Rattle.narrowing.specs.Stops.{AtStop, NoStop, Met, RulesCounted, IsSpent, IsLive, SameLengths, head-up, body-fails, Stands, Chosen}
 use Rattle.narrowing.specs.declared.choice.Choice.{Choice}
 use Rattle.narrowing.specs.declared.choice.Choice.the-variants.{Atom, Stop}
 use Rattle.narrowing.specs.declared.choice.Standing.{Standing}
@@ -145,7 +145,7 @@ lengths-kept k l = record { of-first = l .of-first ∙ k .of-first; of-others = 
 
 -- what was met
 module _ {rules : List ℕ} {which : ℕ} {s : State} {first others first′ others′ : List ℕ} {f : FoundRule}
-    (k : Counted rules which s first others first′ others′ f) where
+    (k : RulesCounted rules which s first others first′ others′ f) where
   pub met-stop : {r : ℕ} → f ≡ Rule r → Has which r × AtStop rules r s
   met-stop e = subst (Met rules which s) e (k .met)
 

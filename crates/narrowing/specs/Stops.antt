@@ -40,7 +40,7 @@ pub record SameLengths (first others first′ others′ : List ℕ) : Type 0 whe
   pub of-others : length others′ ≡ length others
 
 -- Inner: what a count of the rules says, and that both tallies keep their lengths
-pub record Counted (rules : List ℕ) (which : ℕ) (s : State) (first others first′ others′ : List ℕ) (r : FoundRule) : Type 0 where
+pub record RulesCounted (rules : List ℕ) (which : ℕ) (s : State) (first others first′ others′ : List ℕ) (r : FoundRule) : Type 0 where
   pub met : Met rules which s r
   pub lengths : SameLengths first others first′ others′
 

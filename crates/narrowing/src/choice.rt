@@ -16,7 +16,7 @@ ghost use mathlib.Core.Logic.{_↔_};
 ghost use Rattle.atoms.specs.Bounded.{Decides};
 ghost use Rattle.answer_sets.specs.Lent.{IsLent, Lent};
 ghost use Rattle.narrowing.specs.declared.choice.Standing.the-variants.{Stopped};
-ghost use Rattle.narrowing.specs.Stops.{Stands, Unfailed, SameLengths, Counted, Chosen};
+ghost use Rattle.narrowing.specs.Stops.{Stands, Unfailed, SameLengths, RulesCounted, Chosen};
 ghost use Rattle.narrowing.specs.Wide.{IsWide, SomeWide};
 
 // Seven binary places count up to 127, for at most MAX_RULES rules.
@@ -154,7 +154,7 @@ fn count_rules(
     others: &mut [u64],
 ) -> FoundRule
     requires { ⌜ Lent (now rules) which × Lent (now counted) which ⌝ }
-    ensures { λ r. ⌜ Counted (now (rules .entry)) which s (now (first .entry)) (now (others .entry)) (now (first .exit)) (now (others .exit)) r ⌝ }
+    ensures { λ r. ⌜ RulesCounted (now (rules .entry)) which s (now (first .entry)) (now (others .entry)) (now (first .exit)) (now (others .exit)) r ⌝ }
 {
     let mut rest = which;
     while rest != 0 {

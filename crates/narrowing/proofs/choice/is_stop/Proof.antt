@@ -6,4 +6,11 @@ use Rattle.narrowing.proofs.choice.is_stop.Tie as tie
 
 pub is-stop-spec : {M : Type 1} → statement M
 is-stop-spec =
-    tie.close (tie.spec (λ c. search needs) (λ c. search needs) (λ c. search needs) (λ c. search needs) (λ c. search (spent-no, needs)) (λ c. search (live-no, needs)))
+    tie.close
+    (tie.spec
+    (λ c. search needs)
+    (λ c. search needs)
+    (λ c. search needs)
+    (λ c. search needs)
+    (λ c. search (spent-no, needs))
+    (λ c. search (live-no, needs)))
