@@ -1,12 +1,12 @@
 -- "Errors, tried first": what `unlessBad` gives where the first bad reading is known, or that there is none.
-use mathlib.Core.Path.{_≡_, refl, ap, _∙_}
-use mathlib.Core.Bool.{Bool, true, false}
+use mathlib.Core.Path.{_≡_, refl, sym, ap, _∙_}
+use mathlib.Core.Bool.{Bool, true, false, not}
 use mathlib.Core.List.{[], _∷_}
 use mathlib.Core.Logic.{_⊎_, inl, inr}
 use Prim.Native.Nat.{ℕ, _≤_, _<_}
 use native.Mathlib.Omega.{arith}
 use native.Mathlib.Decide.{decLt}
-use borrow.Author.Tests.{lt-ltb, le-ltb, not-false}
+use borrow.Author.Tests.{lt-ltb, le-ltb, not-true, not-false}
 use Rattle.atoms.specs.Bounded.{Decides}
 use Rattle.atoms.specs.Collected.{Least, lowest}
 use Rattle.atoms.proofs.Collected.{lowest-is, lowest-none, lowest-here, lowest-least}
@@ -49,6 +49,15 @@ module _ {A : Type 0} (n : ℕ) (bad : ℕ → Bool) (refused : Refusal → A) (
         unless-refused l,
       )
       go (no l) = inl (λ i k. d i .no (lowest-least n bad i (omega arith)), unless-answered (omega arith))
+
+-- ---- what a test of the code says of a word
+
+module _ (word : ℕ) {t : Bool} (e : t ≡ isReading word) where
+  pub tested-bad : not t ≡ true → isReading word ≡ false
+  tested-bad n = sym e ∙ not-true t n
+
+  pub tested-good : not t ≡ false → isReading word ≡ true
+  tested-good n = sym e ∙ not-false t n
 
 -- ---- two readings
 

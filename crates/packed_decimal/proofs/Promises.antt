@@ -4,13 +4,14 @@ use mathlib.Core.Path.{_≡_, sym, ap, ap₂, _∙_}
 use mathlib.Core.Bool.{true, false}
 use mathlib.Core.List.{List, [], _∷_}
 use mathlib.Core.Logic.{_⊎_, inl, inr}
-use Prim.Native.Nat.{ℕ, _+_, _%_, _<_}
+use Prim.Native.Nat.{ℕ, _+_, _*_, _/_, _%_, _≤_, _<_}
 use native.Mathlib.Omega.{arith}
 use Rattle.atoms.proofs.Tests.{decided-true, decided-false}
 use Rattle.packed_decimal.specs.Reading.{DIGITS, MODULUS, NOT_MEASURED, packed, IsReading, isReading, says}
 use Rattle.packed_decimal.specs.Refusals.{firstBad}
 use Rattle.packed_decimal.specs.Answers.{numberOf, readingOf, sumOf, addedOf, orderOf, comparedOf}
-use Rattle.packed_decimal.specs.Largest.{readings, wordAt, badAt, largestOf, largestIn}
+use lib.ListN.{length}
+use Rattle.packed_decimal.specs.Largest.{READING_BYTES, readings, wordAt, badAt, largestOf, largestIn}
 use Rattle.packed_decimal.specs.Promised.{SaysNumber, Numbered, Repacked, Adds, Summed, HeldAgainst, Sought}
 use Rattle.packed_decimal.specs.declared.meter.Reading.{Reading}
 use Rattle.packed_decimal.specs.declared.meter.Reading.the-variants.{Measured}
@@ -24,6 +25,9 @@ use Rattle.packed_decimal.specs.declared.limit.Compared.{Compared}
 use Rattle.packed_decimal.specs.declared.limit.Compared.the-variants.{Is as OrderIs}
 use Rattle.packed_decimal.specs.declared.largest.Largest.{Largest}
 use Rattle.packed_decimal.specs.declared.largest.Largest.the-variants.{Is as FoundIs, Refused as LargestRefused}
+use Rattle.packed_decimal.specs.declared.refusal.Refusal.the-variants.{BadReading}
+use Rattle.packed_decimal.specs.declared.largest.LargestFound.{LargestFound}
+use Rattle.packed_decimal.proofs.LargestReading.{Seeking, seeking-bad, seeking-lone, seeking-all}
 use Rattle.packed_decimal.proofs.FirstBad.{unless-first, unless-none, pair-first, pair-second, pair-none}
 use Rattle.packed_decimal.proofs.Sums.{unmeasuredSum, sum-unmeasured-left, sum-unmeasured-right, added-refused, added-is}
 use Rattle.packed_decimal.proofs.Orders.{order-unmeasured-left, order-unmeasured-right, order-below, order-above, order-equal}
@@ -139,3 +143,15 @@ sought bytes e = record {
     largest-right (wordAt bytes) (readings bytes),
   );
 }
+
+pub sought-bad : {bytes : List ℕ} {i word : ℕ} {found : LargestFound} → Seeking bytes i found → word ≡ wordAt bytes i → i < length bytes / READING_BYTES
+    → isReading word ≡ false → Sought bytes (LargestRefused (BadReading i))
+sought-bad {bytes} s e l r = sought bytes (sym (seeking-bad s e l r))
+
+pub sought-lone : {bytes : List ℕ} {i : ℕ} {found : LargestFound} → Seeking bytes i found → length bytes / READING_BYTES ≤ i
+    → READING_BYTES * (length bytes / READING_BYTES) < length bytes → Sought bytes (LargestRefused (BadReading (length bytes / READING_BYTES)))
+sought-lone {bytes} s l odd = sought bytes (sym (seeking-lone s l odd))
+
+pub sought-all : {bytes : List ℕ} {i : ℕ} {found : LargestFound} → Seeking bytes i found → length bytes / READING_BYTES ≤ i
+    → length bytes ≤ READING_BYTES * (length bytes / READING_BYTES) → Sought bytes (FoundIs found)
+sought-all {bytes} s l even = sought bytes (sym (seeking-all s l even))

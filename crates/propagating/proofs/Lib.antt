@@ -6,3 +6,5 @@ pub mod Desks
 pub mod Propagation
 -- The index of woken steps: its lists, the founded step, and all of it from zeros on
 pub mod WakeIndices
+-- A decoded step is one that there is
+pub mod DecodedSteps

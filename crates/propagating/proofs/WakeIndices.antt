@@ -124,16 +124,16 @@ places-end {pilots} {t} {word} c l m = subst (λ (n : ℕ). Collects (TablePlace
 -- ---- the sums
 
 -- two parity tables or more
-pub sums-added : (linked pilots : List ℕ) {tables which word : ℕ} {before after : List ℕ} → Collects (ParityTable linked pilots) tables → ¬ AtMostOne tables
-    → Collects (ParityAtom linked pilots) which → word ≡ atom SUMS_PLACE → Marked WOKEN_WORDS which word before after
-    → Adds (WakesSums linked pilots) before after
-sums-added linked pilots {tables} {which} {word} c n d e m = adds-iff into from m
+pub sums-added : (linked pilots : List ℕ) {tables which word : ℕ} {one : Bool} {before after : List ℕ} → Collects (ParityTable linked pilots) tables
+    → Decides (AtMostOne tables) one → one ≡ false → Collects (ParityAtom linked pilots) which → word ≡ atom SUMS_PLACE
+    → Marked WOKEN_WORDS which word before after → Adds (WakesSums linked pilots) before after
+sums-added linked pilots {tables} {which} {word} c o f d e m = adds-iff into from m
   where
     into : (i q : ℕ) → NotedAt WOKEN_WORDS which word i q → WakesSums linked pilots i q
     into i q k = record {
       tables = tables;
       are-parities = c;
-      several = n;
+      several = o .no f;
       atom = k .atom;
       of-table = d .each (k .atom) (k .in-set);
       at = k .place;
@@ -149,21 +149,21 @@ sums-added linked pilots {tables} {which} {word} c n d e m = adds-iff into from 
     }
 
 -- fewer
-pub sums-left : {linked pilots : List ℕ} {tables : ℕ} {table : List ℕ} → Collects (ParityTable linked pilots) tables → AtMostOne tables
-    → Adds (WakesSums linked pilots) table table
-sums-left c one = adds-none (λ i q k. k .several (subst AtMostOne (collects-same c (k .are-parities)) one))
+pub sums-left : {linked pilots : List ℕ} {tables : ℕ} {one : Bool} {table : List ℕ} → Collects (ParityTable linked pilots) tables
+    → Decides (AtMostOne tables) one → one ≡ true → Adds (WakesSums linked pilots) table table
+sums-left c o t = adds-none (λ i q k. k .several (subst AtMostOne (collects-same c (k .are-parities)) (o .yes t)))
 
 -- two constraints that tell or more
-pub told-added : (rules : List ℕ) (numbered : ℕ) {telling which word : ℕ} {before after : List ℕ} → Collects (λ r. Has numbered r × Tells rules r) telling
-    → ¬ AtMostOne telling → Collects (ToldAtom rules numbered) which → word ≡ atom SUMS_PLACE → Marked WOKEN_WORDS which word before after
-    → Adds (WakesTold rules numbered) before after
-told-added rules numbered {telling} {which} {word} c n d e m = adds-iff into from m
+pub told-added : (rules : List ℕ) (numbered : ℕ) {telling which word : ℕ} {one : Bool} {before after : List ℕ}
+    → Collects (λ r. Has numbered r × Tells rules r) telling → Decides (AtMostOne telling) one → one ≡ false → Collects (ToldAtom rules numbered) which
+    → word ≡ atom SUMS_PLACE → Marked WOKEN_WORDS which word before after → Adds (WakesTold rules numbered) before after
+told-added rules numbered {telling} {which} {word} c o f d e m = adds-iff into from m
   where
     into : (i q : ℕ) → NotedAt WOKEN_WORDS which word i q → WakesTold rules numbered i q
     into i q k = record {
       telling = telling;
       are-telling = c;
-      several = n;
+      several = o .no f;
       atom = k .atom;
       of-rule = d .each (k .atom) (k .in-set);
       at = k .place;
@@ -179,9 +179,9 @@ told-added rules numbered {telling} {which} {word} c n d e m = adds-iff into fro
     }
 
 -- fewer
-pub told-left : {rules : List ℕ} {numbered telling : ℕ} {table : List ℕ} → Collects (λ r. Has numbered r × Tells rules r) telling → AtMostOne telling
-    → Adds (WakesTold rules numbered) table table
-told-left c one = adds-none (λ i q k. k .several (subst AtMostOne (collects-same c (k .are-telling)) one))
+pub told-left : {rules : List ℕ} {numbered telling : ℕ} {one : Bool} {table : List ℕ} → Collects (λ r. Has numbered r × Tells rules r) telling
+    → Decides (AtMostOne telling) one → one ≡ true → Adds (WakesTold rules numbered) table table
+told-left c o t = adds-none (λ i q k. k .several (subst AtMostOne (collects-same c (k .are-telling)) (o .yes t)))
 
 -- ---- all of it
 

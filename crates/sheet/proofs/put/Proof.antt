@@ -29,8 +29,7 @@ pub put-spec : {M : Type 1} → statement M
 put-spec =
     tie.close
     (tie.spec
-    Inv-loop
-    μ-loop
+    Inv-loop μ-loop
     (λ c. search (put-nothing, needs))
     (λ c. search needs)
     (λ c. omega arith)

@@ -17,4 +17,9 @@ returns c = search (put-positionLine, needs)
 pub put-line-spec : {M : Type 1} → statement M
 put-line-spec =
     tie.close
-    (tie.spec put-hexadecimal-requires (λ c. search needs) (λ c κs. omega (arith, simp length-hexadecimal at (c .before .before .before .before .put-hexadecimal .ensures .behind))) (λ c. search needs) returns)
+    (tie.spec
+    put-hexadecimal-requires
+    (λ c. search needs)
+    (λ c κs. omega (arith, simp length-hexadecimal at (c .before .before .before .before .put-hexadecimal .ensures .behind)))
+    (λ c. search needs)
+    returns)

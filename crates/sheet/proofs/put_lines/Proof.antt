@@ -45,8 +45,7 @@ pub put-lines-spec : {M : Type 1} → statement M
 put-lines-spec =
     tie.close
     (tie.spec
-    Inv-loop
-    μ-loop
+    Inv-loop μ-loop
     (λ c. search (put-no-line, needs))
     (λ c. omega arith)
     (λ c. omega arith)

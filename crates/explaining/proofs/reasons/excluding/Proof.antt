@@ -22,8 +22,7 @@ pub excluding-spec : {M : Type 1} → statement M
 excluding-spec =
     tie.close
     (tie.spec
-    Inv-loop
-    μ-loop
+    Inv-loop μ-loop
     (λ c. subset-refl)
     (λ c κs. search needs)
     excluded-by-requires

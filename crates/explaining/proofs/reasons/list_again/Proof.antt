@@ -8,7 +8,6 @@ pub list-again-spec : {M : Type 1} → statement M
 list-again-spec =
     tie.close
     (tie.spec
-    (λ c κs. search needs)
-    (λ c. search needs)
+    (λ c κs. search needs) (λ c. search needs)
     (λ c κs. search (full-filtered, needs))
     (λ c. search needs))

@@ -13,8 +13,6 @@ pub numbered-atoms-spec : {M : Type 1} → statement M
 numbered-atoms-spec =
     tie.close
     (tie.spec
-    (λ c κs. search needs)
-    (λ c κs. search needs)
-    (λ c. search needs)
+    (λ c κs. search needs) (λ c κs. search needs) (λ c. search needs)
     rule-atoms-requires
     (λ c. search needs))

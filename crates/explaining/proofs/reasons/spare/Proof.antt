@@ -7,8 +7,6 @@ pub spare-spec : {M : Type 1} → statement M
 spare-spec =
     tie.close
     (tie.spec
-    (λ c κs. search needs)
-    (λ c κs. search needs)
-    (λ c κs. search needs)
+    (λ c κs. search needs) (λ c κs. search needs) (λ c κs. search needs)
     (λ c. c .before .still-tells .ensures (c .if1 .taken))
     (λ c. search needs))

@@ -18,10 +18,7 @@ pub spare-each-spec : {M : Type 1} → statement M
 spare-each-spec =
     tie.close
     (tie.spec
-    Inv-loop
-    μ-loop
-    (λ c. search needs)
-    (λ c κs. search needs)
+    Inv-loop μ-loop (λ c. search needs) (λ c κs. search needs)
     (λ c κs. search (told-own, needs))
     (λ c κs. search needs)
     (λ c. search (taken-less, needs))

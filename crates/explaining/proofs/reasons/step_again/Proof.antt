@@ -6,75 +6,40 @@ use Rattle.learning.specs.Store.{PAIRS}
 use Rattle.joining.proofs.JoinedLists.{joinable-some}
 use Rattle.propagating.proofs.Propagation.{lists-narrow, rules-narrow, linked-narrow, satisfying-wired, table-narrows, sums-narrow}
 use Rattle.learning.proofs.HeededSteps.{heeds-narrows, pairs-narrow, pair-narrows}
+use Rattle.propagating.proofs.DecodedSteps.{decoded-rule, decoded-atom, decoded-list, decoded-table, decoded-pair}
 use Rattle.propagating.proofs.Desks.{pilot-at, pilots-long}
 use borrow.Author.Needs.{needs}
 use Rattle.explaining.proofs.reasons.step_again.Statement.{statement}
 use Rattle.explaining.proofs.reasons.step_again.Tie as tie
 
-abbrev start : tie.After-decode → tie.Start
-start c = c .before .before .before .before .before .before .before
-
-apply-rule-requires : tie.Need-apply-rule-requires
-apply-rule-requires c κs =
-    let decoded = c .before .before .before .before in
-    (search needs, (rw (c .before .before .rule .given .1) at (decoded .decode .ensures)) .0)
-
-apply-support-requires : tie.Need-apply-support-requires
-apply-support-requires c κs =
-    let decoded = c .before .before .before .before .before in
-    let ready = start decoded .pre .0 in
-    (search needs, ready .backed, (rw (c .before .before .before .atom .given .1) at (decoded .decode .ensures)) .0)
-
-list-again-requires : tie.Need-list-again-requires
-list-again-requires c κs =
-    let decoded = c .before .before .before in
-    (search (joinable-some, needs), (rw (c .before .list .given .1) at (decoded .decode .ensures)) .0)
-
 -- the table is one that there may be
 few : (c : tie.After-known-told4) → c .before .t .given .0 .0 < MAX_TABLES
-few c = (rw (c .before .t .given .1) at (c .before .before .before .decode .ensures)) .0
+few c = search (decoded-table, needs)
 
 -- the pair is one of the memory
 in-memory : (c : tie.After-known-told5) → c .before .i .given .0 .0 < PAIRS
-in-memory c = (rw (c .before .i .given .1) at (c .before .before .before .decode .ensures)) .0
+in-memory c = search (decoded-pair, needs)
 
 pub step-again-spec : {M : Type 1} → statement M
 step-again-spec =
     tie.close
     (tie.spec
-    (λ c κs. search needs)
+    (λ c κs. search needs) (λ c. search needs) (λ c. search needs) (λ c. search needs) (λ c. search needs)
+    (λ c κs. search (decoded-rule, needs))
+    (λ c. search needs) (λ c. search needs) (λ c. search needs) (λ c. search needs) (λ c. search needs) (λ c. search needs) (λ c. search needs)
+    (λ c κs. search (decoded-atom, needs))
     (λ c. search needs)
-    (λ c. search needs)
-    (λ c. search needs)
-    (λ c. search needs)
-    apply-rule-requires
-    (λ c. search needs)
-    (λ c. search needs)
-    (λ c. search needs)
-    (λ c. search needs)
-    (λ c. search needs)
-    (λ c. search needs)
-    (λ c. search needs)
-    apply-support-requires
-    (λ c. search needs)
-    list-again-requires
-    (λ c. search needs)
-    (λ c κs. search needs)
-    (λ c. search needs)
+    (λ c κs. search (joinable-some, decoded-list, needs))
+    (λ c. search needs) (λ c κs. search needs) (λ c. search needs)
     (λ c. omega (arith, few c))
     (λ c. omega (arith, few c))
-    (λ c. omega (arith, few (c .before), start (c .before .before .before .before) .pre .0 .long))
+    (λ c. omega (arith, few (c .before)))
     (λ c κs. search (few, needs))
-    (λ c. search needs)
-    (λ c. search needs)
-    (λ c. search needs)
-    (λ c. search needs)
+    (λ c. search needs) (λ c. search needs) (λ c. search needs) (λ c. search needs)
     (λ c κs. search (pilots-long, needs))
     (λ c. search needs)
     (λ c κs. search (in-memory, needs))
-    (λ c κs. search needs)
-    (λ c. search needs)
-    (λ c κs. search needs)
+    (λ c κs. search needs) (λ c. search needs) (λ c κs. search needs)
     (λ c. search (heeds-narrows, satisfying-wired, needs))
     (λ c. search (heeds-narrows, linked-narrow, needs))
     (λ c. search (heeds-narrows, lists-narrow, needs))

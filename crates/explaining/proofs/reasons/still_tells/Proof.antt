@@ -12,6 +12,5 @@ pub still-tells-spec : {M : Type 1} → statement M
 still-tells-spec =
     tie.close
     (tie.spec
-    (λ c κs. search needs)
-    (λ c κs. search needs)
+    (λ c κs. search needs) (λ c κs. search needs)
     returns)

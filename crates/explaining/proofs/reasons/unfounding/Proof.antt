@@ -22,8 +22,7 @@ pub unfounding-spec : {M : Type 1} → statement M
 unfounding-spec =
     tie.close
     (tie.spec
-    Inv-loop
-    μ-loop
+    Inv-loop μ-loop
     (λ c. subset-refl)
     (λ c κs. search needs)
     unfounded-by-requires

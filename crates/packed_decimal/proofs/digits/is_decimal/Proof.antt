@@ -15,4 +15,10 @@ abbrev μ-loop : tie.MeasureT-loop
 pub is-decimal-spec : {M : Type 1} → statement M
 is-decimal-spec =
     tie.close
-    (tie.spec Inv-loop μ-loop (λ c. testing-start _ _) (λ c. search (testing-bad, needs)) (λ c. search needs) (λ c. search needs) (λ c. search (testing-more, needs)) (λ c. search (testing-all, needs)))
+    (tie.spec
+    Inv-loop μ-loop
+    (λ c. testing-start _ _)
+    (λ c. search (testing-bad, needs))
+    (λ c. search needs) (λ c. search needs)
+    (λ c. search (testing-more, needs))
+    (λ c. search (testing-all, needs)))

@@ -32,15 +32,13 @@ pub respell-spec : {M : Type 1} → statement M
 respell-spec =
     tie.close
     (tie.spec
-    Inv-loop
-    μ-loop
+    Inv-loop μ-loop
     (λ c. respelling-start _ _ _ _)
     (λ c. search needs)
     mul-result
     add-result
     (λ c. search needs)
     mul-place
-    (λ c. search needs)
-    (λ c. search needs)
+    (λ c. search needs) (λ c. search needs)
     (λ c. search (respelling-more, needs))
     (λ c. search (respelling-all, needs)))

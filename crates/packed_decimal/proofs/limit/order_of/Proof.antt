@@ -6,4 +6,11 @@ use Rattle.packed_decimal.proofs.limit.order_of.Statement.{statement}
 use Rattle.packed_decimal.proofs.limit.order_of.Tie as tie
 
 pub order-of-spec : {M : Type 1} → statement M
-order-of-spec = tie.close (tie.spec (λ c. search (order-unmeasured-left, unmeasured-says, needs)) (λ c. search (order-unmeasured-right, unmeasured-says, needs)) (λ c. search (words-below, measured-word, needs)) (λ c. search (words-above, measured-word, needs)) (λ c. search (words-equal, measured-word, needs)))
+order-of-spec =
+    tie.close
+    (tie.spec
+    (λ c. search (order-unmeasured-left, unmeasured-says, needs))
+    (λ c. search (order-unmeasured-right, unmeasured-says, needs))
+    (λ c. search (words-below, measured-word, needs))
+    (λ c. search (words-above, measured-word, needs))
+    (λ c. search (words-equal, measured-word, needs)))

@@ -34,8 +34,7 @@ sum-of-spec =
     (λ c. search (sum-unmeasured-left, unmeasured-says, needs))
     (λ c κs. search needs)
     (λ c. search (sum-unmeasured-right, unmeasured-says, needs))
-    (λ c κs. search needs)
-    (λ c κs. search needs)
+    (λ c κs. search needs) (λ c κs. search needs)
     add-total
     (λ c κs. search needs)
     returns-3

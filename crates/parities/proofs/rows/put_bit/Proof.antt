@@ -10,6 +10,5 @@ put-bit-spec =
     (tie.spec
     (λ c κs. search needs)
     (λ c. search (bit-none-put, needs))
-    (λ c κs. search needs)
-    (λ c κs. search needs)
+    (λ c κs. search needs) (λ c κs. search needs)
     (λ c. search (bit-one-put, needs)))

@@ -38,14 +38,11 @@ pub gather-all-told-spec : {M : Type 1} → statement M
 gather-all-told-spec =
     tie.close
     (tie.spec
-    Inv-loop
-    μ-loop
-    (λ c κs. search needs)
+    Inv-loop μ-loop (λ c κs. search needs)
     (λ c. carrying-start gathered-refl)
     (λ c κs. search needs)
     gather-told-requires
     (λ c κs. search needs)
     (λ c. search (taken-less, needs))
     loop-again
-    (λ c. search needs)
-    (λ c. search needs))
+    (λ c. search needs) (λ c. search needs))

@@ -31,8 +31,7 @@ gather-row-spec =
     let at = start (c .before) in
     (c .before .is-parity-table .ensures .yes (not-false _ (c .if1 .left)) .there, at .pre .0, at .pre .1))
     (λ c κs. search (row-bit-small, needs))
-    (λ c. search needs)
-    (λ c. search needs)
+    (λ c. search needs) (λ c. search needs)
     (λ c κs. search (open-bit-small, needs))
     (λ c. search needs)
     returns-2)

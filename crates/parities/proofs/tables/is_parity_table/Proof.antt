@@ -9,11 +9,7 @@ is-parity-table-spec =
     tie.close
     (tie.spec
     (λ c. search (not-lent, needs))
-    (λ c. search needs)
-    (λ c. search needs)
-    (λ c κs. search needs)
+    (λ c. search needs) (λ c. search needs) (λ c κs. search needs)
     (λ c. search (not-piloted, needs))
-    (λ c κs. search needs)
-    (λ c κs. search needs)
-    (λ c κs. search needs)
+    (λ c κs. search needs) (λ c κs. search needs) (λ c κs. search needs)
     (λ c. search (piloted-parity, needs)))

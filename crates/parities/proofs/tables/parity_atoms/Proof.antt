@@ -16,9 +16,7 @@ pub parity-atoms-spec : {M : Type 1} → statement M
 parity-atoms-spec =
     tie.close
     (tie.spec
-    Inv-loop
-    μ-loop
-    (λ c κs. search needs)
+    Inv-loop μ-loop (λ c κs. search needs)
     (λ c. search (gathering-start, needs))
     (λ c κs. search needs)
     (λ c κs. let t = gathering-lent (c .before .before .loop .inv) (c .lowest .ensures .0) in (t .there, t .number))
@@ -28,9 +26,7 @@ parity-atoms-spec =
     let l = gathering-lent (low .before .before .loop .inv) (low .lowest .ensures .0) .number in
     let e = low .before .before .before .before .before .before .pre in
     search needs)
-    (λ c κs. search needs)
-    (λ c κs. search needs)
-    (λ c κs. search needs)
+    (λ c κs. search needs) (λ c κs. search needs) (λ c κs. search needs)
     (λ c. search (taken-less, needs))
     (λ c. search (gathering-next, needs))
     (λ c. search (gathering-end, needs)))

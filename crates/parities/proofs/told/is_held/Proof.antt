@@ -10,9 +10,7 @@ pub is-held-spec : {M : Type 1} → statement M
 is-held-spec =
     tie.close
     (tie.spec
-    (λ c κs. search needs)
-    (λ c κs. search needs)
+    (λ c κs. search needs) (λ c κs. search needs)
     (λ c t. absurd (false≢true t))
-    (λ c κs. search needs)
-    (λ c κs. search needs)
+    (λ c κs. search needs) (λ c κs. search needs)
     (λ c t. search (held-when, not-false, needs)))

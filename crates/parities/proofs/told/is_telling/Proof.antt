@@ -34,15 +34,11 @@ is-telling-spec =
     (tie.spec
     (λ c κs. search needs)
     (λ c. search (some-head, needs))
-    (λ c κs. search needs)
-    (λ c κs. search needs)
-    (λ c κs. search needs)
+    (λ c κs. search needs) (λ c κs. search needs) (λ c κs. search needs)
     (λ c. search (no-use, needs))
     (λ c κs. search needs)
     returns-3
     (λ c κs. search needs)
     (λ c κs. search (use-small, needs))
-    (λ c κs. search needs)
-    (λ c κs. search needs)
-    (λ c κs. search needs)
+    (λ c κs. search needs) (λ c κs. search needs) (λ c κs. search needs)
     returns-4)

@@ -16,14 +16,11 @@ pub telling-atoms-spec : {M : Type 1} → statement M
 telling-atoms-spec =
     tie.close
     (tie.spec
-    Inv-loop
-    μ-loop
-    (λ c κs. search needs)
+    Inv-loop μ-loop (λ c κs. search needs)
     (λ c. search (told-start, needs))
     (λ c κs. search needs)
     (λ c κs. let loop = c .before .before in loop .before .before .before .pre .each _ (told-numbered (loop .loop .inv) (c .lowest .ensures .0)))
-    (λ c κs. search needs)
-    (λ c κs. search needs)
+    (λ c κs. search needs) (λ c κs. search needs)
     (λ c. search (taken-less, needs))
     (λ c. search (told-next, needs))
     (λ c. search (told-end, needs)))

@@ -18,14 +18,11 @@ pub telling-rules-spec : {M : Type 1} → statement M
 telling-rules-spec =
     tie.close
     (tie.spec
-    Inv-loop
-    μ-loop
+    Inv-loop μ-loop
     (λ c. chosen-start)
     (λ c κs. search needs)
     (λ c κs. let loop = c .before .before in loop .before .before .pre .each _ (taken-lent (loop .loop .inv .within) (c .lowest .ensures .0)))
-    (λ c κs. search needs)
-    (λ c κs. search needs)
-    (λ c κs. search needs)
+    (λ c κs. search needs) (λ c κs. search needs) (λ c κs. search needs)
     (λ c. search (taken-less, needs))
     (λ c. search (chosen-next, needs))
     (λ c. chosen-end (c .before .loop .inv) (c .loop-test .left)))

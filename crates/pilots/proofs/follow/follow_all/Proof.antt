@@ -17,16 +17,11 @@ pub follow-all-spec : {M : Type 1} → statement M
 follow-all-spec =
     tie.close
     (tie.spec
-    Inv-loop
-    μ-loop
-    (λ c κs. search needs)
+    Inv-loop μ-loop (λ c κs. search needs)
     (λ c. none-follow (c .before .are-none .ensures .yes (c .if1 .taken)))
     (λ c. followed-start)
-    (λ c. search needs)
-    (λ c. search needs)
-    (λ c κs. search needs)
+    (λ c. search needs) (λ c. search needs) (λ c κs. search needs)
     (λ c. not-followed (search needs) (c .before .follows .ensures .no (not-true _ (c .if2 .taken))))
-    (λ c. search needs)
-    (λ c. search needs)
+    (λ c. search needs) (λ c. search needs)
     (λ c. followed-next (search needs) (c .before .follows .ensures .yes (not-false _ (c .if2 .left))))
     (λ c. search (followed-end, needs)))

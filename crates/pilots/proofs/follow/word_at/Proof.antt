@@ -11,6 +11,4 @@ word-at-spec =
     tie.close
     (tie.spec
     (λ c. sym (List·getD-eq-default (now (c .before .args .words)) 0 (c .if1 .taken)))
-    (λ c. search needs)
-    (λ c. search needs)
-    (λ c. search needs))
+    (λ c. search needs) (λ c. search needs) (λ c. search needs))

@@ -26,8 +26,7 @@ pub link-all-spec : {M : Type 1} → statement M
 link-all-spec =
     tie.close
     (tie.spec
-    Inv-loop
-    μ-loop
+    Inv-loop μ-loop
     (λ c. linking-start)
     (λ c κs. search needs)
     link-rule-requires

@@ -8,11 +8,8 @@ pub tell-pilot-spec : {M : Type 1} → statement M
 tell-pilot-spec =
     tie.close
     (tie.spec
-    (λ c κs. search needs)
-    (λ c κs. search needs)
-    (λ c κs. search needs)
+    (λ c κs. search needs) (λ c κs. search needs) (λ c κs. search needs)
     (λ c. search (all-true, tested-within, needs))
-    (λ c κs. search needs)
-    (λ c κs. search needs)
+    (λ c κs. search needs) (λ c κs. search needs)
     (λ c. search (all-false, tested-apart, needs))
     (λ c. search needs))

@@ -27,14 +27,11 @@ pub note-founded-spec : {M : Type 1} → statement M
 note-founded-spec =
     tie.close
     (tie.spec
-    Inv-loop
-    μ-loop
-    (λ c κs. search needs)
+    Inv-loop μ-loop (λ c κs. search needs)
     (λ c. search (adding-start, needs))
     (λ c κs. search needs)
     looped-rule-requires
-    (λ c κs. search needs)
-    (λ c κs. search needs)
+    (λ c κs. search needs) (λ c κs. search needs)
     (λ c. search (taken-less, needs))
     (λ c. search (adding-next, founded-added, needs))
     (λ c. search needs)

@@ -26,15 +26,12 @@ pub note-lists-spec : {M : Type 1} → statement M
 note-lists-spec =
     tie.close
     (tie.spec
-    Inv-loop
-    μ-loop
+    Inv-loop μ-loop
     (λ c. adding-start)
     (λ c κs. search needs)
     (λ c. search (taken-lt, needs))
     (λ c. omega (arith, inside (c .before .before), c .before .before .before .before .before .before .before .pre .0))
-    (λ c κs. search needs)
-    (λ c κs. search needs)
-    (λ c κs. search needs)
+    (λ c κs. search needs) (λ c κs. search needs) (λ c κs. search needs)
     (λ c. search (taken-less, needs))
     (λ c. search (adding-next, list-added, needs))
     (λ c. search needs)

@@ -19,12 +19,9 @@ pub note-tables-spec : {M : Type 1} → statement M
 note-tables-spec =
     tie.close
     (tie.spec
-    Inv-loop
-    μ-loop
+    Inv-loop μ-loop
     (λ c. (tables-start, omega arith))
-    (λ c κs. search needs)
-    (λ c. search needs)
-    (λ c. search needs)
+    (λ c κs. search needs) (λ c. search needs) (λ c. search needs)
     (λ c. search (tables-next, needs))
     (λ c. search needs)
     (λ c. search (tables-end, needs)))

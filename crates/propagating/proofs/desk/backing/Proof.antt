@@ -14,8 +14,5 @@ pub backing-spec : {M : Type 1} → statement M
 backing-spec =
     tie.close
     (tie.spec
-    (λ c. search needs)
-    (λ c. search needs)
-    (λ c. search needs)
-    (λ c κs. search needs)
+    (λ c. search needs) (λ c. search needs) (λ c. search needs) (λ c κs. search needs)
     (λ c. (cut-within _ _ (c .cut .ensures), c .cut .ensures)))

@@ -37,19 +37,13 @@ pub run-agenda-spec : {M : Type 1} → statement M
 run-agenda-spec =
     tie.close
     (tie.spec
-    Inv-loop
-    μ-loop
+    Inv-loop μ-loop
     (λ c. search (narrows-refl, same-pairs, needs))
     (λ c κs. search needs)
     take-requires
-    (λ c κs. search needs)
-    (λ c κs. search needs)
-    (λ c. search needs)
-    (λ c. search needs)
+    (λ c κs. search needs) (λ c κs. search needs) (λ c. search needs) (λ c. search needs)
     index-ends
     (λ c κs. search needs)
     (λ c. search (propagation-falls, needs))
     (λ c. search (narrows-trans, same-trans, needs))
-    (λ c. search needs)
-    (λ c. search needs)
-    (λ c. search needs))
+    (λ c. search needs) (λ c. search needs) (λ c. search needs))

@@ -7,4 +7,10 @@ use Rattle.questions.proofs.words.count_words.Tie as tie
 pub count-words-spec : {M : Type 1} → statement M
 count-words-spec =
     tie.close
-    (tie.spec (λ c. search (refused-words, needs)) (λ c κs. search (whole-third, needs)) (λ c κs. search needs) (λ c κs. search (whole-third, needs)) (λ c. search needs) (λ c. search (filled-words, whole-third, needs)))
+    (tie.spec
+    (λ c. search (refused-words, needs))
+    (λ c κs. search (whole-third, needs))
+    (λ c κs. search needs)
+    (λ c κs. search (whole-third, needs))
+    (λ c. search needs)
+    (λ c. search (filled-words, whole-third, needs)))

@@ -19,21 +19,16 @@ pub take-words-spec : {M : Type 1} → statement M
 take-words-spec =
     tie.close
     (tie.spec
-    Inv-loop
-    μ-loop
+    Inv-loop μ-loop
     loop-holds
-    (λ c. search needs)
-    (λ c. search needs)
+    (λ c. search needs) (λ c. search needs)
     (λ c. omega (arith, words-within (c .before .before .loop .inv .whole) (c .before .loop-test .taken)))
     (λ c. search needs)
     (λ c. search (up-long, needs))
-    (λ c. search needs)
-    (λ c. search needs)
-    (λ c. search needs)
+    (λ c. search needs) (λ c. search needs) (λ c. search needs)
     (λ c. omega (arith, words-within (c .before .before .before .loop .inv .whole) (c .before .before .loop-test .taken)))
     (λ c. search needs)
     (λ c. search (dropped-long, needs))
-    (λ c. search needs)
-    (λ c. search needs)
+    (λ c. search needs) (λ c. search needs)
     (λ c. search (taken-more, needs))
     (λ c. search (taken-end, needs)))

@@ -56,11 +56,7 @@ pub exchanged-row-spec : {M : Type 1} → statement M
 exchanged-row-spec =
     tie.close
     (tie.spec
-    (λ c κs. search needs)
-    (λ c κs. search needs)
-    (λ c κs. search needs)
-    (λ c. search needs)
-    (λ c. search needs)
+    (λ c κs. search needs) (λ c κs. search needs) (λ c κs. search needs) (λ c. search needs) (λ c. search needs)
     mul-low-row-2
     shared-slice-read-low-row-2
     (λ c κs. search (half-lt, needs))
@@ -68,7 +64,6 @@ exchanged-row-spec =
     (λ c κs. search needs)
     (λ c. omega (arith, high-across (c .before .before .before .before .before .pre) (c .before .before .before .single .ensures) (c .without .ensures)))
     shared-slice-read-high-row
-    (λ c. search needs)
-    (λ c. search needs)
+    (λ c. search needs) (λ c. search needs)
     (λ c κs. search (half-lt, needs))
     returns-2)

@@ -32,17 +32,14 @@ pub write-block-spec : {M : Type 1} → statement M
 write-block-spec =
     tie.close
     (tie.spec
-    Inv-loop
-    μ-loop
+    Inv-loop μ-loop
     loop-holds
-    (λ c. search needs)
-    (λ c. search needs)
+    (λ c. search needs) (λ c. search needs)
     (λ c. omega (arith, long c))
     (λ c. omega (arith, long c))
     (λ c. search (long, needs))
     slice-write-area
-    (λ c. search needs)
-    (λ c. search needs)
+    (λ c. search needs) (λ c. search needs)
     (λ c. search (scattering-more, needs))
     (λ c. search needs)
     (λ c. search (scattering-end, needs)))

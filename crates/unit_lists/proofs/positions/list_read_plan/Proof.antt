@@ -45,9 +45,7 @@ pub list-read-plan-spec : {M : Type 1} → statement M
 list-read-plan-spec =
     tie.close
     (tie.spec
-    (λ c κs. search needs)
-    (λ c. search needs)
-    (λ c κs. search needs)
+    (λ c κs. search needs) (λ c. search needs) (λ c κs. search needs)
     returns
     (λ c. search needs)
     unit-work-requires

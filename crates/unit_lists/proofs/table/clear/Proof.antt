@@ -37,9 +37,7 @@ pub clear-spec : {M : Type 1} → statement M
 clear-spec =
     tie.close
     (tie.spec
-    Inv-loop
-    μ-loop
-    (λ c. search needs)
+    Inv-loop μ-loop (λ c. search needs)
     (λ c. omega arith)
     (λ c. omega arith)
     (λ c. omega arith)

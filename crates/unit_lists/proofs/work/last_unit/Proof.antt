@@ -33,10 +33,8 @@ pub last-unit-spec : {M : Type 1} → statement M
 last-unit-spec =
     tie.close
     (tie.spec
-    (λ c κs. search needs)
-    (λ c. search needs)
+    (λ c κs. search needs) (λ c. search needs)
     union-of-requires
-    (λ c κs. search needs)
-    (λ c. search needs)
+    (λ c κs. search needs) (λ c. search needs)
     nearest-requires
     returns)

@@ -68,8 +68,7 @@ pub list-units-spec : {M : Type 1} → statement M
 list-units-spec =
     tie.close
     (tie.spec
-    Inv-loop
-    μ-loop
+    Inv-loop μ-loop
     loop-holds
     (λ c κs. search needs)
     (λ c. search (held-long, needs))
@@ -83,8 +82,7 @@ list-units-spec =
     let done = c .before .before .before .before .before in
     done .list-unit .kept .1 .1 .1 .1 .0 ∙ counts-kept (turn (found (listed done))))
     returns-2
-    (λ c κs. search needs)
-    (λ c κs. search needs)
+    (λ c κs. search needs) (λ c κs. search needs)
     (λ c. omega arith)
     (λ c. omega arith)
     loop-again
