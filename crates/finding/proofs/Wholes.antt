@@ -1,11 +1,11 @@
 -- A whole program as one unit: what belongs to it are its answer sets, and so is what is wired, without the pilots.
-use mathlib.Core.Path.{_≡_, refl, sym, ap, subst}
+use mathlib.Core.Path.{_≡_, refl, sym, ap, _∙_, subst}
 use mathlib.Core.Logic.{_⊎_, inl, inr}
 use mathlib.Core.List.{List, []}
-use Prim.Native.Nat.{ℕ, zero, suc, _^_, _<_}
+use Prim.Native.Nat.{ℕ, zero, suc, _+_, _-_, _*_, _^_, _<_, min}
 use native.Mathlib.Omega.{arith}
-use lib.ListN.{getD, replicate}
-use Rattle.atoms.specs.Word.{ATOMS, Has, _⊆_, Apart, _∩_, _∪_, _∖_, outside}
+use lib.ListN.{getD, replicate, length-replicate}
+use Rattle.atoms.specs.Word.{ATOMS, Has, _⊆_, Apart, _∩_, _∪_, _∖_, outside, below}
 use Rattle.atoms.proofs.Tests.{and-true, decided-true}
 use Rattle.atoms.proofs.Sets.{ext, has-cut, cut-right, has-none, has-left, has-right, has-without, without-left, without-right, union-cases}
 use Rattle.atoms.proofs.Sets.{decides-subset}
@@ -23,6 +23,7 @@ use Rattle.learning.specs.Reason.{Remembers}
 use Rattle.propagating.specs.Job.{Belongs, Searchable}
 use Rattle.propagating.specs.Desk.{pilotsOf, LaidOut, Prepared, Wired}
 use Rattle.propagating.specs.declared.unit.Unit.{Unit}
+use Rattle.joining.specs.Filter.{BLOCKS, FILTER_WORDS, Full}
 use Rattle.joining.proofs.JoinedLists.{joins-none}
 use Rattle.searching.specs.Spare.{withInputs, allPilots, Piloted, AllDown}
 use Rattle.searching.specs.Witness.{Witnessed, met, none}
@@ -45,6 +46,17 @@ zero-at : (n v : ℕ) → getD (replicate {A = ℕ} n 0) v 0 ≡ 0
 zero-at zero v = refl
 zero-at (suc n) zero = refl
 zero-at (suc n) (suc v) = zero-at n v
+
+-- where there are no lists the filter of all entries has none
+pub no-lists-full : Full noLists (replicate {A = ℕ} FILTER_WORDS 0)
+unfolding below
+no-lists-full = record {
+  long = length-replicate {A = ℕ} FILTER_WORDS 0;
+  each = λ v k l f. zero-at FILTER_WORDS (BLOCKS * v + k) ∙ sym (ap below (none v k));
+}
+  where
+    none : (v k : ℕ) → min ATOMS (getD noLists v 0 - ATOMS * k) ≡ 0
+    none v k = omega (arith, zero-at MAX_UNITS v)
 
 module _ {rules heads : List ℕ} {which facts : ℕ} where
   belongs-settled : {M : ℕ} → facts ⊆ M → Belongs rules [] noLists heads (wholeOf which facts) M → Settled rules which facts M

@@ -8,7 +8,7 @@ use crate::least::From;
 use crate::least::is_behind;
 use crate::least::put;
 use crate::near::gather_nearest;
-use joining::filter::full_filter;
+use joining::filter::FILTER_WORDS;
 use learning::store::empty_store;
 use plan::MAX_UNITS;
 use propagating::Unit;
@@ -151,7 +151,7 @@ fn step_down(
     }
     let table = [0u64; 0];
     let counts = [0usize; MAX_UNITS];
-    let mut filter = full_filter(&counts);
+    let mut filter = [0u64; FILTER_WORDS];
     let g = onward(desk, f, t);
     propagate(rules, &table, &counts, desk, unit, memory, &mut filter, g)
 }

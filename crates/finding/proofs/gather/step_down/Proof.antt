@@ -3,6 +3,7 @@ use Rattle.states.proofs.Narrows.{narrows-refl}
 use Rattle.joining.proofs.JoinedLists.{joinable-some}
 use Rattle.joining.proofs.Filters.{full-filtered}
 use borrow.Author.Needs.{needs}
+use Rattle.finding.proofs.Wholes.{no-lists-full}
 use Rattle.finding.proofs.gather.step_down.Statement.{statement}
 use Rattle.finding.proofs.gather.step_down.Tie as tie
 
@@ -13,19 +14,19 @@ returns c =
 
 propagate-requires : tie.Need-propagate-requires
 propagate-requires c κs =
-    let full = c .before .before .before .before .before in
-    let pre = full .before .before .before .before .before .before .before .before .before .before .before .pre .0 in
+    let decided = c .before .before .before .before .before .before .before .before .before .before in
+    let pre = decided .before .before .before .before .pre .0 in
     let ready = pre .serves .prepared in (
       ready,
       pre .remembers,
-      full-filtered _ _ _ _ _ _ (joinable-some (ready .searchable .near) (ready .searchable .joinable)) (full .full-filter .ensures),
+      full-filtered _ _ _ _ _ _ (joinable-some (ready .searchable .near) (ready .searchable .joinable)) no-lists-full,
     )
 
 returns-2 : tie.Need-returns-2
 returns-2 c =
     let done = c .before .before .before in
     let here-on = done .before .before .before .before .before in
-    let decided = here-on .before .before .before .before .before .before .before .before in
+    let decided = here-on .before .before .before .before .before .before in
     let told = rw (here-on .onward .ensures, decided .decide .ensures) at (done .propagate .ensures) in
     (told .0, told .1 .1)
 
@@ -38,9 +39,7 @@ step-down-spec =
     (λ c κs. search needs)
     (λ c κs. search needs)
     returns
-    (λ c. search needs)
-    (λ c κs. search needs)
-    (λ c κs. c .before .before .before .before .before .before .before .before .before .before .before .pre .0 .serves .prepared .long)
+    (λ c κs. c .before .before .before .before .before .before .before .before .before .pre .0 .serves .prepared .long)
     (λ c. search needs)
     (λ c. search needs)
     (λ c. search needs)

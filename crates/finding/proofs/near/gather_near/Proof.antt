@@ -38,7 +38,8 @@ returns-3 c =
     let hidden = high .before in
     let start = hidden .before .before .before .before .before .before .before .before in
     let pre = start .pre in (
-      reaches-near (start .args .near .bound) (pre .0) (pre .1) (rw (high .high-free .ensures, hidden .without .ensures) at (last .last-like .ensures)) (behind .is-behind .ensures)
+      reaches-near (start .args .near .bound) (pre .0) (pre .1)
+          (rw (high .high-free .ensures, hidden .without .ensures) at (last .last-like .ensures)) (behind .is-behind .ensures)
           (like .before .if2 .left)
           (rw (on .onward .ensures, like .like-place .ensures, high .high-free .ensures, hidden .without .ensures) at (done .gather .ensures .0)),
       stands-still (pre .0) (done .gather .ensures .1 .remembers),
