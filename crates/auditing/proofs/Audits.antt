@@ -18,20 +18,17 @@ use Rattle.atoms.proofs.Lists.{member-getD, index-of}
 use Rattle.plan.specs.Record.{Fitting}
 use Rattle.plan.specs.declared.record.Plan.{Plan}
 use Rattle.plan.specs.declared.fault.Fault.{Fault}
-use Rattle.plan.specs.declared.fault.Outcome.{Outcome}
 use Rattle.plan.specs.declared.fault.Outcome.the-variants.{Accepted, Refused as RefusedWith}
 use Rattle.reading.specs.Layout.{IsByte, All}
 use Rattle.reading.specs.Reading.{reading}
 use Rattle.reading.specs.declared.reader.Reading.{Reading}
-use Rattle.reading.proofs.Limits.{record-fits}
 use Rattle.plan_meaning.specs.Settled.{Settles, settled}
 use Rattle.judge.specs.Sheets.{MAX_POSITIONS, badBytes, positionsIn, positionAt, Laid, SheetJudged}
 use Rattle.judge.specs.Sheets.{Right as SheetRight, all-settled, first-not, sheetCode}
 use Rattle.judge.specs.declared.sheet.SheetAnswer.{SheetAnswer}
 use Rattle.judge.proofs.Settled.{decides-settled}
-use Rattle.plan_meaning.proofs.AnswerSetsMean.{read-means}
-use Rattle.judge.proofs.JudgedSheets.{decides-no-sheet, laid-count, laid-at, laid-is-sheet, sheet-laid}
-use Rattle.demands.proofs.Answers.{not-accepted}
+use Rattle.plan_meaning.proofs.AskedPlans.{refused-answered, read-fits}
+use Rattle.judge.proofs.JudgedSheets.{decides-no-sheet, laid-count, laid-at, sheet-laid, bad-answered, sheet-answered}
 use Rattle.searching.specs.declared.witness.Witness.{Witness}
 use Rattle.searching.specs.declared.witness.Witness.the-variants.{Member, Nothing}
 use Rattle.finding.specs.Least.{LeastOf, least, none as no-least, from-start}
@@ -41,7 +38,7 @@ use Rattle.finding.proofs.AddedWords.{added-iff}
 use Rattle.finding.proofs.Leasts.{least-only, lowest-met, lowest-missed}
 use Rattle.stepping.specs.Followed.{mayBeUp}
 use Rattle.stepping.proofs.Nexts.{may-be-up}
-use Rattle.auditing.specs.Audit.{OnSheet, WordsRead, onSheet, lacking, missingIn, audited}
+use Rattle.auditing.specs.Audit.{OnSheet, WordsRead, onSheet, lacking, missingIn}
 use Rattle.auditing.specs.Audit.{IsFull, Right, is-full, lacks-first, Audited}
 use Rattle.auditing.specs.declared.Audit.{Audit}
 use Rattle.auditing.specs.declared.Audit.the-variants.{Full, Lacks, Refused, BadSheet}
@@ -93,8 +90,8 @@ module _ {sheet words : List ℕ} {count : ℕ} (w : WordsRead sheet words count
       (subst (λ (l : List ℕ). Added (λ M. Settles p M × Sought Start l M) before 0 after r) part-is a)
 
 -- what is a sheet has at most 256 positions
-pub sheet-few : (sheet : List ℕ) → badBytes (length sheet) ≡ false → positionsIn sheet ≤ MAX_POSITIONS
-sheet-few sheet b = let n : ¬ (MAX_POSITIONS < positionsIn sheet) = λ l. decides-no-sheet sheet .no b (inl l) in omega arith
+pub sheet-few : (sheet : List ℕ) {t : Bool} → t ≡ badBytes (length sheet) → t ≡ false → positionsIn sheet ≤ MAX_POSITIONS
+sheet-few sheet t b = let n : ¬ (MAX_POSITIONS < positionsIn sheet) = λ l. decides-no-sheet sheet .no (sym t ∙ b) (inl l) in omega arith
 
 -- ---- the definition, by what is the least that is missing
 
@@ -156,60 +153,31 @@ module _ {ps sheet : List ℕ} (laid : Laid ps sheet) where
       go M s (yes o) = on-listed M o
       go M s (no o) = absurd (n M (s, o))
 
--- ---- the answers of the code, from what reading gave
-
-module _ (bytes sheet : List ℕ) where
-  audited-refused : (f : Fault) → reading bytes .outcome ≡ RefusedWith f → audited bytes sheet ≡ Refused f
-  unfolding audited
-  audited-refused f e = rw (e, audited)
-
-  audited-bad : reading bytes .outcome ≡ Accepted → badBytes (length sheet) ≡ true → audited bytes sheet ≡ BadSheet
-  unfolding audited
-  audited-bad e b = rw (e, b, audited)
-
-  audited-missing : reading bytes .outcome ≡ Accepted → badBytes (length sheet) ≡ false → audited bytes sheet ≡ missingIn (reading bytes .plan) sheet
-  unfolding audited
-  audited-missing e b = rw (e, b, audited)
+-- ---- the answers of the code, from what reading, the test of the sheet and the search gave
 
 module _ (bytes sheet : List ℕ) (small : All IsByte sheet) {r : Reading} (read : r ≡ reading bytes) where
-  outcome-is : {o : Outcome} → r .outcome ≡ o → reading bytes .outcome ≡ o
-  outcome-is e = sym (ap (λ (x : Reading). x .outcome) read) ∙ e
-
-  -- what the definition says of refusals goes for every answer that is the definition's
-  audit-right : {answer : Audit} → answer ≡ audited bytes sheet
-      → (reading bytes .outcome ≡ Accepted → (ps : List ℕ) → Laid ps sheet → Right (reading bytes .plan) ps answer) → Audited bytes sheet answer
-  audit-right is right = record {
-    is = is;
-    refused = λ f e. is ∙ audited-refused bytes sheet f e;
-    no-sheet = λ e n. is ∙ audited-bad bytes sheet e (decided-true (decides-no-sheet sheet) n);
-    right = right;
-    laid = sheet-laid sheet small;
-    meaning = read-means bytes;
-  }
-
   pub refused-audited : {f : Fault} → r .outcome ≡ RefusedWith f → Audited bytes sheet (Refused f)
-  refused-audited {f} e =
-      audit-right (sym (audited-refused bytes sheet f (outcome-is e))) (λ a. absurd (not-accepted f (sym a ∙ outcome-is e)))
+  refused-audited o = record { answered = refused-answered bytes read o refl; laid = sheet-laid sheet small }
 
-  pub bad-audited : r .outcome ≡ Accepted → badBytes (length sheet) ≡ true → Audited bytes sheet BadSheet
-  bad-audited e b =
-      audit-right (sym (audited-bad bytes sheet (outcome-is e) b)) (λ a ps l. absurd (laid-is-sheet l (decides-no-sheet sheet .yes b)))
+  pub bad-audited : {t : Bool} → r .outcome ≡ Accepted → t ≡ badBytes (length sheet) → t ≡ true → Audited bytes sheet BadSheet
+  bad-audited o t b = record { answered = bad-answered bytes sheet read o t missingIn b; laid = sheet-laid sheet small }
 
-  found-audited : {w : Witness} → r .outcome ≡ Accepted → badBytes (length sheet) ≡ false
-      → LeastOf (λ N. Settles (r .plan) N × ¬ OnSheet sheet N) w → Audited bytes sheet (auditOf w)
-  found-audited {w} e b k =
-      let least : LeastOf (λ N. Settles (reading bytes .plan) N × ¬ OnSheet sheet N) w =
-      subst (λ (y : Reading). LeastOf (λ N. Settles (y .plan) N × ¬ OnSheet sheet N) w) read k in
-      audit-right (missing-is (reading bytes .plan) (record-fits bytes) sheet least ∙ sym (audited-missing bytes sheet (outcome-is e) b))
-      (λ _ ps laid. found-right laid least)
+  module _ {t : Bool} {w : Witness} (o : r .outcome ≡ Accepted) (bad-is : t ≡ badBytes (length sheet)) (b : t ≡ false)
+      (k : LeastOf (λ N. Settles (r .plan) N × ¬ OnSheet sheet N) w) where
+    found-audited : {v : Witness} → w ≡ v → Audited bytes sheet (auditOf v)
+    found-audited q =
+        let found = rw q at k in
+        record {
+          answered = sheet-answered bytes sheet read o bad-is missingIn b (missing-is (r .plan) (read-fits bytes read) sheet found)
+              (λ ps laid. found-right laid found);
+          laid = sheet-laid sheet small;
+        }
 
-  pub missing-audited : {w : Witness} {M : ℕ} → r .outcome ≡ Accepted → badBytes (length sheet) ≡ false → w ≡ Member M
-      → LeastOf (λ N. Settles (r .plan) N × ¬ OnSheet sheet N) w → Audited bytes sheet (Lacks M)
-  missing-audited e b q k = found-audited e b (rw q at k)
+    pub missing-audited : {M : ℕ} → w ≡ Member M → Audited bytes sheet (Lacks M)
+    missing-audited q = found-audited q
 
-  pub full-audited : {w : Witness} → r .outcome ≡ Accepted → badBytes (length sheet) ≡ false → w ≡ Nothing
-      → LeastOf (λ N. Settles (r .plan) N × ¬ OnSheet sheet N) w → Audited bytes sheet Full
-  full-audited e b q k = found-audited e b (rw q at k)
+    pub full-audited : w ≡ Nothing → Audited bytes sheet Full
+    full-audited q = found-audited q
 
 -- ---- with S-12
 
@@ -241,6 +209,6 @@ pub exact-sheet : {bytes sheet : List ℕ} {judged : SheetAnswer} {answer : Audi
     → reading bytes .outcome ≡ Accepted → (ps : List ℕ) → Laid ps sheet
     → ((sheetCode judged ≡ MAX_POSITIONS) × (answer ≡ Full)) ↔ ((M : ℕ) → List·Memᴰ M ps ↔ Settles (reading bytes .plan) M)
 exact-sheet j a e ps l =
-    let all = all-iff (l .few) (j .judges e ps l) in
-    let full = full-iff (a .right e ps l) in
+    let all = all-iff (l .few) (j .answered .right e .of-sheet ps l) in
+    let full = full-iff (a .answered .right e .of-sheet ps l) in
     (λ q M. (all .0 (q .0) M, full .0 (q .1) .each M), λ f. (all .1 (λ M. f M .0), full .1 (record { each = λ M. f M .1 })))

@@ -9,12 +9,9 @@ use Rattle.atoms.specs.Bounded.{someBelow}
 use Rattle.atoms.specs.Collected.{lowest}
 use Rattle.plan.specs.Faults.{codeOf, refusalCode}
 use Rattle.plan.specs.declared.record.Plan.{Plan}
-use Rattle.plan.specs.declared.fault.Fault.{Fault}
-use Rattle.plan.specs.declared.fault.Outcome.the-variants.{Accepted, Refused as RefusedWith}
-use Rattle.reading.specs.Reading.{reading}
 use Rattle.plan_meaning.specs.Settled.{Settles, settled}
-use Rattle.plan_meaning.specs.Read.{ReadMeans}
-use Rattle.judge.specs.Sheets.{badBytes, positionsIn, positionAt, NoSheet, Laid}
+use Rattle.plan_meaning.specs.Asked.{asked, Answered}
+use Rattle.judge.specs.Sheets.{positionsIn, positionAt, sheetIn, NoSheet, Laid, SheetRight}
 use Rattle.stepping.specs.Followed.{mayBeUp}
 use Rattle.auditing.specs.declared.Audit.{Audit}
 use Rattle.auditing.specs.declared.Audit.the-variants.{Full, Lacks, Refused, BadSheet}
@@ -50,12 +47,8 @@ missingIn p sheet =
     elim (ltb M (suc (mayBeUp p))) [ true ↦ Lacks M | false ↦ Full ]
 
 -- the same for the bytes of a plan: the refusals of S-12 in their order, 24 "after the reading refusals"
-unfoldable pub audited : List ℕ → List ℕ → Audit
-audited bytes sheet =
-    elim (reading bytes .outcome) [
-      | RefusedWith f ↦ Refused f
-      | Accepted ↦ elim (badBytes (length sheet)) [ true ↦ BadSheet | false ↦ missingIn (reading bytes .plan) sheet ]
-    ]
+abbrev pub audited : List ℕ → List ℕ → Audit
+audited bytes sheet = asked Refused (sheetIn BadSheet missingIn sheet) bytes
 
 -- the answer as one number, beside the position
 abbrev pub auditCode : Audit → ℕ
@@ -84,9 +77,5 @@ pub data Right (p : Plan) (positions : List ℕ) : Audit → Type 0 where
 -- The answer equals the definition. By meaning: the fault that reading found; else 24, if the bytes are no sheet; else each answer set of the whole program
 -- is among the positions, or this is the least that is not. The rules and facts are those of the plan's lists. Bytes that are a sheet have positions
 pub record Audited (bytes sheet : List ℕ) (answer : Audit) : Type 0 where
-  pub is : answer ≡ audited bytes sheet
-  pub refused : (f : Fault) → reading bytes .outcome ≡ RefusedWith f → answer ≡ Refused f
-  pub no-sheet : reading bytes .outcome ≡ Accepted → NoSheet sheet → answer ≡ BadSheet
-  pub right : reading bytes .outcome ≡ Accepted → (positions : List ℕ) → Laid positions sheet → Right (reading bytes .plan) positions answer
+  pub answered : Answered Refused (sheetIn BadSheet missingIn sheet) (SheetRight BadSheet Right sheet) bytes answer
   pub laid : ¬ NoSheet sheet → (positions : List ℕ) × Laid positions sheet
-  pub meaning : ReadMeans bytes

@@ -12,8 +12,9 @@ use Rattle.plan.specs.Record.{emptyPlan, withGiven, withRule}
 use Rattle.reading.specs.Words.{spelled, wordAt}
 use Rattle.reading.specs.Commands.{kindOf, carrying, late, emptyRule, contradictory, miscounted, ofKind, commandAt}
 use Rattle.reading.specs.Reading.{walk, reading}
-use Rattle.stepping.specs.Followed.{nextIn, followed}
-use Rattle.blaming.specs.Blamed.{leaves, passed, heldIn, blamed}
+use Rattle.plan_meaning.specs.Asked.{asked}
+use Rattle.stepping.specs.Followed.{nextIn}
+use Rattle.blaming.specs.Blamed.{leaves, passed, heldIn, blameIn, blamed}
 use Rattle.blaming.specs.declared.Blame.the-variants.{Held}
 
 -- a word below 256 in a plan
@@ -27,7 +28,7 @@ rule h p n = 1 ∷ word h ++ (word p ++ word n)
 pub going-up :
     (blamed (rule 1 0 0 ++ (rule 0 1 0 ++ (rule 0 1 0 ++ (0 ∷ [])))) ≡ Held 4)
     × (blamed (4 ∷ word 1 ++ (rule 0 1 0 ++ (rule 0 1 0 ++ (0 ∷ [])))) ≡ Held 2)
-unfolding blamed heldIn passed leaves followed nextIn reading walk commandAt ofKind kindOf carrying late emptyRule contradictory miscounted emptyPlan withGiven
+unfolding asked blameIn heldIn passed leaves nextIn reading walk commandAt ofKind kindOf carrying late emptyRule contradictory miscounted emptyPlan withGiven
     withRule spelled wordAt padded lent usesHold useHolds usedTable asks answerSet someSmaller satisfiesAll satisfies body kept keptIf has subset apart _∩_
     _∪_ _∖_ atom below allBelow someBelow wordBelow unionIn lowest
 going-up = (refl, refl)

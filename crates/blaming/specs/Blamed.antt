@@ -13,8 +13,6 @@ use Rattle.answer_sets.specs.AnswerSet.{AnswerSet}
 use Rattle.answer_sets.specs.Lent.{lent}
 use Rattle.answer_sets.specs.Test.{answerSet}
 use Rattle.plan.specs.Faults.{refusalCode}
-use Rattle.plan.specs.declared.fault.Fault.{Fault}
-use Rattle.plan.specs.declared.fault.Outcome.the-variants.{Accepted, Refused as RefusedWith}
 use Rattle.plan.specs.declared.record.Plan.{Plan}
 use Rattle.reading.specs.Reading.{reading}
 use Rattle.reading.specs.Layout.{RuleWords, Contents, Lays, recordOf}
@@ -22,8 +20,9 @@ use Rattle.plan_meaning.specs.Meaning.{Number}
 use Rattle.plan_meaning.specs.AnswerSets.{AnswerSetOf}
 use Rattle.plan_meaning.specs.Settled.{Settles}
 use Rattle.plan_meaning.specs.Read.{ReadMeans}
+use Rattle.plan_meaning.specs.Asked.{asked, Answered}
 use Rattle.finding.specs.declared.least.From.the-variants.{Start}
-use Rattle.stepping.specs.Followed.{mayBeUp, followed}
+use Rattle.stepping.specs.Followed.{mayBeUp, nextIn}
 use Rattle.stepping.specs.declared.Next.the-variants.{Position as NextPosition, NoneLeft, Refused as NextRefused}
 use Rattle.blaming.specs.declared.Blame.{Blame}
 use Rattle.blaming.specs.declared.Blame.the-variants.{Position, Held, Refused}
@@ -108,10 +107,13 @@ passed test all (suc c) = elim (has all c) [ true ↦ tried test (passed test al
 unfoldable pub heldIn : Plan → ℕ
 heldIn p = passed (leaves p) (constraintsIn p) (p .«rule_count»)
 
--- for the bytes of a plan: S-8's answer from the start, or the word
-unfoldable pub blamed : List ℕ → Blame
-blamed bytes =
-    elim (followed bytes Start) [ NextPosition M ↦ Position M | NoneLeft ↦ Held (heldIn (reading bytes .plan)) | NextRefused f ↦ Refused f ]
+-- S-8's answer from the start, or the word
+unfoldable pub blameIn : Plan → Blame
+blameIn p = elim (nextIn p Start) [ NextPosition M ↦ Position M | NoneLeft ↦ Held (heldIn p) | NextRefused f ↦ Refused f ]
+
+-- for the bytes of a plan
+abbrev pub blamed : List ℕ → Blame
+blamed bytes = asked Refused blameIn bytes
 
 -- ---- of the plan's lists
 
@@ -136,9 +138,7 @@ pub record BlameMeans (bytes : List ℕ) : Type 0 where
 
 -- The result equals the definition. By meaning: the fault that reading found, or what is said of the plan. Its rules and facts are those of its lists
 pub record Blamed (bytes : List ℕ) (r : Blame) : Type 0 where
-  pub is : r ≡ blamed bytes
-  pub refused : (f : Fault) → reading bytes .outcome ≡ RefusedWith f → r ≡ Refused f
-  pub says : reading bytes .outcome ≡ Accepted → LeastOrBlamed (reading bytes .plan) r
+  pub answered : Answered Refused blameIn LeastOrBlamed bytes r
   pub meaning : BlameMeans bytes
 
 -- the result as one number, beside the word

@@ -30,8 +30,9 @@ use Rattle.dependency_graph.specs.Offenders.{twiceBelow, seen, unseenHeads, non
 use Rattle.dependency_graph.specs.Offenders.{givenInHead, ruleInNoUnit, headedRuleInSeveral, cycle, nonmonotonicUnseen, monotonicUnseen}
 use Rattle.dependency_graph.specs.Check.{faultOr, verdict}
 use Rattle.splitting.specs.UnitList.{withLast}
+use Rattle.plan_meaning.specs.Asked.{asked}
 use Rattle.judge.specs.Answers.{judged}
-use Rattle.judge.specs.Sheets.{badBytes, placesJudged, sheetJudged}
+use Rattle.judge.specs.Sheets.{badBytes, placesJudged, sheetIn, sheetJudged}
 use Rattle.judge.specs.declared.Answer.the-variants.{NotSettled}
 use Rattle.judge.specs.declared.sheet.SheetAnswer.the-variants.{AllSettled, NotSettledAt}
 use Rattle.demands.specs.Lists.{isInput, inList, unitList, lastList}
@@ -178,7 +179,7 @@ answered bytes =
 
 -- the results of all of them; and of circuit 2: "Position 3 isn't settled."
 pub circuits : (map answered plans ≡ results) × (judged circuit-2 3 ≡ NotSettled)
-unfolding judged answered answer tableOutcome reading walk commandAt ofKind kindOf carrying late emptyRule contradictory absentRule badEdge badTable
+unfolding asked answered answer tableOutcome reading walk commandAt ofKind kindOf carrying late emptyRule contradictory absentRule badEdge badTable
     badUse miscounted emptyPlan withCount withGiven withTable withRule withUse withUnit withEdge withShow spelled wordAt unlessRefused workFrom noCounts
     tableWith countsWith listAt runs padded tabulate lastList cutList insertInto unitList inList isInput members allBelow someBelow wordBelow unionIn twiceBelow
     heads inputHeads own reach reachVia through withLast unitsOf lent usesHold useHolds usedTable asks usedInputs said tableRow place ones answerSet
@@ -229,7 +230,7 @@ first-rows = (refl, refl, refl, refl)
 
 -- "Each position is a word as in the plan, lowest byte first": 1 and 2, and 2 and 3, of circuit 2
 pub sheets : (sheetJudged circuit-2 (word 1 ++ word 2) ≡ AllSettled) × (sheetJudged circuit-2 (word 2 ++ word 3) ≡ NotSettledAt 1)
-unfolding sheetJudged badBytes placesJudged lowest reading walk commandAt ofKind kindOf carrying late emptyRule contradictory absentRule miscounted emptyPlan
+unfolding asked sheetIn badBytes placesJudged lowest reading walk commandAt ofKind kindOf carrying late emptyRule contradictory absentRule miscounted emptyPlan
     withRule withUnit spelled wordAt padded tabulate lent usesHold useHolds usedTable asks answerSet someSmaller satisfiesAll satisfies body kept keptIf has
     subset apart _∩_ _∪_ _∖_ atom below allBelow someBelow wordBelow unionIn said tableRow place ones members
 sheets = (refl, refl)

@@ -15,6 +15,7 @@ use Rattle.reading.proofs.RoundTrip.{layout-is-read}
 use Rattle.dependency_graph.specs.Units.{Units}
 use Rattle.dependency_graph.specs.PlanUnits.{unitsOf}
 use Rattle.plan_meaning.specs.Settled.{settled}
+use Rattle.plan_meaning.specs.Asked.{asked}
 use Rattle.judge.specs.Answers.{yesNo, judged}
 use Rattle.judge.specs.declared.Answer.{Answer}
 use Rattle.judge.specs.declared.Answer.the-variants.{Refused}
@@ -105,11 +106,11 @@ module _ (c : Contents) where
         ap (listedOf table) whole ∙ mid ∙ sym (ap (listedOf table) plain)
 
     judged-so : (M : ℕ) → judged (layout c) M ≡ judged (layout (uncounted c)) M
-    unfolding judged
+    unfolding asked
     judged-so M = ap (judgedOf M) whole ∙ ap yesNo (settled-alike M) ∙ sym (ap (judgedOf M) plain)
 
     next-so : (from : From) → followed (layout c) from ≡ followed (layout (uncounted c)) from
-    unfolding followed
+    unfolding asked
     next-so from = ap (nextOf from) whole ∙ next-alike from ∙ sym (ap (nextOf from) plain)
 
     sheet-so : planSheet (layout c) ≡ planSheet (layout (uncounted c))

@@ -1,37 +1,24 @@
 -- What code and word tell a host of what a sheet lacks, from what `first_missing` promises; and with S-12 that its positions are just the answer sets.
 use mathlib.Core.Path.{_≡_, refl, ap, _∙_, subst}
 use mathlib.Core.Logic.{_↔_}
-use mathlib.Core.List.{List, [], _∷_, List·Memᴰ}
-use Prim.Native.Nat.{ℕ, _+_, _*_}
+use mathlib.Core.List.{List, List·Memᴰ}
+use Prim.Native.Nat.{ℕ}
 use native.Mathlib.Omega.{arith}
 use Rattle.atoms.proofs.Lists.{member-getD, index-of}
-use Rattle.plan.specs.Faults.{CODE_STEP, refusalCode}
 use Rattle.plan.specs.declared.record.Plan.{Plan}
-use Rattle.plan.specs.declared.fault.Fault.{Fault}
 use Rattle.reading.specs.Layout.{IsByte, All, Contents, recordOf, Lays}
-use Rattle.reading.specs.Refusals.{Stopped}
 use Rattle.reading.specs.declared.reader.Reading.{Reading}
-use Rattle.reading.proofs.Judged.{reading-judged}
 use Rattle.plan_meaning.specs.AnswerSets.{PlanAnswerSet}
 use Rattle.plan_meaning.specs.Settled.{Settles}
-use Rattle.judge.specs.Sheets.{Laid}
+use Rattle.judge.specs.Sheets.{Laid, SheetRight}
 use Rattle.demands.proofs.Demand1.{lays-read, lays-accepted}
 use Rattle.auditing.specs.Audit.{IsFull, Right, is-full, lacks-first, Audited, auditCode}
 use Rattle.auditing.specs.declared.Audit.{Audit}
-use Rattle.auditing.specs.declared.Audit.the-variants.{Lacks, Refused}
-use Rattle.exports.specs.Handed.{copied}
+use Rattle.auditing.specs.declared.Audit.the-variants.{BadSheet}
 use Rattle.exports.specs.Sheets.{SheetJudgeHanded}
-use Rattle.exports.specs.Audits.{lackIn, TellsAudit, MissingHanded}
-use Rattle.exports.proofs.Spots.{stopped-at-most, code-exact}
-
--- ---- the variant that was told
-
-pub audits-lack : {said : Audit} {M r : ℕ} {found found′ : List ℕ} → said ≡ Lacks M → (r ≡ 1) × (found′ ≡ copied (M ∷ []) found)
-    → TellsAudit said found found′ r
-audits-lack e t = rw e (record { code-is = t .0; found-is = t .1 })
-
-pub audits-fault : {said : Audit} {f : Fault} {r : ℕ} {found : List ℕ} → said ≡ Refused f → r ≡ refusalCode f → TellsAudit said found found r
-audits-fault e c = rw e (record { code-is = c; found-is = refl })
+use Rattle.exports.specs.Replies.{Reply}
+use Rattle.exports.specs.Audits.{lackIn, MissingHanded}
+use Rattle.exports.proofs.HostReplies.{replied}
 
 -- ---- what is handed over
 
@@ -41,28 +28,19 @@ told-full (is-full f) e = (λ _. f, λ _. e)
 told-full (lacks-first m) e = (λ z. absurd (omega arith), λ f. absurd (m .missing (f .each _ (m .settles))))
 
 module _ (bytes sheet : List ℕ) {found found′ : List ℕ} {r : ℕ} {said : Audit} (small : All IsByte bytes) (a : Audited bytes sheet said)
-    (t : TellsAudit said found found′ r) where
-  told : {x : Audit} → said ≡ x → (r ≡ auditCode x) × (found′ ≡ lackIn x found)
-  told e = (t .code-is ∙ ap auditCode e, t .found-is ∙ ap (λ (y : Audit). lackIn y found) e)
-
-  refused : (n s : ℕ) → Stopped bytes n s → (r ≡ CODE_STEP * n + s) × (found′ ≡ found)
-  refused n s st =
-      let x = reading-judged bytes small .refused n s .1 st in
-      let k = told (a .refused (x .fault) (x .is)) in
-      (k .0 ∙ code-exact x (stopped-at-most small st), k .1)
-
-  right : (c : Contents) → Lays bytes c → (ps : List ℕ) → Laid ps sheet → Right (recordOf c) ps said
-  right c l ps laid = subst (λ (y : Reading). Right (y .plan) ps said) (lays-read l) (a .right (lays-accepted l) ps laid)
+    (t : Reply auditCode lackIn said found found′ r) where
+  right : (c : Contents) → Lays bytes c → SheetRight BadSheet Right sheet (recordOf c) said
+  right c l = subst (λ (y : Reading). SheetRight BadSheet Right sheet (y .plan) said) (lays-read l) (a .answered .right (lays-accepted l))
 
   pub missing-handed : MissingHanded bytes sheet found found′ r
   missing-handed = record {
-    tells = subst (λ (y : Audit). TellsAudit y found found′ r) (a .is) t;
-    says = λ c l ps laid. (said, right c l ps laid, t);
-    full = λ c l ps laid. told-full (right c l ps laid) (t .code-is);
-    refused = refused;
-    no-sheet = λ c l n. told (a .no-sheet (lays-accepted l) n);
+    replied = replied bytes (λ _. refl) (λ _. refl) small (a .answered) t;
+    full = λ c l ps laid. told-full (right c l .of-sheet ps laid) (t .code-is);
+    no-sheet = λ c l n.
+        let e = right c l .no-sheet n in
+        (t .code-is ∙ ap auditCode e, t .words-are ∙ ap (λ (y : Audit). lackIn y found) e);
     laid = a .laid;
-    meaning = a .meaning;
+    meaning = a .answered .meaning;
   }
 
 -- ---- with S-12

@@ -16,8 +16,10 @@ use Rattle.reading.proofs.Limits.{record-fits}
 use Rattle.reading.proofs.Judged.{reading-judged}
 use Rattle.plan_meaning.specs.AnswerSets.{PlanAnswerSet}
 use Rattle.plan_meaning.specs.Settled.{settled}
-use Rattle.judge.specs.Answers.{yesNo, judged, code}
-use Rattle.judge.proofs.Settled.{decides-settled, judged-accepted, judged-refused}
+use Rattle.plan_meaning.proofs.AskedPlans.{asked-accepted, asked-refused}
+use Rattle.judge.specs.Answers.{yesNo, settledIn, judged, code}
+use Rattle.judge.specs.declared.Answer.the-variants.{Refused}
+use Rattle.judge.proofs.Settled.{decides-settled}
 use Rattle.plan_meaning.proofs.AnswerSetsMean.{read-means}
 use Rattle.demands.specs.Demand1.{FirstFault}
 use Rattle.demands.specs.Promised.{Promised}
@@ -55,12 +57,12 @@ module _ (bytes : List ℕ) (position : ℕ) {r : ℕ} (small : All IsByte bytes
         decides-iff (same .0) (same .1) (decides-settled (reading bytes .plan) position (record-fits bytes))
 
     coded : r ≡ code (yesNo (settled (reading bytes .plan) position))
-    coded = e ∙ ap code (judged-accepted bytes position (lays-accepted l))
+    coded = e ∙ ap code (asked-accepted Refused (settledIn position) bytes (lays-accepted l))
 
   judged-code : (n s : ℕ) → Stopped bytes n s → r ≡ CODE_STEP * n + s
   judged-code n s st =
       let x = reading-judged bytes small .refused n s .1 st in
-      e ∙ ap code (judged-refused bytes position (x .fault) (x .is)) ∙ code-exact x (stopped-at-most small st)
+      e ∙ ap code (asked-refused Refused (settledIn position) bytes (x .fault) (x .is)) ∙ code-exact x (stopped-at-most small st)
 
   pub judge-handed : JudgeHanded bytes position r
   judge-handed = record {

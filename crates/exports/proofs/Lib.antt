@@ -8,6 +8,8 @@ pub mod HostCodes
 pub mod PairedWords
 -- Readings for hosts: what is asked by a number, and that no answer is taken for a refusal
 pub mod ReadingCodes
+-- What code and words tell a host of a question to a plan
+pub mod HostReplies
 -- What code and word tell a host that goes from one position to the next, from what `next_position` promises
 pub mod NextCodes
 -- The code of what `relay_rows` answers

@@ -12,8 +12,9 @@ use Rattle.reading.specs.Layout.{IsByte, All, Contents, recordOf, Lays}
 use Rattle.reading.specs.Refusals.{Stopped}
 use Rattle.reading.specs.declared.reader.Reading.{Reading}
 use Rattle.reading.proofs.Judged.{reading-judged}
-use Rattle.judge.specs.Sheets.{sheetCode, Laid, AllSettle, FirstNot, Right, all-settled, first-not, SheetJudged}
+use Rattle.judge.specs.Sheets.{sheetCode, AllSettle, FirstNot, Right, all-settled, first-not, SheetRight, SheetJudged}
 use Rattle.judge.specs.declared.sheet.SheetAnswer.{SheetAnswer}
+use Rattle.judge.specs.declared.sheet.SheetAnswer.the-variants.{BadSheet}
 use Rattle.demands.proofs.Demand1.{lays-read, lays-accepted}
 use Rattle.exports.specs.Sheets.{SheetJudgeHanded}
 use Rattle.exports.proofs.Spots.{stopped-at-most, code-exact}
@@ -45,19 +46,18 @@ module _ (bytes sheet : List ℕ) {r : ℕ} {answer : SheetAnswer} (small : All 
     refused : (n s : ℕ) → Stopped bytes n s → r ≡ CODE_STEP * n + s
     refused n s st =
         let x = reading-judged bytes small .refused n s .1 st in
-        e ∙ ap sheetCode (j .refused (x .fault) (x .is)) ∙ code-exact x (stopped-at-most small st)
+        e ∙ ap sheetCode (j .answered .refused (x .fault) (x .is)) ∙ code-exact x (stopped-at-most small st)
 
-    module _ (c : Contents) (l : Lays bytes c) where
-      right : (ps : List ℕ) → Laid ps sheet → Right (recordOf c) ps answer
-      right ps laid = subst (λ (x : Reading). Right (x .plan) ps answer) (lays-read l) (j .judges (lays-accepted l) ps laid)
+    right : (c : Contents) → Lays bytes c → SheetRight BadSheet Right sheet (recordOf c) answer
+    right c l = subst (λ (x : Reading). SheetRight BadSheet Right sheet (x .plan) answer) (lays-read l) (j .answered .right (lays-accepted l))
 
     pub sheet-judge-handed : SheetJudgeHanded bytes sheet r
     sheet-judge-handed = record {
-      code-is = e ∙ ap sheetCode (j .is);
+      code-is = e ∙ ap sheetCode (j .answered .is);
       refused = refused;
-      no-sheet = λ c l n. e ∙ ap sheetCode (j .no-sheet (lays-accepted l) n);
+      no-sheet = λ c l n. e ∙ ap sheetCode (right c l .no-sheet n);
       laid = j .laid;
-      all-settled = λ c l ps laid. told-all (laid .few) (right c l ps laid) e;
-      first-not = λ c l ps laid place. told-first (laid .few) place (right c l ps laid) e;
-      meaning = j .meaning;
+      all-settled = λ c l ps laid. told-all (laid .few) (right c l .of-sheet ps laid) e;
+      first-not = λ c l ps laid place. told-first (laid .few) place (right c l .of-sheet ps laid) e;
+      meaning = j .answered .meaning;
     }

@@ -1,5 +1,6 @@
 pub mod Handed
 pub mod Readings
+pub mod Replies
 pub mod Steps
 pub mod Rows
 pub mod Sheets

@@ -5,11 +5,13 @@ use auditing::first_missing;
 use judge::BAD_SHEET;
 use plan::CODE_STEP;
 use plan::refusal_code;
-ghost use Rattle.exports.specs.Audits.{TellsAudit, MissingHanded};
+ghost use Rattle.auditing.specs.Audit.{auditCode};
+ghost use Rattle.exports.specs.Replies.{Reply};
+ghost use Rattle.exports.specs.Audits.{lackIn, MissingHanded};
 
 // The code of the result; a position goes into the first lent word, if there is room.
 fn hand_audit(said: Audit, found: &mut [u64]) -> u64
-    ensures { λ r. ⌜ TellsAudit said (now (found .entry)) (now (found .exit)) r ⌝ }
+    ensures { λ r. ⌜ Reply auditCode lackIn said (now (found .entry)) (now (found .exit)) r ⌝ }
 {
     match said {
         Audit::Full => 0,

@@ -5,11 +5,12 @@ use plan::refusal_code;
 use stepping::Batch;
 use stepping::next_positions;
 ghost use Rattle.finding.specs.declared.least.From.the-variants.{Start, Above};
-ghost use Rattle.exports.specs.Batches.{TellsBatch, BatchHanded};
+ghost use Rattle.exports.specs.Replies.{Reply};
+ghost use Rattle.exports.specs.Batches.{batchCode, countIn, BatchHanded};
 
 // The code of the result; how many positions were written goes into the first word of the count, if there is room.
 fn hand_batch(batch: Batch, count: &mut [u64]) -> u64
-    ensures { λ r. ⌜ TellsBatch batch (now (count .entry)) (now (count .exit)) r ⌝ }
+    ensures { λ r. ⌜ Reply batchCode countIn batch (now (count .entry)) (now (count .exit)) r ⌝ }
 {
     match batch {
         Batch::Written(written) => hand_word(written as u64, count, 0),

@@ -3,11 +3,13 @@ use crate::steps::hand_word;
 use blaming::Blame;
 use blaming::blame_plan;
 use plan::refusal_code;
-ghost use Rattle.exports.specs.Blame.{TellsBlame, BlameHanded};
+ghost use Rattle.blaming.specs.Blamed.{code as blameCode};
+ghost use Rattle.exports.specs.Replies.{Reply};
+ghost use Rattle.exports.specs.Blame.{wordIn, BlameHanded};
 
 // The code of the result; a position, or the word of held constraints, goes into the first lent word, if there is room.
 fn hand_blame(said: Blame, found: &mut [u64]) -> u64
-    ensures { λ r. ⌜ TellsBlame said (now (found .entry)) (now (found .exit)) r ⌝ }
+    ensures { λ r. ⌜ Reply blameCode wordIn said (now (found .entry)) (now (found .exit)) r ⌝ }
 {
     match said {
         Blame::Position(position) => hand_word(position, found, 1),

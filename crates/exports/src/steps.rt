@@ -7,7 +7,9 @@ ghost use mathlib.Core.Path.{_≡_};
 ghost use mathlib.Core.List.{[], _∷_};
 ghost use Rattle.finding.specs.declared.least.From.the-variants.{Start, Above};
 ghost use Rattle.exports.specs.Handed.{copied};
-ghost use Rattle.exports.specs.Steps.{Tells, NextHanded};
+ghost use Rattle.stepping.specs.Followed.{code as nextCode};
+ghost use Rattle.exports.specs.Replies.{Reply};
+ghost use Rattle.exports.specs.Steps.{foundIn, NextHanded};
 
 // The word in the first lent word, if there is room. The code.
 pub fn hand_word(word: u64, found: &mut [u64], code: u64) -> u64
@@ -22,7 +24,7 @@ pub fn hand_word(word: u64, found: &mut [u64], code: u64) -> u64
 
 // The code of the result; a position goes into the first lent word, if there is room.
 fn hand_over(next: Next, found: &mut [u64]) -> u64
-    ensures { λ r. ⌜ Tells next (now (found .entry)) (now (found .exit)) r ⌝ }
+    ensures { λ r. ⌜ Reply nextCode foundIn next (now (found .entry)) (now (found .exit)) r ⌝ }
 {
     match next {
         Next::Position(position) => hand_word(position, found, 1),

@@ -10,8 +10,9 @@ use Rattle.reading.specs.declared.reader.Reading.{Reading}
 use Rattle.reading.proofs.Prefix.{reading-prefix}
 use Rattle.plan.specs.declared.fault.Outcome.the-variants.{Refused as RefusedWith}
 use Rattle.plan.specs.declared.fault.Fault.{Fault}
-use Rattle.judge.specs.Answers.{judged, code}
-use Rattle.judge.proofs.Settled.{judged-refused}
+use Rattle.plan_meaning.proofs.AskedPlans.{asked-refused}
+use Rattle.judge.specs.Answers.{settledIn, judged, code}
+use Rattle.judge.specs.declared.Answer.the-variants.{Refused}
 use Rattle.judge.proofs.Spots.{spot-within}
 
 -- "every reading fault .. shows within 2,467", and 1,305 more with GIVEN, TABLEs and USEs
@@ -27,4 +28,4 @@ pub code-exact : (bytes : List ℕ) (position : ℕ) (f : Fault) → reading byt
     → code (judged bytes position) ≡ CODE_STEP * number f + spot f
 code-exact bytes position f e =
     let least : min WIDEST_SPOT (spot f) ≡ spot f = omega (arith, spot-at-most bytes f e) in
-    ap code (judged-refused bytes position f e) ∙ ap (λ (x : ℕ). CODE_STEP * number f + x) least
+    ap code (asked-refused Refused (settledIn position) bytes f e) ∙ ap (λ (x : ℕ). CODE_STEP * number f + x) least

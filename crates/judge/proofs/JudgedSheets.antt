@@ -14,7 +14,7 @@ use Rattle.atoms.specs.Word.{below}
 use Rattle.atoms.specs.Bounded.{Decides}
 use Rattle.atoms.specs.Collected.{lowest}
 use Rattle.atoms.proofs.Collected.{lowest-is, lowest-none, lowest-here, lowest-least}
-use Rattle.atoms.proofs.Tests.{not-both, decided-true, decided-false}
+use Rattle.atoms.proofs.Tests.{not-both}
 use Rattle.answer_sets.specs.Lent.{lent}
 use Rattle.answer_sets.specs.Test.{answerSet}
 use Rattle.plan.specs.Record.{Fitting}
@@ -26,16 +26,16 @@ use Rattle.reading.specs.Words.{WORD_BYTES, WORD_VALUES, spelled, wordAt}
 use Rattle.reading.specs.Layout.{All, IsByte, wordBytes}
 use Rattle.reading.specs.Reading.{reading}
 use Rattle.reading.specs.declared.reader.Reading.{Reading}
-use Rattle.reading.proofs.Limits.{record-fits}
 use Rattle.reading.proofs.Longest.{elements-long}
 use Rattle.reading.proofs.Numbers.{length-bytes, word-behind, word-bytes, word-fits, all-drop}
 use Rattle.plan_meaning.specs.Settled.{Settles, settled}
-use Rattle.judge.specs.Sheets.{MAX_POSITIONS, badBytes, positionsIn, positionAt, unsettledAt, placesJudged, sheetJudged}
-use Rattle.judge.specs.Sheets.{NoSheet, Laid, Right, all-settled, first-not, SheetJudged}
+use Rattle.judge.specs.Sheets.{MAX_POSITIONS, badBytes, positionsIn, positionAt, unsettledAt, placesJudged, sheetIn, sheetJudged}
+use Rattle.judge.specs.Sheets.{NoSheet, Laid, Right, all-settled, first-not, SheetRight, SheetJudged}
 use Rattle.judge.specs.declared.sheet.SheetAnswer.{SheetAnswer}
 use Rattle.judge.specs.declared.sheet.SheetAnswer.the-variants.{AllSettled, NotSettledAt, Refused, BadSheet}
 use Rattle.judge.proofs.Settled.{decides-settled}
-use Rattle.plan_meaning.proofs.AnswerSetsMean.{read-means}
+use Rattle.plan_meaning.specs.Asked.{Answered}
+use Rattle.plan_meaning.proofs.AskedPlans.{asked-refused, asked-accepted, refused-answered, accepted-answered, read-fits}
 
 -- ---- what is no sheet
 
@@ -220,19 +220,14 @@ sheet-laid sheet small n = go (decLt MAX_POSITIONS (positionsIn sheet)) (ℕ-dis
 
 -- ---- the answer
 
-module _ (bytes sheet : List ℕ) where
-  pub sheet-refused : (f : Fault) → reading bytes .outcome ≡ RefusedWith f → sheetJudged bytes sheet ≡ Refused f
-  unfolding sheetJudged
-  sheet-refused f e = rw (e, sheetJudged)
+module _ {A : Type 0} (bad : A) (answer : Plan → List ℕ → A) (sheet : List ℕ) (p : Plan) where
+  in-bad : badBytes (length sheet) ≡ true → sheetIn bad answer sheet p ≡ bad
+  unfolding sheetIn
+  in-bad b = rw (b, sheetIn)
 
-  pub sheet-bad : reading bytes .outcome ≡ Accepted → badBytes (length sheet) ≡ true → sheetJudged bytes sheet ≡ BadSheet
-  unfolding sheetJudged
-  sheet-bad e b = rw (e, b, sheetJudged)
-
-  pub sheet-places : reading bytes .outcome ≡ Accepted → badBytes (length sheet) ≡ false
-      → sheetJudged bytes sheet ≡ placesJudged (reading bytes .plan) sheet
-  unfolding sheetJudged
-  sheet-places e b = rw (e, b, sheetJudged)
+  in-sheet : badBytes (length sheet) ≡ false → sheetIn bad answer sheet p ≡ answer p sheet
+  unfolding sheetIn
+  in-sheet b = rw (b, sheetIn)
 
 -- an answer with a place has one below 256
 abbrev PlaceBelow : SheetAnswer → Type 0
@@ -252,45 +247,56 @@ places-below p sheet few = go (places-tested p sheet)
 answer-below : (bytes sheet : List ℕ) → PlaceBelow (sheetJudged bytes sheet)
 answer-below bytes sheet = go (reading bytes .outcome) refl (badBytes (length sheet)) refl
   where
+    p : Plan
+    p = reading bytes .plan
+
+    in-plan : Plan → SheetAnswer
+    in-plan = sheetIn BadSheet placesJudged sheet
+
+    few : badBytes (length sheet) ≡ false → positionsIn sheet ≤ MAX_POSITIONS
+    few b = let n : ¬ (MAX_POSITIONS < positionsIn sheet) = λ l. decides-no-sheet sheet .no b (inl l) in omega arith
+
     go : (o : Outcome) → reading bytes .outcome ≡ o → (b : Bool) → badBytes (length sheet) ≡ b → PlaceBelow (sheetJudged bytes sheet)
-    go (RefusedWith f) e b t = subst PlaceBelow (sym (sheet-refused bytes sheet f e)) tt
-    go Accepted e true t = subst PlaceBelow (sym (sheet-bad bytes sheet e t)) tt
+    go (RefusedWith f) e b t = subst PlaceBelow (sym (asked-refused Refused in-plan bytes f e)) tt
+    go Accepted e true t = subst PlaceBelow (sym (asked-accepted Refused in-plan bytes e ∙ in-bad BadSheet placesJudged sheet p t)) tt
     go Accepted e false t =
-        subst PlaceBelow (sym (sheet-places bytes sheet e t)) (places-below (reading bytes .plan) sheet (few (decLt MAX_POSITIONS (positionsIn sheet))))
-      where
-        few : Dec (MAX_POSITIONS < positionsIn sheet) → positionsIn sheet ≤ MAX_POSITIONS
-        few (yes over) = absurd (decides-no-sheet sheet .no t (inl over))
-        few (no l) = omega arith
+        subst PlaceBelow (sym (asked-accepted Refused in-plan bytes e ∙ in-sheet BadSheet placesJudged sheet p t)) (places-below p sheet (few t))
 
--- an answer that is the definition's meets the whole contract
-pub sheet-right : (bytes sheet : List ℕ) (answer : SheetAnswer) → All IsByte sheet → answer ≡ sheetJudged bytes sheet → SheetJudged bytes sheet answer
-sheet-right bytes sheet answer small is = record {
-  is = is;
-  refused = λ f e. is ∙ sheet-refused bytes sheet f e;
-  no-sheet = λ e n. is ∙ sheet-bad bytes sheet e (decided-true (decides-no-sheet sheet) n);
-  judges = λ e ps laid.
-      subst (Right (reading bytes .plan) ps)
-      (sym (is ∙ sheet-places bytes sheet e (decided-false (decides-no-sheet sheet) (laid-is-sheet laid))))
-      (places-right laid (reading bytes .plan) (record-fits bytes));
-  laid = sheet-laid sheet small;
-  place-below = λ place e. subst PlaceBelow (sym is ∙ e) (answer-below bytes sheet);
-  meaning = read-means bytes;
-}
+-- ---- the answers of the code, from what reading and the test of the sheet gave
 
--- ---- the answers of the code, from what reading gave
+module _ (bytes sheet : List ℕ) {r : Reading} {t : Bool} (read : r ≡ reading bytes) (o : r .outcome ≡ Accepted) (bad-is : t ≡ badBytes (length sheet))
+    {A : Type 0} {refuse : Fault → A} {bad : A} (answer : Plan → List ℕ → A) {Right : Plan → List ℕ → A → Type 0} where
+  pub bad-answered : t ≡ true → Answered refuse (sheetIn bad answer sheet) (SheetRight bad Right sheet) bytes bad
+  bad-answered b =
+      let is-bad : badBytes (length sheet) ≡ true = sym bad-is ∙ b in
+      accepted-answered bytes read o (sym (in-bad bad answer sheet (r .plan) is-bad))
+      (record { no-sheet = λ _. refl; of-sheet = λ ps l. absurd (laid-is-sheet l (decides-no-sheet sheet .yes is-bad)) })
 
-module _ (bytes sheet : List ℕ) (small : All IsByte sheet) (r : Reading) (read : r ≡ reading bytes) where
-  outcome-of : {o : Outcome} → r .outcome ≡ o → reading bytes .outcome ≡ o
-  outcome-of o = ap (λ (x : Reading). x .outcome) (sym read) ∙ o
+  pub sheet-answered : {a : A} → t ≡ false → a ≡ answer (r .plan) sheet → ((ps : List ℕ) → Laid ps sheet → Right (r .plan) ps a)
+      → Answered refuse (sheetIn bad answer sheet) (SheetRight bad Right sheet) bytes a
+  sheet-answered b is right =
+      let is-sheet : badBytes (length sheet) ≡ false = sym bad-is ∙ b in
+      accepted-answered bytes read o (is ∙ sym (in-sheet bad answer sheet (r .plan) is-sheet))
+      (record { no-sheet = λ n. absurd (decides-no-sheet sheet .no is-sheet n); of-sheet = right })
 
-  pub refused-sheet : (f : Fault) → r .outcome ≡ RefusedWith f → SheetJudged bytes sheet (Refused f)
-  refused-sheet f o = sheet-right bytes sheet (Refused f) small (sym (sheet-refused bytes sheet f (outcome-of o)))
-
-  pub bad-sheet : r .outcome ≡ Accepted → badBytes (length sheet) ≡ true → SheetJudged bytes sheet BadSheet
-  bad-sheet o b = sheet-right bytes sheet BadSheet small (sym (sheet-bad bytes sheet (outcome-of o) b))
-
-  pub judged-sheet : (answer : SheetAnswer) → r .outcome ≡ Accepted → badBytes (length sheet) ≡ false → answer ≡ placesJudged (r .plan) sheet
+module _ (bytes sheet : List ℕ) (small : All IsByte sheet) where
+  whole-answer : {answer : SheetAnswer} → Answered Refused (sheetIn BadSheet placesJudged sheet) (SheetRight BadSheet Right sheet) bytes answer
       → SheetJudged bytes sheet answer
-  judged-sheet answer o b e =
-      sheet-right bytes sheet answer small
-      (e ∙ ap (λ (x : Reading). placesJudged (x .plan) sheet) read ∙ sym (sheet-places bytes sheet (outcome-of o) b))
+  whole-answer a = record {
+    answered = a;
+    laid = sheet-laid sheet small;
+    place-below = λ place e. subst PlaceBelow (sym (a .is) ∙ e) (answer-below bytes sheet);
+  }
+
+  pub refused-sheet : {r : Reading} {f : Fault} → r ≡ reading bytes → r .outcome ≡ RefusedWith f → SheetJudged bytes sheet (Refused f)
+  refused-sheet read o = whole-answer (refused-answered bytes read o refl)
+
+  pub bad-sheet : {r : Reading} {t : Bool} → r ≡ reading bytes → r .outcome ≡ Accepted → t ≡ badBytes (length sheet) → t ≡ true
+      → SheetJudged bytes sheet BadSheet
+  bad-sheet read o t b = whole-answer (bad-answered bytes sheet read o t placesJudged b)
+
+  pub judged-sheet : {r : Reading} {t : Bool} {answer : SheetAnswer} → r ≡ reading bytes → r .outcome ≡ Accepted → t ≡ badBytes (length sheet) → t ≡ false
+      → answer ≡ placesJudged (r .plan) sheet → SheetJudged bytes sheet answer
+  judged-sheet {r} read o t b e =
+      let right : (ps : List ℕ) → Laid ps sheet → Right (r .plan) ps (placesJudged (r .plan) sheet) = λ ps l. places-right l (r .plan) (read-fits bytes read) in
+      whole-answer (sheet-answered bytes sheet read o t placesJudged b e (λ ps l. rw e (right ps l)))

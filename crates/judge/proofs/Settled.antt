@@ -18,13 +18,12 @@ use Rattle.plan.specs.Limits.{MAX_RULES, PROGRAM_WORDS}
 use Rattle.plan.specs.Record.{Fitting}
 use Rattle.reading.specs.Reading.{reading}
 use Rattle.reading.proofs.Limits.{record-fits}
-use Rattle.plan_meaning.proofs.AnswerSetsMean.{read-means}
+use Rattle.plan_meaning.proofs.AskedPlans.{asked-accepted, accepted-answered, read-fits}
 use Rattle.plan.specs.declared.record.Plan.{Plan}
-use Rattle.plan.specs.declared.fault.Fault.{Fault}
-use Rattle.plan.specs.declared.fault.Outcome.the-variants.{Accepted, Refused as RefusedWith}
+use Rattle.plan.specs.declared.fault.Outcome.the-variants.{Accepted}
 use Rattle.reading.specs.declared.reader.Reading.{Reading}
 use Rattle.plan_meaning.specs.Settled.{Settles, settled}
-use Rattle.judge.specs.Answers.{yesNo, isYes, judged, Judged}
+use Rattle.judge.specs.Answers.{yesNo, isYes, settledIn, judged, Judged}
 use Rattle.judge.specs.declared.Answer.{Answer}
 use Rattle.judge.specs.declared.Answer.the-variants.{Settled, NotSettled, Refused}
 
@@ -43,15 +42,6 @@ decides-settled p M f =
 
 -- ---- the answer
 
-pub judged-refused : (bytes : List ℕ) (position : ℕ) (f : Fault) → reading bytes .outcome ≡ RefusedWith f → judged bytes position ≡ Refused f
-unfolding judged
-judged-refused bytes position f e = rw (e, judged)
-
-pub judged-accepted : (bytes : List ℕ) (position : ℕ) → reading bytes .outcome ≡ Accepted
-    → judged bytes position ≡ yesNo (settled (reading bytes .plan) position)
-unfolding judged
-judged-accepted bytes position e = rw (e, judged)
-
 yes-no : (b : Bool) → isYes (yesNo b) ≡ b
 yes-no true = refl
 yes-no false = refl
@@ -60,25 +50,23 @@ yes-no false = refl
 pub judged-decides : (bytes : List ℕ) (position : ℕ) → reading bytes .outcome ≡ Accepted
     → Decides (Settles (reading bytes .plan) position) (isYes (judged bytes position))
 judged-decides bytes position e =
-    rw (judged-accepted bytes position e, yes-no (settled (reading bytes .plan) position))
+    rw (asked-accepted Refused (settledIn position) bytes e, yes-no (settled (reading bytes .plan) position))
     (decides-settled (reading bytes .plan) position (record-fits bytes))
 
--- so an answer that is the definition's meets the whole contract
-pub judged-right : (bytes : List ℕ) (position : ℕ) (answer : Answer) → answer ≡ judged bytes position → Judged bytes position answer
-judged-right bytes position answer e = record { is = e; decides = λ a. rw e (judged-decides bytes position a); meaning = read-means bytes }
+-- the answer of the code, from what reading and the test gave
+pub test-judged : (bytes : List ℕ) (position : ℕ) {r : Reading} {t : Bool} (b : Bool) → r ≡ reading bytes → r .outcome ≡ Accepted
+    → t ≡ settled (r .plan) position → t ≡ b → Judged bytes position (yesNo b)
+test-judged bytes position {r} b read o e t =
+    let s : b ≡ settled (r .plan) position = sym t ∙ e in
+    accepted-answered bytes read o (ap yesNo s) (rw (yes-no b, s) (decides-settled (r .plan) position (read-fits bytes read)))
 
--- ---- the answers of the code, from what reading gave
+pub yes-judged : (bytes : List ℕ) (position : ℕ) {r : Reading} {t : Bool} → r ≡ reading bytes → r .outcome ≡ Accepted → t ≡ settled (r .plan) position
+    → t ≡ true → Judged bytes position Settled
+yes-judged bytes position = test-judged bytes position true
 
-module _ (bytes : List ℕ) (position : ℕ) (r : Reading) (read : r ≡ reading bytes) where
-  pub refused-judged : (f : Fault) → r .outcome ≡ RefusedWith f → Judged bytes position (Refused f)
-  refused-judged f o =
-      judged-right bytes position (Refused f) (sym (judged-refused bytes position f (ap (λ (x : Reading). x .outcome) (sym read) ∙ o)))
-
-  pub accepted-judged : (b : Bool) → r .outcome ≡ Accepted → b ≡ settled (r .plan) position → Judged bytes position (yesNo b)
-  accepted-judged b o e =
-      judged-right bytes position (yesNo b)
-      (ap yesNo (e ∙ ap (λ (x : Reading). settled (x .plan) position) read)
-      ∙ sym (judged-accepted bytes position (ap (λ (x : Reading). x .outcome) (sym read) ∙ o)))
+pub no-judged : (bytes : List ℕ) (position : ℕ) {r : Reading} {t : Bool} → r ≡ reading bytes → r .outcome ≡ Accepted → t ≡ settled (r .plan) position
+    → t ≡ false → Judged bytes position NotSettled
+no-judged bytes position = test-judged bytes position false
 
 -- ---- the theorems
 
@@ -112,4 +100,5 @@ pub headless-not-settled : (bytes : List ℕ) (position a : ℕ) → reading byt
     → ¬ Headed (reading bytes .plan) a → judged bytes position ≡ NotSettled
 headless-not-settled bytes position a e h n =
     let not-settled : ¬ Settles (reading bytes .plan) position = λ s. n (settled-headed (reading bytes .plan) position a s h) in
-    judged-accepted bytes position e ∙ ap yesNo (decided-false (decides-settled (reading bytes .plan) position (record-fits bytes)) not-settled)
+    asked-accepted Refused (settledIn position) bytes e
+    ∙ ap yesNo (decided-false (decides-settled (reading bytes .plan) position (record-fits bytes)) not-settled)

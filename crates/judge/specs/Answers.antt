@@ -1,15 +1,13 @@
 -- The answer to "The single-position question takes plan and position, can be refused only by the reading place, doesn't
 -- look at the graph, and has no table."
-use mathlib.Core.Path.{_≡_}
 use mathlib.Core.Bool.{Bool, true, false}
 use mathlib.Core.List.{List}
 use Prim.Native.Nat.{ℕ}
 use Rattle.atoms.specs.Bounded.{Decides}
 use Rattle.plan.specs.Faults.{refusalCode}
-use Rattle.reading.specs.Reading.{reading}
-use Rattle.plan.specs.declared.fault.Outcome.the-variants.{Accepted, Refused as RefusedWith}
+use Rattle.plan.specs.declared.record.Plan.{Plan}
 use Rattle.plan_meaning.specs.Settled.{Settles, settled}
-use Rattle.plan_meaning.specs.Read.{ReadMeans}
+use Rattle.plan_meaning.specs.Asked.{asked, Answered}
 use Rattle.judge.specs.declared.Answer.{Answer}
 use Rattle.judge.specs.declared.Answer.the-variants.{Settled, NotSettled, Refused}
 
@@ -23,17 +21,20 @@ isYes Settled = true
 isYes NotSettled = false
 isYes (Refused f) = false
 
--- the answer for the bytes of a plan
-unfoldable pub judged : List ℕ → ℕ → Answer
-judged bytes position =
-    elim (reading bytes .outcome) [ RefusedWith f ↦ Refused f | Accepted ↦ yesNo (settled (reading bytes .plan) position) ]
+-- the answer of a record
+abbrev pub settledIn : ℕ → Plan → Answer
+settledIn position p = yesNo (settled p position)
 
--- the answer is that, and for a plan that reads it is yes exactly if the position is an answer set of the whole program, whose rules and facts are
--- those of the plan's lists
-pub record Judged (bytes : List ℕ) (position : ℕ) (answer : Answer) : Type 0 where
-  pub is : answer ≡ judged bytes position
-  pub decides : reading bytes .outcome ≡ Accepted → Decides (Settles (reading bytes .plan) position) (isYes answer)
-  pub meaning : ReadMeans bytes
+-- it is yes exactly if the position is an answer set of the whole program
+abbrev pub SaysSettled : ℕ → Plan → Answer → Type 0
+SaysSettled position p answer = Decides (Settles p position) (isYes answer)
+
+-- the question for the bytes of a plan, by computing and by meaning
+abbrev pub judged : List ℕ → ℕ → Answer
+judged bytes position = asked Refused (settledIn position) bytes
+
+abbrev pub Judged : List ℕ → ℕ → Answer → Type 0
+Judged bytes position answer = Answered Refused (settledIn position) (SaysSettled position) bytes answer
 
 -- the answer as one number
 abbrev pub code : Answer → ℕ

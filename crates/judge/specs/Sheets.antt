@@ -9,13 +9,10 @@ use lib.ListN.{length, getD}
 use Rattle.atoms.specs.Collected.{lowest}
 use Rattle.plan.specs.Faults.{codeOf, refusalCode}
 use Rattle.plan.specs.declared.record.Plan.{Plan}
-use Rattle.plan.specs.declared.fault.Fault.{Fault}
-use Rattle.plan.specs.declared.fault.Outcome.the-variants.{Accepted, Refused as RefusedWith}
 use Rattle.reading.specs.Words.{WORD_BYTES, WORD_VALUES, wordAt}
 use Rattle.reading.specs.Layout.{All, wordBytes}
-use Rattle.reading.specs.Reading.{reading}
 use Rattle.plan_meaning.specs.Settled.{Settles, settled}
-use Rattle.plan_meaning.specs.Read.{ReadMeans}
+use Rattle.plan_meaning.specs.Asked.{asked, Answered}
 use Rattle.judge.specs.declared.sheet.SheetAnswer.{SheetAnswer}
 use Rattle.judge.specs.declared.sheet.SheetAnswer.the-variants.{AllSettled, NotSettledAt, Refused, BadSheet}
 
@@ -47,13 +44,13 @@ placesJudged p sheet =
     let place = lowest (positionsIn sheet) (unsettledAt p sheet) in
     elim (ltb place (positionsIn sheet)) [ true ↦ NotSettledAt place | false ↦ AllSettled ]
 
+-- a question about the positions of a sheet: 24 for what is none
+unfoldable pub sheetIn : {A : Type 0} → A → (Plan → List ℕ → A) → List ℕ → Plan → A
+sheetIn bad answer sheet p = elim (badBytes (length sheet)) [ true ↦ bad | false ↦ answer p sheet ]
+
 -- 24 "after the reading refusals", and the places after both
-unfoldable pub sheetJudged : List ℕ → List ℕ → SheetAnswer
-sheetJudged bytes sheet =
-    elim (reading bytes .outcome) [
-      | RefusedWith f ↦ Refused f
-      | Accepted ↦ elim (badBytes (length sheet)) [ true ↦ BadSheet | false ↦ placesJudged (reading bytes .plan) sheet ]
-    ]
+abbrev pub sheetJudged : List ℕ → List ℕ → SheetAnswer
+sheetJudged bytes sheet = asked Refused (sheetIn BadSheet placesJudged sheet) bytes
 
 -- ---- the answer as one number
 
@@ -77,6 +74,11 @@ pub record Laid (positions sheet : List ℕ) : Type 0 where
   pub words : All (λ M. M < WORD_VALUES) positions
   pub bytes-are : sheet ≡ flatMap wordBytes positions
 
+-- 24 for what is no sheet, and otherwise an answer that is right of its positions
+pub record SheetRight {A : Type 0} (bad : A) (Right : Plan → List ℕ → A → Type 0) (sheet : List ℕ) (p : Plan) (a : A) : Type 0 where
+  pub no-sheet : NoSheet sheet → a ≡ bad
+  pub of-sheet : (positions : List ℕ) → Laid positions sheet → Right p positions a
+
 -- "all are answer sets"; "an empty sheet passes", since it has no place
 pub record AllSettle (p : Plan) (positions : List ℕ) : Type 0 where
   pub each : (place : ℕ) → place < length positions → Settles p (getD positions place 0)
@@ -96,10 +98,6 @@ pub data Right (p : Plan) (positions : List ℕ) : SheetAnswer → Type 0 where
 -- whole program, or this place has the first that is not, and it is below 256. The rules and facts are those of the plan's lists. Bytes that are a sheet have
 -- positions
 pub record SheetJudged (bytes sheet : List ℕ) (answer : SheetAnswer) : Type 0 where
-  pub is : answer ≡ sheetJudged bytes sheet
-  pub refused : (f : Fault) → reading bytes .outcome ≡ RefusedWith f → answer ≡ Refused f
-  pub no-sheet : reading bytes .outcome ≡ Accepted → NoSheet sheet → answer ≡ BadSheet
-  pub judges : reading bytes .outcome ≡ Accepted → (positions : List ℕ) → Laid positions sheet → Right (reading bytes .plan) positions answer
+  pub answered : Answered Refused (sheetIn BadSheet placesJudged sheet) (SheetRight BadSheet Right sheet) bytes answer
   pub laid : ¬ NoSheet sheet → (positions : List ℕ) × Laid positions sheet
   pub place-below : (place : ℕ) → answer ≡ NotSettledAt place → place < sheetCode AllSettled
-  pub meaning : ReadMeans bytes

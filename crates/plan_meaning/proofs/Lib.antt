@@ -4,3 +4,5 @@ pub mod TruthTables
 pub mod RecordMeans
 -- The answer sets of what was read are those of the lists
 pub mod AnswerSetsMean
+-- Questions to a plan: refused, or answered of what was read
+pub mod AskedPlans

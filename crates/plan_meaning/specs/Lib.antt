@@ -3,3 +3,4 @@ pub mod Meaning
 pub mod AnswerSets
 pub mod Settled
 pub mod Read
+pub mod Asked

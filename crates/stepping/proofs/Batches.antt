@@ -14,16 +14,14 @@ use Rattle.answer_sets.specs.AnswerSet.{AnswerSet}
 use Rattle.answer_sets.specs.Lent.{lent}
 use Rattle.plan.specs.declared.record.Plan.{Plan}
 use Rattle.plan.specs.declared.fault.Fault.{Fault}
-use Rattle.plan.specs.declared.fault.Outcome.{Outcome}
 use Rattle.plan.specs.declared.fault.Outcome.the-variants.{Accepted, Refused as RefusedWith}
 use Rattle.reading.specs.Reading.{reading}
 use Rattle.reading.specs.declared.reader.Reading.{Reading}
 use Rattle.plan_meaning.specs.Settled.{Settles}
-use Rattle.plan_meaning.proofs.AnswerSetsMean.{read-means}
+use Rattle.plan_meaning.proofs.AskedPlans.{not-accepted, outcome-is, refused-answered, accepted-answered}
 use Rattle.demands.specs.Demands.{lastIn}
 use Rattle.demands.specs.Promised.{Promised}
 use Rattle.demands.specs.declared.listing.Listing.{Listing}
-use Rattle.demands.proofs.Answers.{not-accepted}
 use Rattle.demands.proofs.Demand1.{lays-accepted}
 use Rattle.finding.specs.Least.{Behind, Leasts, above}
 use Rattle.finding.specs.Gather.{Added, Sought}
@@ -33,10 +31,9 @@ use Rattle.finding.proofs.AddedWords.{added-behind, written-long, written-least
 use Rattle.finding.proofs.Walks.{behind-more, above-of}
 use Rattle.stepping.specs.Followed.{Follows, position, none-left, followed}
 use Rattle.stepping.specs.Walk.{Walked, ends, goes}
-use Rattle.stepping.specs.Batch.{steps, placeAfter, batch, filled, Stepped}
+use Rattle.stepping.specs.Batch.{steps, placeAfter, filled, Stepped}
 use Rattle.stepping.specs.declared.Next.{Next}
 use Rattle.stepping.specs.declared.Next.the-variants.{Position, NoneLeft, Refused}
-use Rattle.stepping.specs.declared.Batch.{Batch}
 use Rattle.stepping.specs.declared.Batch.the-variants.{Written, Refused as BatchRefused}
 use Rattle.stepping.proofs.Nexts.{follows-only, followed-follows, followed-refused}
 use Rattle.stepping.proofs.Agreement.{walk-is-last}
@@ -70,14 +67,6 @@ steps-fault bytes from n e = rw (e, steps)
 steps-refused : (bytes : List ℕ) (from : From) (n : ℕ) {f : Fault} → reading bytes .outcome ≡ RefusedWith f → steps bytes from n ≡ []
 steps-refused bytes from zero e = steps-none bytes from
 steps-refused bytes from (suc n) {f} e = steps-fault bytes from n (followed-refused bytes from f e)
-
-batch-refused : (bytes : List ℕ) (from : From) (n : ℕ) {f : Fault} → reading bytes .outcome ≡ RefusedWith f → batch bytes from n ≡ BatchRefused f
-unfolding batch
-batch-refused bytes from n e = rw (e, batch)
-
-batch-accepted : (bytes : List ℕ) (from : From) (n : ℕ) → reading bytes .outcome ≡ Accepted → batch bytes from n ≡ Written (length (steps bytes from n))
-unfolding batch
-batch-accepted bytes from n e = rw (e, batch)
 
 -- ---- calls one after the other
 
@@ -189,37 +178,27 @@ module _ (bytes : List ℕ) (accepted : reading bytes .outcome ≡ Accepted) whe
           (position (here .0) (here .1) (λ N s b. low N (rising-cons a r) (k .all N (s, b))))))
 
 module _ (bytes : List ℕ) (from : From) {r : Reading} (read : r ≡ reading bytes) (words : List ℕ) where
-  outcome-is : {o : Outcome} → r .outcome ≡ o → reading bytes .outcome ≡ o
-  outcome-is e = sym (ap (λ (x : Reading). x .outcome) read) ∙ e
-
   pub refused-stepped : {f : Fault} → r .outcome ≡ RefusedWith f → Stepped bytes from words words (BatchRefused f)
-  refused-stepped {f} e =
-      let o = outcome-is e in
-      let b = batch-refused bytes from (length words) o in
-      record {
-        is = sym b;
-        words-are = rw (steps-refused bytes from (length words) o) refl;
-        refused = λ g k. (sym b ∙ batch-refused bytes from (length words) k, refl);
-        leasts = λ a. absurd (not-accepted f (sym a ∙ o));
-        meaning = read-means bytes;
-      }
+  refused-stepped e = record {
+    answered = refused-answered bytes read e refl;
+    words-are = rw (steps-refused bytes from (length words) (outcome-is bytes read e)) refl;
+    untouched = λ _ _. refl;
+  }
 
   pub written-stepped : {words′ : List ℕ} {count : ℕ} → r .outcome ≡ Accepted
       → Added (λ M. Settles (r .plan) M × Sought from [] M) words 0 words′ count → Stepped bytes from words words′ (Written count)
   written-stepped {words′} {count} e added = record {
-    is = ap Written (sym (written-long told) ∙ ap length same) ∙ sym (batch-accepted bytes from (length words) o);
+    answered = accepted-answered bytes read e (ap Written (sym (written-long told) ∙ ap length same))
+        (subst (Leasts (λ M. Settles (r .plan) M × Behind from M) (length words)) same (written-leasts told));
     words-are = written-rest told ∙ ap (λ (n : ℕ). take count words′ ++ drop n words) (sym (written-long told))
         ∙ ap (λ (l : List ℕ). filled l words) same;
-    refused = λ f k. absurd (not-accepted f (sym o ∙ k));
-    leasts = λ _. subst (Leasts (λ M. Settles (reading bytes .plan) M × Behind from M) (length words)) same (written-leasts told);
-    meaning = read-means bytes;
+    untouched = λ f k. absurd (not-accepted f (sym (outcome-is bytes read e) ∙ k));
   }
     where
-      o : reading bytes .outcome ≡ Accepted
-      o = outcome-is e
-
-      told : Added (λ M. Settles (reading bytes .plan) M × Behind from M) words 0 words′ count
-      told = added-behind (subst (λ (y : Reading). Added (λ M. Settles (y .plan) M × Sought from [] M) words 0 words′ count) read added)
+      told : Added (λ M. Settles (r .plan) M × Behind from M) words 0 words′ count
+      told = added-behind added
 
       same : take count words′ ≡ steps bytes from (length words)
-      same = leasts-steps bytes o (length words) from (take count words′) (written-leasts told)
+      same =
+          leasts-steps bytes (outcome-is bytes read e) (length words) from (take count words′)
+          (subst (λ (y : Reading). Leasts (λ M. Settles (y .plan) M × Behind from M) (length words) (take count words′)) read (written-leasts told))

@@ -1,5 +1,5 @@
 -- The next answer set: there is just one result that follows, the definition computes it, and so does what was found.
-use mathlib.Core.Path.{_≡_, refl, sym, ap, _∙_, subst}
+use mathlib.Core.Path.{_≡_, refl, ap}
 use mathlib.Core.Bool.{Bool, true, false}
 use mathlib.Core.Logic.{inl, inr}
 use mathlib.Core.List.{List}
@@ -17,15 +17,13 @@ use Rattle.answer_sets.specs.Lent.{lent}
 use Rattle.plan.specs.Record.{Fitting}
 use Rattle.plan.specs.declared.record.Plan.{Plan}
 use Rattle.plan.specs.declared.fault.Fault.{Fault}
-use Rattle.plan.specs.declared.fault.Outcome.{Outcome}
 use Rattle.plan.specs.declared.fault.Outcome.the-variants.{Accepted, Refused as RefusedWith}
 use Rattle.reading.specs.Reading.{reading}
 use Rattle.reading.specs.declared.reader.Reading.{Reading}
 use Rattle.reading.proofs.Limits.{record-fits}
 use Rattle.plan_meaning.specs.Settled.{Settles, settled}
 use Rattle.judge.proofs.Settled.{Headed, settled-headed, decides-settled}
-use Rattle.plan_meaning.proofs.AnswerSetsMean.{read-means}
-use Rattle.demands.proofs.Answers.{not-accepted}
+use Rattle.plan_meaning.proofs.AskedPlans.{asked-refused, asked-accepted, accepted-answered, read-fits}
 use Rattle.searching.specs.declared.witness.Witness.{Witness}
 use Rattle.searching.specs.declared.witness.Witness.the-variants.{Member, Nothing}
 use Rattle.finding.specs.Least.{LeastOf, least, none, Behind, from-start, above}
@@ -105,45 +103,21 @@ module _ (p : Plan) (fits : Fitting p) (from : From) where
 -- ---- for the bytes of a plan
 
 pub followed-refused : (bytes : List ℕ) (from : From) (f : Fault) → reading bytes .outcome ≡ RefusedWith f → followed bytes from ≡ Refused f
-unfolding followed
-followed-refused bytes from f e = rw (e, followed)
-
-pub followed-accepted : (bytes : List ℕ) (from : From) → reading bytes .outcome ≡ Accepted → followed bytes from ≡ nextIn (reading bytes .plan) from
-unfolding followed
-followed-accepted bytes from e = rw (e, followed)
+followed-refused bytes from = asked-refused Refused (λ p. nextIn p from) bytes
 
 pub followed-follows : (bytes : List ℕ) (from : From) → reading bytes .outcome ≡ Accepted → Follows (reading bytes .plan) from (followed bytes from)
-followed-follows bytes from e = rw (followed-accepted bytes from e) (next-in-follows (reading bytes .plan) (record-fits bytes) from)
+followed-follows bytes from e =
+    rw (asked-accepted Refused (λ p. nextIn p from) bytes e) (next-in-follows (reading bytes .plan) (record-fits bytes) from)
 
 -- ---- the results of the code, from what reading gave
 
-module _ (bytes : List ℕ) (from : From) {r : Reading} (read : r ≡ reading bytes) where
-  outcome-is : {o : Outcome} → r .outcome ≡ o → reading bytes .outcome ≡ o
-  outcome-is e = sym (ap (λ (x : Reading). x .outcome) read) ∙ e
+module _ (bytes : List ℕ) (from : From) {r : Reading} {w : Witness} (read : r ≡ reading bytes) (o : r .outcome ≡ Accepted)
+    (found : LeastOf (λ N. Settles (r .plan) N × Behind from N) w) where
+  accepted-followed : {x : Next} → Follows (r .plan) from x → Followed bytes from x
+  accepted-followed k = accepted-answered bytes read o (follows-only k (next-in-follows (r .plan) (read-fits bytes read) from)) k
 
-  pub refused-followed : {f : Fault} → r .outcome ≡ RefusedWith f → Followed bytes from (Refused f)
-  refused-followed {f} e = record {
-    is = sym (followed-refused bytes from f (outcome-is e));
-    refused = λ g o. sym (followed-refused bytes from f (outcome-is e)) ∙ followed-refused bytes from g o;
-    follows = λ a. absurd (not-accepted f (sym a ∙ outcome-is e));
-    meaning = read-means bytes;
-  }
+  pub position-followed : {M : ℕ} → w ≡ Member M → Followed bytes from (Position M)
+  position-followed q = accepted-followed (found-follows (rw q at found))
 
-  accepted-followed : {x : Next} → r .outcome ≡ Accepted → Follows (r .plan) from x → Followed bytes from x
-  accepted-followed {x} e k = record {
-    is = follows-only here (followed-follows bytes from (outcome-is e));
-    refused = λ f o. absurd (not-accepted f (sym (outcome-is e) ∙ o));
-    follows = λ _. here;
-    meaning = read-means bytes;
-  }
-    where
-      here : Follows (reading bytes .plan) from x
-      here = subst (λ (y : Reading). Follows (y .plan) from x) read k
-
-  pub position-followed : {w : Witness} {M : ℕ} → r .outcome ≡ Accepted → w ≡ Member M → LeastOf (λ N. Settles (r .plan) N × Behind from N) w
-      → Followed bytes from (Position M)
-  position-followed e q l = accepted-followed e (found-follows (rw q at l))
-
-  pub none-followed : {w : Witness} → r .outcome ≡ Accepted → w ≡ Nothing → LeastOf (λ N. Settles (r .plan) N × Behind from N) w
-      → Followed bytes from NoneLeft
-  none-followed e q l = accepted-followed e (none-follows (rw q at l))
+  pub none-followed : w ≡ Nothing → Followed bytes from NoneLeft
+  none-followed q = accepted-followed (none-follows (rw q at found))

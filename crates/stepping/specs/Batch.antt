@@ -3,11 +3,12 @@ use mathlib.Core.Path.{_≡_}
 use mathlib.Core.List.{List, [], _∷_, _++_}
 use Prim.Native.Nat.{ℕ, zero, suc}
 use lib.ListN.{length, drop}
+use Rattle.plan.specs.declared.record.Plan.{Plan}
 use Rattle.plan.specs.declared.fault.Fault.{Fault}
-use Rattle.plan.specs.declared.fault.Outcome.the-variants.{Accepted, Refused as RefusedWith}
+use Rattle.plan.specs.declared.fault.Outcome.the-variants.{Refused as RefusedWith}
 use Rattle.reading.specs.Reading.{reading}
 use Rattle.plan_meaning.specs.Settled.{Settles}
-use Rattle.plan_meaning.specs.Read.{ReadMeans}
+use Rattle.plan_meaning.specs.Asked.{asked, Answered}
 use Rattle.finding.specs.Least.{Behind, Leasts}
 use Rattle.finding.specs.declared.least.From.{From}
 use Rattle.finding.specs.declared.least.From.the-variants.{Above}
@@ -27,19 +28,20 @@ placeAfter from [] = from
 placeAfter from (M ∷ Ms) = placeAfter (Above M) Ms
 
 -- the fault that reading found, or how many positions there are
-unfoldable pub batch : List ℕ → From → ℕ → Batch
-batch bytes from n = elim (reading bytes .outcome) [ RefusedWith f ↦ BatchRefused f | Accepted ↦ Written (length (steps bytes from n)) ]
+abbrev pub batch : List ℕ → From → ℕ → Batch
+batch bytes from n = asked BatchRefused (λ _. Written (length (steps bytes from n))) bytes
 
 -- the lent words afterwards: the positions, and behind them what was there
 abbrev pub filled : List ℕ → List ℕ → List ℕ
 filled xs words = xs ++ drop (length xs) words
 
--- The result and the words equal the definition. By meaning: the fault that reading found, and nothing is written; else the words are the least answer sets
--- of the whole program behind the place, rising, and all of them if they are fewer than the words. The rules and facts are those of the plan's lists
+-- so many single calls find the least answer sets of the whole program behind the place
+abbrev pub LeastSteps : Plan → List ℕ → From → ℕ → Type 0
+LeastSteps p bytes from n = Leasts (λ M. Settles p M × Behind from M) n (steps bytes from n)
+
+-- the result and the words are those; the fault that reading found, and then nothing is written; and otherwise the words are the least answer sets of
+-- the whole program behind the place, whose rules and facts are those of the plan's lists, rising, and all of them where fewer than there are words
 pub record Stepped (bytes : List ℕ) (from : From) (words words′ : List ℕ) (r : Batch) : Type 0 where
-  pub is : r ≡ batch bytes from (length words)
+  pub answered : Answered BatchRefused (λ _. Written (length (steps bytes from (length words)))) (λ p _. LeastSteps p bytes from (length words)) bytes r
   pub words-are : words′ ≡ filled (steps bytes from (length words)) words
-  pub refused : (f : Fault) → reading bytes .outcome ≡ RefusedWith f → (r ≡ BatchRefused f) × (words′ ≡ words)
-  pub leasts : reading bytes .outcome ≡ Accepted
-      → Leasts (λ M. Settles (reading bytes .plan) M × Behind from M) (length words) (steps bytes from (length words))
-  pub meaning : ReadMeans bytes
+  pub untouched : (f : Fault) → reading bytes .outcome ≡ RefusedWith f → words′ ≡ words

@@ -1,6 +1,5 @@
 -- One position after the other (document 02, S-8): "Given a plan and either "from the start" or a position, return the least answer set above
 -- it, or that none is left. .. It has the reading refusals only."
-use mathlib.Core.Path.{_≡_}
 use mathlib.Core.Bool.{Bool, true, false}
 use mathlib.Core.List.{List}
 use Prim.Native.Nat.{ℕ, suc, _≤_}
@@ -10,12 +9,9 @@ use Rattle.atoms.specs.Bounded.{unionIn}
 use Rattle.atoms.specs.Collected.{lowest}
 use Rattle.answer_sets.specs.Lent.{lent}
 use Rattle.plan.specs.Faults.{refusalCode}
-use Rattle.plan.specs.declared.fault.Fault.{Fault}
-use Rattle.plan.specs.declared.fault.Outcome.the-variants.{Accepted, Refused as RefusedWith}
 use Rattle.plan.specs.declared.record.Plan.{Plan}
-use Rattle.reading.specs.Reading.{reading}
 use Rattle.plan_meaning.specs.Settled.{Settles, settled}
-use Rattle.plan_meaning.specs.Read.{ReadMeans}
+use Rattle.plan_meaning.specs.Asked.{asked, Answered}
 use Rattle.finding.specs.Least.{Behind}
 use Rattle.finding.specs.declared.least.From.{From}
 use Rattle.finding.specs.declared.least.From.the-variants.{Start, Above}
@@ -46,18 +42,12 @@ nextIn p from =
     let M = lowest (suc (mayBeUp p)) (settledBehind p from) in
     elim (ltb M (suc (mayBeUp p))) [ true ↦ Position M | false ↦ NoneLeft ]
 
--- the same for the bytes of a plan
-unfoldable pub followed : List ℕ → From → Next
-followed bytes from =
-    elim (reading bytes .outcome) [ RefusedWith f ↦ Refused f | Accepted ↦ nextIn (reading bytes .plan) from ]
+-- the question for the bytes of a plan, by computing and by meaning
+abbrev pub followed : List ℕ → From → Next
+followed bytes from = asked Refused (λ p. nextIn p from) bytes
 
--- The result equals the definition. By meaning: the fault that reading found, or the next answer set of the whole program. Its rules and facts are those of
--- the plan's lists
-pub record Followed (bytes : List ℕ) (from : From) (r : Next) : Type 0 where
-  pub is : r ≡ followed bytes from
-  pub refused : (f : Fault) → reading bytes .outcome ≡ RefusedWith f → r ≡ Refused f
-  pub follows : reading bytes .outcome ≡ Accepted → Follows (reading bytes .plan) from r
-  pub meaning : ReadMeans bytes
+abbrev pub Followed : List ℕ → From → Next → Type 0
+Followed bytes from r = Answered Refused (λ p. nextIn p from) (λ p. Follows p from) bytes r
 
 -- the result as one number, beside the position
 abbrev pub code : Next → ℕ

@@ -29,8 +29,7 @@ pub constraints-of-spec : {M : Type 1} → statement M
 constraints-of-spec =
     tie.close
     (tie.spec
-    Inv-loop
-    μ-loop
+    Inv-loop μ-loop
     (λ c. sifts-start)
     (λ c κs. search needs)
     unless-headed-requires

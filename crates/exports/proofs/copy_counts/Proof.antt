@@ -19,15 +19,9 @@ pub copy-counts-spec : {M : Type 1} → statement M
 copy-counts-spec =
     tie.close
     (tie.spec
-    Inv-loop
-    μ-loop
+    Inv-loop μ-loop
     loop-holds
-    (λ c. search needs)
-    (λ c. search needs)
-    (λ c. search needs)
-    (λ c. search needs)
-    (λ c. search needs)
-    (λ c. search needs)
+    (λ c. search needs) (λ c. search needs) (λ c. search needs) (λ c. search needs) (λ c. search needs) (λ c. search needs)
     (λ c. search (copying-more, needs))
     (λ c. search needs)
     (λ c. search (copying-full, needs))

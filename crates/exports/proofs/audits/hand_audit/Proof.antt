@@ -1,5 +1,5 @@
 -- The variant that was told gives code and words.
-use Rattle.exports.proofs.AuditCodes.{audits-lack, audits-fault}
+use Rattle.exports.proofs.HostReplies.{replies}
 use borrow.Author.Needs.{needs}
 use Rattle.exports.proofs.audits.hand_audit.Statement.{statement}
 use Rattle.exports.proofs.audits.hand_audit.Tie as tie
@@ -8,15 +8,8 @@ pub hand-audit-spec : {M : Type 1} → statement M
 hand-audit-spec =
     tie.close
     (tie.spec
-    (λ c. search needs)
-    (λ c. search needs)
-    (λ c κs. search needs)
-    (λ c. search needs)
-    (λ c κs. search needs)
-    (λ c. search needs)
-    (λ c. search needs)
-    (λ c. search needs)
-    (λ c. search needs)
-    (λ c. search (audits-lack, needs))
-    (λ c. search (audits-fault, needs))
+    (λ c. search needs) (λ c. search needs) (λ c κs. search needs) (λ c. search needs) (λ c κs. search needs) (λ c. search needs) (λ c. search needs)
+    (λ c. search needs) (λ c. search needs)
+    (λ c. search (replies, needs))
+    (λ c. search (replies, needs))
     (λ c. search needs))

@@ -1,5 +1,5 @@
 -- The variant that was told gives code and count.
-use Rattle.exports.proofs.BatchCodes.{tells-written, tells-refused}
+use Rattle.exports.proofs.HostReplies.{replies}
 use borrow.Author.Needs.{needs}
 use Rattle.exports.proofs.batches.hand_batch.Statement.{statement}
 use Rattle.exports.proofs.batches.hand_batch.Tie as tie
@@ -8,10 +8,6 @@ pub hand-batch-spec : {M : Type 1} → statement M
 hand-batch-spec =
     tie.close
     (tie.spec
-    (λ c. search needs)
-    (λ c κs. search needs)
-    (λ c. search needs)
-    (λ c κs. search needs)
-    (λ c. search needs)
-    (λ c. search (tells-written, needs))
-    (λ c. search (tells-refused, needs)))
+    (λ c. search needs) (λ c κs. search needs) (λ c. search needs) (λ c κs. search needs) (λ c. search needs)
+    (λ c. search (replies, needs))
+    (λ c. search (replies, needs)))

@@ -1,5 +1,5 @@
 -- The variant that was told gives code and words.
-use Rattle.exports.proofs.BlameCodes.{blames-position, blames-held, blames-fault}
+use Rattle.exports.proofs.HostReplies.{replies}
 use borrow.Author.Needs.{needs}
 use Rattle.exports.proofs.blame.hand_blame.Statement.{statement}
 use Rattle.exports.proofs.blame.hand_blame.Tie as tie
@@ -8,14 +8,8 @@ pub hand-blame-spec : {M : Type 1} → statement M
 hand-blame-spec =
     tie.close
     (tie.spec
+    (λ c. search needs) (λ c κs. search needs) (λ c. search needs) (λ c κs. search needs) (λ c. search needs) (λ c κs. search needs) (λ c. search needs)
+    (λ c. search (replies, needs))
     (λ c. search needs)
-    (λ c κs. search needs)
-    (λ c. search needs)
-    (λ c κs. search needs)
-    (λ c. search needs)
-    (λ c κs. search needs)
-    (λ c. search needs)
-    (λ c. search (blames-position, needs))
-    (λ c. search needs)
-    (λ c. search (blames-held, needs))
-    (λ c. search (blames-fault, needs)))
+    (λ c. search (replies, needs))
+    (λ c. search (replies, needs)))

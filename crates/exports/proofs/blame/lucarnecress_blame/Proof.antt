@@ -1,19 +1,15 @@
 -- The result that `blame_plan` promises, handed over.
 use denote.Ref.{now}
+use borrow.Author.Needs.{needs}
+use Rattle.reading.specs.Layout.{IsByte, All}
 use Rattle.reading.proofs.Limits.{all-bytes}
 use Rattle.exports.proofs.BlameCodes.{blame-handed}
-use borrow.Author.Needs.{needs}
 use Rattle.exports.proofs.blame.lucarnecress_blame.Statement.{statement}
 use Rattle.exports.proofs.blame.lucarnecress_blame.Tie as tie
 
-returns : tie.Need-returns
-returns c =
-    let handed = c .before .before in
-    let found = handed .before .before in
-    let known = found .before .before in
-    let at = known .before .args in
-    blame-handed (now (at .plan)) (all-bytes (now (at .plan)) (λ i. known .shared-slice-known .given i .fits)) (found .blame-plan .ensures)
-    (handed .hand-blame .ensures)
+-- the plan's bytes
+small : (c : tie.After-shared-slice-known) → All IsByte (now (c .before .args .plan))
+small c = all-bytes (now (c .before .args .plan)) (λ i. c .shared-slice-known .given i .fits)
 
 pub lucarnecress-blame-spec : {M : Type 1} → statement M
-lucarnecress-blame-spec = tie.close (tie.spec (λ c κs. search needs) (λ c κs. search needs) (λ c. search needs) returns)
+lucarnecress-blame-spec = tie.close (tie.spec (λ c κs. search needs) (λ c κs. search needs) (λ c. search needs) (λ c. search (blame-handed, small, needs)))

@@ -9,8 +9,7 @@ write-pair-spec =
     tie.close
     (tie.spec
     (λ c. search (no-room, needs))
-    (λ c. search needs)
-    (λ c. search needs)
+    (λ c. search needs) (λ c. search needs)
     (λ c. search (room-for-one, needs))
     (λ c. search (two-fit, needs))
     (λ c. search needs)

@@ -1,17 +1,15 @@
 -- The number of the answer that `judge_sheet` promises.
 use denote.Ref.{now}
+use borrow.Author.Needs.{needs}
+use Rattle.reading.specs.Layout.{IsByte, All}
 use Rattle.reading.proofs.Limits.{all-bytes}
 use Rattle.exports.proofs.SheetCodes.{sheet-judge-handed}
-use borrow.Author.Needs.{needs}
 use Rattle.exports.proofs.sheets.lucarnecress_judge_sheet.Statement.{statement}
 use Rattle.exports.proofs.sheets.lucarnecress_judge_sheet.Tie as tie
 
-returns : tie.Need-returns
-returns c =
-    let known = c .before .before .before in
-    let plan = known .before .args .plan in
-    sheet-judge-handed (now plan) _ (all-bytes (now plan) (λ i. known .shared-slice-known .given i .fits)) (search needs)
-    (c .before .judge-sheet .ensures)
+-- the plan's bytes
+small : (c : tie.After-shared-slice-known) → All IsByte (now (c .before .args .plan))
+small c = all-bytes (now (c .before .args .plan)) (λ i. c .shared-slice-known .given i .fits)
 
 pub lucarnecress-judge-sheet-spec : {M : Type 1} → statement M
-lucarnecress-judge-sheet-spec = tie.close (tie.spec (λ c κs. search needs) (λ c κs. search needs) returns)
+lucarnecress-judge-sheet-spec = tie.close (tie.spec (λ c κs. search needs) (λ c κs. search needs) (λ c. search (sheet-judge-handed, small, needs)))

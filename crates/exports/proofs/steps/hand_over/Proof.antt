@@ -1,5 +1,5 @@
 -- The variant that was told gives code and words.
-use Rattle.exports.proofs.NextCodes.{tells-position, tells-none, tells-fault}
+use Rattle.exports.proofs.HostReplies.{replies}
 use borrow.Author.Needs.{needs}
 use Rattle.exports.proofs.steps.hand_over.Statement.{statement}
 use Rattle.exports.proofs.steps.hand_over.Tie as tie
@@ -8,12 +8,7 @@ pub hand-over-spec : {M : Type 1} → statement M
 hand-over-spec =
     tie.close
     (tie.spec
-    (λ c. search needs)
-    (λ c κs. search needs)
-    (λ c. search needs)
-    (λ c. search needs)
-    (λ c κs. search needs)
-    (λ c. search needs)
-    (λ c. search (tells-position, needs))
-    (λ c. search (tells-none, needs))
-    (λ c. search (tells-fault, needs)))
+    (λ c. search needs) (λ c κs. search needs) (λ c. search needs) (λ c. search needs) (λ c κs. search needs) (λ c. search needs)
+    (λ c. search (replies, needs))
+    (λ c. search (replies, needs))
+    (λ c. search (replies, needs)))
