@@ -1,5 +1,5 @@
 -- A loop takes the numbers of a word `which`, the lowest first; those of the word `rest` are still to come.
--- What a turn takes is in `which` (taken-lent), and the rest gets smaller (taken-less of Counting).
+-- What a turn takes is in `which` (taken-lent), and the rest gets smaller (taken-less of Counts).
 use mathlib.Core.Path.{_≡_, refl, sym, subst}
 use mathlib.Core.Logic.{_⊎_, inl, inr}
 use Prim.Native.Nat.{ℕ, _^_, _<_}
