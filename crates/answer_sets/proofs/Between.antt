@@ -4,6 +4,7 @@ use mathlib.Core.Bool.{Bool, true, false, not, true≢false, false≢true}
 use mathlib.Core.Logic.{_⊎_, inl, inr}
 use mathlib.Core.List.{List}
 use Prim.Native.Nat.{ℕ, _<_, _^_}
+use native.Mathlib.Omega.{arith}
 use borrow.Author.Tests.{not-true}
 use Rattle.atoms.specs.Word.{ATOMS, Has, _⊆_, Apart, apart, atom, outside}
 use Rattle.atoms.specs.Bounded.{Decides}
@@ -14,11 +15,12 @@ use Rattle.answer_sets.specs.Lent.{lent, Lent}
 use Rattle.states.specs.State.{Completes, undecided}
 use Rattle.states.specs.Narrowing.{branchOf}
 use Rattle.answer_sets.specs.RulePass.{Sifted}
-use Rattle.answer_sets.specs.SubsetTest.{Between, Finds, Confines, Candidates, InRule, in-head, in-looks}
+use Rattle.answer_sets.specs.SubsetTest.{Between, Finds, Tries, Lasts, UNBOUNDED, subsetsOf, Confines, Candidates, InRule, in-head, in-looks}
 use Rattle.answer_sets.specs.Test.{Smaller, SubsetTested, SmallerSet}
 use Rattle.states.specs.declared.state.State.{State}
 use Rattle.answer_sets.specs.declared.smaller.Smaller.{Smaller as Answer}
 use Rattle.answer_sets.specs.declared.rule_pass.Passed.{Passed}
+use Rattle.answer_sets.specs.declared.smaller.Smaller.{Smaller as Answer}
 use Rattle.states.proofs.Narrows.{completes-back, overlap-none, with-up, with-dropped, without-up, without-dropped}
 use Rattle.states.proofs.HalfDecided.{decided-cases}
 use Rattle.answer_sets.proofs.Bodies.{rest-same}
@@ -160,6 +162,40 @@ module _ {P : Program} {which M : ℕ} where
       go b (yes h) = absurd (d .exactly .no e (rw u (between-as b (with-up s i (b .completes) h))))
       go b (no h) = between-as b (with-dropped s i (b .completes) h)
 
+-- ---- the same with so many branchings
+
+pub lasts-trans : {a b c : ℕ} → Lasts a b → Lasts b c → Lasts a c
+lasts-trans l m = record { unbounded = λ e. m .unbounded (l .unbounded e) }
+
+-- with as many as it takes it is told
+pub tries-unbounded : {P : Program} {which M : ℕ} {s : State} {r : Answer} → Tries P which M s UNBOUNDED r → Finds P which M s (r .found) (r .set)
+tries-unbounded x = x .told (λ e. omega (arith, e, x .lasts .unbounded refl))
+
+module _ {P : Program} {which M : ℕ} {s : State} {left : ℕ} where
+  pub tries-told : {found : Bool} {set : ℕ} → Finds P which M s found set → Tries P which M s left (record { found = found; set = set; left = left })
+  tries-told f = record { told = λ n. f; lasts = record { unbounded = λ e. e } }
+
+  -- none is left: nothing is said
+  pub tries-spent : {r : Answer} → Lasts left (r .left) → r .left ≡ 0 → Tries P which M s left r
+  tries-spent l e = record { told = λ n. absurd (n e); lasts = l }
+
+  module _ (i : ℕ) {spent : ℕ} {t : State} {p : Passed} {r : Answer} (l : Lasts left spent) (e : t ≡ branchOf s i true) (k : Sifted P which t which p)
+      (x : Tries P (p .left) M (p .state) spent r) where
+    -- with the atom up there is one
+    pub tries-yes : r .found ≡ true → Tries P which M s left r
+    tries-yes y = record {
+      told = λ n. rw y (branch-yes i e (finds-passed k (x .told n)) y);
+      lasts = lasts-trans l (x .lasts);
+    }
+
+    -- there is none, and it is tried dropped
+    pub tries-no : {u : State} {q : Passed} {r₂ : Answer} → r .found ≡ false → ¬ (r .left ≡ 0) → u ≡ branchOf s i false → Sifted P which u which q
+        → Tries P (q .left) M (q .state) (r .left) r₂ → Tries P which M s left r₂
+    tries-no n z f k₂ x₂ = record {
+      told = λ z₂. branch-no i e f (finds-passed k (x .told z)) n (finds-passed k₂ (x₂ .told z₂));
+      lasts = lasts-trans (lasts-trans l (x .lasts)) (x₂ .lasts);
+    }
+
 -- ---- a rule that can come to be satisfied no more
 
 module _ (rules : List ℕ) (r : ℕ) (t : State)
@@ -194,10 +230,10 @@ between-stuck {rules} {r = r} {t = t} e k z u =
 -- ---- from the facts on
 
 module _ {P : Program} {which facts M : ℕ} where
-  smaller-of-between : Between P which M (record { up = facts; dropped = outside M }) → Smaller P which facts M
+  smaller-of-between : Between P which M (subsetsOf facts M) → Smaller P which facts M
   smaller-of-between b = record { set = b .set; proper = b .proper; facts-up = b .completes .has-up; satisfied = b .satisfied }
 
-  between-of-smaller : Smaller P which facts M → Between P which M (record { up = facts; dropped = outside M })
+  between-of-smaller : Smaller P which facts M → Between P which M (subsetsOf facts M)
   between-of-smaller s = record {
     set = s .set;
     proper = s .proper;
@@ -212,21 +248,25 @@ module _ {P : Program} {which facts M : ℕ} where
   facts-inside : Smaller P which facts M → facts ⊆ M
   facts-inside s = subset-trans (s .facts-up) (s .proper .within)
 
-  pub smaller-set : {dropped set : ℕ} {r : Bool} → dropped ≡ outside M → Finds P which M (record { up = facts; dropped = dropped }) r set
-      → SmallerSet P which facts M r set
+  smaller-set : {set : ℕ} {r : Bool} → Finds P which M (subsetsOf facts M) r set → SmallerSet P which facts M r set
   unfolding smaller-of-between
-  smaller-set e d = record {
-    shown = λ f. let b = (rw e at d) .shown f in (smaller-of-between (b .0), b .1);
-    none = d .none;
-  }
+  smaller-set d = record { shown = λ f. let b = d .shown f in (smaller-of-between (b .0), b .1); none = d .none }
 
-  pub subset-tested : {dropped set : ℕ} {r : Bool} → which < 2 ^ ATOMS → dropped ≡ outside M
-      → Finds P which M (record { up = facts; dropped = dropped }) r set → SubsetTested P which facts M r
-  subset-tested {r = r} fits e d = record {
+  subset-tested : {set : ℕ} {r : Bool} → which < 2 ^ ATOMS → Finds P which M (subsetsOf facts M) r set → SubsetTested P which facts M r
+  subset-tested {r = r} fits d = record {
     exactly = told;
     computed = decides-same told (decides-smaller P which facts M fits) (λ s. s) (λ s. s);
     facts-outside = λ n. decided-false told (λ s. n (facts-inside s));
   }
     where
       told : Decides (Smaller P which facts M) r
-      told = decides-iff smaller-of-between between-of-smaller (rw e at (d .exactly))
+      told = decides-iff smaller-of-between between-of-smaller (d .exactly)
+
+  -- what is told of the sets that the rounds leave is told of all
+  pub tested-passed : {p : Passed} {set : ℕ} {r : Bool} → which < 2 ^ ATOMS → Sifted P which (subsetsOf facts M) which p → Finds P (p .left) M (p .state) r set
+      → SubsetTested P which facts M r × SmallerSet P which facts M r set
+  tested-passed fits k d = let f = finds-passed k d in (subset-tested fits f, smaller-set f)
+
+  -- they lie within the position
+  pub passed-confines : {p : Passed} → Sifted P which (subsetsOf facts M) which p → Confines M (p .state .dropped)
+  passed-confines k = confines-more (confines-outside refl) (k .narrows .dropped-grows)

@@ -6,7 +6,7 @@ pub mod reduct;
 mod rounds;
 pub mod rule;
 pub mod rule_pass;
-mod smaller;
+pub mod smaller;
 mod tried;
 pub mod truth;
 pub mod uses;

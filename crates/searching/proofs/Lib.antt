@@ -2,13 +2,15 @@
 pub mod Insertion
 -- What an insertion adds to a rising list, and how the answers of two searches go together
 pub mod Gathered
--- Cuts of wanted positions, and members that were met: the same said of other statements, and of two branches together
+-- Cuts of wanted positions, and members that were met
 pub mod Witnesses
--- The search: what belongs to the list survives propagation, and the two ways to decide an atom together miss nothing
+-- One position: whether it belongs to the list, and what it adds there if it is offered
 pub mod SearchSteps
+-- The theorem of the search: what was met is what is wanted, as far as it shows
+pub mod Calculus
 -- Nodes: what they hand back
 pub mod Nodes
--- The cases of a node, each with all that is said of it
+-- The cases of the calculus with all that is said of a node
 pub mod ExploredNodes
 -- Spare atoms: bodies and answer sets do not look at them
 pub mod SpareAtoms
@@ -20,3 +22,5 @@ pub mod TestedPilots
 pub mod PilotedSearches
 -- What is wired: what belongs to the list, where the pilots follow their tables
 pub mod WiredPositions
+-- The job of the subset test: who is wired there is who satisfies the rules
+pub mod Models

@@ -1,6 +1,7 @@
 -- Inner: a member that was met.
 use mathlib.Core.Path.{_≡_}
 use mathlib.Core.Bool.{Bool, false}
+use mathlib.Core.List.{List, [], List·Memᴰ}
 use Prim.Native.Nat.{ℕ}
 use lib.Dec.{eqb}
 use Rattle.searching.specs.declared.witness.Witness.{Witness}
@@ -10,6 +11,11 @@ use Rattle.searching.specs.declared.witness.Witness.the-variants.{Member
 pub data Witnessed (Wanted : ℕ → Type 0) : Witness → Type 0 where
   met : {M : ℕ} → Wanted M → Witnessed Wanted (Member M)
   none : ((M : ℕ) → ¬ Wanted M) → Witnessed Wanted Nothing
+
+-- one of the positions that were met, or that there is none of them
+pub data Shows (met : List ℕ) : Witness → Type 0 where
+  one : {M : ℕ} → List·Memᴰ M met → Shows met (Member M)
+  nobody : met ≡ [] → Shows met Nothing
 
 -- one was met
 pub record Met (w : Witness) : Type 0 where

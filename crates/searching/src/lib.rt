@@ -8,6 +8,8 @@ mod member;
 mod node;
 mod outlook;
 pub mod search;
+mod seek;
 pub mod spare;
 mod stop;
+pub mod subsets;
 pub mod witness;

@@ -13,8 +13,8 @@ use Rattle.atoms.proofs.Sets.{decides-apart}
 use Rattle.answer_sets.specs.Program.{Satisfies}
 use Rattle.answer_sets.specs.Lent.{lent}
 use Rattle.states.specs.State.{undecided}
-use Rattle.answer_sets.proofs.Between.{lent-part, confines-more, confines-branch, finds-passed, between-clash, between-whole, between-model}
-use Rattle.answer_sets.proofs.Between.{between-stuck, branch-no, branch-found, none-so}
+use Rattle.answer_sets.proofs.Between.{lent-part, confines-more, confines-branch, between-clash, between-whole, between-model, between-stuck}
+use Rattle.answer_sets.proofs.Between.{lasts-trans, tries-told, tries-spent, tries-yes, tries-no}
 use Rattle.states.proofs.Branches.{decided-falls}
 use Rattle.answer_sets.proofs.smaller.some_between.Reads as some-between
 use Rattle.answer_sets.proofs.smaller.some_between.Kinds as some-between-kinds
@@ -25,6 +25,7 @@ use Rattle.answer_sets.proofs.reduct.find_unsatisfied.Reads as find-uns
 use Rattle.answer_sets.proofs.tried.candidates.Reads as candidates-reads
 use Rattle.answer_sets.proofs.tried.tried_next.Reads as tried-next-reads
 use Rattle.answer_sets.proofs.smaller.none_smaller.Reads as none-smaller-reads
+use Rattle.answer_sets.proofs.smaller.spend.Reads as spend-reads
 use Rattle.answer_sets.proofs.rounds.rounds.Reads as rounds-reads
 use Rattle.atoms.proofs.are_apart.Reads as are-apart-reads
 use Rattle.atoms.proofs.lowest.Reads as lowest-reads
@@ -66,6 +67,8 @@ calls t = (
   decide-reads.Learnt,
   rounds-reads.Asked,
   rounds-reads.Learnt,
+  spend-reads.Asked,
+  spend-reads.Learnt,
   some-between-below t,
   some-between.Post,
 )
@@ -96,7 +99,7 @@ module _ (t : ℕ) where
   opened c = c .before .before .before
 
   abbrev found : Chosen → Found
-  found c = c .before .before .before .before .before .before
+  found c = c .before .before .before .before .before .before .before
 
   abbrev chosen : Raised → Chosen
   chosen c = c .before .before
@@ -115,22 +118,23 @@ module _ (t : ℕ) where
   undecided-atom : (c : Chosen)
       → Has (undecided (start (opened (found c)) .args .s .up) (start (opened (found c)) .args .s .dropped)) (c .lowest .result)
   undecided-atom c =
-      rw (c .before .before .before .before .undecided .ensures) at
+      rw (c .before .before .before .before .before .undecided .ensures) at
       (c .before .tried-next .ensures .within .each (c .lowest .result) (c .lowest .ensures .0 .here))
 
   -- ---- the needs
 
   overlap : some-between-lts.Need-returns (calls t) (some-between-at t) some-between.Post
-  overlap c = search (none-so, between-clash, needs)
+  overlap c = rw (c .none-smaller .ensures) (tries-told (between-clash (c .before .before .are-apart .ensures) (c .before .if1 .taken)))
 
   whole : some-between-lts.Need-returns-2 (calls t) (some-between-at t) some-between.Post
-  whole c = search (none-so, between-whole, needs)
+  whole c = rw (c .none-smaller2 .ensures) (tries-told (between-whole (c .before .if2 .taken)))
 
   satisfied : some-between-lts.Need-returns-3 (calls t) (some-between-at t) some-between.Post
   satisfied c =
       let k = c .before .before .before in
-      between-model (k .before .struct-known .given .0 .fits) (start k .pre .1 .1) (apart-up k) (k .if2 .left)
-      (rw (c .enum-told .given .1) at (c .before .before .find-unsatisfied .ensures))
+      tries-told
+      (between-model (k .before .struct-known .given .0 .fits) (start k .pre .1 .1) (apart-up k) (k .if2 .left)
+      (rw (c .enum-told .given .1) at (c .before .before .find-unsatisfied .ensures)))
 
   candidates-requires : some-between-lts.Need-candidates-requires (calls t) (some-between-at t) some-between.Post
   candidates-requires c κs = let f = c .before .before in start (opened f) .pre .1 .0 .each _ (unsatisfied f .0)
@@ -139,29 +143,46 @@ module _ (t : ℕ) where
   stuck c =
       let free = c .before .before .before in
       rw (c .none-smaller3 .ensures)
-      (between-stuck (free .undecided .ensures) (c .before .before .candidates .ensures) (c .before .if3 .taken) (unsatisfied (free .before .before)))
+      (tries-told
+      (between-stuck (free .undecided .ensures) (c .before .before .candidates .ensures) (c .before .if3 .taken) (unsatisfied (free .before .before))))
+
+  none-left : some-between-lts.Need-returns-5 (calls t) (some-between-at t) some-between.Post
+  none-left c = rw (c .none-smaller4 .ensures) (tries-spent (record { unbounded = λ e. e }) (c .before .if4 .taken))
 
   tried-next-requires : some-between-lts.Need-tried-next-requires (calls t) (some-between-at t) some-between.Post
-  tried-next-requires c κs = search needs
+  tried-next-requires c κs = (
+    start (opened (c .before .before .before .before .before)) .pre .1 .0,
+    record { within = c .before .before .candidates .ensures .within; some = c .before .if3 .left },
+  )
 
   up-requires : some-between-lts.Need-some-between-requires (calls t) (some-between-at t) some-between.Post
   up-requires c κs =
-      let k = chosen c in
+      let up = c .before in
+      let k = chosen up in
       let at = start (opened (found k)) in
-      let e = c .before .decide .ensures in (
-        rw (at .pre .0) at (decided-falls (at .args .s) true (undecided-atom k) e (c .rounds .ensures .narrows)),
+      let e = up .before .decide .ensures in (
+        rw (at .pre .0) at (decided-falls (at .args .s) true (undecided-atom k) e (up .rounds .ensures .narrows)),
         (
-          lent-part (at .pre .1 .0) (c .rounds .ensures .part),
-          confines-more (confines-branch (at .args .s) (k .lowest .result) true (at .pre .1 .1) e) (c .rounds .ensures .narrows .dropped-grows),
+          lent-part (at .pre .1 .0) (up .rounds .ensures .part),
+          confines-more (confines-branch (at .args .s) (k .lowest .result) true (at .pre .1 .1) e) (up .rounds .ensures .narrows .dropped-grows),
         ),
       )
 
-  up-found : some-between-lts.Need-returns-5 (calls t) (some-between-at t) some-between.Post
-  up-found c = search (branch-found, finds-passed, needs)
+  up-found : some-between-lts.Need-returns-6 (calls t) (some-between-at t) some-between.Post
+  up-found c =
+      let spent = c .before .before in
+      let up = spent .before in
+      tries-yes (chosen up .lowest .result) (spent .spend .ensures) (up .before .decide .ensures) (up .rounds .ensures) (c .before .some-between .ensures)
+      (c .if5 .taken)
+
+  up-spent : some-between-lts.Need-returns-7 (calls t) (some-between-at t) some-between.Post
+  up-spent c =
+      let raised = c .before .before .before in
+      tries-spent (lasts-trans (raised .before .spend .ensures) (raised .some-between .ensures .lasts)) (c .if6 .taken)
 
   dropped-requires : some-between-lts.Need-some-between-requires-2 (calls t) (some-between-at t) some-between.Post
   dropped-requires c κs =
-      let k = chosen (c .before .before .before .before) in
+      let k = chosen (c .before .before .before .before .before .before .before) in
       let at = start (opened (found k)) in
       let e = c .before .decide2 .ensures in (
         rw (at .pre .0) at (decided-falls (at .args .s) false (undecided-atom k) e (c .rounds2 .ensures .narrows)),
@@ -171,14 +192,15 @@ module _ (t : ℕ) where
         ),
       )
 
-  both-tried : some-between-lts.Need-returns-6 (calls t) (some-between-at t) some-between.Post
+  both-tried : some-between-lts.Need-returns-8 (calls t) (some-between-at t) some-between.Post
   both-tried c =
       let down = c .before in
-      let none = down .before .before in
-      let up = none .before .before in
-      branch-no (chosen up .lowest .result) (up .before .decide .ensures) (down .before .decide2 .ensures)
-      (finds-passed (up .rounds .ensures) (none .before .some-between .ensures)) (none .if4 .left)
-      (finds-passed (down .rounds2 .ensures) (c .some-between2 .ensures))
+      let some = down .before .before in
+      let none = some .before .before in
+      let spent = none .before .before in
+      let up = spent .before in
+      tries-no (chosen up .lowest .result) (spent .spend .ensures) (up .before .decide .ensures) (up .rounds .ensures) (none .before .some-between .ensures)
+      (none .if5 .left) (some .if6 .left) (down .before .decide2 .ensures) (down .rounds2 .ensures) (c .some-between2 .ensures)
 
 pub +some-between-spec : {M : Type 1} → statement M
 +some-between-spec = close μ-some-between λ t. some-between-lts.spec (calls t)
@@ -197,13 +219,17 @@ pub +some-between-spec : {M : Type 1} → statement M
     (candidates-requires t)
     (λ c κs. search needs)
     (stuck t)
+    (λ c κs. search needs)
+    (none-left t)
     (tried-next-requires t)
     (λ c κs. c .tried-next .ensures .some)
     (λ c κs. c .lowest .ensures .1)
     (λ c κs. start t (opened t (found t (c .before))) .pre .1 .0)
+    (λ c κs. c .before .before .before .before .if4 .left)
     (up-requires t)
     (up-found t)
-    (λ c κs. c .before .before .before .before .lowest .ensures .1)
-    (λ c κs. start t (opened t (found t (c .before .before .before .before .before))) .pre .1 .0)
+    (up-spent t)
+    (λ c κs. c .before .before .before .before .before .before .before .lowest .ensures .1)
+    (λ c κs. start t (opened t (found t (chosen t (c .before .before .before .before .before .before)))) .pre .1 .0)
     (dropped-requires t)
     (both-tried t)

@@ -1,78 +1,54 @@
 -- The subsets of the position that have the facts are the completions of: facts up, everything outside the position dropped. What the rounds leave of
--- them is told by the memo, or tried, and then written down where there is none.
-use mathlib.Core.Bool.{Bool}
-use Prim.Native.Nat.{ℕ}
+-- them is told, or tried with as many branchings as it takes, and then written down where there is none.
+use mathlib.Core.Path.{sym, _∙_}
+use native.Mathlib.Omega.{arith}
 use denote.Ref.{now}
 use borrow.Author.Needs.{needs}
-use Rattle.answer_sets.specs.Lent.{lent, Lent}
-use Rattle.answer_sets.specs.SubsetTest.{Finds, Confines}
-use Rattle.answer_sets.specs.Test.{SubsetTested, SmallerSet}
-use Rattle.answer_sets.proofs.Between.{lent-part, confines-outside, confines-more, finds-passed, between-whole, subset-tested, smaller-set}
-use Rattle.answer_sets.proofs.Memos.{memo-none, memo-whole, memo-written}
+use Rattle.answer_sets.specs.Lent.{lent}
+use Rattle.answer_sets.specs.SubsetTest.{Finds}
+use Rattle.answer_sets.proofs.Between.{lent-part, passed-confines, tested-passed, tries-unbounded}
+use Rattle.answer_sets.proofs.Memos.{memo-whole, memo-written}
 use Rattle.answer_sets.proofs.smaller.some_smaller.Statement.{statement}
 use Rattle.answer_sets.proofs.smaller.some_smaller.Tie as tie
 
-abbrev start : tie.After-rounds → tie.Start
-start c = c .before .before .before .before
+abbrev start : tie.After-open-test → tie.Start
+start c = c .before .before .before
 
--- where the whole position is not up
-abbrev passed : tie.Else1 → tie.After-rounds
-passed c = c .before .before .before
+-- where it is not told
+abbrev opened : tie.Else1 → tie.After-open-test
+opened c = c .before .before .before
 
--- where the memo does not tell
-abbrev unlike : tie.Else2 → tie.Else1
-unlike c = c .before .before .before
+-- what a trial says
+finds : (c : tie.After-some-between)
+    → Finds (lent (now (start (opened (c .before)) .args .rules))) (opened (c .before) .open-test .result .left) (start (opened (c .before)) .args .position)
+    (opened (c .before) .open-test .result .state) (c .some-between .result .found) (c .some-between .result .set)
+finds c = tries-unbounded (c .some-between .ensures)
 
--- where none was found
-abbrev tried : tie.Else3 → tie.Else2
-tried c = c .before .before
-
--- what is told of the sets that the rounds leave is told of all
-told : (c : tie.After-rounds) {r : Bool} {set : ℕ}
-    → Finds (lent (now (start c .args .rules))) (c .rounds .result .left) (start c .args .position) (c .rounds .result .state) r set
-    → SubsetTested (lent (now (start c .args .rules))) (start c .args .which) (start c .args .facts) (start c .args .position) r
-    × SmallerSet (lent (now (start c .args .rules))) (start c .args .which) (start c .args .facts) (start c .args .position) r set
-told c d =
-    let f = finds-passed (c .rounds .ensures) d in
-    (subset-tested (start c .fits .which .fits) (c .before .outside .ensures) f, smaller-set (c .before .outside .ensures) f)
-
-lent-left : (c : tie.After-rounds) → Lent (now (start c .args .rules)) (c .rounds .result .left)
-lent-left c = lent-part (start c .pre .0) (c .rounds .ensures .part)
-
-confined : (c : tie.After-rounds) → Confines (start c .args .position) (c .rounds .result .state .dropped)
-confined c = confines-more (confines-outside (c .before .outside .ensures)) (c .rounds .ensures .narrows .dropped-grows)
-
-whole : tie.Need-returns
-whole c =
-    let p = c .before .before .before .before in
-    let t = told p (between-whole (c .before .if1 .taken)) in
+told : tie.Need-returns
+told c =
+    let test = c .before .before in
+    let p = test .before .before in
+    let t = tested-passed (start p .fits .which .fits) (p .open-test .ensures) (test .is-told .ensures .0 (c .before .if1 .taken)) in
     rw (c .none-smaller .ensures) (t .0, (t .1, start p .pre .1))
 
-like-memo : tie.Need-returns-2
-like-memo c =
-    let test = c .before .before in
-    let p = passed (test .before .before) in
-    let t = told p (memo-none (start p .fits .position .fits) (start p .pre .1 .only-whole) (test .memo-tells .ensures) (c .before .if2 .taken)) in
-    rw (c .none-smaller2 .ensures) (t .0, (t .1, start p .pre .1))
-
-found : tie.Need-returns-3
+found : tie.Need-returns-2
 found c =
-    let p = passed (unlike (c .before .before)) in
-    let t = told p (c .before .some-between .ensures) in
+    let p = opened (c .before .before) in
+    let t = tested-passed (start p .fits .which .fits) (p .open-test .ensures) (finds (c .before)) in
     (t .0, (t .1, start p .pre .1))
 
-written : tie.Need-returns-4
+written : tie.Need-returns-3
 written c =
     let write = c .before .before in
     let none = write .before .before in
-    let p = passed (unlike (tried none)) in
-    let t = told p (none .before .some-between .ensures) in (
+    let p = opened (none .before .before) in
+    let t = tested-passed (start p .fits .which .fits) (p .open-test .ensures) (finds (none .before)) in (
       t .0,
       (
         t .1,
         memo-written (write .write-memo .ensures)
-            (memo-whole (unlike (tried none) .before .struct-known .given .0 .fits) (confined p) (none .before .some-between .ensures .exactly)
-            (none .if3 .left)),
+            (memo-whole (none .before .before .before .is-told .ensures .1) (passed-confines (p .open-test .ensures)) (finds (none .before) .exactly)
+            (none .if2 .left)),
       ),
     )
 
@@ -81,16 +57,13 @@ some-smaller-spec =
     tie.close
     (tie.spec
     (λ c κs. search needs)
-    (λ c κs. search needs)
-    (λ c κs. search needs)
-    whole
-    (λ c κs. search (lent-left, needs))
+    (λ c κs. let p = c .before in (lent-part (start p .pre .0) (p .open-test .ensures .part), start p .pre .1))
     (λ c κs. search needs)
     (λ c. search needs)
-    like-memo
-    (λ c κs. let p = passed (unlike c) in (lent-left p, confined p))
+    told
+    (λ c κs. let p = opened c in (lent-part (start p .pre .0) (p .open-test .ensures .part), passed-confines (p .open-test .ensures)))
     (λ c. search needs)
     found
-    (λ c κs. search needs)
+    (λ c κs. start (opened (c .before .before .before)) .pre .1 .long)
     (λ c. search needs)
     written)

@@ -5,7 +5,7 @@ use Rattle.joining.proofs.JoinedLists.{joinable-some}
 use Rattle.joining.proofs.Filters.{full-filtered}
 use Rattle.searching.proofs.Witnesses.{hidden-few}
 use Rattle.searching.proofs.Gathered.{zeros-ordered}
-use Rattle.searching.proofs.ExploredNodes.{entered-ready, explored-branch}
+use Rattle.searching.proofs.ExploredNodes.{explored-witnessed, entered-ready, explored-branch}
 use borrow.Author.Needs.{needs}
 use Rattle.searching.proofs.find.find.Statement.{statement}
 use Rattle.searching.proofs.find.find.Tie as tie
@@ -37,8 +37,9 @@ returns c =
     let at-union2 = front .before in
     let at-union = at-union2 .before in
     let told = explored-branch (at-root .root .ensures) (node .enter .ensures) (found .explore .ensures .0) in (
-      rw (front .moved .ensures, at-union .union .ensures, at-union2 .union2 .ensures) at (told .witnessed (hidden-few (told .gathered))),
-      told .remembers,
+      rw (front .moved .ensures, at-union .union .ensures, at-union2 .union2 .ensures) at
+          (explored-witnessed (λ M w. w .belongs .word) told (hidden-few (told .gathered))),
+      told .sought .remembers,
     )
 
 pub find-spec : {M : Type 1} → statement M

@@ -168,7 +168,7 @@ module _ (t : ℕ) where
       let pre = start k .pre .1 in
       rw (other .below2 .ensures .0) (
         pre .0,
-        explored-branch (entered s .before .before .before .below .ensures .0) (entered s .enter .ensures) (s .explore .ensures .0) .remembers,
+        explored-branch (entered s .before .before .before .below .ensures .0) (entered s .enter .ensures) (s .explore .ensures .0) .sought .remembers,
         filtered-branch (start k .args .node .front .state) (k .next .given .0 .0) (not (phased (entered s) .phase-of .result)) (other .below2 .ensures .1)
             (rw (other .before .copied2 .ensures) (pre .3)),
       )
@@ -213,7 +213,7 @@ module _ (t : ℕ) where
       let s = c .before .before .before .before .before .before .before .before .before .before in
       let one = entered s .before .before .before in
       let first = explored-branch (one .below .ensures .0) (entered s .enter .ensures) (s .explore .ensures .0) in (
-        explored-done (chosen (entered s) .next .given .0 .0) (phased (entered s) .phase-of .result) (one .below .ensures .1) first (λ M w. w .belongs .word)
+        explored-done (chosen (entered s) .next .given .0 .0) (phased (entered s) .phase-of .result) (one .below .ensures .1) first
             (rw (c .before .before .before .undecided .ensures) at (c .before .before .cut .ensures)) (c .before .is-done .ensures .done (c .if1 .taken)),
         s .explore .ensures .1,
       )
@@ -277,7 +277,7 @@ pub +explore-spec : {M : Type 1} → statement M
     (λ c κs. search needs)
     (λ c κs.
     let s = c .before .before .before .before .before .before .before .before .before .before .before .before .before in
-    (start t (chosen t (entered t s)) .pre .1 .0, s .explore .ensures .0 .remembers .long))
+    (start t (chosen t (entered t s)) .pre .1 .0, s .explore .ensures .0 .sought .remembers .long))
     (λ c.
     let s = c .before .before .before .before .before .before .before .before .before .before .before .before .before .before .before .before in
     s .explore .kept .1 .1 .1 .1 .0)
@@ -301,7 +301,7 @@ pub +explore-spec : {M : Type 1} → statement M
     (λ c κs. free t (chosen t (entered t (searched t (reentered t (c .before .before .before .before .before .before))))) .1)
     (λ c κs.
     let h = c .before .before .before .before .before .before .before .before in
-    (start t (chosen t (entered t (searched t (reentered t h)))) .pre .1 .0, h .explore2 .ensures .0 .remembers .long))
+    (start t (chosen t (entered t (searched t (reentered t h)))) .pre .1 .0, h .explore2 .ensures .0 .sought .remembers .long))
     (λ c. search needs)
     (halted t)
     (λ c. search needs)

@@ -11,7 +11,7 @@ use Rattle.joining.proofs.JoinedLists.{joinable-some}
 use Rattle.joining.proofs.Filters.{full-filtered}
 use Rattle.propagating.specs.Desk.{Prepared}
 use Rattle.searching.proofs.PilotedSearches.{piloted-ready, piloted-search}
-use Rattle.searching.proofs.ExploredNodes.{explored-narrowed, entered-ready, explored-branch}
+use Rattle.searching.proofs.ExploredNodes.{explored-narrowed, explored-gathered, entered-ready, explored-branch}
 use borrow.Author.Needs.{needs}
 use Rattle.searching.proofs.search.search.Statement.{statement}
 use Rattle.searching.proofs.search.search.Tie as tie
@@ -91,7 +91,7 @@ returns c =
     (at-root .before .without2 .ensures)
     (now (start .args .list))
     0
-    (explored-narrowed (begun .begin .ensures .0) told .gathered)
+    (explored-gathered (λ M w. w .belongs .word) (explored-narrowed (begun .begin .ensures .0) told))
 
 pub search-spec : {M : Type 1} → statement M
 search-spec =

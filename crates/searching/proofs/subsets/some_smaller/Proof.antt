@@ -1,0 +1,58 @@
+-- The subsets of the position that have the facts are the completions of: facts up, everything outside the position dropped. What the rounds leave of
+-- them is told, or tried, and then written down where there is none.
+use borrow.Author.Needs.{needs}
+use Rattle.answer_sets.proofs.Between.{lent-part, passed-confines, tested-passed}
+use Rattle.answer_sets.proofs.Memos.{memo-whole, memo-written}
+use Rattle.searching.proofs.subsets.some_smaller.Statement.{statement}
+use Rattle.searching.proofs.subsets.some_smaller.Tie as tie
+
+abbrev start : tie.After-open-test → tie.Start
+start c = c .before .before .before
+
+-- where it is not told
+abbrev opened : tie.Else1 → tie.After-open-test
+opened c = c .before .before .before
+
+told : tie.Need-returns
+told c =
+    let test = c .before .before in
+    let p = test .before .before in
+    let t = tested-passed (start p .fits .which .fits) (p .open-test .ensures) (test .is-told .ensures .0 (c .before .if1 .taken)) in
+    rw (c .none-smaller .ensures) (t .0, (t .1, start p .pre .1))
+
+found : tie.Need-returns-2
+found c =
+    let p = opened (c .before .before) in
+    let t = tested-passed (start p .fits .which .fits) (p .open-test .ensures) (c .before .smaller-between .ensures) in
+    (t .0, (t .1, start p .pre .1))
+
+written : tie.Need-returns-3
+written c =
+    let write = c .before .before in
+    let none = write .before .before in
+    let p = opened (none .before .before) in
+    let t = tested-passed (start p .fits .which .fits) (p .open-test .ensures) (none .before .smaller-between .ensures) in (
+      t .0,
+      (
+        t .1,
+        memo-written (write .write-memo .ensures)
+            (memo-whole (none .before .before .before .is-told .ensures .1) (passed-confines (p .open-test .ensures)) (none .before .smaller-between .ensures .exactly)
+            (none .if2 .left)),
+      ),
+    )
+
+pub some-smaller-spec : {M : Type 1} → statement M
+some-smaller-spec =
+    tie.close
+    (tie.spec
+    (λ c κs. search needs)
+    (λ c κs. let p = c .before in (lent-part (start p .pre .0) (p .open-test .ensures .part), start p .pre .1))
+    (λ c κs. search needs)
+    (λ c. search needs)
+    told
+    (λ c κs. let p = opened c in (lent-part (start p .pre .0) (p .open-test .ensures .part), passed-confines (p .open-test .ensures)))
+    (λ c. search needs)
+    found
+    (λ c κs. start (opened (c .before .before .before)) .pre .1 .long)
+    (λ c. search needs)
+    written)
