@@ -152,7 +152,8 @@ module _ {K : ℕ → Type 0} where
 
   -- else it is decided the other way too
   pub sought-both : (i : ℕ) (phase : Bool) {shown : ℕ} {t one other : State} {part whole : Bool} {memory₁ memory₂ : List ℕ} {first second found : Found}
-      → one ≡ branchOf t i phase → Sought K shown one part memory₁ first → part ≡ true → other ≡ branchOf t i (not phase) → Sought K shown other whole memory₂ second
+      → one ≡ branchOf t i phase → Sought K shown one part memory₁ first → part ≡ true → other ≡ branchOf t i (not phase)
+      → Sought K shown other whole memory₂ second
       → found ≡ record { count = second .count; nogood = found .nogood; witness = eitherOf (first .witness) (second .witness) }
       → Resolves (second .nogood) (first .nogood) (found .nogood) → Sought K shown t whole memory₂ found
   sought-both i phase {shown} {t} e x z f y is n = record {

@@ -209,7 +209,8 @@ module _ (t : ℕ) where
       let first = sought-branch (one .below .ensures .0) (entered s .enter .ensures) (s .seek .ensures) in
       let second = sought-branch (other .below2 .ensures .0) (r .enter2 .ensures) (h .seek2 .ensures) in
       sought-handed (c .before .before .hand-up2 .ensures)
-      (sought-both (chosen (entered s) .next .given .0 .0) (phased (entered s) .phase-of .result) (one .below .ensures .1) first refl (other .below2 .ensures .1)
+      (sought-both (chosen (entered s) .next .given .0 .0) (phased (entered s) .phase-of .result) (one .below .ensures .1) first refl
+      (other .below2 .ensures .1)
       second (joined .joined .ensures .0) (joined .joined .ensures .1))
 
 pub +seek-spec : {M : Type 1} → statement M
@@ -233,7 +234,11 @@ pub +seek-spec : {M : Type 1} → statement M
     (λ c. let s = c .before .before .before .before in s .seek .kept .1 .1 .1 .1 .0 ∙ entered t s .enter .kept .1 .1 .1 .1 .0)
     (done t)
     (λ c κs. search needs)
-    (λ c κs. let s = c .before .before .before .before .before .before .before in (start t (chosen t (entered t s)) .pre .1 .0, s .seek .ensures .remembers .long))
+    (λ c κs. let s = c .before .before .before .before .before .before .before in (
+      start t (chosen t
+          (entered t s)) .pre .1 .0,
+      s .seek .ensures .remembers .long,
+    ))
     (λ c. let s = c .before .before .before .before .before .before .before .before .before .before in c .before .before .hand-up .kept .1 .1 .1 .1 .0 ∙ s .seek .kept .1 .1 .1 .1 .0 ∙ entered t s .enter .kept .1 .1 .1 .1 .0)
     (skipped t)
     (λ c κs. let k = chosen t (entered t (c .before .before .before .before .before .before)) in (free t k .2, start t k .pre .1 .0 .long, free t k .1))
@@ -241,7 +246,11 @@ pub +seek-spec : {M : Type 1} → statement M
     (reenter-requires t)
     (second-requires t)
     (λ c κs. free t (chosen t (entered t (searched t (reentered t (c .before .before))))) .1)
-    (λ c κs. let h = c .before .before .before .before in (start t (chosen t (entered t (searched t (reentered t h)))) .pre .1 .0, h .seek2 .ensures .remembers .long))
+    (λ c κs. let h = c .before .before .before .before in (
+      start t (chosen t (entered t (searched t
+          (reentered t h)))) .pre .1 .0,
+      h .seek2 .ensures .remembers .long,
+    ))
     (λ c. search needs)
     (halted t)
     (settled t)
@@ -249,5 +258,6 @@ pub +seek-spec : {M : Type 1} → statement M
     let h = c .before .before .before .before .before .before .before in
     let r = reentered t h in
     let s = searched t r in
-    c .before .before .hand-up2 .kept .1 .1 .1 .1 .0 ∙ h .seek2 .kept .1 .1 .1 .1 .0 ∙ r .enter2 .kept .1 .1 .1 .1 .0 ∙ s .seek .kept .1 .1 .1 .1 .0 ∙ entered t s .enter .kept .1 .1 .1 .1 .0)
+    c .before .before .hand-up2 .kept .1 .1 .1 .1 .0 ∙ h .seek2 .kept .1 .1 .1 .1 .0 ∙ r .enter2 .kept .1 .1 .1 .1 .0 ∙ s .seek .kept .1 .1 .1 .1 .0
+    ∙ entered t s .enter .kept .1 .1 .1 .1 .0)
     (both-searched t)

@@ -21,15 +21,21 @@ returns : tie.Need-returns
 returns c =
     let test = c .before .before .before in
     let at = start test in
-    rw (c .handed .ensures)
-    (settled-one (at .pre .1) (fits at) (word at) (test .all-satisfied .ensures) (c .before .before .if1 .taken), overlap-nogood (c .before .everything .ensures .0))
+    rw (c .handed .ensures) (
+      settled-one (at .pre .1) (fits at) (word at) (test .all-satisfied .ensures) (c .before .before .if1 .taken),
+      overlap-nogood
+          (c .before .everything .ensures .0),
+    )
 
 returns-2 : tie.Need-returns-2
 returns-2 c =
     let test = c .before .before .before in
     let at = start test in
-    rw (c .handed2 .ensures)
-    (settled-none (at .pre .1) (fits at) (word at) (test .all-satisfied .ensures) (c .before .before .if1 .left), overlap-nogood (c .before .everything2 .ensures .0))
+    rw (c .handed2 .ensures) (
+      settled-none (at .pre .1) (fits at) (word at) (test .all-satisfied .ensures) (c .before .before .if1 .left),
+      overlap-nogood
+          (c .before .everything2 .ensures .0),
+    )
 
 pub settle-spec : {M : Type 1} → statement M
 settle-spec =

@@ -18,7 +18,8 @@ returns-2 : tie.Need-returns-2
 returns-2 c =
     let told = c .before .before in
     let asked = c .before .before .before .before .before .before .before .before .before in (
-      asks-none (start asked .args .i) (asked .before .before .decide .ensures) (rw (c .before .before .before .before .before .enum-told .given .1) at (asked .find-model .ensures .0))
+      asks-none (start asked .args .i) (asked .before .before .decide .ensures) (rw
+          (c .before .before .before .before .before .enum-told .given .1) at (asked .find-model .ensures .0))
           (told .before .before .decide2 .ensures) (told .settled .ensures .0),
       told .settled .ensures .1,
     )

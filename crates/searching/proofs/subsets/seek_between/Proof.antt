@@ -61,7 +61,8 @@ loop-less c =
     let asked = c .before .before .before .before in
     let loop = asked .before .before .before .before .before .before .before in
     let asks = asked .ask-without .ensures .0 in
-    asked-less (start loop .args .position) (loop .loop .t) (asked .ask-without .result .state) (loop .loop .inv .2) (asked .before .before .before .before .before .lowest .ensures .0 .here)
+    asked-less (start loop .args .position) (loop .loop .t) (asked .ask-without .result .state) (loop .loop .inv .2)
+    (asked .before .before .before .before .before .lowest .ensures .0 .here)
     (c .without2 .ensures) (asks .narrows (c .before .before .if1 .left) .up-grows) (asks .is-up (c .before .before .if1 .left))
 
 loop-again : tie.Need-loop-again Inv-loop μ-loop

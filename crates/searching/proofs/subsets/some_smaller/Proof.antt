@@ -36,7 +36,8 @@ written c =
       (
         t .1,
         memo-written (write .write-memo .ensures)
-            (memo-whole (none .before .before .before .is-told .ensures .1) (passed-confines (p .open-test .ensures)) (none .before .smaller-between .ensures .exactly)
+            (memo-whole (none .before .before .before .is-told .ensures .1) (passed-confines (p .open-test .ensures))
+            (none .before .smaller-between .ensures .exactly)
             (none .if2 .left)),
       ),
     )
