@@ -239,7 +239,8 @@ pub +seek-spec : {M : Type 1} → statement M
           (entered t s)) .pre .1 .0,
       s .seek .ensures .remembers .long,
     ))
-    (λ c. let s = c .before .before .before .before .before .before .before .before .before .before in c .before .before .hand-up .kept .1 .1 .1 .1 .0 ∙ s .seek .kept .1 .1 .1 .1 .0 ∙ entered t s .enter .kept .1 .1 .1 .1 .0)
+    (λ c. let s = c .before .before .before .before .before .before .before .before .before .before in
+    c .before .before .hand-up .kept .1 .1 .1 .1 .0 ∙ s .seek .kept .1 .1 .1 .1 .0 ∙ entered t s .enter .kept .1 .1 .1 .1 .0)
     (skipped t)
     (λ c κs. let k = chosen t (entered t (c .before .before .before .before .before .before)) in (free t k .2, start t k .pre .1 .0 .long, free t k .1))
     (λ c. search needs)
