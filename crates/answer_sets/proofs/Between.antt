@@ -20,7 +20,6 @@ use Rattle.answer_sets.specs.Test.{Smaller, SubsetTested, SmallerSet}
 use Rattle.states.specs.declared.state.State.{State}
 use Rattle.answer_sets.specs.declared.smaller.Smaller.{Smaller as Answer}
 use Rattle.answer_sets.specs.declared.rule_pass.Passed.{Passed}
-use Rattle.answer_sets.specs.declared.smaller.Smaller.{Smaller as Answer}
 use Rattle.states.proofs.Narrows.{completes-back, overlap-none, with-up, with-dropped, without-up, without-dropped}
 use Rattle.states.proofs.HalfDecided.{decided-cases}
 use Rattle.answer_sets.proofs.Bodies.{rest-same}
@@ -87,10 +86,6 @@ module _ {P : Program} {which M : ℕ} where
     none = λ g. refl;
   }
 
-  -- as the code hands it back
-  pub none-so : {t : State} {x : Answer} → x ≡ record { found = false; set = 0 } → Finds P which M t false 0 → Finds P which M t (x .found) (x .set)
-  none-so e f = rw e f
-
   -- an overlap: none
   pub between-clash : {t : State} {r : Bool} → r ≡ apart (t .up) (t .dropped) → not r ≡ true → Finds P which M t false 0
   between-clash {t} {r} e f =
@@ -142,9 +137,6 @@ module _ {P : Program} {which M : ℕ} where
     where
       shown : (b : Between P which M s) × (b .set ≡ set)
       shown = let b = (rw u at d) .shown e in (raised i (b .0), b .1)
-
-  pub branch-found : (i : ℕ) {s t : State} {r : Bool} {set : ℕ} → t ≡ branchOf s i true → Finds P which M t r set → r ≡ true → Finds P which M s r set
-  branch-found i u d e = rw e (branch-yes i u d e)
 
   pub branch-no : (i : ℕ) {s t u : State} {q r : Bool} {set₁ set : ℕ} → t ≡ branchOf s i true → u ≡ branchOf s i false
       → Finds P which M t q set₁ → q ≡ false → Finds P which M u r set → Finds P which M s r set

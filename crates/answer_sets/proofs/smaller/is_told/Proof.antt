@@ -14,7 +14,7 @@ returns c = (λ e. between-whole (c .if1 .taken), c .before .struct-known .given
 returns-2 : tie.Need-returns-2
 returns-2 c =
     let at = start (c .before) in (
-      λ e. memo-none (at .fits .position .fits) (at .pre .1 .only-whole) (c .memo-tells .ensures e),
+      λ e. memo-none (at .fits .position .fits) (at .pre .1 .only-whole) (c .memo-tells .ensures) e,
       c .before .before .struct-known .given .0 .fits,
     )
 
