@@ -28,7 +28,7 @@ SIZES = {
     "docs/THEOREMS.md": 4_400,
     "docs/QUALIFICATION.md": 4_400,
     "docs/PROMISES.md": 15_400,
-    "docs/PROOF.md": 38_500,
+    "docs/PROOF.md": 39_400,
     "docs/ARCHITECTURE.md": 13_200,
     "docs/CHANGING.md": 11_000,
     "docs/DECISIONS.md": 27_500,

@@ -1,27 +1,12 @@
 -- The subset test: what each of its steps says of the completions of a state that are proper subsets of M and satisfy the rules.
-use mathlib.Core.Path.{_≡_, refl, sym, _∙_}
-use mathlib.Core.Bool.{Bool, true, false, not, true≢false, false≢true}
-use mathlib.Core.Logic.{_⊎_, inl, inr}
-use mathlib.Core.List.{List}
-use Prim.Native.Nat.{ℕ, _<_, _^_}
-use native.Mathlib.Omega.{arith}
-use borrow.Author.Tests.{not-true}
-use Rattle.atoms.specs.Word.{ATOMS, Has, _⊆_, Apart, apart, atom, outside}
-use Rattle.atoms.specs.Bounded.{Decides}
-use Rattle.atoms.proofs.Tests.{decides-iff, decides-same, decided-false}
-use Rattle.atoms.proofs.Sets.{decides-apart, has-dec, has-lt, has-left, subset-refl, subset-trans, subset-antisym, has-outside, outside-lacks}
-use Rattle.answer_sets.specs.Program.{Program, Body, Satisfies, SatisfiesAll}
-use Rattle.answer_sets.specs.Lent.{lent, Lent}
-use Rattle.states.specs.State.{Completes, undecided}
-use Rattle.states.specs.Narrowing.{branchOf}
-use Rattle.answer_sets.specs.RulePass.{Sifted}
-use Rattle.answer_sets.specs.SubsetTest.{Between, Finds, Tries, Lasts, UNBOUNDED, subsetsOf, Confines, Candidates, InRule, in-head, in-looks}
-use Rattle.answer_sets.specs.Test.{Smaller, SubsetTested, SmallerSet}
-use Rattle.states.specs.declared.state.State.{State}
+use Rattle.answer_sets.proofs.Prelude.{_≡_, refl, sym, _∙_, Bool, true, false, not, true≢false, false≢true, _⊎_, inl, inr, List, ℕ, _<_, _^_, arith}
+use Rattle.answer_sets.proofs.Prelude.{not-true, ATOMS, Has, _⊆_, Apart, apart, atom, outside, Decides, decides-iff, decides-same, decided-false}
+use Rattle.answer_sets.proofs.Prelude.{decides-apart, has-dec, has-lt, has-left, subset-refl, subset-trans, subset-antisym, has-outside, outside-lacks}
+use Rattle.answer_sets.proofs.Prelude.{Program, Body, Satisfies, SatisfiesAll, lent, Lent, Completes, undecided, branchOf, Sifted, Between, Finds}
+use Rattle.answer_sets.proofs.Prelude.{Tries, Lasts, UNBOUNDED, subsetsOf, Confines, Candidates, InRule, in-head, in-looks, Smaller, SubsetTested}
+use Rattle.answer_sets.proofs.Prelude.{SmallerSet, State, Passed, completes-back, overlap-none, with-up, with-dropped, without-up, without-dropped}
+use Rattle.answer_sets.proofs.Prelude.{decided-cases}
 use Rattle.answer_sets.specs.declared.smaller.Smaller.{Smaller as Answer}
-use Rattle.answer_sets.specs.declared.rule_pass.Passed.{Passed}
-use Rattle.states.proofs.Narrows.{completes-back, overlap-none, with-up, with-dropped, without-up, without-dropped}
-use Rattle.states.proofs.HalfDecided.{decided-cases}
 use Rattle.answer_sets.proofs.Bodies.{rest-same}
 use Rattle.answer_sets.proofs.Judged.{decides-smaller}
 

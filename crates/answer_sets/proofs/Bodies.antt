@@ -1,21 +1,10 @@
 -- The uses of contact tables: what a use asks by its sign, that the rest of a body depends on what it looks at alone, and a body by its parts.
-use mathlib.Core.Path.{_≡_, refl, sym, ap, ap₂, _∙_}
-use mathlib.Core.Bool.{Bool, not, _&&_}
-use mathlib.Core.Logic.{_↔_}
-use mathlib.Core.List.{List}
-use Prim.Native.Nat.{ℕ, _-_, _<_, _≤_}
-use borrow.Author.Tests.{lt-ltb, le-ltb}
-use Rattle.atoms.specs.Word.{Has, _∩_, apart}
-use Rattle.atoms.specs.Bounded.{allIn}
-use Rattle.atoms.proofs.Tests.{and-true, bool-ext, decided-true}
-use Rattle.atoms.proofs.Sets.{ext, has-cut, cut-left, cut-right, has-left, has-right, decides-apart}
-use Rattle.atoms.proofs.Bounded.{all-in-at, all-in-intro, union-has}
-use Rattle.plan.specs.Limits.{MAX_TABLES}
-use Rattle.contact_tables.specs.Table.{tableAnswer}
+use Rattle.answer_sets.proofs.Prelude.{_≡_, refl, sym, ap, ap₂, _∙_, Bool, not, _&&_, _↔_, List, ℕ, _-_, _<_, _≤_, lt-ltb, le-ltb, Has, _∩_, apart}
+use Rattle.answer_sets.proofs.Prelude.{allIn, and-true, bool-ext, decided-true, ext, has-cut, cut-left, cut-right, has-left, has-right, decides-apart}
+use Rattle.answer_sets.proofs.Prelude.{all-in-at, all-in-intro, union-has, MAX_TABLES, tableAnswer, Body, lent, negative, inputs, truth, uses}
+use Rattle.answer_sets.proofs.Prelude.{USE_BITS, usedTable, asks, useHolds, usesHold, usedInputs, looks, Part, positive-word, negative-word, table-use}
+use Rattle.answer_sets.proofs.Prelude.{PartHolds, InBody, has-positive, has-negative, has-use}
 use Rattle.contact_tables.proofs.RowBits.{answer-same}
-use Rattle.answer_sets.specs.Program.{Body}
-use Rattle.answer_sets.specs.Lent.{lent, negative, inputs, truth, uses, USE_BITS, usedTable, asks, useHolds, usesHold, usedInputs, looks}
-use Rattle.answer_sets.specs.Known.{Part, positive-word, negative-word, table-use, PartHolds, InBody, has-positive, has-negative, has-use}
 
 -- ---- what a use asks
 

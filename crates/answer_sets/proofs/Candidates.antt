@@ -1,11 +1,6 @@
 -- The candidates of the subset test: free atoms of the head where there are some, else those of the body.
-use mathlib.Core.Path.{_≡_, sym}
-use mathlib.Core.List.{List}
-use Prim.Native.Nat.{ℕ, _<_, _^_}
-use Rattle.atoms.specs.Word.{ATOMS, Has, _∩_, _∪_, SomeOf}
-use Rattle.atoms.proofs.Sets.{has-none, some-atom, has-lt, has-cut, cut-left, has-left, has-right}
-use Rattle.answer_sets.specs.Lent.{lent, looks}
-use Rattle.answer_sets.specs.SubsetTest.{InRule, in-head, in-positive, in-looks, Candidates}
+use Rattle.answer_sets.proofs.Prelude.{_≡_, sym, List, ℕ, _<_, _^_, ATOMS, Has, _∩_, _∪_, SomeOf, has-none, some-atom, has-lt, has-cut, cut-left}
+use Rattle.answer_sets.proofs.Prelude.{has-left, has-right, lent, looks, InRule, in-head, in-positive, in-looks, Candidates}
 
 module _ (rules : List ℕ) (r free : ℕ) {head v : ℕ} (reads : head ≡ lent rules .head r) (cuts : v ≡ free ∩ head) where
   pub candidates-head : ¬ (v ≡ 0) → Candidates rules r free v

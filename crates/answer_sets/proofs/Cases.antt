@@ -1,13 +1,7 @@
 -- Which case of a computing definition the tests of the code pick: the answers' equations come in the order of the code.
-use mathlib.Core.Path.{_≡_, refl, sym, _∙_}
-use mathlib.Core.Bool.{Bool, true, false, not, false≢true}
-use mathlib.Core.Logic.{inl, inr}
-use Prim.Native.Nat.{ℕ}
-use borrow.Author.Tests.{not-true, not-false}
-use Rattle.atoms.specs.Word.{subset, apart, _∖_, atom}
-use Rattle.atoms.proofs.Sets.{decides-subset}
-use Rattle.answer_sets.specs.Program.{Program}
-use Rattle.answer_sets.specs.Test.{body, satisfies, satisfiesAll, kept, keptIf, someSmaller, answerSet, SmallerSet, RefutedBy}
+use Rattle.answer_sets.proofs.Prelude.{_≡_, refl, sym, _∙_, Bool, true, false, not, false≢true, inl, inr, ℕ, not-true, not-false, subset, apart, _∖_}
+use Rattle.answer_sets.proofs.Prelude.{atom, decides-subset, Program, body, satisfies, satisfiesAll, kept, keptIf, someSmaller, answerSet, SmallerSet}
+use Rattle.answer_sets.proofs.Prelude.{RefutedBy}
 use Rattle.answer_sets.proofs.Judged.{decides-all-satisfied, kept-fits}
 
 -- ---- one rule

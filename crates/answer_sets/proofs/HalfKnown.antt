@@ -1,24 +1,12 @@
 -- Document 02, S-7: what the body test says at a half-decided position. With everything decided it is the exact test; knowing more
 -- never changes holds or fails; and where a body holds and the whole head is dropped no completion satisfies the rule.
-use mathlib.Core.Path.{_≡_, refl, sym, _∙_}
-use mathlib.Core.Bool.{Bool, true, false, not, _&&_}
-use mathlib.Core.Logic.{_↔_, _⊎_, inl, inr}
-use mathlib.Core.List.{List}
-use Prim.Native.Nat.{ℕ, _+_, _*_, _^_, _<_}
-use lib.ListN.{getD}
-use Rattle.atoms.specs.Word.{ATOMS, Has, has, _⊆_, _∩_, Apart, _∖_}
-use Rattle.atoms.specs.Bounded.{Decides, someBelow}
-use Rattle.atoms.proofs.Tests.{test-cases, and-true, not-is-true, not-both, true-of-not-false, false-of-not-true, decided-true, decided as is-decided}
-use Rattle.atoms.proofs.Sets.{ext, has-dec, has-lt, has-cut, cut-left, cut-right, has-without, subset-dec, subset-trans, decides-has, decides-apart}
-use Rattle.atoms.proofs.Bounded.{some-at, some-intro}
-use Rattle.plan.specs.Limits.{CONTACT_WORDS}
-use Rattle.answer_sets.specs.Program.{Body, Satisfies}
-use Rattle.answer_sets.specs.Lent.{lent, ruleAt, negative, inputs, uses, USE_BITS, usedTable, useHolds}
-use Rattle.answer_sets.specs.Test.{body}
-use Rattle.states.specs.State.{Completes, halfDecided}
-use Rattle.answer_sets.specs.Known.{Part, positive-word, negative-word, table-use, PartHolds, InBody, has-positive, has-negative, has-use, BodySays}
-use Rattle.answer_sets.specs.declared.truth.Truth.{Truth}
-use Rattle.answer_sets.specs.declared.truth.Truth.the-variants.{Holds, Fails}
+use Rattle.answer_sets.proofs.Prelude.{_≡_, refl, sym, _∙_, Bool, true, false, not, _&&_, _↔_, _⊎_, inl, inr, List, ℕ, _+_, _*_, _^_, _<_, getD, ATOMS}
+use Rattle.answer_sets.proofs.Prelude.{Has, has, _⊆_, _∩_, Apart, _∖_, Decides, someBelow, test-cases, and-true, not-is-true, not-both}
+use Rattle.answer_sets.proofs.Prelude.{true-of-not-false, false-of-not-true, decided-true, decided as is-decided, ext, has-dec, has-lt, has-cut}
+use Rattle.answer_sets.proofs.Prelude.{cut-left, cut-right, has-without, subset-dec, subset-trans, decides-has, decides-apart, some-at, some-intro}
+use Rattle.answer_sets.proofs.Prelude.{CONTACT_WORDS, Body, Satisfies, lent, ruleAt, negative, inputs, uses, USE_BITS, usedTable, useHolds, body}
+use Rattle.answer_sets.proofs.Prelude.{Completes, halfDecided, Part, positive-word, negative-word, table-use, PartHolds, InBody, has-positive}
+use Rattle.answer_sets.proofs.Prelude.{has-negative, has-use, BodySays, Truth, Holds, Fails}
 use Rattle.answer_sets.proofs.Judged.{decides-body}
 use Rattle.answer_sets.proofs.Bodies.{use-same, body-parts, parts-body}
 use Rattle.answer_sets.proofs.Parts.{known-holds}

@@ -1,20 +1,10 @@
 -- The computing twins decide what they are twins of. Rule numbers are bits of a word, so `which` is below 2 ^ 64.
-use borrow.Author.Tests.{not-true, not-false}
-use mathlib.Core.Path.{_≡_, refl, sym, _∙_}
-use mathlib.Core.Bool.{Bool, true, false, not, _&&_}
-use Prim.Native.Nat.{ℕ, _^_, _<_}
-use Rattle.atoms.specs.Word.{ATOMS, Has, has, _⊆_, _⊂_, subset, apart, _∖_, atom, Lowest}
-use Rattle.atoms.specs.Collected.{Collects}
-use Rattle.atoms.specs.Bounded.{Decides}
-use Rattle.atoms.proofs.Tests.{decides-iff, decides-and, decides-not, decides-implies, decided-true, and-true, not-both}
-use Rattle.atoms.proofs.Sets.{ext, decides-has, decides-subset, decides-apart, has-lt, lt-of-has, subset-lt, subset-le, apart-of-cut, shared-atom}
-use Rattle.atoms.proofs.Bounded.{decides-all-in, decides-some, word-has, word-at}
-use Rattle.atoms.proofs.TakenNumbers.{Sifts, sifts-keep, sifts-drop}
-use native.Mathlib.Omega.{arith}
-use Rattle.plan.specs.Limits.{MAX_RULES}
-use Rattle.answer_sets.specs.Program.{Program, Body, Satisfies, SatisfiesAll}
-use Rattle.answer_sets.specs.AnswerSet.{Kept, ReductModel, AnswerSet}
-use Rattle.answer_sets.specs.Test.{body, satisfies, satisfiesAll, kept, keptIf, Smaller, someSmaller, answerSet}
+use Rattle.answer_sets.proofs.Prelude.{not-true, not-false, _≡_, refl, sym, _∙_, Bool, true, false, not, _&&_, ℕ, _^_, _<_, ATOMS, Has, has, _⊆_, _⊂_}
+use Rattle.answer_sets.proofs.Prelude.{subset, apart, _∖_, atom, Lowest, Collects, Decides, decides-iff, decides-and, decides-not, decides-implies}
+use Rattle.answer_sets.proofs.Prelude.{decided-true, and-true, not-both, ext, decides-has, decides-subset, decides-apart, has-lt, lt-of-has, subset-lt}
+use Rattle.answer_sets.proofs.Prelude.{subset-le, apart-of-cut, shared-atom, decides-all-in, decides-some, word-has, word-at, Sifts, sifts-keep}
+use Rattle.answer_sets.proofs.Prelude.{sifts-drop, arith, MAX_RULES, Program, Body, Satisfies, SatisfiesAll, Kept, ReductModel, AnswerSet, body}
+use Rattle.answer_sets.proofs.Prelude.{satisfies, satisfiesAll, kept, keptIf, Smaller, someSmaller, answerSet}
 
 module _ (P : Program) where
   pub decides-body : (r M : ℕ) → Decides (Body P r M) (body P r M)

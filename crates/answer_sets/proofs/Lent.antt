@@ -1,16 +1,7 @@
 -- Which rules are lent, and that answer sets of lent words are words.
-use mathlib.Core.Path.{_≡_}
-use mathlib.Core.Logic.{_↔_, inl, inr}
-use mathlib.Core.List.{List}
-use Prim.Native.Nat.{ℕ, _^_, _<_, _≤_, min}
-use native.Mathlib.Omega.{arith}
-use lib.ListN.{length, getD}
-use Rattle.atoms.specs.Word.{ATOMS, Has, _⊆_, _∩_, below, Lowest}
-use Rattle.atoms.proofs.Sets.{has-cut, cut-left, cut-right, has-below, below-lt, has-lt, lt-of-has}
-use Rattle.plan.specs.Limits.{MAX_RULES}
-use Rattle.answer_sets.specs.AnswerSet.{AnswerSet}
-use Rattle.answer_sets.specs.Lent.{lent, ruleAt, ruleCount, IsLent, Lent, numbered}
-use Rattle.answer_sets.specs.Test.{kept}
+use Rattle.answer_sets.proofs.Prelude.{_≡_, _↔_, inl, inr, List, ℕ, _^_, _<_, _≤_, min, arith, length, getD, ATOMS, Has, _⊆_, _∩_, below, Lowest}
+use Rattle.answer_sets.proofs.Prelude.{has-cut, cut-left, cut-right, has-below, below-lt, has-lt, lt-of-has, MAX_RULES, AnswerSet, lent, ruleAt}
+use Rattle.answer_sets.proofs.Prelude.{ruleCount, IsLent, Lent, numbered, kept}
 use Rattle.answer_sets.proofs.Judged.{kept-at}
 use Rattle.answer_sets.proofs.Support.{Supported, supported}
 

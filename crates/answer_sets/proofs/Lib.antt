@@ -1,3 +1,7 @@
+-- What the proofs of this crate name of the kit, of the crates below and of its own definitions, each with its home.
+pub mod Prelude
+-- The laws of this crate that the proofs of its functions name, each with its home.
+pub mod Face
 -- The computing twins decide what they are twins of. Rule numbers are bits of a word, so `which` is below 2 ^ 64
 pub mod Judged
 -- Which rules are lent, and that answer sets of lent words are words

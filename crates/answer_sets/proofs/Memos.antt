@@ -1,29 +1,15 @@
 -- The memo of a subset test that said none: whether a rule is satisfied depends on its own atoms alone, so the same is said of every test that comes
 -- to the same rules and the same atoms of them.
-use borrow.Author.Tests.{not-false}
-use mathlib.Core.Path.{_≡_, refl, sym, ap₂, subst, _∙_}
-use mathlib.Core.Bool.{Bool, true, false, not, false≢true}
-use mathlib.Core.Logic.{_↔_, _⊎_, inl, inr}
-use mathlib.Core.List.{List}
-use Prim.Native.Nat.{ℕ, _<_, _^_}
-use lib.ListN.{length, getD, set, replicate, length-set, length-replicate}
-use lib.Seq.{getD-set-same, getD-set-other}
-use Rattle.atoms.specs.Word.{ATOMS, EVERY_ATOM, Has, _⊆_, _⊂_, subset, Apart, apart, _∩_, _∪_, _∖_}
-use Rattle.atoms.specs.Bounded.{Decides}
-use Rattle.atoms.proofs.Sets.{has-dec, has-lt, has-cut, cut-left, cut-right, has-left, has-right, union-cases, has-without, without-left, without-right}
-use Rattle.atoms.proofs.Sets.{decides-subset, decides-apart, subset-le, cut-fits, union-fits, without-fits}
-use Rattle.answer_sets.specs.Program.{Program, Body, Satisfies, SatisfiesAll}
-use Rattle.answer_sets.specs.Lent.{lent, looks}
-use Rattle.answer_sets.specs.SubsetTest.{Between, Finds, Confines, InRule, in-head, in-positive, in-looks}
-use Rattle.answer_sets.specs.Memo.{OnlyWhole, MEMO_WORDS, memoOf, Memo, Blank, Written, differing, Untouched, Alike}
-use Rattle.answer_sets.specs.declared.rule_pass.Passed.{Passed}
-use Rattle.states.specs.State.{Completes, undecided}
-use Rattle.states.specs.declared.state.State.{State}
-use Rattle.states.proofs.HalfDecided.{undecided-intro}
+use Rattle.answer_sets.proofs.Prelude.{not-false, _≡_, refl, sym, ap₂, subst, _∙_, Bool, true, false, not, false≢true, _↔_, _⊎_, inl, inr, List, ℕ}
+use Rattle.answer_sets.proofs.Prelude.{_<_, _^_, length, getD, set, replicate, length-set, length-replicate, getD-set-same, getD-set-other, ATOMS}
+use Rattle.answer_sets.proofs.Prelude.{EVERY_ATOM, Has, _⊆_, _⊂_, subset, Apart, apart, _∩_, _∪_, _∖_, Decides, has-dec, has-lt, has-cut, cut-left}
+use Rattle.answer_sets.proofs.Prelude.{cut-right, has-left, has-right, union-cases, has-without, without-left, without-right, decides-subset}
+use Rattle.answer_sets.proofs.Prelude.{decides-apart, subset-le, cut-fits, union-fits, without-fits, Program, Body, Satisfies, SatisfiesAll, lent}
+use Rattle.answer_sets.proofs.Prelude.{looks, Between, Finds, Confines, InRule, in-head, in-positive, in-looks, Passed, Completes, undecided, State}
+use Rattle.answer_sets.proofs.Prelude.{undecided-intro, lt-of-le-of-lt, arith}
+use Rattle.answer_sets.specs.Memo.{OnlyWhole, MEMO_WORDS, memoOf, Memo, Blank, Written, differing, NoRuleHas, RestAlike}
 use Rattle.answer_sets.proofs.Between.{finds-none}
 use Rattle.answer_sets.proofs.Bodies.{rest-same}
-use native.Mathlib.Nat.{lt-of-le-of-lt}
-use native.Mathlib.Omega.{arith}
 
 -- ---- a rule depends on its atoms
 
@@ -115,11 +101,11 @@ memo-whole {P} {M} {p} fits conf d e = record { up-fits = fits; has-all = all }
         go (no h) (no m) = absurd (n (conf .outside i b m))
 
 -- and where another test is like it, that one says none too
-pub memo-none : {rules : List ℕ} {M : ℕ} {n p : Passed} {b : Bool} → M < 2 ^ ATOMS → OnlyWhole (lent rules) n → (b ≡ true → Alike rules M n p) → b ≡ true
+pub memo-none : {rules : List ℕ} {M : ℕ} {n p : Passed} {b : Bool} → M < 2 ^ ATOMS → OnlyWhole (lent rules) n → (b ≡ true → RestAlike rules M n p) → b ≡ true
     → Finds (lent rules) (p .left) M (p .state) false 0
 memo-none {rules} {M} {n} {p} fits o says f = finds-none none
   where
-    a : Alike rules M n p
+    a : RestAlike rules M n p
     a = says f
 
     w : ℕ
@@ -230,8 +216,8 @@ untouched-rule {rules} {r} {all} {w} e f g i k = decides-apart all w .yes (sym f
 pub alike-memo : {rules : List ℕ} {M w free-atoms : ℕ} {n m p : Passed} {b₁ b₂ b₃ b₄ b : Bool} → n ≡ m → b₁ ≡ subset (n .left) (p .left) → not b₁ ≡ false
     → b₂ ≡ apart (n .state .up) (n .state .dropped) → not b₂ ≡ false → b₃ ≡ apart (p .state .dropped) M → not b₃ ≡ false
     → w ≡ differing (n .state) (p .state) → free-atoms ≡ undecided (p .state .up) (p .state .dropped) → b₄ ≡ apart w free-atoms → not b₄ ≡ false
-    → (b ≡ true → Untouched rules (n .left) w) → b ≡ true → Alike rules M m p
-alike-memo {rules} {M} {w} {free-atoms} {n} {m} {p} e t₁ f₁ t₂ f₂ t₃ f₃ d o t₄ f₄ same f = subst (λ x. Alike rules M x p) e (record {
+    → (b ≡ true → NoRuleHas rules (n .left) w) → b ≡ true → RestAlike rules M m p
+alike-memo {rules} {M} {w} {free-atoms} {n} {m} {p} e t₁ f₁ t₂ f₂ t₃ f₃ d o t₄ f₄ same f = subst (λ x. RestAlike rules M x p) e (record {
   part = decides-subset (n .left) (p .left) .yes (sym t₁ ∙ not-false _ f₁);
   free = decides-apart (n .state .up) (n .state .dropped) .yes (sym t₂ ∙ not-false _ f₂);
   in-position = decides-apart (p .state .dropped) M .yes (sym t₃ ∙ not-false _ f₃);

@@ -1,25 +1,12 @@
 -- What is known of a body at a half-decided position, part by part.
-use mathlib.Core.Path.{_≡_, refl, sym, ap, subst, _∙_}
-use mathlib.Core.Bool.{Bool, true}
-use mathlib.Core.Logic.{_↔_, _⊎_, inl, inr}
-use mathlib.Core.List.{List}
-use Prim.Native.Nat.{ℕ, _<_}
-use native.Mathlib.Decide.{ℕ-discrete}
-use Rattle.atoms.specs.Word.{Has, _⊆_, _∩_, Apart, _∪_, _∖_, atom, below, Lowest}
-use Rattle.atoms.specs.Collected.{Collects}
-use Rattle.atoms.proofs.Tests.{decided-true}
-use Rattle.atoms.proofs.Sets.{subset-refl, subset-trans, has-dec, has-atom, atom-only, has-left, has-right, union-cases, without-left, without-right, has-cut}
-use Rattle.atoms.proofs.Sets.{cut-left, cut-right, has-below, below-lt, has-none, has-without, decides-has}
-use Rattle.contact_tables.specs.Table.{tableAnswer, row}
-use Rattle.contact_tables.specs.Rows.{Reached}
-use Rattle.answer_sets.specs.Program.{Body}
-use Rattle.answer_sets.specs.Lent.{lent, negative, uses, USE_BITS}
-use Rattle.states.specs.State.{Completes, halfDecided}
-use Rattle.answer_sets.specs.Known.{Says, Part, positive-word, negative-word, table-use, PartHolds, PartsSay, BodySays, WordsSay, InBody, has-positive}
-use Rattle.answer_sets.specs.Known.{has-negative, has-use, both, WordSays, RowsSay, IsWord, is-positive, is-negative}
-use Rattle.states.specs.declared.state.State.{State}
-use Rattle.answer_sets.specs.declared.truth.Truth.{Truth}
-use Rattle.answer_sets.specs.declared.truth.Truth.the-variants.{Holds, Fails}
+use Rattle.answer_sets.proofs.Prelude.{_≡_, refl, sym, ap, subst, _∙_, Bool, true, _↔_, _⊎_, inl, inr, List, ℕ, _<_, ℕ-discrete, Has, _⊆_, _∩_, Apart}
+use Rattle.answer_sets.proofs.Prelude.{_∪_, _∖_, atom, below, Lowest, Collects, decided-true, subset-refl, subset-trans, has-dec, has-atom, atom-only}
+use Rattle.answer_sets.proofs.Prelude.{has-left, has-right, union-cases, without-left, without-right, has-cut, cut-left, cut-right, has-below}
+use Rattle.answer_sets.proofs.Prelude.{below-lt, has-none, has-without, decides-has, tableAnswer, row, Body, lent, negative, uses, USE_BITS, Completes}
+use Rattle.answer_sets.proofs.Prelude.{halfDecided, Says, Part, positive-word, negative-word, table-use, PartHolds, PartsSay, BodySays, WordsSay}
+use Rattle.answer_sets.proofs.Prelude.{InBody, has-positive, has-negative, has-use, both, WordSays, RowsSay, IsWord, is-positive, is-negative, State}
+use Rattle.answer_sets.proofs.Prelude.{Truth, Holds, Fails}
+use Rattle.contact_tables.specs.TableRows.{RowReached}
 use Rattle.answer_sets.proofs.Truths.{holds-not-fails, both-holds, both-fails}
 use Rattle.answer_sets.proofs.Bodies.{body-parts, parts-body}
 
@@ -137,7 +124,7 @@ module _ {up down : ℕ} (free : Apart up down) where
 module _ (up dropped : ℕ) where
   -- ---- a table
 
-  pub rows-some : {inputs rows : ℕ} → Collects (Reached inputs up dropped) rows → ¬ (rows ≡ 0)
+  pub rows-some : {inputs rows : ℕ} → Collects (RowReached inputs up dropped) rows → ¬ (rows ≡ 0)
   rows-some {inputs} c e =
       has-none
       (rw e at
@@ -148,7 +135,7 @@ module _ (up dropped : ℕ) where
         is = refl;
       })))
 
-  pub table-says : {inputs truth rows : ℕ} {t : Truth} → Collects (Reached inputs up dropped) rows → RowsSay rows truth t
+  pub table-says : {inputs truth rows : ℕ} {t : Truth} → Collects (RowReached inputs up dropped) rows → RowsSay rows truth t
       → Says (λ N. tableAnswer inputs truth N ≡ true) (halfDecided up dropped) t
   unfolding tableAnswer
   table-says {inputs} {truth} {rows} c k = record {

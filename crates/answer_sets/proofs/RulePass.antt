@@ -1,29 +1,13 @@
 -- The rule pass: what each of its steps does to a state keeps every position that satisfies the rule.
-use Rattle.atoms.specs.Bounded.{Decides}
-use mathlib.Core.Path.{_≡_, refl, sym, _∙_, subst}
-use mathlib.Core.Bool.{Bool, true, false, not}
-use mathlib.Core.Logic.{_↔_}
-use mathlib.Core.List.{List}
-use Prim.Native.Nat.{ℕ}
-use borrow.Author.Tests.{not-true, not-false}
-use Rattle.atoms.specs.Word.{Has, _⊆_, subset, Apart, apart, _∪_, _∖_, atom, AtMostOne}
-use Rattle.atoms.proofs.Sets.{has-without, without-left, has-dec, decides-subset, decides-apart, shared-atom}
-use Rattle.atoms.proofs.Sets.{apart-of-cut, subset-refl, subset-trans, has-atom, atom-only}
-use Rattle.answer_sets.specs.Program.{Program, Body, Satisfies, SatisfiesAll}
-use Rattle.answer_sets.specs.Lent.{lent}
-use Rattle.states.specs.State.{Completes, halfDecided}
-use Rattle.states.specs.Narrowing.{Narrows, OneGoes, SomeUp}
-use Rattle.answer_sets.specs.Known.{BodySays}
-use Rattle.answer_sets.specs.RulePass.{HeldInAll, Stepped, Met, Sifted}
-use Rattle.states.specs.declared.state.State.{State}
-use Rattle.answer_sets.specs.declared.rule_pass.Passed.{Passed}
-use Rattle.answer_sets.specs.declared.truth.Truth.{Truth}
-use Rattle.answer_sets.specs.declared.truth.Truth.the-variants.{Holds, Fails}
+use Rattle.answer_sets.proofs.Prelude.{Decides, _≡_, refl, sym, _∙_, subst, Bool, true, false, not, _↔_, List, ℕ, not-true, not-false, Has, _⊆_}
+use Rattle.answer_sets.proofs.Prelude.{subset, Apart, apart, _∪_, _∖_, atom, AtMostOne, has-without, without-left, has-dec, decides-subset}
+use Rattle.answer_sets.proofs.Prelude.{decides-apart, shared-atom, apart-of-cut, subset-refl, subset-trans, has-atom, atom-only, Program, Body}
+use Rattle.answer_sets.proofs.Prelude.{Satisfies, SatisfiesAll, lent, Completes, halfDecided, Narrows, OneGoes, SomeUp, BodySays, HeldInAll}
+use Rattle.answer_sets.proofs.Prelude.{RuleStepped, AlwaysSatisfied, Sifted, State, Passed, Truth, Holds, Fails, narrows-refl, up-narrows}
+use Rattle.answer_sets.proofs.Prelude.{down-narrows, with-all-up, with-all-dropped, narrows-trans, narrows-for, completes-back}
 use Rattle.answer_sets.proofs.Parts.{known-holds, known-fails, completes-known}
 use Rattle.answer_sets.proofs.Bodies.{parts-body}
 use Rattle.states.proofs.OneAtom.{left-goes, none-left}
-use Rattle.states.proofs.Narrows.{narrows-refl, up-narrows, down-narrows, with-all-up, with-all-dropped}
-use Rattle.states.proofs.Narrows.{narrows-trans, narrows-for, completes-back}
 
 -- ---- one rule
 
@@ -47,7 +31,7 @@ module _ (rules : List ℕ) (r : ℕ) {s : State} where
   held-told k h = k .holds .1 (h .exactly .0 refl)
 
   -- a head atom is up already
-  pub head-met : {h : ℕ} {a : Bool} → h ≡ lent rules .head r → a ≡ apart h (s .up) → not a ≡ true → Stepped rules r s s
+  pub head-met : {h : ℕ} {a : Bool} → h ≡ lent rules .head r → a ≡ apart h (s .up) → not a ≡ true → RuleStepped rules r s s
   head-met {h} {a} reads e f = record {
     narrows = narrows-refl;
     stops = λ k d. record {
@@ -57,7 +41,7 @@ module _ (rules : List ℕ) (r : ℕ) {s : State} where
 
   -- where the body is known to hold, a position that satisfies the rule has a head atom
   pub holds-head : {h left : ℕ} {t : State} {k : Truth} → h ≡ lent rules .head r → BodySays rules r (s .up) (s .dropped) k → k ≡ Holds
-      → left ≡ h ∖ s .dropped → OneGoes (SomeUp left) left s t → Stepped rules r s t
+      → left ≡ h ∖ s .dropped → OneGoes (SomeUp left) left s t → RuleStepped rules r s t
   holds-head {h} {t = t} reads e f l n = record {
     narrows = left-goes l up n;
     stops = λ k d. n .stops (none-left h (s .dropped) l (rw reads d));
@@ -70,7 +54,7 @@ module _ (rules : List ℕ) (r : ℕ) {s : State} where
 
   -- where it is not, there is no stop
   pub not-held : {t : State} {k : Truth} → BodySays rules r (s .up) (s .dropped) k → ¬ (k ≡ Holds) → Narrows (Satisfies (lent rules) r) s t
-      → Stepped rules r s t
+      → RuleStepped rules r s t
   not-held k n m = record { narrows = m; stops = λ h d. absurd (n (held-told k h)) }
 
 -- ---- the last open atom
@@ -119,14 +103,14 @@ module _ (rules : List ℕ) (r : ℕ) {s : State} (gone : lent rules .head r ⊆
 
 module _ (rules : List ℕ) (r : ℕ) {s : State} where
   -- a head atom is up
-  pub met-by-head : {h : ℕ} {a : Bool} → h ≡ lent rules .head r → a ≡ apart h (s .up) → not a ≡ true → Met (lent rules) r s
+  pub met-by-head : {h : ℕ} {a : Bool} → h ≡ lent rules .head r → a ≡ apart h (s .up) → not a ≡ true → AlwaysSatisfied (lent rules) r s
   met-by-head {h} {a} reads e f = go (shared-atom h (s .up) (λ z. decides-apart h (s .up) .no (sym e ∙ not-true a f) (apart-of-cut h (s .up) z)))
     where
-      go : ((i : ℕ) × Has h i × Has (s .up) i) → Met (lent rules) r s
+      go : ((i : ℕ) × Has h i × Has (s .up) i) → AlwaysSatisfied (lent rules) r s
       go k = record { each = λ N c. record { head-up = λ b. (k .0, rw reads at (k .1), c .has-up .each (k .0) (k .2)) } }
 
   -- the body fails
-  pub met-by-body : {t : Truth} → BodySays rules r (s .up) (s .dropped) t → t ≡ Fails → Met (lent rules) r s
+  pub met-by-body : {t : Truth} → BodySays rules r (s .up) (s .dropped) t → t ≡ Fails → AlwaysSatisfied (lent rules) r s
   met-by-body k e = record {
     each = λ N c. record { head-up = λ b. absurd (known-fails rules r (s .up) (s .dropped) k N (completes-known c) e b) };
   }
@@ -134,7 +118,7 @@ module _ (rules : List ℕ) (r : ℕ) {s : State} where
 -- ---- a round
 
 -- a rule that is met stays so in a larger state
-met-later : {P : Program} {K : ℕ → Type 0} {r : ℕ} {s t : State} → Narrows K s t → Met P r s → Met P r t
+met-later : {P : Program} {K : ℕ → Type 0} {r : ℕ} {s t : State} → Narrows K s t → AlwaysSatisfied P r s → AlwaysSatisfied P r t
 met-later n m = record { each = λ N c. m .each N (completes-back n c) }
 
 pub sifted-start : {P : Program} {which : ℕ} {s : State} → Sifted P which s which (record { state = s; left = which })
@@ -151,7 +135,7 @@ sifted-next {P} {which} {word} {r} {s} {p} {q} h f g = record {
     only : (N : ℕ) → SatisfiesAll P which N → SatisfiesAll P (atom r) N
     only N all = record { each = λ i k. all .each i (rw (atom-only r k) at h) }
 
-    cases : (i : ℕ) → Has word i → ¬ Has (q .left) i → Dec (Has (p .left) i) → Met P i (q .state)
+    cases : (i : ℕ) → Has word i → ¬ Has (q .left) i → Dec (Has (p .left) i) → AlwaysSatisfied P i (q .state)
     cases i k n (yes l) = g .gone i l n
     cases i k n (no l) = met-later (g .narrows) (f .gone i k l)
 
@@ -162,14 +146,14 @@ sifted-turn h f e g = sifted-next h f (rw e at g)
 
 -- the rule of the turn: it goes where it is met, and else stays
 module _ {P : Program} {r : ℕ} (p : Passed) {q : Passed} where
-  pub sifted-met : Met P r (p .state) → q ≡ record { state = p .state; left = p .left ∖ atom r } → Sifted P (atom r) (p .state) (p .left) q
+  pub sifted-met : AlwaysSatisfied P r (p .state) → q ≡ record { state = p .state; left = p .left ∖ atom r } → Sifted P (atom r) (p .state) (p .left) q
   sifted-met m e = rw e (record {
     narrows = narrows-refl;
     part = record { each = λ i h. without-left (p .left) (atom r) h };
     gone = λ i h n. go i h n (has-dec (atom r) i);
   })
     where
-      go : (i : ℕ) → Has (p .left) i → ¬ Has (p .left ∖ atom r) i → Dec (Has (atom r) i) → Met P i (p .state)
+      go : (i : ℕ) → Has (p .left) i → ¬ Has (p .left ∖ atom r) i → Dec (Has (atom r) i) → AlwaysSatisfied P i (p .state)
       go i h n (yes k) = rw (atom-only r k) at m
       go i h n (no k) = absurd (n (has-without (p .left) (atom r) h k))
 
@@ -194,6 +178,6 @@ sifted-more {P} {which} {s} {p} {q} f g = record {
   gone = λ i k n. cases i k n (has-dec (p .left) i);
 }
   where
-    cases : (i : ℕ) → Has which i → ¬ Has (q .left) i → Dec (Has (p .left) i) → Met P i (q .state)
+    cases : (i : ℕ) → Has which i → ¬ Has (q .left) i → Dec (Has (p .left) i) → AlwaysSatisfied P i (q .state)
     cases i k n (yes l) = g .gone i l n
     cases i k n (no l) = met-later (g .narrows) (f .gone i k l)

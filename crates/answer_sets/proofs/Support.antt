@@ -1,17 +1,9 @@
 -- Answer sets by their members: minimality said positively, support (only facts and head atoms are up), that no answer set
 -- lies within another, and that fewer constraints lose none. Each rests on a smaller position that still satisfies the kept rules; deciding `⊆` is all
 -- that it takes.
-use mathlib.Core.Path.{_≡_, subst}
-use mathlib.Core.Logic.{_⊎_, inl, inr}
-use Prim.Native.Nat.{ℕ, zero, suc, _^_, _<_}
-use native.Mathlib.Omega.{arith}
-use native.Mathlib.Nat.{pow-suc}
-use Rattle.atoms.specs.Word.{Has, _⊆_, _∩_, _∪_}
-use Rattle.atoms.specs.Bounded.{unionIn}
-use Rattle.atoms.proofs.Sets.{subset-dec, has-none, has-cut, cut-left, cut-right, has-left, has-right, union-cases, has-lt}
-use Rattle.atoms.proofs.Bounded.{union-has, union-at}
-use Rattle.answer_sets.specs.Program.{Program, Satisfies}
-use Rattle.answer_sets.specs.AnswerSet.{Kept, ReductModel, AnswerSet}
+use Rattle.answer_sets.proofs.Prelude.{_≡_, subst, _⊎_, inl, inr, ℕ, zero, suc, _^_, _<_, arith, pow-suc, Has, _⊆_, _∩_, _∪_, unionIn, subset-dec}
+use Rattle.answer_sets.proofs.Prelude.{has-none, has-cut, cut-left, cut-right, has-left, has-right, union-cases, has-lt, union-has, union-at, Program}
+use Rattle.answer_sets.proofs.Prelude.{Satisfies, Kept, ReductModel, AnswerSet}
 
 -- so a word has only numbers below itself
 lt-pow : (n : ℕ) → n < 2 ^ n

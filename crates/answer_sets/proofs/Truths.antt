@@ -1,17 +1,7 @@
 -- What is known of tests, put together: the three answers are apart, two tests together, and a test the other way round.
-use mathlib.Core.Path.{_≡_, refl, sym, _∙_}
-use mathlib.Core.Bool.{Bool, true, false, not, false≢true}
-use mathlib.Core.Logic.{_↔_, _⊎_, inl, inr}
-use Prim.Native.Nat.{ℕ}
-use native.Mathlib.Omega.{arith}
-use borrow.Author.Tests.{not-true, not-false}
-use Rattle.atoms.specs.Word.{_⊆_, subset, Apart, apart}
-use Rattle.atoms.proofs.Sets.{decides-subset, decides-apart, some-atom}
-use Rattle.atoms.proofs.Tests.{not-both, true-of-not-false, false-of-not-true, not-is-true}
-use Rattle.answer_sets.specs.Known.{Says, both, opposite, WordSays, RowsSay}
-use Rattle.states.specs.declared.state.State.{State}
-use Rattle.answer_sets.specs.declared.truth.Truth.{Truth}
-use Rattle.answer_sets.specs.declared.truth.Truth.the-variants.{Holds, Fails, Open}
+use Rattle.answer_sets.proofs.Prelude.{_≡_, refl, sym, _∙_, Bool, true, false, not, false≢true, _↔_, _⊎_, inl, inr, ℕ, arith, not-true, not-false, _⊆_}
+use Rattle.answer_sets.proofs.Prelude.{subset, Apart, apart, decides-subset, decides-apart, some-atom, not-both, true-of-not-false, false-of-not-true}
+use Rattle.answer_sets.proofs.Prelude.{not-is-true, Says, both, opposite, WordSays, RowsSay, State, Truth, Holds, Fails, Open}
 
 pub holds-not-fails : Holds ≡ Fails → ⊥
 holds-not-fails e = let z : _≡_ {A = ℕ} 0 1 = cc in omega arith

@@ -7,7 +7,7 @@ use lib.ListN.{length, getD}
 use Rattle.atoms.specs.Word.{Has, _∩_, _∪_, below, apart}
 use Rattle.atoms.specs.Bounded.{allIn, unionIn}
 use Rattle.plan.specs.Limits.{MAX_RULES, MAX_TABLES, CONTACT_WORDS, RULE_WORDS, FIRST_RULE, USES}
-use Rattle.contact_tables.specs.Table.{tableAnswer}
+use Rattle.contact_tables.specs.ContactTable.{tableAnswer}
 use Rattle.answer_sets.specs.Program.{Program}
 
 -- where the words of rule r start

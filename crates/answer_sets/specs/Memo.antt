@@ -43,13 +43,13 @@ abbrev pub differing : State → State → ℕ
 differing s t = ((s .up ∖ t .up) ∪ (t .up ∖ s .up)) ∪ ((s .dropped ∖ t .dropped) ∪ (t .dropped ∖ s .dropped))
 
 -- no rule of the word has an atom of w
-pub record Untouched (rules : List ℕ) (which w : ℕ) : Type 0 where
+pub record NoRuleHas (rules : List ℕ) (which w : ℕ) : Type 0 where
   pub none : (r : ℕ) → Has which r → (i : ℕ) → InRule rules r i → ¬ Has w i
 
 -- the memo n tells of p, at position M: its rules are left there too, and the two differ in no atom that such a rule has or that is open
-pub record Alike (rules : List ℕ) (M : ℕ) (n p : Passed) : Type 0 where
+pub record RestAlike (rules : List ℕ) (M : ℕ) (n p : Passed) : Type 0 where
   pub part : n .left ⊆ p .left
   pub free : Apart (n .state .up) (n .state .dropped)
   pub in-position : Apart (p .state .dropped) M
   pub same-open : Apart (differing (n .state) (p .state)) (undecided (p .state .up) (p .state .dropped))
-  pub same-rules : Untouched rules (n .left) (differing (n .state) (p .state))
+  pub same-rules : NoRuleHas rules (n .left) (differing (n .state) (p .state))

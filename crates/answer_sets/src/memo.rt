@@ -8,7 +8,7 @@ ghost use mathlib.Core.Path.{_≡_};
 ghost use mathlib.Core.Bool.{true};
 ghost use lib.ListN.{length};
 ghost use Rattle.answer_sets.specs.Lent.{Lent};
-ghost use Rattle.answer_sets.specs.Memo.{MEMO_WORDS, memoOf, Blank, Written, differing, Untouched, Alike};
+ghost use Rattle.answer_sets.specs.Memo.{MEMO_WORDS, memoOf, Blank, Written, differing, NoRuleHas, RestAlike};
 
 // The rules that are left, and the two words of the state.
 pub const MEMO_WORDS: usize = 3;
@@ -60,7 +60,7 @@ fn differing_atoms(s: State, t: State) -> u64
 // Whether no rule of the word has one of these atoms.
 fn are_untouched(rules: &[u64], which: u64, w: u64) -> bool
     requires { ⌜ Lent (now rules) which ⌝ }
-    ensures { λ r. ⌜ (r ≡ true → Untouched (now (rules .entry)) which w) ⌝ }
+    ensures { λ r. ⌜ (r ≡ true → NoRuleHas (now (rules .entry)) which w) ⌝ }
 {
     let mut rest = which;
     while rest != 0 {
@@ -76,7 +76,7 @@ fn are_untouched(rules: &[u64], which: u64, w: u64) -> bool
 // Whether the memo tells of what these rounds left, at a position.
 pub fn memo_tells(rules: &[u64], memo: &[u64], position: u64, p: Passed) -> bool
     requires { ⌜ Lent (now rules) (p .left) × (length (now memo) ≡ MEMO_WORDS) ⌝ }
-    ensures { λ r. ⌜ (r ≡ true → Alike (now (rules .entry)) position (memoOf (now (memo .entry))) p) ⌝ }
+    ensures { λ r. ⌜ (r ≡ true → RestAlike (now (rules .entry)) position (memoOf (now (memo .entry))) p) ⌝ }
 {
     let n = read_memo(memo);
     let s = n.state;

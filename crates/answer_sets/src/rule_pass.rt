@@ -18,7 +18,7 @@ ghost use Rattle.plan.specs.Limits.{MAX_RULES};
 ghost use Rattle.answer_sets.specs.Program.{Satisfies};
 ghost use Rattle.answer_sets.specs.Lent.{lent, IsLent, Lent};
 ghost use Rattle.states.specs.Narrowing.{Narrows};
-ghost use Rattle.answer_sets.specs.RulePass.{HeldInAll, Stepped, Sifted};
+ghost use Rattle.answer_sets.specs.RulePass.{HeldInAll, RuleStepped, Sifted};
 ghost use Rattle.atoms.specs.Word.{_⊆_, _∖_, AtMostOne, atom};
 
 // Whether the body is known to hold.
@@ -78,7 +78,7 @@ fn denied(rules: &[u64], rule: usize, s: State) -> State
 // The state after one rule: where its body holds and no head atom is up, one has to go up; where all are dropped, the search stops.
 pub fn rule_step(rules: &[u64], rule: usize, s: State) -> State
     requires { ⌜ IsLent (now rules) rule ⌝ }
-    ensures { λ t. ⌜ Stepped (now (rules .entry)) rule s t ⌝ }
+    ensures { λ t. ⌜ RuleStepped (now (rules .entry)) rule s t ⌝ }
 {
     let head = head(rules, rule);
     if !atoms::are_apart(head, s.up) {

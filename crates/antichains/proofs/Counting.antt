@@ -1,9 +1,6 @@
 -- How many chains there are: with one atom more a chain of k sets grows into one of k + 1 and one of k - 1 sets, so n atoms make of one set as many chains
 -- as the middle binomial coefficient says. By Pascal's rule and a sum of which all but one term falls away.
-use mathlib.Core.Path.{_≡_, refl, ap}
-use Prim.Native.Nat.{ℕ, zero, suc, _+_, _-_, _/_, _≤_}
-use native.Mathlib.Omega.{arith}
-use Rattle.antichains.specs.Family.{binomial, middleBinomial}
+use Rattle.antichains.proofs.Prelude.{_≡_, refl, ap, ℕ, zero, suc, _+_, _-_, _/_, _≤_, arith, binomial, middleBinomial}
 
 -- how many chains come of a chain of k sets, with n atoms more; a chain of no set is none
 unfoldable pub chains : ℕ → ℕ → ℕ

@@ -1,18 +1,10 @@
 -- The word of head atoms has just the atoms that are in some head, and what a list's members have beside them is the given atoms.
-use mathlib.Core.Path.{_≡_}
-use mathlib.Core.Logic.{_↔_, _⊎_, inl, inr}
-use Prim.Native.Nat.{ℕ, _<_}
-use Rattle.atoms.specs.Word.{Has, _∖_, below}
-use Rattle.atoms.proofs.Sets.{ext, has-below, has-without, without-left, without-right}
+use Rattle.antichains.proofs.Prelude.{_≡_, _↔_, _⊎_, inl, inr, ℕ, _<_, Has, _∖_, below, ext, has-below, has-without, without-left, without-right}
+use Rattle.antichains.proofs.Prelude.{Units, Passes, own, Listed, withLast, headAtoms, FewHeads}
 use Rattle.atoms.proofs.Bounded.{union-has, union-at}
-use Rattle.dependency_graph.specs.Units.{Units}
-use Rattle.dependency_graph.specs.Graph.{Passes}
-use Rattle.dependency_graph.specs.Heads.{own}
 use Rattle.dependency_graph.proofs.Heads.{own-at}
 use Rattle.dependency_graph.proofs.Under.{Under, heads-source, under-unit}
-use Rattle.splitting.specs.UnitList.{Listed, withLast}
 use Rattle.splitting.proofs.Form.{Member, listed-member}
-use Rattle.antichains.specs.HeadAtoms.{headAtoms, FewHeads}
 
 -- some rule has the atom in its head
 abbrev pub InHead : Units → ℕ → Type 0

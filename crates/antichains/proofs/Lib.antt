@@ -1,3 +1,5 @@
+-- What the proofs of this crate name of the kit, of the crates below and of its own definitions, each with its home.
+pub mod Prelude
 -- How many chains there are
 pub mod Counting
 -- Chains of sets, the largest first, and how one grows with an atom
@@ -13,4 +15,4 @@ pub mod ListLengths
 -- "Ten headed relays always fit" (document 02, S-14)
 pub mod TenHeads
 -- The head atoms of document 01's circuits 7 and 12, computed from their bytes
-pub mod Circuits
+pub mod TenHeadCircuits

@@ -1,23 +1,11 @@
 -- How long lists are. The members of a list are a family, none within another, and differ on head atoms only: so a list has at most as many as the middle
 -- binomial coefficient of the number of head atoms says. A list of cuts has no more: behind different cuts stand different members.
-use mathlib.Core.Path.{_≡_, refl, sym, ap, _∙_, subst}
-use mathlib.Core.Logic.{_⊎_, inl, inr}
-use mathlib.Core.List.{List, [], _∷_, List·Memᴰ, List·Memᴰ·head, List·Memᴰ·tail, List·Memᴰ·not-nil, List·Memᴰ·cases-cons}
-use Prim.Native.Nat.{ℕ, suc, _≤_, _<_}
-use native.Mathlib.Omega.{arith}
-use lib.ListN.{length}
-use Rattle.atoms.specs.Word.{_⊆_, _∩_}
+use Rattle.antichains.proofs.Prelude.{_≡_, refl, sym, ap, _∙_, subst, _⊎_, inl, inr, List, [], _∷_, List·Memᴰ, List·Memᴰ·head, List·Memᴰ·tail}
+use Rattle.antichains.proofs.Prelude.{List·Memᴰ·not-nil, List·Memᴰ·cases-cons, ℕ, suc, _≤_, _<_, arith, length, _⊆_, _∩_, subset-antisym, Units}
+use Rattle.antichains.proofs.Prelude.{Passes, Listed, Clean, withLast, last-passes, list-antichain, Shown, ListOf, Incomparable, Antichain}
+use Rattle.antichains.proofs.Prelude.{antichain-nil, antichain-cons, middleBinomial, headAtoms, FewHeads}
 use Rattle.atoms.specs.Rising.{Above, Rising, rising-nil, rising-cons}
-use Rattle.atoms.proofs.Sets.{subset-antisym}
 use Rattle.atoms.proofs.Rising.{above-at}
-use Rattle.dependency_graph.specs.Units.{Units}
-use Rattle.dependency_graph.specs.Graph.{Passes}
-use Rattle.splitting.specs.UnitList.{Listed, Clean, withLast}
-use Rattle.splitting.proofs.Last.{last-passes}
-use Rattle.splitting.proofs.Antichain.{list-antichain}
-use Rattle.demands.specs.Demands.{Shown, ListOf}
-use Rattle.antichains.specs.Family.{Incomparable, Antichain, antichain-nil, antichain-cons, middleBinomial}
-use Rattle.antichains.specs.HeadAtoms.{headAtoms, FewHeads}
 use Rattle.antichains.proofs.Sperner.{sperner-around}
 use Rattle.antichains.proofs.HeadAtoms.{few-with-last, outside-heads}
 

@@ -1,16 +1,9 @@
 -- "Show first that no uncut answer set lies within another, nor, in plans that pass reading and graph, a member of a unit's list within another of that
 -- list, tables and given facts included." (document 02, S-14)
-use Prim.Native.Nat.{ℕ, _<_}
-use native.Mathlib.Omega.{arith}
-use Rattle.atoms.specs.Word.{_⊂_}
+use Rattle.antichains.proofs.Prelude.{ℕ, _<_, arith, _⊂_, Units, Passes, Listed, Clean, withLast, last-passes, list-antichain}
 use Rattle.answer_sets.specs.Program.{Program}
 use Rattle.answer_sets.specs.AnswerSet.{AnswerSet}
 use Rattle.answer_sets.proofs.Support.{antichain}
-use Rattle.dependency_graph.specs.Units.{Units}
-use Rattle.dependency_graph.specs.Graph.{Passes}
-use Rattle.splitting.specs.UnitList.{Listed, Clean, withLast}
-use Rattle.splitting.proofs.Last.{last-passes}
-use Rattle.splitting.proofs.Antichain.{list-antichain}
 
 -- of any rules, with tables or without, and any facts
 pub none-within : (P : Program) (which facts M N : ℕ) → AnswerSet P which facts M → AnswerSet P which facts N → ¬ (M ⊂ N)

@@ -1,17 +1,10 @@
 -- Sperner's theorem: a family of sets over n atoms, none within another, has at most as many sets as the middle binomial coefficient of n says. One chain
 -- is followed along the atoms, and the family is split with it: the sets over a chain are those over the two chains that come of it with one atom more.
-use mathlib.Core.Path.{_≡_, refl, sym, ap, subst}
-use mathlib.Core.Logic.{_⊎_, inl, inr}
-use mathlib.Core.List.{List, [], _∷_, List·Memᴰ, List·Memᴰ·head, List·Memᴰ·tail, List·Memᴰ·not-nil, List·Memᴰ·cases-cons, Memᴰ·cast}
-use Prim.Native.Nat.{ℕ, zero, suc, _+_, _≤_}
-use native.Mathlib.Omega.{arith}
-use native.Mathlib.Decide.{ℕ-discrete}
-use lib.ListN.{length, length-map}
-use lib.Count.{ones}
-use Rattle.atoms.specs.Word.{Has, _⊆_, _∪_, _∖_, atom}
-use Rattle.atoms.proofs.Sets.{ext, empty, some-atom, has-none, has-without, without-left, without-right}
+use Rattle.antichains.proofs.Prelude.{_≡_, refl, sym, ap, subst, _⊎_, inl, inr, List, [], _∷_, List·Memᴰ, List·Memᴰ·head, List·Memᴰ·tail}
+use Rattle.antichains.proofs.Prelude.{List·Memᴰ·not-nil, List·Memᴰ·cases-cons, Memᴰ·cast, ℕ, zero, suc, _+_, _≤_, arith, ℕ-discrete, length}
+use Rattle.antichains.proofs.Prelude.{length-map, ones, Has, _⊆_, _∪_, _∖_, atom, ext, empty, some-atom, has-none, has-without, without-left}
+use Rattle.antichains.proofs.Prelude.{without-right, Incomparable, Antichain, antichain-nil, antichain-cons, binomial, middleBinomial}
 use Rattle.atoms.proofs.Counts.{count-without}
-use Rattle.antichains.specs.Family.{Incomparable, Antichain, antichain-nil, antichain-cons, binomial, middleBinomial}
 use Rattle.antichains.proofs.Counting.{chains, chains-next, chains-some, chains-middle}
 use Rattle.antichains.proofs.Chains.{Chain, chain-nil, chain-cons, comparable, taller, shorter, taller-chain, shorter-chain, taller-or-shorter}
 

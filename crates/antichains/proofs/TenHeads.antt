@@ -1,12 +1,8 @@
 -- "Ten headed relays always fit" (document 02, S-14). A plan that reads, passes the graph and has ten atoms or fewer in heads is one of those that demand 1
 -- says are listed. What is promised of a listing, a sheet and a host's number then says that refusal 15 does not come; nothing else is asked.
-use mathlib.Core.Path.{_≡_, sym, ap, _∙_, subst}
-use mathlib.Core.List.{List}
-use Prim.Native.Nat.{ℕ, _/_, _≤_, _<_}
-use native.Mathlib.Omega.{arith}
-use native.Mathlib.Decide.{decLt}
-use lib.ListN.{length, take, getD, replicate}
-use Rattle.atoms.specs.Word.{Has}
+use Rattle.antichains.proofs.Prelude.{_≡_, sym, ap, _∙_, subst, List, ℕ, _/_, _≤_, _<_, arith, decLt, length, take, getD, replicate, Has, reading}
+use Rattle.antichains.proofs.Prelude.{Contents, WithinLimits, recordOf, predecessorsOf, IsByte, All, Units, Passes, unitsOf, Listed, Clean, Shown}
+use Rattle.antichains.proofs.Prelude.{FitsList, middleBinomial, FewHeads, TenHeaded, ListingFits, SheetFits, CodeFits}
 use Rattle.atoms.proofs.Lists.{getD-tabulate}
 use Rattle.plan.specs.Limits.{MAX_RULES, MAX_UNITS, TABLE_WORDS, COUNTS, LAST_COUNT}
 use Rattle.plan.specs.Faults.{RefusedBy, CODE_STEP}
@@ -14,31 +10,21 @@ use Rattle.plan.specs.declared.record.Plan.{Plan}
 use Rattle.plan.specs.declared.fault.Outcome.{Outcome}
 use Rattle.plan.specs.declared.fault.Outcome.the-variants.{Accepted}
 use Rattle.plan.proofs.Refusals.{told, refused-for}
-use Rattle.reading.specs.Reading.{reading}
 use Rattle.reading.specs.Kinds.{rule, unit}
-use Rattle.reading.specs.Layout.{Contents, WithinLimits, recordOf, predecessorsOf, IsByte, All}
 use Rattle.reading.proofs.Accepted.{accepted-is-plan}
-use Rattle.reading.proofs.Lists.{all-member}
+use Rattle.reading.proofs.ElementLists.{all-member}
 use Rattle.reading.proofs.Predecessors.{pair, has-member}
-use Rattle.dependency_graph.specs.Units.{Units}
-use Rattle.dependency_graph.specs.Graph.{Passes}
-use Rattle.dependency_graph.specs.PlanUnits.{unitsOf}
-use Rattle.splitting.specs.UnitList.{Listed, Clean}
-use Rattle.demands.specs.Lists.{unitList, lastList}
-use Rattle.demands.specs.Demands.{Shown, Fits}
-use Rattle.demands.specs.Demand1.{unitsIn, Listable, AllListed, table-place}
+use Rattle.demands.specs.UnitLists.{unitList, lastList}
+use Rattle.demands.specs.Demand1.{unitsIn, Listable, TableFixed, table-place}
 use Rattle.demands.specs.Promised.{Promised}
 use Rattle.demands.specs.declared.listing.Listing.{Listing}
 use Rattle.demands.proofs.Answers.{not-accepted}
 use Rattle.demands.proofs.Enumerations.{fits-iff, unit-list-of, last-list-of}
 use Rattle.demands.proofs.Demand1.{listable-lists}
 use Rattle.sheet.specs.Sheet.{positionsSheet, refusalSheet, positionsWord, refusedWord, atWord, decimal, places, placesWithin}
-use Rattle.plan_sheet.specs.Sheets.{planSheet, SheetSays, KEPT_BYTES, SheetKept}
+use Rattle.plan_sheet.specs.PlanSheets.{planSheet, SheetSays, KEPT_BYTES, SheetKept}
 use Rattle.plan_sheet.specs.declared.Sheet.{Sheet}
-use Rattle.exports.specs.Handed.{ListHanded, SheetHanded}
-use Rattle.antichains.specs.Family.{middleBinomial}
-use Rattle.antichains.specs.HeadAtoms.{FewHeads}
-use Rattle.antichains.specs.TenHeads.{TenHeaded, ListingFits, SheetFits, CodeFits}
+use Rattle.exports.specs.HandedOut.{ListHanded, SheetHanded}
 use Rattle.antichains.proofs.Sperner.{middle-of-ten}
 use Rattle.antichains.proofs.ListLengths.{list-most, last-most}
 
@@ -66,12 +52,12 @@ module _ {bytes : List ℕ} {c : Contents} (t : TenHeaded bytes c) where
   unfolding unitsOf recordOf
   small = t .lays .within .under rule
 
-  unit-fits : (u : ℕ) → u < S .units → Fits (Listed S u)
+  unit-fits : (u : ℕ) → u < S .units → FitsList (Listed S u)
   unit-fits u l =
       let is = unit-list-of S (t .passes) (t .passes .given-free) small u l in
       fits-iff is .1 (omega (arith, middle-of-ten, list-most S (t .passes) 10 (t .few) u (unitList S u) l is))
 
-  last-fits : Fits (Shown S)
+  last-fits : FitsList (Shown S)
   last-fits =
       let is = last-list-of S (t .passes) (t .passes .given-free) clean small in
       fits-iff is .1 (omega (arith, middle-of-ten, last-most S (t .passes) clean 10 (lastList S) (t .few) is))
@@ -80,7 +66,7 @@ module _ {bytes : List ℕ} {c : Contents} (t : TenHeaded bytes c) where
   listable = record { lays = t .lays; passes = t .passes; unit-fits = unit-fits; last-fits = last-fits }
 
   -- the lists in a table have at most 252 members each
-  counts-most : {table table′ : List ℕ} {r : Listing} → AllListed S table r table′ → (i : ℕ) → i < COUNTS → getD (r .counts) i 0 ≤ middleBinomial 10
+  counts-most : {table table′ : List ℕ} {r : Listing} → TableFixed S table r table′ → (i : ℕ) → i < COUNTS → getD (r .counts) i 0 ≤ middleBinomial 10
   counts-most {r = r} all i l = go (decLt i (S .units)) (decLt i LAST_COUNT)
     where
       go : Dec (i < S .units) → Dec (i < LAST_COUNT) → getD (r .counts) i 0 ≤ middleBinomial 10

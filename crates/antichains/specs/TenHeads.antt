@@ -8,11 +8,11 @@ use Rattle.plan.specs.Faults.{RefusedBy, CODE_STEP}
 use Rattle.plan.specs.declared.fault.Outcome.the-variants.{Accepted}
 use Rattle.reading.specs.Layout.{Contents, recordOf, Lays}
 use Rattle.dependency_graph.specs.Graph.{Passes}
-use Rattle.demands.specs.Demand1.{unitsIn, AllListed}
-use Rattle.demands.specs.Demands.{ListsAll}
+use Rattle.demands.specs.Demand1.{unitsIn, TableFixed}
+use Rattle.demands.specs.Demands.{ListsComplete}
 use Rattle.demands.specs.declared.listing.Listing.{Listing}
 use Rattle.sheet.specs.Sheet.{positionsSheet, refusalSheet}
-use Rattle.plan_sheet.specs.Sheets.{Positions}
+use Rattle.plan_sheet.specs.PlanSheets.{Positions}
 use Rattle.antichains.specs.Family.{middleBinomial}
 use Rattle.antichains.specs.HeadAtoms.{FewHeads}
 
@@ -28,8 +28,8 @@ pub record ListingFits (c : Contents) (table : List ℕ) (r : Listing) (table′
   pub not-long : (u : ℕ) → ¬ RefusedBy (r .outcome) 15 u
   pub accepted : TABLE_WORDS ≤ length table → r .outcome ≡ Accepted
   pub at-most : TABLE_WORDS ≤ length table → (i : ℕ) → i < COUNTS → getD (r .counts) i 0 ≤ middleBinomial 10
-  pub all-lists : TABLE_WORDS ≤ length table → AllListed (unitsIn c) table r table′
-  pub last-list : TABLE_WORDS ≤ length table → ListsAll (recordOf c) r table′
+  pub all-lists : TABLE_WORDS ≤ length table → TableFixed (unitsIn c) table r table′
+  pub last-list : TABLE_WORDS ≤ length table → ListsComplete (recordOf c) r table′
 
 -- the same of its sheet: no line `refused 15 at ..`, and the positions where the table is long enough
 pub record SheetFits (c : Contents) (table sheet : List ℕ) : Type 0 where

@@ -1,15 +1,9 @@
 -- The laws of "each" and "some" below a bound, of "each in a word", and of the word of those of which a test holds.
-use mathlib.Core.Path.{_≡_, refl, sym, ap, _∙_, subst}
-use mathlib.Core.Bool.{Bool, true, false, not, _||_}
-use mathlib.Core.Logic.{_⊎_, inl, inr}
-use Prim.Native.Nat.{ℕ, zero, suc, _<_}
-use native.Mathlib.Omega.{arith}
-use native.Mathlib.Decide.{ℕ-discrete}
-use Rattle.atoms.specs.Word.{Has, has, _∩_, _∪_, _∖_, atom, below}
-use Rattle.atoms.specs.Bounded.{Decides, allBelow, someBelow, allIn, wordBelow, unionIn}
+use Rattle.atoms.proofs.Prelude.{_≡_, refl, sym, ap, _∙_, subst, Bool, true, false, not, _||_, _⊎_, inl, inr, ℕ, zero, suc, _<_, arith, ℕ-discrete}
+use Rattle.atoms.proofs.Prelude.{Has, has, _∩_, _∪_, _∖_, atom, below, Decides, allBelow, someBelow, allIn, wordBelow, unionIn}
 use Rattle.atoms.proofs.Tests.{decides, decided-true, false-of-not-true, not-both, bool-ext, implies-true}
-use Rattle.atoms.proofs.Sets.{decides-has, has-cut, cut-left, has-left, has-right, union-cases, has-without, without-left}
-use Rattle.atoms.proofs.Sets.{has-atom, atom-only, has-none, has-below, ext, empty}
+use Rattle.atoms.proofs.Sets.{decides-has, has-cut, cut-left, has-left, has-right, union-cases, has-without, without-left, has-atom, atom-only}
+use Rattle.atoms.proofs.Sets.{has-none, has-below, ext, empty}
 
 -- ---- each
 

@@ -1,17 +1,9 @@
 -- The laws of words that collect the numbers with a property, and of the least number with one.
-use mathlib.Core.Path.{_≡_, refl, subst}
-use mathlib.Core.Bool.{Bool, true, false}
-use mathlib.Core.Logic.{_↔_, _⊎_, inl, inr}
-use Prim.Native.Nat.{ℕ, zero, suc, _≤_, _<_}
-use native.Mathlib.Omega.{arith}
-use native.Mathlib.Decide.{decLt}
-use Rattle.atoms.specs.Word.{ATOMS, Has, has, _∩_, _∪_, _∖_, below, outside, Lowest}
-use Rattle.atoms.specs.Bounded.{Decides, wordBelow, unionIn}
-use Rattle.atoms.specs.Collected.{Collects, Least, lowest, lowestOf}
+use Rattle.atoms.proofs.Prelude.{_≡_, refl, subst, Bool, true, false, _↔_, _⊎_, inl, inr, ℕ, zero, suc, _≤_, _<_, arith, decLt, ATOMS, Has, has, _∩_}
+use Rattle.atoms.proofs.Prelude.{_∪_, _∖_, below, outside, Lowest, Decides, wordBelow, unionIn, Collects, Least, lowest, lowestOf}
 use Rattle.atoms.proofs.Tests.{decided-true, decided-false, not-both}
-use Rattle.atoms.proofs.Sets.{decides-has, has-dec, has-cut, cut-left, cut-right, has-left, has-right, union-cases}
-use Rattle.atoms.proofs.Sets.{has-without, without-left, without-right, has-none, has-below, below-lt}
-use Rattle.atoms.proofs.Sets.{has-outside, outside-lt, outside-lacks, ext, empty, some-atom}
+use Rattle.atoms.proofs.Sets.{decides-has, has-dec, has-cut, cut-left, cut-right, has-left, has-right, union-cases, has-without, without-left}
+use Rattle.atoms.proofs.Sets.{without-right, has-none, has-below, below-lt, has-outside, outside-lt, outside-lacks, ext, empty, some-atom}
 use Rattle.atoms.proofs.Bounded.{union-has, union-at, word-has, word-at}
 
 -- ---- what a word that collects K says of K

@@ -1,13 +1,7 @@
 -- How many atoms a word has, its lowest atom and its highest. The count of a smaller set is smaller: this is what recursion over undecided atoms falls by.
-use mathlib.Core.Path.{_≡_, refl, sym, _∙_, subst}
-use Prim.Native.Nat.{ℕ, zero, suc, _-_, _/_, _%_, _^_, _≤_, _<_}
-use native.Mathlib.Omega.{arith}
-use native.Mathlib.Nat.{pow-suc, le-div-iff-mul-le, div-lt-iff-lt-mul}
-use native.Mathlib.Decide.{ℕ-discrete}
-use lib.Count.{ones, ones-step, ones-le, leadingZeros, leading-le, leading-top, trailingZeros, trailing-le, under}
-use lib.Pow.{pow-pos}
-use lib.Arith.{bin-ind}
-use Rattle.atoms.specs.Word.{ATOMS, digit, Has, _⊆_, _∖_, atom, Lowest, Highest}
+use Rattle.atoms.proofs.Prelude.{_≡_, refl, sym, _∙_, subst, ℕ, zero, suc, _-_, _/_, _%_, _^_, _≤_, _<_, arith, pow-suc, le-div-iff-mul-le}
+use Rattle.atoms.proofs.Prelude.{div-lt-iff-lt-mul, ℕ-discrete, ones, ones-step, ones-le, leadingZeros, leading-le, leading-top, trailingZeros}
+use Rattle.atoms.proofs.Prelude.{trailing-le, under, pow-pos, bin-ind, ATOMS, digit, Has, _⊆_, _∖_, atom, Lowest, Highest}
 use Rattle.atoms.proofs.Digits.{digit-low, digit-next}
 use Rattle.atoms.proofs.Sets.{has-dec, has-lt, has-none, some-atom, has-without, without-left, without-right, has-atom, subset-antisym}
 

@@ -1,10 +1,6 @@
 -- Cuts of wanted positions; the cuts of a list's members: rising, once each, and where every atom shows the list itself.
-use mathlib.Core.Path.{_≡_, refl, sym, ap, _∙_, subst}
-use mathlib.Core.Logic.{_↔_, _⊎_, inl, inr}
-use mathlib.Core.List.{List, [], _∷_, List·Memᴰ, List·Memᴰ·head, List·Memᴰ·tail, List·Memᴰ·not-nil, List·Memᴰ·cases-cons}
-use Prim.Native.Nat.{ℕ, _^_, _<_}
-use Rattle.atoms.specs.Word.{ATOMS, EVERY_ATOM, _∩_, below}
-use Rattle.atoms.specs.Rising.{Rising, rising-nil}
+use Rattle.atoms.proofs.Prelude.{_≡_, refl, sym, ap, _∙_, subst, _↔_, _⊎_, inl, inr, List, [], _∷_, List·Memᴰ, List·Memᴰ·head, List·Memᴰ·tail}
+use Rattle.atoms.proofs.Prelude.{List·Memᴰ·not-nil, List·Memᴰ·cases-cons, ℕ, _^_, _<_, ATOMS, EVERY_ATOM, _∩_, below, Rising, rising-nil}
 use Rattle.atoms.specs.Cuts.{CutOf, cutList}
 use Rattle.atoms.proofs.Sets.{ext, has-cut, cut-left, has-lt, has-below}
 use Rattle.atoms.proofs.Rising.{rising-ext}

@@ -1,12 +1,7 @@
 -- The binary digits of a word, and what each operation does to a digit. Nothing above proofs/Sets.antt cites these.
-use mathlib.Core.Path.{_≡_, refl, sym, ap, ap₂, _∙_}
-use Prim.Native.Nat.{ℕ, zero, suc, _+_, _-_, _*_, _/_, _%_, _^_, _≤_, _<_, min, max}
-use native.Mathlib.Omega.{arith}
-use native.Mathlib.Nat.{pow-suc, div-one, div-eq-of-lt}
-use lib.Bits.{bitAnd, bitOr, and-step, or-step, and-shr, or-shr, and-le-l}
-use lib.Arith.{bin-ind}
-use lib.Pow.{pow-mono, pow-pos, shl-exact, shr-shr}
-use Rattle.atoms.specs.Word.{digit}
+use Rattle.atoms.proofs.Prelude.{_≡_, refl, sym, ap, ap₂, _∙_, ℕ, zero, suc, _+_, _-_, _*_, _/_, _%_, _^_, _≤_, _<_, min, max, arith, pow-suc, div-one}
+use Rattle.atoms.proofs.Prelude.{div-eq-of-lt, bitAnd, bitOr, and-step, or-step, and-shr, or-shr, and-le-l, bin-ind, pow-mono, pow-pos, shl-exact}
+use Rattle.atoms.proofs.Prelude.{shr-shr, digit}
 
 pub digit-lt : (w i : ℕ) → digit w i < 2
 digit-lt w i = omega arith

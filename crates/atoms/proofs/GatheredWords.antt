@@ -1,10 +1,7 @@
 -- What a loop gathers over the numbers of a word, which it takes one by one, the lowest first: the union of their words, or
 -- those of which a test holds. What is gathered and what the rest would add make the whole.
-use mathlib.Core.Path.{_≡_, refl, sym, ap, _∙_, subst}
-use mathlib.Core.Bool.{Bool, true, false, _&&_}
-use Prim.Native.Nat.{ℕ, suc, _<_}
-use Rattle.atoms.specs.Word.{Has, has, _∩_, _∪_, _∖_, atom, below, Lowest}
-use Rattle.atoms.specs.Bounded.{unionIn, wordBelow, singleIf}
+use Rattle.atoms.proofs.Prelude.{_≡_, refl, sym, ap, _∙_, subst, Bool, true, false, _&&_, ℕ, suc, _<_, Has, has, _∩_, _∪_, _∖_, atom, below, Lowest}
+use Rattle.atoms.proofs.Prelude.{unionIn, wordBelow, singleIf}
 use Rattle.atoms.proofs.Tests.{and-true, decided-true}
 use Rattle.atoms.proofs.Sets.{decides-has, cut-right, without-left, below-lt, ext, union-none-left, union-none-right, union-assoc}
 use Rattle.atoms.proofs.Bounded.{union-has, union-at, word-has, word-at, union-in-none, union-in-cut, union-in-take}

@@ -1,10 +1,6 @@
 -- The part of a word from an atom on, as a number: it is fixed by the atoms there, and one atom more doubles it.
-use mathlib.Core.Path.{_≡_, refl, sym, ap, _∙_}
-use Prim.Native.Nat.{ℕ, _+_, _-_, _*_, _/_, _%_, _^_, _≤_, _<_}
-use native.Mathlib.Omega.{arith}
-use native.Mathlib.Nat.{div-one, div-eq-of-lt, le-div-iff-mul-le}
-use lib.Pow.{shr-shr, pow-pos}
-use Rattle.atoms.specs.Word.{digit, Has, high}
+use Rattle.atoms.proofs.Prelude.{_≡_, refl, sym, ap, _∙_, ℕ, _+_, _-_, _*_, _/_, _%_, _^_, _≤_, _<_, arith, div-one, div-eq-of-lt, le-div-iff-mul-le}
+use Rattle.atoms.proofs.Prelude.{shr-shr, pow-pos, digit, Has, high}
 use Rattle.atoms.proofs.Digits.{digit-lt, same-digits, shifted-digit}
 use Rattle.atoms.proofs.Sets.{has-dec}
 

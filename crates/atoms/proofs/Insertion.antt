@@ -1,16 +1,7 @@
 -- A value put into its place in a rising list: the list stays rising and has one member more.
-use mathlib.Core.Path.{_≡_, sym, ap, _∙_, subst}
-use mathlib.Core.Bool.{Bool, true, false}
-use mathlib.Core.List.{List, [], _∷_}
-use mathlib.Core.List.{List·Memᴰ, List·Memᴰ·head, List·Memᴰ·tail, List·Memᴰ·not-nil, List·Memᴰ·cases-cons, List·Memᴰ·eq-of-singleton}
-use mathlib.Core.Logic.{_⊎_, inl, inr}
-use Prim.Native.Nat.{ℕ, _≤_, _<_}
-use native.Mathlib.Omega.{arith}
-use native.Mathlib.Decide.{ℕ-discrete, decLt}
-use lib.Dec.{eqb}
-use lib.ListN.{length}
-use borrow.Author.Tests.{lt-ltb, le-ltb, eq-eqb, ne-eqb}
-use Rattle.atoms.specs.Rising.{above-nil, Rising, rising-nil, rising-cons, insertInto}
+use Rattle.atoms.proofs.Prelude.{_≡_, sym, ap, _∙_, subst, Bool, true, false, List, [], _∷_, List·Memᴰ, List·Memᴰ·head, List·Memᴰ·tail}
+use Rattle.atoms.proofs.Prelude.{List·Memᴰ·not-nil, List·Memᴰ·cases-cons, List·Memᴰ·eq-of-singleton, _⊎_, inl, inr, ℕ, _≤_, _<_, arith, ℕ-discrete}
+use Rattle.atoms.proofs.Prelude.{decLt, eqb, length, lt-ltb, le-ltb, eq-eqb, ne-eqb, above-nil, Rising, rising-nil, rising-cons, insertInto}
 use Rattle.atoms.proofs.Rising.{above-at, above-intro}
 
 -- ---- the three cases

@@ -1,3 +1,9 @@
+-- What the proofs of this crate name of the kit, of the crates below and of its own definitions, each with its home.
+pub mod Prelude
+-- The laws of this crate that the proofs of its functions name, each with its home.
+pub mod Face
+-- The names of the kit that proofs use, each with its home.
+pub mod Kit
 -- The binary digits of a word, and what each operation does to a digit. Nothing above proofs/Sets.antt cites these
 pub mod Digits
 -- Laws on Bool tests: what a test's answer says, and when two tests give the same answer

@@ -1,12 +1,7 @@
 -- The laws of lists of words: members by index, filled up with zeros, and written down by number.
-use mathlib.Core.Path.{_≡_, refl, sym, ap, ap₂, _∙_}
-use mathlib.Core.Logic.{_⊎_, inl, inr}
-use mathlib.Core.List.{List, [], _∷_, _++_, append-assoc}
-use mathlib.Core.List.{List·Memᴰ, List·Memᴰ·head, List·Memᴰ·tail, List·Memᴰ·not-nil, List·Memᴰ·cases-cons}
-use Prim.Native.Nat.{ℕ, zero, suc, _+_, _-_, _≤_, _<_}
-use native.Mathlib.Omega.{arith}
-use lib.ListN.{length, getD, set, replicate, length-append, length-replicate, List·getD-append}
-use lib.Seq.{set-at}
+use Rattle.atoms.proofs.Prelude.{_≡_, refl, sym, ap, ap₂, _∙_, _⊎_, inl, inr, List, [], _∷_, _++_, append-assoc, List·Memᴰ, List·Memᴰ·head}
+use Rattle.atoms.proofs.Prelude.{List·Memᴰ·tail, List·Memᴰ·not-nil, List·Memᴰ·cases-cons, ℕ, zero, suc, _+_, _-_, _≤_, _<_, arith, length, getD, set}
+use Rattle.atoms.proofs.Prelude.{replicate, length-append, length-replicate, List·getD-append, set-at}
 use Rattle.atoms.specs.Lists.{padded, tabulate}
 
 -- ---- members by index

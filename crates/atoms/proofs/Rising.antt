@@ -1,14 +1,8 @@
 -- Rising lists are fixed by their members; `members p n` is the rising list of the numbers below n of which p holds.
-use mathlib.Core.Path.{_≡_, refl, sym, ap, ap₂, _∙_, subst}
-use mathlib.Core.Bool.{Bool, true, false}
-use mathlib.Core.List.{List, [], _∷_, _++_, List·Memᴰ, List·Memᴰ·head, List·Memᴰ·tail, List·Memᴰ·not-nil, List·Memᴰ·cases-cons}
-use mathlib.Core.List.{List·Memᴰ·append-cases, List·Memᴰ·eq-of-singleton, Memᴰ·append-left, Memᴰ·append-right}
-use mathlib.Core.Logic.{_⊎_, inl, inr}
-use Prim.Native.Nat.{ℕ, zero, suc, _<_}
-use lib.ListN.{length, getD}
-use native.Mathlib.Omega.{arith}
-use native.Mathlib.Decide.{ℕ-discrete}
-use Rattle.atoms.specs.Rising.{Above, above-nil, above-cons, Rising, rising-nil, rising-cons, members}
+use Rattle.atoms.proofs.Prelude.{_≡_, refl, sym, ap, ap₂, _∙_, subst, Bool, true, false, List, [], _∷_, _++_, List·Memᴰ, List·Memᴰ·head}
+use Rattle.atoms.proofs.Prelude.{List·Memᴰ·tail, List·Memᴰ·not-nil, List·Memᴰ·cases-cons, List·Memᴰ·append-cases, List·Memᴰ·eq-of-singleton}
+use Rattle.atoms.proofs.Prelude.{Memᴰ·append-left, Memᴰ·append-right, _⊎_, inl, inr, ℕ, zero, suc, _<_, length, getD, arith, ℕ-discrete, Above}
+use Rattle.atoms.proofs.Prelude.{above-nil, above-cons, Rising, rising-nil, rising-cons, members}
 use Rattle.atoms.proofs.Tests.{not-both}
 use Rattle.atoms.proofs.Lists.{index-of}
 

@@ -1,19 +1,10 @@
 -- The laws of words as sets: each operation by its members, extensionality, and what the tests say.
 -- Everything above cites these; the digits stand behind them and nowhere else.
-use mathlib.Core.Path.{_≡_, refl, sym, _∙_, subst}
-use mathlib.Core.Logic.{_⊎_, inl, inr}
-use Prim.Native.Nat.{ℕ, suc, _+_, _-_, _*_, _/_, _^_, _≤_, _<_}
-use native.Mathlib.Omega.{arith}
-use native.Mathlib.Decide.{ℕ-discrete, decLt}
-use native.Mathlib.Nat.{div-lt-iff-lt-mul}
-use lib.Bits.{bitAnd, and-le-l, and-le-r, or-lt}
-use lib.Pow.{pow-pos}
-use lib.Arith.{bin-ind}
-use borrow.Author.Tests.{eqb-true, eq-eqb}
-use Rattle.atoms.specs.Word.{digit, Has, has, _⊆_, subset, _⊂_, Apart, apart, _∩_, _∪_, _∖_, atom, below, outside, ATOMS}
-use Rattle.atoms.specs.Bounded.{Decides}
-use Rattle.atoms.proofs.Digits.{digit-lt, digit-zero, digit-low, digit-next, and-at, or-at, sub-at, same-digits}
-use Rattle.atoms.proofs.Digits.{power-at, power-off, high-digit, shifted-digit, ones-at}
+use Rattle.atoms.proofs.Prelude.{_≡_, refl, sym, _∙_, subst, _⊎_, inl, inr, ℕ, suc, _+_, _-_, _*_, _/_, _^_, _≤_, _<_, arith, ℕ-discrete, decLt}
+use Rattle.atoms.proofs.Prelude.{div-lt-iff-lt-mul, bitAnd, and-le-l, and-le-r, or-lt, pow-pos, bin-ind, eqb-true, eq-eqb, digit, Has, has, _⊆_}
+use Rattle.atoms.proofs.Prelude.{subset, _⊂_, Apart, apart, _∩_, _∪_, _∖_, atom, below, outside, ATOMS, Decides}
+use Rattle.atoms.proofs.Digits.{digit-lt, digit-zero, digit-low, digit-next, and-at, or-at, sub-at, same-digits, power-at, power-off, high-digit}
+use Rattle.atoms.proofs.Digits.{shifted-digit, ones-at}
 use Rattle.atoms.proofs.Tests.{decides, decides-iff, decides-equal, decided}
 
 -- ---- membership is decidable

@@ -1,14 +1,8 @@
 -- One number and a word: the set of a number that passes a test, the test of a number in a word, and words of at most one number.
-use mathlib.Core.Path.{_≡_, refl, sym, ap, _∙_, subst}
-use mathlib.Core.Bool.{Bool, true, false, not}
-use Prim.Native.Nat.{ℕ}
-use native.Mathlib.Decide.{ℕ-discrete}
-use lib.Dec.{eqb}
-use Rattle.atoms.specs.Word.{Has, has, _∖_, atom, apart, AtMostOne}
-use Rattle.atoms.specs.Bounded.{Decides, singleIf}
+use Rattle.atoms.proofs.Prelude.{_≡_, refl, sym, ap, _∙_, subst, Bool, true, false, not, ℕ, ℕ-discrete, eqb, Has, has, _∖_, atom, apart, AtMostOne}
+use Rattle.atoms.proofs.Prelude.{Decides, singleIf}
 use Rattle.atoms.proofs.Tests.{decides-same, decides-not, decides-iff, decides-equal, not-both}
-use Rattle.atoms.proofs.Sets.{decides-has, decides-has-atom, has-dec, has-atom, atom-only, has-none, has-without}
-use Rattle.atoms.proofs.Sets.{without-left, without-right, empty}
+use Rattle.atoms.proofs.Sets.{decides-has, decides-has-atom, has-dec, has-atom, atom-only, has-none, has-without, without-left, without-right, empty}
 
 -- ---- the set of the one number where a test holds
 

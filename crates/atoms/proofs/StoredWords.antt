@@ -1,12 +1,7 @@
 -- Words that are stored one by one, and areas that are put together of stored parts.
-use mathlib.Core.Path.{_≡_, sym, ap, _∙_}
-use mathlib.Core.List.{List, _++_, append-assoc}
-use Prim.Native.Nat.{ℕ, _+_, _≤_, _<_}
-use native.Mathlib.Omega.{arith}
-use native.Mathlib.Numerals.{add-one}
-use native.Mathlib.Decide.{ℕ-discrete}
-use lib.ListN.{length, take, drop, getD, set, length-set, List·getD-append}
-use lib.Seq.{paste, paste-suc, length-paste, take-paste, take-all, take-at, drop-at, ext-getD, getD-set-same, getD-set-other}
+use Rattle.atoms.proofs.Prelude.{_≡_, sym, ap, _∙_, List, _++_, append-assoc, ℕ, _+_, _≤_, _<_, arith, add-one, ℕ-discrete, length, take, drop, getD}
+use Rattle.atoms.proofs.Prelude.{set, length-set, List·getD-append, paste, paste-suc, length-paste, take-paste, take-all, take-at, drop-at, ext-getD}
+use Rattle.atoms.proofs.Prelude.{getD-set-same, getD-set-other}
 
 pub stored-next : (d : List ℕ) (at : ℕ) (s l : List ℕ) (i : ℕ) → at + length s ≤ length d → i < length s → l ≡ paste d at s i
     → set l (at + i) (getD s i 0) ≡ paste d at s (i + 1)

@@ -1,11 +1,6 @@
 -- A loop takes the numbers of a word `which`, the lowest first; those of the word `rest` are still to come.
 -- What a turn takes is in `which` (taken-lent), and the rest gets smaller (taken-less of Counts).
-use mathlib.Core.Path.{_≡_, refl, sym, subst}
-use mathlib.Core.Logic.{_⊎_, inl, inr}
-use Prim.Native.Nat.{ℕ, _^_, _<_}
-use native.Mathlib.Decide.{ℕ-discrete}
-use Rattle.atoms.specs.Word.{Has, _⊆_, _∖_, atom, Lowest}
-use Rattle.atoms.specs.Collected.{Collects}
+use Rattle.atoms.proofs.Prelude.{_≡_, refl, sym, subst, _⊎_, inl, inr, ℕ, _^_, _<_, ℕ-discrete, Has, _⊆_, _∖_, atom, Lowest, Collects}
 use Rattle.atoms.proofs.Sets.{has-dec, has-lt, has-none, has-atom, has-without, without-left, without-right, atom-only, subset-refl}
 use Rattle.atoms.proofs.Counts.{taken-within}
 

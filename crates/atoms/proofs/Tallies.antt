@@ -1,19 +1,8 @@
 -- Tallies: what a write does to the counts, a word counted place by place, and the atoms with the highest count.
-use mathlib.Core.Path.{_≡_, refl, sym, ap, subst, _∙_}
-use mathlib.Core.Bool.{Bool, true, false}
-use mathlib.Core.List.{List, [], _∷_}
-use Prim.Native.Nat.{ℕ, zero, suc, _+_, _-_, _*_, _/_, _%_, _^_, _≤_, _<_}
-use native.Mathlib.Omega.{arith}
-use native.Mathlib.Decide.{decLt}
-use native.Mathlib.Nat.{pow-succ', mul-assoc, mul-add, mod-eq-of-lt, add-mul-mod-self-left}
-use native.Mathlib.Numerals.{add-one}
-use lib.Bits.{bitXor, and-step, xor-shr, xor-add-and}
-use lib.Dec.{eqb}
-use lib.ListN.{length, getD, set, drop, length-set, drop-of-length-le}
-use lib.Seq.{drop-cons}
-use Rattle.atoms.specs.Word.{digit, Has, _∩_}
-use Rattle.atoms.specs.Bounded.{Decides}
-use Rattle.atoms.specs.Tally.{tallied, Counted, preferred, HighestCount, MostCounted}
+use Rattle.atoms.proofs.Prelude.{_≡_, refl, sym, ap, subst, _∙_, Bool, true, false, List, [], _∷_, ℕ, zero, suc, _+_, _-_, _*_, _/_, _%_, _^_, _≤_}
+use Rattle.atoms.proofs.Prelude.{_<_, arith, decLt, pow-succ', mul-assoc, mul-add, mod-eq-of-lt, add-mul-mod-self-left, add-one, bitXor, and-step}
+use Rattle.atoms.proofs.Prelude.{xor-shr, xor-add-and, eqb, length, getD, set, drop, length-set, drop-of-length-le, drop-cons, digit, Has, _∩_}
+use Rattle.atoms.proofs.Prelude.{Decides, tallied, Tallied, preferred, HighestCount, MostCounted}
 use Rattle.atoms.proofs.Digits.{digit-lt, digit-zero, and-at}
 use Rattle.atoms.proofs.Sets.{has-cut, cut-left, cut-right, has-none, shared-atom}
 use Rattle.atoms.proofs.Tests.{decides-equal}
@@ -81,7 +70,7 @@ module _ {word : ℕ} {before after : List ℕ} {carried k : ℕ} (c : Counting 
   fits : (i : ℕ) → tallied after i < 2 ^ length before
   fits i = subst (λ (n : ℕ). tallied after i < 2 ^ n) (c .same-length) (tallied-lt after i)
 
-  pub counting-none : carried ≡ 0 → Counted word before after
+  pub counting-none : carried ≡ 0 → Tallied word before after
   counting-none e = record { same-length = c .same-length; counts = λ i. each i }
     where
       each : (i : ℕ) → tallied after i ≡ (tallied before i + digit word i) % 2 ^ length before
@@ -91,7 +80,7 @@ module _ {word : ℕ} {before after : List ℕ} {carried k : ℕ} (c : Counting 
           let s : tallied after i ≡ tallied before i + digit word i = omega (arith, c .counts i, m) in
           sym (mod-eq-of-lt (fits i)) ∙ ap (λ (x : ℕ). x % 2 ^ length before) s
 
-  pub counting-end : length after ≤ k → Counted word before after
+  pub counting-end : length after ≤ k → Tallied word before after
   counting-end n = record { same-length = c .same-length; counts = λ i. each i }
     where
       last : k ≡ length before
@@ -194,5 +183,5 @@ most-end places zero l c = c
 most-end places (suc i) l c = absurd (omega arith)
 
 -- a count keeps the tally's length
-pub counted-long : {word n : ℕ} {before after : List ℕ} → Counted word before after → n ≡ length before → n ≡ length after
+pub counted-long : {word n : ℕ} {before after : List ℕ} → Tallied word before after → n ≡ length before → n ≡ length after
 counted-long c e = e ∙ sym (c .same-length)

@@ -1,11 +1,6 @@
 -- Laws on Bool tests: what a test's answer says, and when two tests give the same answer.
-use mathlib.Core.Path.{_≡_, refl, sym, _∙_}
-use mathlib.Core.Bool.{Bool, true, false, not, _&&_, _||_, true≢false, false≢true}
-use mathlib.Core.Logic.{_↔_, _⊎_, inl, inr}
-use Prim.Native.Nat.{ℕ}
-use lib.Dec.{eqb}
-use borrow.Author.Tests.{eqb-true, eqb-false}
-use Rattle.atoms.specs.Bounded.{Decides}
+use Rattle.atoms.proofs.Prelude.{_≡_, refl, sym, _∙_, Bool, true, false, not, _&&_, _||_, true≢false, false≢true, _↔_, _⊎_, inl, inr, ℕ, eqb, eqb-true}
+use Rattle.atoms.proofs.Prelude.{eqb-false, Decides}
 
 -- a test is true or false
 pub test-cases : (b : Bool) → (b ≡ true) ⊎ (b ≡ false)

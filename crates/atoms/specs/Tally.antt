@@ -14,7 +14,7 @@ tallied [] i = 0
 tallied (p ∷ ps) i = digit p i + 2 * tallied ps i
 
 -- each atom of the word is counted once more; what is carried beyond the last place is lost
-pub record Counted (word : ℕ) (before after : List ℕ) : Type 0 where
+pub record Tallied (word : ℕ) (before after : List ℕ) : Type 0 where
   pub same-length : length after ≡ length before
   pub counts : (i : ℕ) → tallied after i ≡ (tallied before i + digit word i) % 2 ^ length before
 

@@ -2,11 +2,11 @@
 use crate::cut;
 ghost use mathlib.Core.Path.{_≡_};
 ghost use Rattle.atoms.specs.Word.{SomeOf};
-ghost use Rattle.atoms.specs.Tally.{Counted, preferred, MostCounted};
+ghost use Rattle.atoms.specs.Tally.{Tallied, preferred, MostCounted};
 
 // Adds one to the count of each atom of the word. What is carried beyond the last place is lost.
 pub fn count_atoms(places: &mut [u64], word: u64)
-    ensures { λ _. ⌜ Counted word (now (places .entry)) (now (places .exit)) ⌝ }
+    ensures { λ _. ⌜ Tallied word (now (places .entry)) (now (places .exit)) ⌝ }
 {
     let mut carried = word;
     let mut i = 0;

@@ -1,15 +1,7 @@
 -- What a sheet lacks, from its words; and with S-12 whether its positions are just the answer sets.
-use mathlib.Core.Path.{_≡_, refl, sym, ap, _∙_, subst}
-use mathlib.Core.Bool.{Bool, true, false, true≢false, false≢true}
-use mathlib.Core.Logic.{_↔_, inl}
-use mathlib.Core.List.{List, List·Memᴰ}
-use Prim.Native.Nat.{ℕ, suc, _+_, _-_, _≤_, _<_}
-use native.Mathlib.Omega.{arith}
-use native.Mathlib.Decide.{ℕ-discrete}
-use lib.Dec.{ltb, eqb}
-use lib.ListN.{length, getD, set, take, drop, length-take}
-use lib.Seq.{getD-take, getD-set-same, getD-set-other}
-use borrow.Author.Tests.{ltb-true, ltb-false}
+use Rattle.auditing.proofs.Prelude.{_≡_, refl, sym, ap, _∙_, subst, Bool, true, false, true≢false, false≢true, _↔_, inl, List, List·Memᴰ, ℕ, suc, _+_}
+use Rattle.auditing.proofs.Prelude.{_-_, _≤_, _<_, arith, ℕ-discrete, ltb, eqb, length, getD, set, take, drop, length-take, getD-take, getD-set-same}
+use Rattle.auditing.proofs.Prelude.{getD-set-other, ltb-true, ltb-false, IsByte, All, refused-answered, read-fits, added-iff}
 use Rattle.atoms.specs.Bounded.{Decides}
 use Rattle.atoms.specs.Collected.{lowest}
 use Rattle.atoms.proofs.Tests.{decides, decides-equal, decides-iff, decided, decided-true}
@@ -19,27 +11,23 @@ use Rattle.plan.specs.Record.{Fitting}
 use Rattle.plan.specs.declared.record.Plan.{Plan}
 use Rattle.plan.specs.declared.fault.Fault.{Fault}
 use Rattle.plan.specs.declared.fault.Outcome.the-variants.{Accepted, Refused as RefusedWith}
-use Rattle.reading.specs.Layout.{IsByte, All}
 use Rattle.reading.specs.Reading.{reading}
-use Rattle.reading.specs.declared.reader.Reading.{Reading}
+use Rattle.reading.specs.declared.reader.ReadPlan.{ReadPlan}
 use Rattle.plan_meaning.specs.Settled.{Settles, settled}
-use Rattle.judge.specs.Sheets.{MAX_POSITIONS, badBytes, positionsIn, positionAt, Laid, SheetJudged}
-use Rattle.judge.specs.Sheets.{Right as SheetRight, all-settled, first-not, sheetCode}
+use Rattle.judge.specs.JudgedSheets.{MAX_POSITIONS, badBytes, positionsIn, positionAt, Laid, SheetJudged, PlacesRight as SheetRight, all-settled, first-not}
+use Rattle.judge.specs.JudgedSheets.{sheetCode}
 use Rattle.judge.specs.declared.sheet.SheetAnswer.{SheetAnswer}
 use Rattle.judge.proofs.Settled.{decides-settled}
-use Rattle.plan_meaning.proofs.AskedPlans.{refused-answered, read-fits}
 use Rattle.judge.proofs.JudgedSheets.{decides-no-sheet, laid-count, laid-at, sheet-laid, bad-answered, sheet-answered}
 use Rattle.searching.specs.declared.witness.Witness.{Witness}
 use Rattle.searching.specs.declared.witness.Witness.the-variants.{Member, Nothing}
 use Rattle.finding.specs.Least.{LeastOf, least, none as no-least, from-start}
 use Rattle.finding.specs.Gather.{Added, Sought}
 use Rattle.finding.specs.declared.least.From.the-variants.{Start}
-use Rattle.finding.proofs.AddedWords.{added-iff}
 use Rattle.finding.proofs.Leasts.{least-only, lowest-met, lowest-missed}
 use Rattle.stepping.specs.Followed.{mayBeUp}
 use Rattle.stepping.proofs.Nexts.{may-be-up}
-use Rattle.auditing.specs.Audit.{OnSheet, WordsRead, onSheet, lacking, missingIn}
-use Rattle.auditing.specs.Audit.{IsFull, Right, is-full, lacks-first, Audited}
+use Rattle.auditing.specs.Audit.{OnSheet, WordsRead, onSheet, lacking, missingIn, IsFull, AuditRight, is-full, lacks-first, Audited}
 use Rattle.auditing.specs.declared.Audit.{Audit}
 use Rattle.auditing.specs.declared.Audit.the-variants.{Full, Lacks, Refused, BadSheet}
 
@@ -141,7 +129,7 @@ module _ {ps sheet : List ℕ} (laid : Laid ps sheet) where
       let p = index-of ps M m in
       record { place = p .0; within = omega (arith, laid-count laid, p .1); is = laid-at laid (p .0) (p .1) ∙ p .2 }
 
-  found-right : {p : Plan} {w : Witness} → LeastOf (λ N. Settles p N × ¬ OnSheet sheet N) w → Right p ps (auditOf w)
+  found-right : {p : Plan} {w : Witness} → LeastOf (λ N. Settles p N × ¬ OnSheet sheet N) w → AuditRight p ps (auditOf w)
   found-right (least {M = M} q l) = lacks-first (record {
     settles = q .0;
     missing = λ a. q .1 (listed-on M a);
@@ -155,7 +143,7 @@ module _ {ps sheet : List ℕ} (laid : Laid ps sheet) where
 
 -- ---- the answers of the code, from what reading, the test of the sheet and the search gave
 
-module _ (bytes sheet : List ℕ) (small : All IsByte sheet) {r : Reading} (read : r ≡ reading bytes) where
+module _ (bytes sheet : List ℕ) (small : All IsByte sheet) {r : ReadPlan} (read : r ≡ reading bytes) where
   pub refused-audited : {f : Fault} → r .outcome ≡ RefusedWith f → Audited bytes sheet (Refused f)
   refused-audited o = record { answered = refused-answered bytes read o refl; laid = sheet-laid sheet small }
 
@@ -182,7 +170,7 @@ module _ (bytes sheet : List ℕ) (small : All IsByte sheet) {r : Reading} (read
 -- ---- with S-12
 
 -- full is said exactly if each answer set is among the positions
-pub full-iff : {p : Plan} {ps : List ℕ} {answer : Audit} → Right p ps answer → (answer ≡ Full) ↔ IsFull p ps
+pub full-iff : {p : Plan} {ps : List ℕ} {answer : Audit} → AuditRight p ps answer → (answer ≡ Full) ↔ IsFull p ps
 full-iff {p} {ps} (is-full f) = (λ e. f, λ f′. refl)
 full-iff {p} {ps} (lacks-first {M} m) = (λ e. absurd (true≢false (sym (ap says-full e))), λ f. absurd (m .missing (f .each M (m .settles))))
   where

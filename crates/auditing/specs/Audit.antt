@@ -11,7 +11,7 @@ use Rattle.plan.specs.Faults.{codeOf, refusalCode}
 use Rattle.plan.specs.declared.record.Plan.{Plan}
 use Rattle.plan_meaning.specs.Settled.{Settles, settled}
 use Rattle.plan_meaning.specs.Asked.{asked, Answered}
-use Rattle.judge.specs.Sheets.{positionsIn, positionAt, sheetIn, NoSheet, Laid, SheetRight}
+use Rattle.judge.specs.JudgedSheets.{positionsIn, positionAt, sheetIn, NoSheet, Laid, SheetRight}
 use Rattle.stepping.specs.Followed.{mayBeUp}
 use Rattle.auditing.specs.declared.Audit.{Audit}
 use Rattle.auditing.specs.declared.Audit.the-variants.{Full, Lacks, Refused, BadSheet}
@@ -70,12 +70,12 @@ pub record FirstMissing (p : Plan) (positions : List ℕ) (M : ℕ) : Type 0 whe
   pub lowest-one : (N : ℕ) → Settles p N → ¬ List·Memᴰ N positions → M ≤ N
 
 -- one of the two, and the answer says which
-pub data Right (p : Plan) (positions : List ℕ) : Audit → Type 0 where
-  is-full : IsFull p positions → Right p positions Full
-  lacks-first : {M : ℕ} → FirstMissing p positions M → Right p positions (Lacks M)
+pub data AuditRight (p : Plan) (positions : List ℕ) : Audit → Type 0 where
+  is-full : IsFull p positions → AuditRight p positions Full
+  lacks-first : {M : ℕ} → FirstMissing p positions M → AuditRight p positions (Lacks M)
 
 -- The answer equals the definition. By meaning: the fault that reading found; else 24, if the bytes are no sheet; else each answer set of the whole program
 -- is among the positions, or this is the least that is not. The rules and facts are those of the plan's lists. Bytes that are a sheet have positions
 pub record Audited (bytes sheet : List ℕ) (answer : Audit) : Type 0 where
-  pub answered : Answered Refused (sheetIn BadSheet missingIn sheet) (SheetRight BadSheet Right sheet) bytes answer
+  pub answered : Answered Refused (sheetIn BadSheet missingIn sheet) (SheetRight BadSheet AuditRight sheet) bytes answer
   pub laid : ¬ NoSheet sheet → (positions : List ℕ) × Laid positions sheet

@@ -13,7 +13,7 @@ ghost use Prim.Native.Nat.{_≤_};
 ghost use lib.ListN.{length};
 ghost use Rattle.plan.specs.Record.{Fitting};
 ghost use Rattle.plan_meaning.specs.Settled.{Settles};
-ghost use Rattle.judge.specs.Sheets.{MAX_POSITIONS, positionsIn};
+ghost use Rattle.judge.specs.JudgedSheets.{MAX_POSITIONS, positionsIn};
 ghost use Rattle.finding.specs.Least.{LeastOf};
 ghost use Rattle.auditing.specs.Audit.{WordsRead, OnSheet, Audited};
 

@@ -1,23 +1,12 @@
 -- What is blamed, of the plan's lists.
-use mathlib.Core.Path.{_≡_, sym, _∙_, subst}
-use mathlib.Core.Logic.{_↔_}
-use mathlib.Core.List.{List}
-use Prim.Native.Nat.{ℕ, _<_}
-use native.Mathlib.Omega.{arith}
-use lib.ListN.{length}
-use Rattle.atoms.specs.Word.{Has}
-use Rattle.atoms.specs.Collected.{Collects}
-use Rattle.atoms.proofs.Sets.{some-atom, has-none}
-use Rattle.plan.specs.declared.record.Plan.{Plan}
+use Rattle.blaming.proofs.Prelude.{_≡_, sym, _∙_, subst, _↔_, List, ℕ, _<_, arith, length, Has, Collects, some-atom, has-none, Plan, AnswerSet, lent}
+use Rattle.blaming.proofs.Prelude.{Constraint, Among, headed-rule, constraint, Empties, LeavesOne, AmongRules, headed, held, ConstraintsMean}
+use Rattle.blaming.proofs.Prelude.{BlameMeans}
 use Rattle.reading.specs.Layout.{RuleWords, Contents}
-use Rattle.answer_sets.specs.AnswerSet.{AnswerSet}
-use Rattle.answer_sets.specs.Lent.{lent}
 use Rattle.plan_meaning.specs.Meaning.{Number, Means}
 use Rattle.plan_meaning.specs.AnswerSets.{AnswerSetOf}
 use Rattle.plan_meaning.proofs.RecordMeans.{number-lt, number-there, record-means, read-record}
-use Rattle.plan_meaning.proofs.AnswerSetsMean.{sets-same}
-use Rattle.plan_meaning.proofs.AnswerSetsMean.{read-means}
-use Rattle.blaming.specs.Blamed.{Constraint, Among, headed-rule, constraint, Empties, Leaves, AmongRules, headed, held, ConstraintsMean, BlameMeans}
+use Rattle.plan_meaning.proofs.AnswerSetsMean.{sets-same, read-means}
 
 module _ {c : Contents} {p : Plan} (m : Means c p) where
   constraint-told : (r : ℕ) → Constraint p r → (x : RuleWords) × Number (c .rules) r x × (x .head ≡ 0)

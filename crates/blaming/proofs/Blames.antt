@@ -1,29 +1,14 @@
 -- What few_constraints promises is the word of the pass, and it is blamed in document 02's words; there is just one such word, and it is 0 where the
 -- headed rules and given facts alone have no answer set.
-use mathlib.Core.Path.{_≡_, sym, ap, subst}
-use mathlib.Core.Bool.{true, false}
-use mathlib.Core.Logic.{_⊎_, inl, inr}
-use Prim.Native.Nat.{ℕ, zero, suc, _≤_, _<_}
-use native.Mathlib.Omega.{arith}
-use native.Mathlib.Decide.{ℕ-discrete, decLt}
-use Rattle.atoms.specs.Word.{Has, _⊆_, _∖_, atom, below}
-use Rattle.atoms.specs.Collected.{Collects}
-use Rattle.atoms.proofs.Sets.{ext, empty, has-none, has-dec, has-without, without-left, without-right, has-atom, atom-only, subset-refl}
-use Rattle.atoms.proofs.Tests.{test-cases}
-use Rattle.atoms.proofs.Collected.{collects-same}
-use Rattle.plan.specs.Record.{Fitting}
-use Rattle.plan.specs.declared.record.Plan.{Plan}
-use Rattle.answer_sets.specs.AnswerSet.{AnswerSet}
-use Rattle.answer_sets.specs.Lent.{lent}
-use Rattle.answer_sets.proofs.Support.{fewer-constraints}
-use Rattle.finding.specs.Few.{FewBlamed}
-use Rattle.blaming.specs.Blamed.{Constraint, Among, headed-rule, constraint, Empties, Leaves, StillHeld, stays, untried, Tried, Blames}
-use Rattle.blaming.specs.Blamed.{LeastOrBlamed, with-position, without, constraintsIn, leaves, passed, heldIn}
+use Rattle.blaming.proofs.Prelude.{_≡_, sym, ap, subst, true, false, _⊎_, inl, inr, ℕ, zero, suc, _≤_, _<_, arith, ℕ-discrete, decLt, Has, _⊆_, _∖_}
+use Rattle.blaming.proofs.Prelude.{atom, below, Collects, ext, empty, has-none, has-dec, has-without, without-left, without-right, has-atom, atom-only}
+use Rattle.blaming.proofs.Prelude.{subset-refl, test-cases, collects-same, Fitting, Plan, AnswerSet, lent, fewer-constraints, FewBlamed, Constraint}
+use Rattle.blaming.proofs.Prelude.{Among, headed-rule, constraint, Empties, LeavesOne, StillHeld, stays, untried, TriedConstraint, Blames}
+use Rattle.blaming.proofs.Prelude.{LeastOrBlamed, with-position, without, constraintsIn, leaves, passed, heldIn, Position, Held}
 use Rattle.blaming.specs.declared.Blame.{Blame}
-use Rattle.blaming.specs.declared.Blame.the-variants.{Position, Held}
 use Rattle.blaming.proofs.Passes.{pass-kept, pass-dropped, pass-within, pass-untried, pass-stays, pass-stayed, going-is}
-use Rattle.blaming.proofs.Programs.{constraints-are, constraints-same, top-same, among-rules, whole-rules}
-use Rattle.blaming.proofs.Programs.{leaves-yes, leaves-no, one-leaves, none-leaves}
+use Rattle.blaming.proofs.Programs.{constraints-are, constraints-same, top-same, among-rules, whole-rules, leaves-yes, leaves-no, one-leaves}
+use Rattle.blaming.proofs.Programs.{none-leaves}
 
 -- ---- where a constraint is tried
 
@@ -56,7 +41,7 @@ module _ (p : Plan) (fits : Fitting p) where
           has-without (upTo c) (atom c) (pass-untried (leaves p) (constraintsIn p) c d (omega arith) (constraints-are p .all d h))
           (λ q. absurd (omega (arith, atom-only c q)))
 
-  tried-there : (c : ℕ) → Constraint p c → Tried p (upTo (p .«rule_count»)) c
+  tried-there : (c : ℕ) → Constraint p c → TriedConstraint p (upTo (p .«rule_count»)) c
   tried-there c k = record {
     others = upTo c ∖ atom c;
     others-are = others-are c (k .rule);
@@ -119,7 +104,7 @@ module _ {p : Plan} where
   among-same {r = r} f (constraint c h) = constraint c (f r h)
 
   -- no answer set and one: not both
-  not-both-left : {v w : ℕ} → v ≡ w → Empties p v → Leaves p w → ⊥
+  not-both-left : {v w : ℕ} → v ≡ w → Empties p v → LeavesOne p w → ⊥
   not-both-left {v} {w} e x y =
       let same : y .which ≡ x .which = collects-same (y .rules-are) (rw e at (x .rules-are)) in
       x .none (y .position) (subst (λ (z : ℕ). AnswerSet (lent (p .rules)) z (p .once .given .word) (y .position)) same (y .answers))
@@ -134,7 +119,7 @@ module _ {p : Plan} where
       into : (i : ℕ) → i < n → Has v i → Has w i
       from : (i : ℕ) → i < n → Has w i → Has v i
 
-    others-same : {c : ℕ} → Same c → (s : Tried p v c) → (t : Tried p w c) → s .others ≡ t .others
+    others-same : {c : ℕ} → Same c → (s : TriedConstraint p v c) → (t : TriedConstraint p w c) → s .others ≡ t .others
     others-same e s t =
         ext (s .others) (t .others) (λ d h. t .others-are .all d (still-same (e .into) (s .others-are .each d h)))
         (λ d h. s .others-are .all d (still-same (e .from) (t .others-are .each d h)))

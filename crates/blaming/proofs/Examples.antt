@@ -1,21 +1,12 @@
 -- The pass over the constraints, computed from a plan's bytes: it goes up by rule number, and given atoms are facts.
-use Prim.Native.Nat.{ℕ}
-use mathlib.Core.Path.{_≡_, refl}
-use mathlib.Core.List.{List, [], _∷_, _++_}
-use Rattle.atoms.specs.Word.{has, subset, apart, _∩_, _∪_, _∖_, atom, below}
-use Rattle.atoms.specs.Bounded.{allBelow, someBelow, wordBelow, unionIn}
-use Rattle.atoms.specs.Collected.{lowest}
+use Rattle.blaming.proofs.Prelude.{ℕ, _≡_, refl, List, [], _∷_, _++_, has, subset, apart, _∩_, _∪_, _∖_, atom, below, allBelow, someBelow, wordBelow}
+use Rattle.blaming.proofs.Prelude.{unionIn, lowest, usedTable, asks, useHolds, usesHold, lent, body, satisfies, satisfiesAll, kept, keptIf}
+use Rattle.blaming.proofs.Prelude.{someSmaller, answerSet, emptyPlan, withGiven, withRule, walk, reading, nextIn, leaves, passed, heldIn, blameIn}
+use Rattle.blaming.proofs.Prelude.{blamed, Held}
 use Rattle.atoms.specs.Lists.{padded}
-use Rattle.answer_sets.specs.Lent.{usedTable, asks, useHolds, usesHold, lent}
-use Rattle.answer_sets.specs.Test.{body, satisfies, satisfiesAll, kept, keptIf, someSmaller, answerSet}
-use Rattle.plan.specs.Record.{emptyPlan, withGiven, withRule}
 use Rattle.reading.specs.Words.{spelled, wordAt}
 use Rattle.reading.specs.Commands.{kindOf, carrying, late, emptyRule, contradictory, miscounted, ofKind, commandAt}
-use Rattle.reading.specs.Reading.{walk, reading}
 use Rattle.plan_meaning.specs.Asked.{asked}
-use Rattle.stepping.specs.Followed.{nextIn}
-use Rattle.blaming.specs.Blamed.{leaves, passed, heldIn, blameIn, blamed}
-use Rattle.blaming.specs.declared.Blame.the-variants.{Held}
 
 -- a word below 256 in a plan
 abbrev word : ℕ → List ℕ

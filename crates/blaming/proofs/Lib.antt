@@ -1,5 +1,9 @@
+-- What the proofs of this crate name of the kit, of the crates below and of its own definitions, each with its home.
+pub mod Prelude
+-- The laws of this crate that the proofs of its functions name, each with its home.
+pub mod Face
 -- The loop that is left with the constraints: one rule of it
-pub mod Sifting
+pub mod ConstraintSifting
 -- The pass over the constraints, as it is computed
 pub mod Passes
 -- Programs with some of a plan's constraints

@@ -1,15 +1,8 @@
 -- The pass over the constraints, as it is computed: one number more, what is held before and behind, and that the pass of `few_constraints` is the same.
-use mathlib.Core.Path.{_≡_, refl, sym, _∙_, subst}
-use mathlib.Core.Bool.{Bool, true, false}
-use mathlib.Core.List.{List}
-use Prim.Native.Nat.{ℕ, zero, suc, _-_, _≤_, _<_}
-use native.Mathlib.Omega.{arith}
-use native.Mathlib.Decide.{decLt}
-use Rattle.atoms.specs.Word.{Has, _⊆_, _∪_, _∖_, atom}
-use Rattle.atoms.proofs.Sets.{decides-has, has-dec, has-none, has-without, without-left, without-right, has-atom, atom-only, subset-refl, subset-trans}
-use Rattle.atoms.proofs.Tests.{decided-true, decided-false}
-use Rattle.finding.specs.Few.{NoneSettled, OneSettled, Tried, drops, keeps, Going, done, tries}
-use Rattle.blaming.specs.Blamed.{tried, passed}
+use Rattle.blaming.proofs.Prelude.{_≡_, refl, sym, _∙_, subst, Bool, true, false, List, ℕ, zero, suc, _-_, _≤_, _<_, arith, decLt, Has, _⊆_, _∪_, _∖_}
+use Rattle.blaming.proofs.Prelude.{atom, decides-has, has-dec, has-none, has-without, without-left, without-right, has-atom, atom-only, subset-refl}
+use Rattle.blaming.proofs.Prelude.{subset-trans, decided-true, decided-false, NoneSettled, OneSettled, Tried, drops, keeps, Going, done, tries, tried}
+use Rattle.blaming.proofs.Prelude.{passed}
 
 -- c is dropped, or what is held stays
 data Step (held c : ℕ) : ℕ → Type 0 where

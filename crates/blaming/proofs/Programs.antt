@@ -1,29 +1,13 @@
 -- Programs with some of a plan's constraints: which rules they have, and that the bounded test finds an answer set of theirs if there is one.
-use mathlib.Core.Path.{_≡_, sym, ap₂, _∙_, subst}
-use mathlib.Core.Bool.{true, false}
-use mathlib.Core.Logic.{_⊎_, inl, inr}
-use Prim.Native.Nat.{ℕ, suc, _^_, _<_}
-use native.Mathlib.Omega.{arith}
-use lib.Dec.{eqb}
-use Rattle.atoms.specs.Word.{ATOMS, Has, _⊆_, _∪_, _∖_, below}
-use Rattle.atoms.specs.Bounded.{Decides, unionIn}
-use Rattle.atoms.specs.Collected.{Collects}
-use Rattle.atoms.proofs.Sets.{ext, has-left, has-right, union-cases, has-without, without-left, without-right, has-dec}
-use Rattle.atoms.proofs.Sets.{has-below, below-lt, subset-le, lt-of-has}
+use Rattle.blaming.proofs.Prelude.{_≡_, sym, ap₂, _∙_, subst, true, false, _⊎_, inl, inr, ℕ, suc, _^_, _<_, arith, eqb, ATOMS, Has, _⊆_, _∪_, _∖_}
+use Rattle.blaming.proofs.Prelude.{below, Decides, unionIn, Collects, ext, has-left, has-right, union-cases, has-without, without-left, without-right}
+use Rattle.blaming.proofs.Prelude.{has-dec, has-below, below-lt, subset-le, lt-of-has, collects-word, collects-iff, not-both, decided-true}
+use Rattle.blaming.proofs.Prelude.{decides-equal, Fitting, Plan, AnswerSet, lent, Lent, answerSet, Supported, supported, Constraints, NoneSettled}
+use Rattle.blaming.proofs.Prelude.{OneSettled, mayBeUp, Constraint, Among, headed-rule, constraint, Empties, LeavesOne, Positionless, constraintsIn}
+use Rattle.blaming.proofs.Prelude.{rulesWith, leaves}
 use Rattle.atoms.proofs.Bounded.{some-at, some-intro, some-none, union-has}
-use Rattle.atoms.proofs.Collected.{collects-word, collects-iff}
-use Rattle.atoms.proofs.Tests.{not-both, decided-true, decides-equal}
 use Rattle.plan.specs.Limits.{MAX_RULES}
-use Rattle.plan.specs.Record.{Fitting}
-use Rattle.plan.specs.declared.record.Plan.{Plan}
-use Rattle.answer_sets.specs.AnswerSet.{AnswerSet}
-use Rattle.answer_sets.specs.Lent.{lent, Lent}
-use Rattle.answer_sets.specs.Test.{answerSet}
 use Rattle.answer_sets.proofs.Judged.{decides-answer-set}
-use Rattle.answer_sets.proofs.Support.{Supported, supported}
-use Rattle.finding.specs.Few.{Constraints, NoneSettled, OneSettled}
-use Rattle.stepping.specs.Followed.{mayBeUp}
-use Rattle.blaming.specs.Blamed.{Constraint, Among, headed-rule, constraint, Empties, Leaves, Positionless, constraintsIn, rulesWith, leaves}
 
 -- ---- the constraints
 
@@ -112,7 +96,7 @@ module _ (p : Plan) (fits : Fitting p) where
       → Decides (AnswerSet (lent (p .rules)) (rulesWith p w) (p .once .given .word) M) (answerSet (lent (p .rules)) (rulesWith p w) (p .once .given .word) M)
   decides-answers w M f = decides-answer-set (lent (p .rules)) (rulesWith p w) (p .once .given .word) M (number-fits w f)
 
-  pub leaves-yes : (w : ℕ) → w ⊆ constraintsIn p → leaves p w ≡ true → Leaves p w
+  pub leaves-yes : (w : ℕ) → w ⊆ constraintsIn p → leaves p w ≡ true → LeavesOne p w
   unfolding leaves
   leaves-yes w f e =
       let t = some-at (suc (mayBeUp p)) (λ M. answerSet (lent (p .rules)) (rulesWith p w) (p .once .given .word) M) e in

@@ -1,25 +1,19 @@
 -- The results for the bytes of a plan: the definition and what is said of the plan, from what reading, the next position and few_constraints gave.
-use mathlib.Core.Path.{_≡_, refl, sym, ap, _∙_, subst}
-use mathlib.Core.List.{List}
-use Prim.Native.Nat.{ℕ}
+use Rattle.blaming.proofs.Prelude.{_≡_, refl, sym, ap, _∙_, subst, List, ℕ, Plan, reading, refused-answered, accepted-answered, read-fits, Follows}
+use Rattle.blaming.proofs.Prelude.{nextIn, Blames, Positionless, LeastOrBlamed, with-position, without, heldIn, blameIn, Blamed, Position, Held}
 use Rattle.plan.specs.declared.fault.Fault.{Fault}
 use Rattle.plan.specs.declared.fault.Outcome.the-variants.{Accepted, Refused as RefusedWith}
-use Rattle.plan.specs.declared.record.Plan.{Plan}
-use Rattle.reading.specs.Reading.{reading}
-use Rattle.reading.specs.declared.reader.Reading.{Reading}
+use Rattle.reading.specs.declared.reader.ReadPlan.{ReadPlan}
 use Rattle.plan_meaning.specs.Settled.{Settles}
-use Rattle.plan_meaning.proofs.AskedPlans.{refused-answered, accepted-answered, read-fits}
 use Rattle.searching.specs.declared.witness.Witness.{Witness}
 use Rattle.searching.specs.declared.witness.Witness.the-variants.{Member, Nothing}
 use Rattle.finding.specs.Least.{Behind, from-start, LeastOf, least, none}
 use Rattle.finding.specs.declared.least.From.the-variants.{Start}
-use Rattle.stepping.specs.Followed.{Follows, nextIn}
 use Rattle.stepping.specs.declared.Next.{Next}
 use Rattle.stepping.specs.declared.Next.the-variants.{Position as NextPosition, NoneLeft}
 use Rattle.stepping.proofs.Nexts.{follows-only, found-follows, none-follows, next-in-follows}
-use Rattle.blaming.specs.Blamed.{Blames, Positionless, LeastOrBlamed, with-position, without, heldIn, blameIn, Blamed}
 use Rattle.blaming.proofs.BlameMeaning.{blame-means}
-use Rattle.blaming.specs.declared.Blame.the-variants.{Position, Held, Refused}
+use Rattle.blaming.specs.declared.Blame.the-variants.{Refused}
 
 -- ---- the definition by cases
 
@@ -44,7 +38,7 @@ least-says (least q l) = with-position (q .0) (λ N s. l N (s, from-start))
 
 -- ---- the results of the code
 
-module _ (bytes : List ℕ) {r : Reading} (read : r ≡ reading bytes) where
+module _ (bytes : List ℕ) {r : ReadPlan} (read : r ≡ reading bytes) where
   pub refused-blamed : {f : Fault} → r .outcome ≡ RefusedWith f → Blamed bytes (Refused f)
   refused-blamed o = record { answered = refused-answered bytes read o refl; meaning = blame-means bytes }
 

@@ -46,7 +46,7 @@ pub record Empties (p : Plan) (w : ℕ) : Type 0 where
   pub none : (M : ℕ) → ¬ AnswerSet (lent (p .rules)) which (p .once .given .word) M
 
 -- "there is one"
-pub record Leaves (p : Plan) (w : ℕ) : Type 0 where
+pub record LeavesOne (p : Plan) (w : ℕ) : Type 0 where
   pub which : ℕ
   pub rules-are : Collects (Among p w) which
   pub position : ℕ
@@ -58,18 +58,18 @@ pub data StillHeld (p : Plan) (w c d : ℕ) : Type 0 where
   untried : c < d → Constraint p d → StillHeld p w c d
 
 -- "drop a constraint if the others still held leave no answer set"
-pub record Tried (p : Plan) (w c : ℕ) : Type 0 where
+pub record TriedConstraint (p : Plan) (w c : ℕ) : Type 0 where
   pub others : ℕ
   pub others-are : Collects (StillHeld p w c) others
   pub dropped : ¬ Has w c → Empties p others
-  pub kept : Has w c → Leaves p others
+  pub kept : Has w c → LeavesOne p others
 
 -- "Return the word of what is held": it is that of the pass, no answer set is left, "and without any one of these constraints there is one"
 pub record Blames (p : Plan) (w : ℕ) : Type 0 where
   pub constraints : (c : ℕ) → Has w c → Constraint p c
-  pub pass : (c : ℕ) → Constraint p c → Tried p w c
+  pub pass : (c : ℕ) → Constraint p c → TriedConstraint p w c
   pub empties : Empties p w
-  pub each : (c : ℕ) → Has w c → Leaves p (w ∖ atom c)
+  pub each : (c : ℕ) → Has w c → LeavesOne p (w ∖ atom c)
 
 -- no position is an answer set of the whole program
 pub record Positionless (p : Plan) : Type 0 where
@@ -126,7 +126,7 @@ pub data AmongRules (c : Contents) (w r : ℕ) : Type 0 where
 pub record ConstraintsMean (c : Contents) (p : Plan) : Type 0 where
   pub constraint : (r : ℕ) → Constraint p r ↔ ((x : RuleWords) × Number (c .rules) r x × (x .head ≡ 0))
   pub empties : (w : ℕ) → Empties p w → (M : ℕ) → ¬ AnswerSetOf c (AmongRules c w) M
-  pub leaves : (w : ℕ) → Leaves p w → (M : ℕ) × AnswerSetOf c (AmongRules c w) M
+  pub leaves : (w : ℕ) → LeavesOne p w → (M : ℕ) × AnswerSetOf c (AmongRules c w) M
 
 -- of the record of a plan's lists, and of what was read
 pub record BlameMeans (bytes : List ℕ) : Type 0 where
@@ -142,7 +142,7 @@ pub record Blamed (bytes : List ℕ) (r : Blame) : Type 0 where
   pub meaning : BlameMeans bytes
 
 -- the result as one number, beside the word
-abbrev pub code : Blame → ℕ
-code (Position M) = 1
-code (Held w) = 0
-code (Refused f) = refusalCode f
+abbrev pub blameCode : Blame → ℕ
+blameCode (Position M) = 1
+blameCode (Held w) = 0
+blameCode (Refused f) = refusalCode f

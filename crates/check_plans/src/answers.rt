@@ -70,7 +70,7 @@ fn write_answer(plan: &[u8], position: u64) {
 }
 
 // Writes one line: the plan's name, what reading the plan of that name gives, and the answer at the position.
-pub fn ask(name: &[u8], position: u64) {
+pub fn ask_position(name: &[u8], position: u64) {
     write(name);
     let file = os::open_read(name);
     if file < 0 {

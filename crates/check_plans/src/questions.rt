@@ -2,7 +2,7 @@
 // one that is too short, asks nothing.
 ghost use Prim.Native.Nat.{_≤_};
 ghost use lib.ListN.{length};
-use crate::answers::ask;
+use crate::answers::ask_position;
 
 const DIGITS: usize = 16;
 
@@ -56,7 +56,7 @@ fn ask_line(line: &[u8]) {
     if line[0] == 35 {
         return;
     }
-    ask(&line[NAME..], position_of(line));
+    ask_position(&line[NAME..], position_of(line));
 }
 
 // Asks the questions of all lines.

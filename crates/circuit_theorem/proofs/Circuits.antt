@@ -13,30 +13,31 @@ use Rattle.atoms.specs.Collected.{lowest, lowestOf}
 use Rattle.atoms.specs.Rising.{members, insertInto}
 use Rattle.atoms.specs.Cuts.{cutList}
 use Rattle.atoms.specs.Lists.{padded, tabulate}
-use Rattle.contact_tables.specs.Table.{place, row as tableRow, tableAnswer as said}
+use Rattle.contact_tables.specs.ContactTable.{place, row as tableRow, tableAnswer as said}
 use Rattle.answer_sets.specs.Lent.{usedTable, asks, useHolds, usesHold, usedInputs, lent}
 use Rattle.answer_sets.specs.Test.{body, satisfies, satisfiesAll, kept, keptIf, someSmaller, answerSet}
 use Rattle.reading.specs.Words.{spelled, wordAt}
 use Rattle.plan.specs.Record.{emptyPlan, withCount, withGiven, withTable, withRule, withUse, withUnit, withEdge, withShow}
 use Rattle.reading.specs.Commands.{kindOf, carrying, late, emptyRule, contradictory, badTable, badUse, absentRule, badEdge, miscounted, ofKind, commandAt}
 use Rattle.reading.specs.Reading.{walk, reading}
-use Rattle.plan.specs.declared.fault.Fault.the-variants.{Truncated, UnknownCommand, OutOfOrder, TooMany, Cycle, NonmonotonicUnseen, MonotonicUnseen, WrongCount}
+use Rattle.plan.specs.declared.fault.Fault.the-variants.{Truncated, UnknownCommand, OutOfOrder, TooMany, Cycle, NonmonotonicUnseen, MonotonicUnseen}
+use Rattle.plan.specs.declared.fault.Fault.the-variants.{WrongCount}
 use Rattle.plan.specs.declared.fault.Outcome.{Outcome}
 use Rattle.plan.specs.declared.fault.Outcome.the-variants.{Accepted, Refused}
 use Rattle.dependency_graph.specs.Heads.{through, reachVia, reach, own, heads, inputHeads}
 use Rattle.dependency_graph.specs.Order.{ready, nextUnit, orderFrom, workingOrder}
 use Rattle.dependency_graph.specs.PlanUnits.{unitsOf}
-use Rattle.dependency_graph.specs.Offenders.{twiceBelow, seen, unseenHeads, nonmonotonicUnseenIn, monotonicSeenIn}
-use Rattle.dependency_graph.specs.Offenders.{givenInHead, ruleInNoUnit, headedRuleInSeveral, cycle, nonmonotonicUnseen, monotonicUnseen}
+use Rattle.dependency_graph.specs.Offenders.{twiceBelow, seen, unseenHeads, nonmonotonicUnseenIn, monotonicSeenIn, givenInHead, ruleInNoUnit}
+use Rattle.dependency_graph.specs.Offenders.{headedRuleInSeveral, cycle, nonmonotonicUnseen, monotonicUnseen}
 use Rattle.dependency_graph.specs.Check.{faultOr, verdict}
 use Rattle.splitting.specs.UnitList.{withLast}
 use Rattle.plan_meaning.specs.Asked.{asked}
 use Rattle.judge.specs.Answers.{judged}
-use Rattle.judge.specs.Sheets.{badBytes, placesJudged, sheetIn, sheetJudged}
+use Rattle.judge.specs.JudgedSheets.{badBytes, placesJudged, sheetIn, sheetJudged}
 use Rattle.judge.specs.declared.Answer.the-variants.{NotSettled}
 use Rattle.judge.specs.declared.sheet.SheetAnswer.the-variants.{AllSettled, NotSettledAt}
-use Rattle.demands.specs.Lists.{isInput, inList, unitList, lastList}
-use Rattle.demands.specs.Table.{listAt, runs, tableWith, countsWith, noCounts}
+use Rattle.demands.specs.UnitLists.{isInput, inList, unitList, lastList}
+use Rattle.demands.specs.LentTable.{listAt, runs, tableWith, countsWith, noCounts}
 use Rattle.demands.specs.Answer.{unlessRefused, workFrom, tableOutcome, answer}
 
 -- a word below 256 in a plan

@@ -1,19 +1,8 @@
 -- The six constant words: bit j of the k-th is bit k of j.
-use mathlib.Core.Path.{_≡_, refl, subst, sym}
-use mathlib.Core.List.{List, [], _∷_}
-use mathlib.Core.Bool.{Bool, true, false, not}
-use Prim.Native.Nat.{ℕ, zero, suc, _^_, _<_}
-use borrow.Author.Tests.{not-true, not-false}
-use native.Mathlib.Omega.{arith}
-use lib.ListN.{getD}
-use Rattle.atoms.specs.Word.{ATOMS, Has, has, apart, atom, _∩_, _∪_, _∖_}
-use Rattle.atoms.specs.Bounded.{wordBelow}
-use Rattle.atoms.specs.Collected.{Collects}
-use Rattle.atoms.proofs.Singles.{has-of-test, lacks-of-test}
-use Rattle.atoms.proofs.Sets.{decides-has, has-lt, has-cut, cut-left, cut-right, has-without, without-left, without-right}
-use Rattle.atoms.proofs.Collected.{collects-word, collects-iff}
-use Rattle.plan.specs.Limits.{MAX_INPUTS}
-use Rattle.contact_tables.specs.Rows.{ROWS, InColumn, Agrees}
+use Rattle.contact_tables.proofs.Prelude.{_≡_, refl, subst, sym, List, [], _∷_, Bool, true, false, not, ℕ, zero, suc, _^_, _<_, not-true, not-false}
+use Rattle.contact_tables.proofs.Prelude.{arith, getD, ATOMS, Has, has, apart, atom, _∩_, _∪_, _∖_, wordBelow, Collects, has-of-test, lacks-of-test}
+use Rattle.contact_tables.proofs.Prelude.{decides-has, has-lt, has-cut, cut-left, cut-right, has-without, without-left, without-right, collects-word}
+use Rattle.contact_tables.proofs.Prelude.{collects-iff, MAX_INPUTS, ROWS, InColumn, BitAgrees}
 
 abbrev pub columns : List ℕ
 columns =
@@ -47,7 +36,7 @@ in-column : {rows k column j : ℕ} → rows < 2 ^ ATOMS → Collects (InColumn 
 in-column {rows} {j = j} fits c h b = c .all j (record { row-lt = let l : j < ATOMS = has-lt rows ATOMS fits h in omega arith; bit = b })
 
 module _ {rows k a up dropped column r : ℕ} (fits : rows < 2 ^ ATOMS) (c : Collects (InColumn k) column) where
-  pub sifted-up : Has up a → r ≡ rows ∩ column → Collects (λ j. Has rows j × Agrees up dropped a k j) r
+  pub sifted-up : Has up a → r ≡ rows ∩ column → Collects (λ j. Has rows j × BitAgrees up dropped a k j) r
   sifted-up u e = rw e (record {
     each = λ j h. (
       cut-left rows column h,
@@ -56,7 +45,7 @@ module _ {rows k a up dropped column r : ℕ} (fits : rows < 2 ^ ATOMS) (c : Col
     all = λ j p. has-cut rows column (p .0) (in-column fits c (p .0) (p .1 .when-up u));
   })
 
-  pub sifted-dropped : ¬ Has up a → Has dropped a → r ≡ rows ∖ column → Collects (λ j. Has rows j × Agrees up dropped a k j) r
+  pub sifted-dropped : ¬ Has up a → Has dropped a → r ≡ rows ∖ column → Collects (λ j. Has rows j × BitAgrees up dropped a k j) r
   sifted-dropped n d e = rw e (record {
     each = λ j h. (
       without-left rows column h,
@@ -68,7 +57,7 @@ module _ {rows k a up dropped column r : ℕ} (fits : rows < 2 ^ ATOMS) (c : Col
     all = λ j p. has-without rows column (p .0) (λ q. p .1 .when-dropped n d (c .each j q .bit));
   })
 
-pub sifted-open : {rows k a up dropped : ℕ} → ¬ Has up a → ¬ Has dropped a → Collects (λ j. Has rows j × Agrees up dropped a k j) rows
+pub sifted-open : {rows k a up dropped : ℕ} → ¬ Has up a → ¬ Has dropped a → Collects (λ j. Has rows j × BitAgrees up dropped a k j) rows
 sifted-open n m = record {
   each = λ j h. (h, record { when-up = λ u. absurd (n u); when-dropped = λ p d. absurd (m d) });
   all = λ j p. p .0;

@@ -1,13 +1,7 @@
 -- The inputs of a table gone through from the lowest on, at most as many as a row has bits.
-use mathlib.Core.Path.{_≡_, refl, sym, ap, _∙_, subst}
-use mathlib.Core.Logic.{_⊎_, inl, inr}
-use Prim.Native.Nat.{ℕ, suc, _+_, _<_, _≤_}
-use native.Mathlib.Decide.{ℕ-discrete, decLt}
-use native.Mathlib.Omega.{arith}
-use Rattle.atoms.specs.Word.{Has, _∖_, atom, below, Lowest}
-use Rattle.atoms.proofs.Sets.{ext, has-below, below-lt, has-none, has-without, without-left, without-right, has-atom, atom-only}
-use Rattle.plan.specs.Limits.{MAX_INPUTS}
-use Rattle.contact_tables.specs.Table.{place}
+use Rattle.contact_tables.proofs.Prelude.{_≡_, refl, sym, ap, _∙_, subst, _⊎_, inl, inr, ℕ, suc, _+_, _<_, _≤_, ℕ-discrete, decLt, arith, Has, _∖_}
+use Rattle.contact_tables.proofs.Prelude.{atom, below, Lowest, ext, has-below, below-lt, has-none, has-without, without-left, without-right, has-atom}
+use Rattle.contact_tables.proofs.Prelude.{atom-only, MAX_INPUTS, place}
 use Rattle.contact_tables.proofs.Places.{place-input, place-le, place-lt, place-gap}
 
 -- the inputs below `top` are done, k of them

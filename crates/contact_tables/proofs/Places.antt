@@ -1,12 +1,6 @@
 -- The places of a table's inputs: they rise from input to input, and each number up to the last place is one.
-use mathlib.Core.Path.{_≡_, refl, ap, _∙_}
-use Prim.Native.Nat.{ℕ, zero, suc, _+_, _-_, _<_, _≤_}
-use native.Mathlib.Decide.{decLt, ℕ-discrete}
-use native.Mathlib.Omega.{arith}
-use Rattle.atoms.specs.Word.{digit, Has}
+use Rattle.contact_tables.proofs.Prelude.{_≡_, refl, ap, _∙_, ℕ, zero, suc, _+_, _-_, _<_, _≤_, decLt, ℕ-discrete, arith, digit, Has, has-dec, place}
 use Rattle.atoms.proofs.Digits.{digit-lt}
-use Rattle.atoms.proofs.Sets.{has-dec}
-use Rattle.contact_tables.specs.Table.{place}
 
 -- an input raises the place of what is above it by one, another atom does not
 pub place-input : (w a : ℕ) → Has w a → place w (suc a) ≡ place w a + 1

@@ -1,14 +1,6 @@
 -- The bits of a row, and that what a table says depends on its inputs alone.
-use mathlib.Core.Path.{_≡_, refl, subst}
-use mathlib.Core.Logic.{_↔_}
-use Prim.Native.Nat.{ℕ, _<_}
-use Rattle.atoms.specs.Word.{ATOMS, Has, _∩_, atom, below}
-use Rattle.atoms.specs.Bounded.{unionIn}
-use Rattle.atoms.proofs.Bounded.{union-has, union-at}
-use Rattle.atoms.proofs.Sets.{has-cut, cut-left, cut-right, has-atom, atom-only, has-below, below-lt, lt-of-has}
-use Rattle.plan.specs.Limits.{MAX_INPUTS}
-use Rattle.contact_tables.specs.Table.{place, row, tableAnswer}
-use Rattle.contact_tables.specs.Rows.{ROWS}
+use Rattle.contact_tables.proofs.Prelude.{_≡_, refl, subst, _↔_, ℕ, _<_, ATOMS, Has, _∩_, atom, below, unionIn, union-has, union-at, has-cut, cut-left}
+use Rattle.contact_tables.proofs.Prelude.{cut-right, has-atom, atom-only, has-below, below-lt, lt-of-has, MAX_INPUTS, place, row, tableAnswer, ROWS}
 
 -- an input that is up and has place k
 pub record UpAt (inputs M k : ℕ) : Type 0 where

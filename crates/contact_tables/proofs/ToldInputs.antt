@@ -1,21 +1,9 @@
 -- What rows tell of the inputs of a table: input by input, those that each of the rows has up and those that none has.
-use mathlib.Core.Path.{_≡_, refl, sym, ap, subst, _∙_}
-use mathlib.Core.Bool.{Bool}
-use mathlib.Core.Logic.{_⊎_, inl, inr}
-use Prim.Native.Nat.{ℕ, suc, _+_, _^_, _≤_, _<_}
-use native.Mathlib.Omega.{arith}
-use Rattle.atoms.specs.Word.{ATOMS, Has, _⊆_, subset, Apart, apart, _∪_, _∖_, atom, Lowest}
-use Rattle.atoms.specs.Bounded.{Decides, singleIf}
-use Rattle.atoms.specs.Collected.{Collects}
-use Rattle.atoms.proofs.Tests.{decided-true, decides-iff}
-use Rattle.atoms.proofs.Sets.{has-lt, has-none, decides-apart, decides-subset}
-use Rattle.atoms.proofs.Singles.{single-if-has, single-if-at}
-use Rattle.atoms.proofs.Collected.{collects-iff, collects-has, collects-union}
-use Rattle.plan.specs.Limits.{MAX_INPUTS}
-use Rattle.states.specs.State.{Completes}
+use Rattle.contact_tables.proofs.Prelude.{_≡_, refl, sym, ap, subst, _∙_, Bool, _⊎_, inl, inr, ℕ, suc, _+_, _^_, _≤_, _<_, arith, ATOMS, Has, _⊆_}
+use Rattle.contact_tables.proofs.Prelude.{subset, Apart, apart, _∪_, _∖_, atom, Lowest, Decides, singleIf, Collects, decided-true, decides-iff, has-lt}
+use Rattle.contact_tables.proofs.Prelude.{has-none, decides-apart, decides-subset, single-if-has, single-if-at, collects-iff, collects-has}
+use Rattle.contact_tables.proofs.Prelude.{collects-union, MAX_INPUTS, Completes, place, row, InColumn, EachRow, NoRow}
 use Rattle.states.specs.declared.state.State.{State}
-use Rattle.contact_tables.specs.Table.{place, row}
-use Rattle.contact_tables.specs.Rows.{InColumn, EachRow, NoRow}
 use Rattle.contact_tables.proofs.Places.{place-one}
 use Rattle.contact_tables.proofs.RowBits.{row-bit}
 use Rattle.contact_tables.proofs.InputWalks.{Walking, walking-start, walking-next, next-input, next-above, next-placed, next-cases, input-done}

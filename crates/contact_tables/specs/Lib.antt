@@ -1,2 +1,2 @@
-pub mod Table
-pub mod Rows
+pub mod ContactTable
+pub mod TableRows

@@ -5,7 +5,7 @@ ghost use Prim.Native.Nat.{_<_};
 ghost use Rattle.atoms.specs.Collected.{Collects};
 ghost use Rattle.atoms.specs.Word.{Has, ATOMS};
 ghost use Rattle.plan.specs.Limits.{MAX_INPUTS as Limits·MAX_INPUTS};
-ghost use Rattle.contact_tables.specs.Rows.{InColumn, Agrees, Reached, EachRow, NoRow};
+ghost use Rattle.contact_tables.specs.TableRows.{InColumn, BitAgrees, RowReached, EachRow, NoRow};
 
 // The rows whose bit k is set.
 fn column(k: usize) -> u64
@@ -26,7 +26,7 @@ fn column(k: usize) -> u64
 // Of the rows those whose bit k says of atom a what is known of it; an atom that is both up and dropped counts as up.
 fn sifted(rows: u64, k: usize, a: usize, up: u64, dropped: u64) -> u64
     requires { ⌜ (k < Limits·MAX_INPUTS) × (a < ATOMS) ⌝ }
-    ensures { λ r. ⌜ Collects (λ j. Has rows j × Agrees up dropped a k j) r ⌝ }
+    ensures { λ r. ⌜ Collects (λ j. Has rows j × BitAgrees up dropped a k j) r ⌝ }
 {
     let atom = atoms::single(a);
     if !atoms::are_apart(up, atom) {
@@ -40,7 +40,7 @@ fn sifted(rows: u64, k: usize, a: usize, up: u64, dropped: u64) -> u64
 
 // The rows that completions have.
 pub fn agreeing_rows(inputs: u64, up: u64, dropped: u64) -> u64
-    ensures { λ r. ⌜ Collects (Reached inputs up dropped) r ⌝ }
+    ensures { λ r. ⌜ Collects (RowReached inputs up dropped) r ⌝ }
 {
     let mut rows = atoms::first(atoms::ATOMS);
     let mut rest = inputs;

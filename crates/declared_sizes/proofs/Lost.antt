@@ -1,30 +1,20 @@
 -- "a plan sent over a noisy link lost one whole EDGE and still read well": with a COUNT no such plan reads. If reading accepted what is left, its bytes
 -- would be a layout with the same COUNT and one command fewer, and that COUNT would be wrong.
-use mathlib.Core.Path.{_≡_, refl, ap, sym, _∙_, subst}
-use mathlib.Core.List.{List, [], _∷_, _++_, flatMap, List·Memᴰ, List·Memᴰ·tail, List·Memᴰ·append-cases, Memᴰ·append-left, Memᴰ·append-right}
-use mathlib.Core.Bool.{true}
-use mathlib.Core.Logic.{_⊎_, inl, inr}
-use Prim.Native.Nat.{ℕ, suc, _+_, _≤_, _<_}
-use native.Mathlib.Omega.{arith}
-use lib.ListN.{length, getD, length-append}
+use Rattle.declared_sizes.proofs.Prelude.{_≡_, refl, ap, sym, _∙_, subst, List, [], _∷_, _++_, flatMap, List·Memᴰ, List·Memᴰ·tail}
+use Rattle.declared_sizes.proofs.Prelude.{List·Memᴰ·append-cases, Memᴰ·append-left, Memᴰ·append-right, true, _⊎_, inl, inr, ℕ, suc, _+_, _≤_, _<_}
+use Rattle.declared_sizes.proofs.Prelude.{arith, length, getD, length-append, Accepted, Refused, Kind, single, sizes, table, rule, usage, unit, edge}
+use Rattle.declared_sizes.proofs.Prelude.{end, miscounted, ofKind, commandAt, Sizes, UnitPair, Contents, countBytes, endBytes, commands, layout}
+use Rattle.declared_sizes.proofs.Prelude.{firstSizes, recordOf, IsByte, All, AllDistinct, GoodEdge, atMost, kindCount, WithinLimits, SizesAgree}
+use Rattle.declared_sizes.proofs.Prelude.{CountRight, stepOf, reading, refused, ReadPlan, kind-of-byte, end-in-time, few-within, commands-read}
 use Rattle.atoms.proofs.Tests.{decided-true}
 use Rattle.plan.specs.Faults.{RefusedBy}
 use Rattle.plan.specs.declared.fault.Fault.{Fault}
 use Rattle.plan.specs.declared.fault.Fault.the-variants.{WrongCount}
 use Rattle.plan.specs.declared.fault.Outcome.{Outcome}
-use Rattle.plan.specs.declared.fault.Outcome.the-variants.{Accepted, Refused}
-use Rattle.reading.specs.Commands.{Kind, single, sizes, table, rule, usage, unit, edge, end, miscounted, ofKind, commandAt}
-use Rattle.reading.specs.Layout.{Sizes, UnitPair, Contents, countBytes, endBytes, commands, layout, firstSizes, recordOf}
-use Rattle.reading.specs.Layout.{IsByte, All, Distinct, GoodEdge, atMost, countOf, WithinLimits, Agrees, Counted}
-use Rattle.reading.specs.Reading.{stepOf, reading, refused}
-use Rattle.reading.specs.declared.reader.Reading.{Reading}
 use Rattle.reading.specs.declared.command.Command.the-variants.{Fault as Faulty}
-use Rattle.reading.proofs.CommandKinds.{kind-of-byte, end-in-time}
 use Rattle.reading.proofs.Commands.{known-command}
-use Rattle.reading.proofs.Elements.{few-within}
 use Rattle.reading.proofs.Sizes.{decides-miscounted}
 use Rattle.reading.proofs.Walk.{walk-ended}
-use Rattle.reading.proofs.RoundTrip.{commands-read}
 use Rattle.reading.proofs.Accepted.{accepted-is-plan}
 use Rattle.declared_sizes.specs.Lost.{having, Lost, a-rule, a-unit, an-edge, Declares}
 use Rattle.declared_sizes.proofs.Tally.{grouped, SameSizes, same-sizes}
@@ -46,10 +36,10 @@ first-bytes c some = subst (λ (s : List ℕ). FirstBytes s (firstSizes (c .once
     among (s ∷ declared) rest l = record { rules-byte = refl; units-byte = refl; edges-byte = refl }
 
 -- the first COUNT agrees where all do
-first-agrees : (c x : Contents) → 0 < length (x .once sizes) → All (Agrees c) (x .once sizes) → Agrees c (firstSizes (x .once sizes))
+first-agrees : (c x : Contents) → 0 < length (x .once sizes) → All (SizesAgree c) (x .once sizes) → SizesAgree c (firstSizes (x .once sizes))
 first-agrees c x some a = among (x .once sizes) some a
   where
-    among : (declared : List Sizes) → 0 < length declared → All (Agrees c) declared → Agrees c (firstSizes declared)
+    among : (declared : List Sizes) → 0 < length declared → All (SizesAgree c) declared → SizesAgree c (firstSizes declared)
     among [] l h = absurd (omega arith)
     among (s ∷ declared) l h = h .0
 
@@ -61,20 +51,20 @@ one-fewer xs front back x e = omega (arith, ap length e, length-append front (x 
 -- what is left has the same COUNT, and it is wrong
 record Wrong (c d : Contents) : Type 0 where
   same-count : d .once sizes ≡ c .once sizes
-  wrong : (s : Sizes) → Agrees c s → ¬ Agrees d s
+  wrong : (s : Sizes) → SizesAgree c s → ¬ SizesAgree d s
 
 left : (c d : Contents) → Lost c d → Wrong c d
 left c d (a-rule front back r e z) = record { same-count = ap (λ (x : Contents). x .once sizes) z; wrong = λ s a b. fewer s a b }
   where
-    fewer : (s : Sizes) → Agrees c s → ¬ Agrees d s
+    fewer : (s : Sizes) → SizesAgree c s → ¬ SizesAgree d s
     fewer s a b = omega (arith, one-fewer (c .rules) front back r e, a .rules-are, b .rules-are, ap (λ (x : Contents). length (x .rules)) z)
 left c d (a-unit front back word e z) = record { same-count = ap (λ (x : Contents). x .once sizes) z; wrong = λ s a b. fewer s a b }
   where
-    fewer : (s : Sizes) → Agrees c s → ¬ Agrees d s
+    fewer : (s : Sizes) → SizesAgree c s → ¬ SizesAgree d s
     fewer s a b = omega (arith, one-fewer (c .units) front back word e, a .units-are, b .units-are, ap (λ (x : Contents). length (x .units)) z)
 left c d (an-edge front back p e z) = record { same-count = ap (λ (x : Contents). x .once sizes) z; wrong = λ s a b. fewer s a b }
   where
-    fewer : (s : Sizes) → Agrees c s → ¬ Agrees d s
+    fewer : (s : Sizes) → SizesAgree c s → ¬ SizesAgree d s
     fewer s a b = omega (arith, one-fewer (c .edges) front back p e, a .edges-are, b .edges-are, ap (λ (x : Contents). length (x .edges)) z)
 
 module _ (c d : Contents) (whole : Declares c) (lost : Lost c d) where
@@ -82,8 +72,8 @@ module _ (c d : Contents) (whole : Declares c) (lost : Lost c d) where
   some-left = omega (arith, whole .some, ap length (left c d lost .same-count))
 
   -- the COUNT of c agrees with c
-  count-agrees : Agrees c (firstSizes (d .once sizes))
-  count-agrees = subst (λ (l : List Sizes). Agrees c (firstSizes l)) (sym (left c d lost .same-count)) (first-agrees c c (whole .some) (whole .counted))
+  count-agrees : SizesAgree c (firstSizes (d .once sizes))
+  count-agrees = subst (λ (l : List Sizes). SizesAgree c (firstSizes l)) (sym (left c d lost .same-count)) (first-agrees c c (whole .some) (whole .counted))
 
   -- ---- no such plan reads
 
@@ -96,7 +86,7 @@ module _ (c d : Contents) (whole : Declares c) (lost : Lost c d) where
       let first : FirstBytes (layout d) (firstSizes (x .once sizes)) =
       subst (λ (s : List ℕ). FirstBytes s (firstSizes (x .once sizes))) (sym (p .bytes-are)) (first-bytes x some) in
       let own = first-bytes d some-left in
-      let right : Agrees x (firstSizes (x .once sizes)) = first-agrees x x some (p .counted) in
+      let right : SizesAgree x (firstSizes (x .once sizes)) = first-agrees x x some (p .counted) in
       left c d lost .wrong (firstSizes (d .once sizes)) count-agrees
       (record {
         rules-are = sym (own .rules-byte) ∙ first .rules-byte ∙ right .rules-are ∙ sym (same .rules);
@@ -114,7 +104,7 @@ module _ (c d : Contents) (whole : Declares c) (lost : Lost c d) where
 
   -- ---- by 23 at 0, where no other command is at fault
 
-  not-counted : ¬ Counted d
+  not-counted : ¬ CountRight d
   not-counted a = left c d lost .wrong (firstSizes (d .once sizes)) count-agrees (first-agrees d d some-left a)
 
   module _ (within : WithinLimits d) where
@@ -131,7 +121,7 @@ module _ (c d : Contents) (whole : Declares c) (lost : Lost c d) where
         let comes : reading (layout d) ≡ refused (WrongCount 0) =
         commands-read d within endBytes
         ∙ walk-ended (recordOf d) at endBytes (refused (WrongCount 0)) (ap (stepOf (recordOf d)) (end-refused at)) in
-        record { fault = WrongCount 0; is = ap (λ (r : Reading). r .outcome) comes; number-is = refl; spot-is = refl }
+        record { fault = WrongCount 0; is = ap (λ (r : ReadPlan). r .outcome) comes; number-is = refl; spot-is = refl }
 
 -- ---- an EDGE that is lost leaves all others as they were
 
@@ -146,7 +136,7 @@ member-left front back x y m = go (List·Memᴰ·append-cases front m)
     go (inl h) = Memᴰ·append-left (x ∷ back) h
     go (inr h) = Memᴰ·append-right front (List·Memᴰ·tail h)
 
-distinct-left : {A : Type 0} (front back : List A) (x : A) → Distinct (front ++ (x ∷ back)) → Distinct (front ++ back)
+distinct-left : {A : Type 0} (front back : List A) (x : A) → AllDistinct (front ++ (x ∷ back)) → AllDistinct (front ++ back)
 distinct-left [] back x d = d .1
 distinct-left (y ∷ front) back x d = (λ m. d .0 (member-left front back x y m), distinct-left front back x (d .1))
 
@@ -154,7 +144,7 @@ module _ (c : Contents) (whole : Declares c) (front back : List UnitPair) (e : U
   abbrev without : Contents
   without = having c (c .rules) (c .units) (front ++ back)
 
-  fewer-edges : WithinLimits c → (k : Kind) → countOf without k ≤ atMost k
+  fewer-edges : WithinLimits c → (k : Kind) → kindCount without k ≤ atMost k
   fewer-edges w (single s) = w .under (single s)
   fewer-edges w table = w .under table
   fewer-edges w rule = w .under rule
@@ -175,7 +165,7 @@ module _ (c : Contents) (whole : Declares c) (front back : List UnitPair) (e : U
         no-use-again = w .no-use-again;
         good-units = w .good-units;
         good-edges = all-left (GoodEdge (length (c .units))) front back e (subst (All (GoodEdge (length (c .units)))) is (w .good-edges));
-        no-repeat = distinct-left front back e (subst (λ (edges : List UnitPair). Distinct edges) is (w .no-repeat));
+        no-repeat = distinct-left front back e (subst (λ (edges : List UnitPair). AllDistinct edges) is (w .no-repeat));
       }
 
   -- "lost one whole EDGE": refused 23 at 0

@@ -1,20 +1,10 @@
 -- How many commands of each kind a layout has, told from its bytes alone: a byte tells its kind, and a kind how many bytes to step over. So plans with
 -- the same bytes have equally many of each.
-use mathlib.Core.Path.{_≡_, refl, ap, _∙_}
-use mathlib.Core.List.{List, [], _∷_, _++_, append-assoc, flatMap}
-use mathlib.Core.Bool.{true, false}
-use mathlib.Core.Option.{some, none}
-use Prim.Native.Nat.{ℕ, zero, suc, _+_, _*_}
-use native.Mathlib.Omega.{arith}
-use native.Mathlib.Nat.{mul-suc}
-use lib.Dec.{eqb}
-use lib.ListN.{length, drop}
-use lib.Seq.{drop-at}
-use Rattle.reading.specs.Commands.{Kind, single, sizes, given, show, table, rule, usage, unit, edge, end, byteOf, kindOf, operandBytes}
-use Rattle.reading.specs.Layout.{Contents, Element, endBytes, commands, layout}
-use Rattle.reading.specs.Layout.{countBytes, givenBytes, tableBytes, ruleBytes, useBytes, unitBytes, edgeBytes, showBytes}
-use Rattle.reading.proofs.CommandKinds.{kind-of-byte}
-use Rattle.reading.proofs.Elements.{operandsOf, operands-long}
+use Rattle.declared_sizes.proofs.Prelude.{_≡_, refl, ap, _∙_, List, [], _∷_, _++_, append-assoc, flatMap, true, false, some, none, ℕ, zero, suc, _+_}
+use Rattle.declared_sizes.proofs.Prelude.{_*_, arith, mul-suc, eqb, length, drop, drop-at, Kind, single, sizes, given, show, table, rule, usage, unit}
+use Rattle.declared_sizes.proofs.Prelude.{edge, end, byteOf, kindOf, operandBytes, Contents, Element, endBytes, commands, layout, countBytes}
+use Rattle.declared_sizes.proofs.Prelude.{givenBytes, tableBytes, ruleBytes, useBytes, unitBytes, edgeBytes, showBytes, kind-of-byte, operandsOf}
+use Rattle.declared_sizes.proofs.Prelude.{operands-long}
 
 -- 1 for a command of the kind, 0 for another
 abbrev oneOf : Kind → Kind → ℕ

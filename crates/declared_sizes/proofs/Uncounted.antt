@@ -1,17 +1,10 @@
 -- A COUNT changes no answer: what is read of a plan with a right COUNT differs from what is read without it in the declared sizes alone, and nothing
 -- above reading looks at these.
-use mathlib.Core.Path.{_≡_, refl, ap, sym, _∙_}
-use mathlib.Core.List.{List, []}
-use Prim.Native.Nat.{ℕ, _≤_}
-use native.Mathlib.Omega.{arith}
-use lib.ListN.{length, replicate}
+use Rattle.declared_sizes.proofs.Prelude.{_≡_, refl, ap, sym, _∙_, List, [], ℕ, _≤_, arith, length, replicate, Accepted, Refused as RefusedWith}
+use Rattle.declared_sizes.proofs.Prelude.{OnceElement, Contents, layout, recordOf, All, GoodOnce, WithinLimits, CountRight, reading, accepted}
+use Rattle.declared_sizes.proofs.Prelude.{ReadPlan, layout-is-read}
 use Rattle.plan.specs.Limits.{TABLE_WORDS}
-use Rattle.plan.specs.declared.fault.Outcome.the-variants.{Accepted, Refused as RefusedWith}
 use Rattle.reading.specs.Kinds.{Single, sizes, single-discrete, single, table as tabled, rule, usage, unit, edge, end}
-use Rattle.reading.specs.Layout.{OnceElement, Contents, layout, recordOf, All, GoodOnce, WithinLimits, Counted}
-use Rattle.reading.specs.Reading.{reading, accepted}
-use Rattle.reading.specs.declared.reader.Reading.{Reading}
-use Rattle.reading.proofs.RoundTrip.{layout-is-read}
 use Rattle.dependency_graph.specs.Units.{Units}
 use Rattle.dependency_graph.specs.PlanUnits.{unitsOf}
 use Rattle.plan_meaning.specs.Settled.{settled}
@@ -20,7 +13,7 @@ use Rattle.judge.specs.Answers.{yesNo, judged}
 use Rattle.judge.specs.declared.Answer.{Answer}
 use Rattle.judge.specs.declared.Answer.the-variants.{Refused}
 use Rattle.demands.specs.Answer.{Answer as Listed, unlessRefused, afterGraph, tableOutcome, answer}
-use Rattle.plan_sheet.specs.Sheets.{sheetOf, planSheet}
+use Rattle.plan_sheet.specs.PlanSheets.{sheetOf, planSheet}
 use Rattle.finding.specs.declared.least.From.{From}
 use Rattle.stepping.specs.declared.Next.{Next}
 use Rattle.stepping.specs.declared.Next.the-variants.{Refused as NextRefused}
@@ -29,13 +22,13 @@ use Rattle.declared_sizes.specs.Uncounted.{noCount, uncounted, AnsweredA
 
 -- ---- the answers, from what was read
 
-abbrev judgedOf : ℕ → Reading → Answer
+abbrev judgedOf : ℕ → ReadPlan → Answer
 judgedOf M r = elim (r .outcome) [ RefusedWith f ↦ Refused f | Accepted ↦ yesNo (settled (r .plan) M) ]
 
-abbrev listedOf : List ℕ → Reading → Listed
+abbrev listedOf : List ℕ → ReadPlan → Listed
 listedOf table r = unlessRefused (tableOutcome table) table (unlessRefused (r .outcome) table (afterGraph (unitsOf (r .plan)) table))
 
-abbrev nextOf : From → Reading → Next
+abbrev nextOf : From → ReadPlan → Next
 nextOf from r = elim (r .outcome) [ RefusedWith f ↦ NextRefused f | Accepted ↦ nextIn (r .plan) from ]
 
 -- ---- a plan and the same without its COUNT
@@ -91,7 +84,7 @@ module _ (c : Contents) where
         no-repeat = w .no-repeat;
       }
 
-  module _ (within : WithinLimits c) (counted : Counted c) where
+  module _ (within : WithinLimits c) (counted : CountRight c) where
     whole : reading (layout c) ≡ accepted (recordOf c)
     whole = layout-is-read c within counted
 

@@ -4,7 +4,7 @@ use mathlib.Core.List.{List, _∷_, _++_}
 use Prim.Native.Nat.{ℕ, _<_}
 use lib.ListN.{length}
 use Rattle.reading.specs.Kinds.{sizes}
-use Rattle.reading.specs.Layout.{RuleWords, UnitPair, Contents, WithinLimits, Counted}
+use Rattle.reading.specs.Layout.{RuleWords, UnitPair, Contents, WithinLimits, CountRight}
 
 -- the lists of c with these rules, units and edges in place of its own
 abbrev pub having : Contents → List RuleWords → List ℕ → List UnitPair → Contents
@@ -27,5 +27,5 @@ pub data Lost (c d : Contents) : Type 0 where
 -- a plan that reads and has a COUNT
 pub record Declares (c : Contents) : Type 0 where
   pub within : WithinLimits c
-  pub counted : Counted c
+  pub counted : CountRight c
   pub some : 0 < length (c .once sizes)

@@ -6,7 +6,7 @@ use Rattle.reading.specs.Kinds.{Single, sizes, single-discrete}
 use Rattle.reading.specs.Layout.{OnceElement, Contents}
 use Rattle.judge.specs.Answers.{judged}
 use Rattle.demands.specs.Answer.{answer}
-use Rattle.plan_sheet.specs.Sheets.{planSheet}
+use Rattle.plan_sheet.specs.PlanSheets.{planSheet}
 use Rattle.finding.specs.declared.least.From.{From}
 use Rattle.stepping.specs.Followed.{followed}
 

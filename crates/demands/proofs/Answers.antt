@@ -1,29 +1,8 @@
 -- The answer place by place: which place refuses, and what unit work says list by list.
-use mathlib.Core.Path.{_≡_, refl, sym, ap, ap₂, _∙_}
-use mathlib.Core.Bool.{true, false}
-use mathlib.Core.List.{List, [], _∷_}
-use Prim.Native.Nat.{ℕ, _≤_, _<_}
-use native.Mathlib.Omega.{arith}
-use native.Mathlib.Decide.{decLt}
-use lib.Dec.{ltb}
-use lib.ListN.{length}
-use borrow.Author.Tests.{lt-ltb, le-ltb}
-use Rattle.plan.specs.Limits.{LIST_WORDS, TABLE_WORDS}
-use Rattle.plan.specs.declared.fault.Fault.{Fault}
-use Rattle.plan.specs.declared.fault.Fault.the-variants.{TableShort, LongList}
-use Rattle.plan.specs.declared.fault.Outcome.{Outcome}
-use Rattle.plan.specs.declared.fault.Outcome.the-variants.{Accepted, Refused}
-use Rattle.reading.specs.Reading.{reading}
-use Rattle.dependency_graph.specs.Units.{Units}
-use Rattle.dependency_graph.specs.Graph.{Passes}
-use Rattle.dependency_graph.specs.Check.{verdict}
-use Rattle.dependency_graph.specs.PlanUnits.{unitsOf}
-use Rattle.dependency_graph.proofs.Verdicts.{passes-of-verdict}
-use Rattle.demands.specs.Lists.{unitList, lastList}
-use Rattle.demands.specs.Table.{listAt, tableOf, countsOf, cleared}
-use Rattle.demands.specs.Answer.{Answer, refuse, unlessRefused, workFrom, unitWork, afterGraph, tableOutcome, answer}
-use Rattle.demands.specs.Handed.{refusal, Handed}
-use Rattle.demands.specs.declared.listing.Listing.{Listing}
+use Rattle.demands.proofs.Prelude.{_≡_, refl, sym, ap, ap₂, _∙_, true, false, List, [], _∷_, ℕ, _≤_, _<_, arith, decLt, ltb, length, lt-ltb, le-ltb}
+use Rattle.demands.proofs.Prelude.{LIST_WORDS, TABLE_WORDS, Fault, TableShort, LongList, Outcome, Accepted, Refused, reading, Units, Passes, verdict}
+use Rattle.demands.proofs.Prelude.{unitsOf, passes-of-verdict, unitList, lastList, listAt, tableOf, listCounts, cleared, Answer, refuse, unlessRefused}
+use Rattle.demands.proofs.Prelude.{workFrom, unitWork, afterGraph, tableOutcome, answer, refusal, Handed, Listing}
 use Rattle.demands.proofs.HeldLists.{cleared-again, with-cleared}
 
 -- ---- what is handed back
@@ -109,7 +88,7 @@ unfolding workFrom
 work-long S table u us l = rw (lt-ltb LIST_WORDS (length (unitList S u)) l, workFrom)
 
 pub last-fits : (S : Units) (table : List ℕ) → length (lastList S) ≤ LIST_WORDS
-    → workFrom S table [] ≡ record { outcome = Accepted; counts = countsOf S; table = tableOf S table }
+    → workFrom S table [] ≡ record { outcome = Accepted; counts = listCounts S; table = tableOf S table }
 unfolding workFrom
 last-fits S table l = rw (le-ltb LIST_WORDS (length (lastList S)) l, workFrom)
 
@@ -123,7 +102,7 @@ unfolding workFrom
 work-cleared S table [] =
     ap₂ (λ (x y : List ℕ). elim (ltb LIST_WORDS (length (lastList S))) as (λ z. Answer) [
       | true ↦ refuse (LongList (S .units)) x
-      | false ↦ record { outcome = Accepted; counts = countsOf S; table = y }
+      | false ↦ record { outcome = Accepted; counts = listCounts S; table = y }
     ])
     (cleared-again table) (with-cleared (listAt S) table)
 work-cleared S table (u ∷ us) =

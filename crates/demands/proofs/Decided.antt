@@ -1,27 +1,14 @@
 -- The computing lists are those of `Listed`: along edges, since a unit reaches more than any unit it has an edge to.
-use mathlib.Core.Path.{refl}
-use mathlib.Core.Bool.{Bool, true, false}
-use mathlib.Core.List.{List·Memᴰ}
-use Prim.Native.Nat.{ℕ, zero, suc, _^_, _≤_, _<_}
-use native.Mathlib.Omega.{arith}
-use Rattle.plan.specs.Limits.{MAX_RULES}
-use Rattle.atoms.specs.Word.{Has, _⊆_, _∩_, below}
+use Rattle.demands.proofs.Prelude.{refl, Bool, true, false, List·Memᴰ, ℕ, zero, suc, _^_, _≤_, _<_, arith, MAX_RULES, Has, _⊆_, _∩_, below, decides}
+use Rattle.demands.proofs.Prelude.{decides-iff, decides-and, decided-true, not-both, decides-subset, subset-le, lt-of-has, cut-right, below-lt}
+use Rattle.demands.proofs.Prelude.{decides-some, all-in-at, all-in-intro, members-at, members-has, AnswerSet, Units, Edge, GivenFree, Passes, reach}
+use Rattle.demands.proofs.Prelude.{heads, inputHeads, Listed, isInput, inList, unitList}
 use Rattle.atoms.specs.Bounded.{Decides, allIn, someBelow}
-use Rattle.atoms.proofs.Tests.{decides, decides-iff, decides-and, decided-true, not-both}
-use Rattle.atoms.proofs.Sets.{decides-subset, subset-le, lt-of-has, cut-right, below-lt}
-use Rattle.atoms.proofs.Bounded.{decides-some, all-in-at, all-in-intro}
-use Rattle.atoms.proofs.Rising.{members-at, members-has}
-use Rattle.answer_sets.specs.AnswerSet.{AnswerSet}
 use Rattle.answer_sets.specs.Test.{answerSet}
 use Rattle.answer_sets.proofs.Judged.{decides-answer-set}
-use Rattle.dependency_graph.specs.Units.{Units, Edge, GivenFree}
-use Rattle.dependency_graph.specs.Graph.{Passes}
-use Rattle.dependency_graph.specs.Heads.{reach, heads, inputHeads}
 use Rattle.dependency_graph.proofs.Heads.{edge-rank}
-use Rattle.splitting.specs.UnitList.{Listed}
 use Rattle.splitting.proofs.Words.{Input, listed-words, words-listed}
 use Rattle.splitting.proofs.Form.{listed-member}
-use Rattle.demands.specs.Lists.{isInput, inList, unitList}
 
 -- a rule number is a bit of a word
 pub numbers-fit : (S : Units) (u : ℕ) → S .rules ≤ MAX_RULES → S .unit u ∩ below (S .rules) < 2 ^ 64

@@ -1,45 +1,18 @@
 -- Demand 1, from the answer that the function hands back: where the answer comes from tells the first fault, and each first fault tells the answer.
-use mathlib.Core.Path.{_≡_, refl, sym, ap, _∙_, subst, subst₂}
-use mathlib.Core.Bool.{Bool, true, false, true≢false}
-use mathlib.Core.Logic.{inl, inr}
-use mathlib.Core.List.{List, [], _∷_}
-use Prim.Native.Nat.{ℕ, _+_, _-_, _≤_, _<_}
-use native.Mathlib.Omega.{arith}
-use native.Mathlib.Decide.{decLt}
-use lib.Dec.{eqb}
-use lib.ListN.{length, drop, getD, replicate, getD-replicate, List·getD-append, length-append, length-drop, length-replicate}
-use lib.Seq.{getD-append-add}
-use borrow.Author.Tests.{eqb-false}
-use Rattle.atoms.specs.Lists.{padded}
-use Rattle.plan.specs.Limits.{MAX_RULES, LIST_WORDS, TABLE_WORDS, COUNTS, LAST_COUNT}
-use Rattle.plan.specs.Faults.{RefusedBy, FaultRow, FirstFit}
-use Rattle.plan.specs.declared.fault.Fault.{Fault}
-use Rattle.plan.specs.declared.fault.Fault.the-variants.{TableShort, LongList}
-use Rattle.plan.specs.declared.fault.Outcome.{Outcome}
-use Rattle.plan.specs.declared.fault.Outcome.the-variants.{Accepted, Refused}
-use Rattle.plan.proofs.Refusals.{refused-by, told, refused-for}
-use Rattle.reading.specs.Reading.{reading, accepted}
-use Rattle.reading.specs.Layout.{IsByte, All, Contents, commands, recordOf, Lays}
+use Rattle.demands.proofs.Prelude.{_≡_, refl, sym, ap, _∙_, subst, subst₂, Bool, true, false, true≢false, inl, inr, List, [], _∷_, ℕ, _+_, _-_, _≤_}
+use Rattle.demands.proofs.Prelude.{_<_, arith, decLt, eqb, length, drop, getD, replicate, getD-replicate, List·getD-append, length-append, length-drop}
+use Rattle.demands.proofs.Prelude.{length-replicate, getD-append-add, eqb-false, padded, MAX_RULES, LIST_WORDS, TABLE_WORDS, COUNTS, LAST_COUNT}
+use Rattle.demands.proofs.Prelude.{RefusedBy, FaultRow, FirstFit, Fault, TableShort, LongList, Outcome, Accepted, Refused, refused-by, told}
+use Rattle.demands.proofs.Prelude.{refused-for, reading, accepted, IsByte, All, Contents, commands, recordOf, Lays, accepted-is-plan, record-fits}
+use Rattle.demands.proofs.Prelude.{Units, unitsOf, Passes, verdict, VerdictRight, passes, row-16, row-10, row-11, row-12, row-13, row-14, InOrder}
+use Rattle.demands.proofs.Prelude.{all-done, next, workingOrder, order-right, order-one, verdict-right, verdict-only, passes-of-verdict, Listed}
+use Rattle.demands.proofs.Prelude.{listAt, tableOf, listCounts, cleared, noCounts, Answer, refuse, unitWork, answer, Handed, Shown, ListOf, Long}
+use Rattle.demands.proofs.Prelude.{FitsList, FirstLong, here, later, last, ListsComplete, Demand3, unitsIn, Listable, TableFixed, FirstFault}
+use Rattle.demands.proofs.Prelude.{table-place, reading-place, graph-place, unit-work, LeftBy, Demand1, Listing}
 use Rattle.reading.specs.Refusals.{readingPlace, Stopped}
-use Rattle.reading.specs.declared.reader.Reading.{Reading}
+use Rattle.reading.specs.declared.reader.ReadPlan.{ReadPlan}
 use Rattle.reading.proofs.RoundTrip.{layout-is-read}
-use Rattle.reading.proofs.Accepted.{accepted-is-plan}
-use Rattle.reading.proofs.Judged.{reading-judged}
-use Rattle.reading.proofs.Limits.{record-fits}
-use Rattle.dependency_graph.specs.Units.{Units}
-use Rattle.dependency_graph.specs.PlanUnits.{unitsOf}
-use Rattle.dependency_graph.specs.Graph.{Passes}
-use Rattle.dependency_graph.specs.Check.{verdict, Right, passes, row-16, row-10, row-11, row-12, row-13, row-14}
-use Rattle.dependency_graph.specs.Order.{InOrder, all-done, next, workingOrder}
-use Rattle.dependency_graph.proofs.Order.{order-right, order-one}
-use Rattle.dependency_graph.proofs.Verdicts.{verdict-right, verdict-only, passes-of-verdict}
-use Rattle.splitting.specs.UnitList.{Listed}
-use Rattle.demands.specs.Table.{listAt, tableOf, countsOf, cleared, noCounts}
-use Rattle.demands.specs.Answer.{Answer, refuse, unitWork, answer}
-use Rattle.demands.specs.Handed.{Handed}
-use Rattle.demands.specs.Demands.{Shown, ListOf, Long, Fits, FirstLong, here, later, last, ListsAll, Demand3}
-use Rattle.demands.specs.Demand1.{unitsIn, Listable, AllListed, FirstFault, table-place, reading-place, graph-place, unit-work, LeftBy, Demand1}
-use Rattle.demands.specs.declared.listing.Listing.{Listing}
+use Rattle.reading.proofs.JudgedBytes.{reading-judged}
 use Rattle.demands.proofs.HeldLists.{list-there, list-absent, list-last, cleared-behind, held-count, held-padded, held-word, held-long, held-behind}
 use Rattle.demands.proofs.Answers.{Passed, not-accepted, accepted-passed, short-answer, refused-answer, read-answer, unless-refused}
 use Rattle.demands.proofs.Enumerations.{list-once, fits-iff}
@@ -48,10 +21,10 @@ use Rattle.demands.proofs.Demand3.{Worked, too-long, all-fit, few, work
 -- ---- small laws
 
 -- a list that fits is not above 256, so none is the first that is
-fits-not-long : {Member : ℕ → Type 0} → Fits Member → Long Member → ⊥
+fits-not-long : {Member : ℕ → Type 0} → FitsList Member → Long Member → ⊥
 fits-not-long f l = omega (arith, ap length (list-once (f .is) (l .is)), f .at-most, l .above)
 
-none-long : {S : Units} {done : ℕ} {us : List ℕ} {w : ℕ} → ((u : ℕ) → u < S .units → Fits (Listed S u)) → Fits (Shown S) → InOrder S done us
+none-long : {S : Units} {done : ℕ} {us : List ℕ} {w : ℕ} → ((u : ℕ) → u < S .units → FitsList (Listed S u)) → FitsList (Shown S) → InOrder S done us
     → FirstLong S us w → ⊥
 none-long f k (all-done d) (last l) = fits-not-long k l
 none-long f k (next {u = u} below r low o) (here l) = fits-not-long (f u below) l
@@ -97,7 +70,7 @@ reading-number : {bytes : List ℕ} {n s : ℕ} → Stopped bytes n s → ¬ (n 
 reading-number {n = n} {s = s} st = fit-not-15 (readingPlace (st .contents) (length (commands (st .contents))) (st .rest)) n s refl (st .first)
 
 -- nor is one of the graph place
-graph-number : {S : Units} {o : Outcome} {n s : ℕ} → Right S o → RefusedBy o n s → ¬ (n ≡ 15)
+graph-number : {S : Units} {o : Outcome} {n s : ℕ} → VerdictRight S o → RefusedBy o n s → ¬ (n ≡ 15)
 graph-number (passes p) r e = not-accepted (r .fault) (r .is)
 graph-number (row-16 l) r e = omega (arith, told r .0)
 graph-number (row-10 g l) r e = omega (arith, told r .0)
@@ -113,22 +86,22 @@ module _ {bytes : List ℕ} {c : Contents} (l : Lays bytes c) where
   lays-read = ap reading (l .bytes-are) ∙ layout-is-read c (l .within) (l .counted)
 
   pub lays-accepted : reading bytes .outcome ≡ Accepted
-  lays-accepted = ap (λ (r : Reading). r .outcome) lays-read
+  lays-accepted = ap (λ (r : ReadPlan). r .outcome) lays-read
 
   pub lays-units : unitsOf (reading bytes .plan) ≡ unitsIn c
-  lays-units = ap (λ (r : Reading). unitsOf (r .plan)) lays-read
+  lays-units = ap (λ (r : ReadPlan). unitsOf (r .plan)) lays-read
 
 -- of a plan that is listed demand 3 says that all is listed
 pub listable-lists : {bytes table : List ℕ} {r : Listing} {table′ : List ℕ} {c : Contents} → Demand3 bytes table r table′ → Listable bytes c
-    → TABLE_WORDS ≤ length table → ListsAll (recordOf c) r table′
+    → TABLE_WORDS ≤ length table → ListsComplete (recordOf c) r table′
 listable-lists {r = r} {table′ = table′} demand k long =
     let e = sym (lays-units (k .lays)) in
     let d = demand .complete (lays-accepted (k .lays)) (subst Passes e (k .passes)) long in
-    subst (λ (x : Reading). ListsAll (x .plan) r table′) (lays-read (k .lays))
+    subst (λ (x : ReadPlan). ListsComplete (x .plan) r table′) (lays-read (k .lays))
     (d .otherwise
     (λ u f.
-    none-long (subst (λ (T : Units). (v : ℕ) → v < T .units → Fits (Listed T v)) e (k .unit-fits))
-    (subst (λ (T : Units). Fits (Shown T)) e (k .last-fits)) (d .in-order) f))
+    none-long (subst (λ (T : Units). (v : ℕ) → v < T .units → FitsList (Listed T v)) e (k .unit-fits))
+    (subst (λ (T : Units). FitsList (Shown T)) e (k .last-fits)) (d .in-order) f))
 
 laid : {bytes : List ℕ} → All IsByte bytes → reading bytes .outcome ≡ Accepted → (c : Contents) × Lays bytes c
 laid {bytes} all e = let p = accepted-is-plan bytes all e in (p .contents, record { within = p .within; counted = p .counted; bytes-are = p .bytes-are })
@@ -147,7 +120,7 @@ module _ (bytes table : List ℕ) (all : All IsByte bytes) where
     unread : (f : Fault) → TABLE_WORDS ≤ length table → reading bytes .outcome ≡ Refused f → Comes (refuse f table)
     stopped : (f : Fault) → TABLE_WORDS ≤ length table → reading bytes .outcome ≡ Accepted → verdict S ≡ Refused f → Comes (refuse f table)
     overlong : (u : ℕ) → Passed bytes table → FirstLong S order u → Comes (refuse (LongList u) (cleared table))
-    listed : Passed bytes table → Comes (record { outcome = Accepted; counts = countsOf S; table = tableOf S table })
+    listed : Passed bytes table → Comes (record { outcome = Accepted; counts = listCounts S; table = tableOf S table })
 
   comes : Comes (answer bytes table)
   comes = by-table (decLt (length table) TABLE_WORDS)
@@ -186,7 +159,7 @@ module _ (bytes table : List ℕ) (all : All IsByte bytes) where
   faulty {n = n} {s = s} (unread f l e) r = reading-place l (reading-judged bytes all .refused n s .0 (refused-for (sym e) r))
   faulty (stopped f l e v) r =
       let c = laid all e in
-      graph-place l (c .1) (subst₂ Right (lays-units (c .1)) v (verdict-right S few-rules few-units)) r
+      graph-place l (c .1) (subst₂ VerdictRight (lays-units (c .1)) v (verdict-right S few-rules few-units)) r
   faulty (overlong u p f) r =
       let c = laid all (p .reads) in
       let e = lays-units (c .1) in
@@ -207,7 +180,7 @@ module _ (bytes table : List ℕ) (all : All IsByte bytes) where
         let x = reading-judged bytes all .refused n s .1 st in
         handed-refused (refused-answer bytes table (x .fault) l (x .is)) (refused-for (x .is) x)
     refused-so n s (graph-place {o = o} l k w x) =
-        let v : verdict S ≡ o = verdict-only S few-rules few-units o (subst (λ (T : Units). Right T o) (sym (lays-units k)) w) in
+        let v : verdict S ≡ o = verdict-only S few-rules few-units o (subst (λ (T : Units). VerdictRight T o) (sym (lays-units k)) w) in
         handed-refused
         (read-answer bytes table l (lays-accepted k) ∙ unless-refused (x .fault) table (unitWork S table) (v ∙ x .is))
         (refused-for (x .is) x)
@@ -263,11 +236,11 @@ module _ (bytes table : List ℕ) (all : All IsByte bytes) where
             record {
               lays = c .1;
               passes = subst Passes same (p .passes);
-              unit-fits = subst (λ (T : Units). (u : ℕ) → u < T .units → Fits (Listed T u)) same
+              unit-fits = subst (λ (T : Units). (u : ℕ) → u < T .units → FitsList (Listed T u)) same
                   (λ u l.
                   fits-iff (unit-list-is bytes table all p u l) .1
                   (subst (λ (xs : List ℕ). length xs ≤ LIST_WORDS) (list-there S u most l) (held .small u)));
-              last-fits = subst (λ (T : Units). Fits (Shown T)) same
+              last-fits = subst (λ (T : Units). FitsList (Shown T)) same
                   (fits-iff (last-list-is bytes table all p) .1
                   (subst (λ (xs : List ℕ). length xs ≤ LIST_WORDS) (list-last S) (held .small LAST_COUNT)));
             },
@@ -277,7 +250,7 @@ module _ (bytes table : List ℕ) (all : All IsByte bytes) where
     accepted-so : (TABLE_WORDS ≤ length table) × ((c : Contents) × Listable bytes c) → r .outcome ≡ Accepted
     accepted-so (long, (c, k)) = listable-lists (demand-3 bytes table all r table′ h) k long .accepted
 
-    all-listed : r .outcome ≡ Accepted → AllListed S table r table′
+    all-listed : r .outcome ≡ Accepted → TableFixed S table r table′
     all-listed e =
         let p = accepted-passed bytes table (sym (h .outcome-is) ∙ e) in
         let held = accepted-held bytes table all p h e in
@@ -298,7 +271,7 @@ module _ (bytes table : List ℕ) (all : All IsByte bytes) where
     demand-1 = record {
       accepts = (listable, accepted-so);
       lists = λ c k long.
-          subst (λ (T : Units). AllListed T table r table′) (lays-units (k .lays)) (all-listed (accepted-so (long, (c, k))));
+          subst (λ (T : Units). TableFixed T table r table′) (lays-units (k .lays)) (all-listed (accepted-so (long, (c, k))));
       refuses = λ n s. (λ x. faulty comes (refused-for (h .outcome-is) x), refused-so n s);
       leaves = λ n s x. left (h .counts-are) (h .table-is) comes (refused-for (h .outcome-is) x);
     }

@@ -1,33 +1,12 @@
 -- Demand 2 on graphs, from the answer that the function hands back: its outcome tells the verdict, and only one verdict is right.
-use mathlib.Core.Path.{_≡_, refl, sym, ap, _∙_, subst}
-use mathlib.Core.Logic.{_↔_, inl, inr}
-use mathlib.Core.List.{List, [], _∷_}
-use Prim.Native.Nat.{ℕ, _≤_, _<_}
-use native.Mathlib.Omega.{arith}
-use native.Mathlib.Decide.{decLt}
-use lib.ListN.{length}
+use Rattle.demands.proofs.Prelude.{_≡_, refl, sym, ap, _∙_, subst, _↔_, inl, inr, List, [], _∷_, ℕ, _≤_, _<_, arith, decLt, length, MAX_RULES}
+use Rattle.demands.proofs.Prelude.{LIST_WORDS, number, spot, RefusedBy, Fault, LongList, Outcome, Accepted, Refused, refused-by, reading, record-fits}
+use Rattle.demands.proofs.Prelude.{Units, GivenFree, ConditionA, ConditionB, Acyclic, ConditionC, Passes, workingOrder, unitsOf, verdict, VerdictRight}
+use Rattle.demands.proofs.Prelude.{passes, row-16, row-10, row-11, row-12, row-13, row-14, verdict-of-passes, verdict-right, verdict-only, unitList}
+use Rattle.demands.proofs.Prelude.{lastList, Answer, unlessRefused, workFrom, unitWork, afterGraph, answer, Handed, GraphNumber, GraphJudged, Demand2}
+use Rattle.demands.proofs.Prelude.{Listing}
 use Rattle.atoms.specs.Collected.{Least}
-use Rattle.plan.specs.Limits.{MAX_RULES, LIST_WORDS}
-use Rattle.plan.specs.Faults.{number, spot, RefusedBy}
-use Rattle.plan.specs.declared.fault.Fault.{Fault}
-use Rattle.plan.specs.declared.fault.Fault.the-variants.{LongList}
-use Rattle.plan.specs.declared.fault.Outcome.{Outcome}
-use Rattle.plan.specs.declared.fault.Outcome.the-variants.{Accepted, Refused}
-use Rattle.plan.proofs.Refusals.{refused-by}
-use Rattle.reading.specs.Reading.{reading}
-use Rattle.reading.proofs.Limits.{record-fits}
-use Rattle.dependency_graph.specs.Units.{Units, GivenFree}
-use Rattle.dependency_graph.specs.Graph.{ConditionA, ConditionB, Acyclic, ConditionC, Passes}
 use Rattle.dependency_graph.specs.Offenders.{GivenInHead, RuleInNoUnit, HeadedRuleInSeveral, Cycle, NonmonotonicUnseen, MonotonicUnseen}
-use Rattle.dependency_graph.specs.Order.{workingOrder}
-use Rattle.dependency_graph.specs.PlanUnits.{unitsOf}
-use Rattle.dependency_graph.specs.Check.{verdict, Right, passes, row-16, row-10, row-11, row-12, row-13, row-14}
-use Rattle.dependency_graph.proofs.Verdicts.{verdict-of-passes, verdict-right, verdict-only}
-use Rattle.demands.specs.Lists.{unitList, lastList}
-use Rattle.demands.specs.Answer.{Answer, unlessRefused, workFrom, unitWork, afterGraph, answer}
-use Rattle.demands.specs.Handed.{Handed}
-use Rattle.demands.specs.Demands.{GraphNumber, GraphJudged, Demand2}
-use Rattle.demands.specs.declared.listing.Listing.{Listing}
 use Rattle.demands.proofs.Answers.{not-accepted, read-answer, work-fits, work-long, last-fits, last-long}
 
 -- ---- unit work refuses by 15 alone
@@ -66,28 +45,28 @@ unless-fault Accepted table next f w l = (λ e. absurd (worked-fault (next .outc
 
 -- ---- what a right verdict says
 
-said-16 : {S : Units} {r : ℕ} → Right S (Refused (Fault.GivenInHead r)) → Least (GivenInHead S) r
+said-16 : {S : Units} {r : ℕ} → VerdictRight S (Refused (Fault.GivenInHead r)) → Least (GivenInHead S) r
 said-16 (row-16 l) = l
 
-said-10 : {S : Units} {r : ℕ} → Right S (Refused (Fault.RuleInNoUnit r)) → GivenFree S × Least (RuleInNoUnit S) r
+said-10 : {S : Units} {r : ℕ} → VerdictRight S (Refused (Fault.RuleInNoUnit r)) → GivenFree S × Least (RuleInNoUnit S) r
 said-10 (row-10 g l) = (g, l)
 
-said-11 : {S : Units} {r : ℕ} → Right S (Refused (Fault.HeadedRuleInSeveral r)) → GivenFree S × ConditionA S × Least (HeadedRuleInSeveral S) r
+said-11 : {S : Units} {r : ℕ} → VerdictRight S (Refused (Fault.HeadedRuleInSeveral r)) → GivenFree S × ConditionA S × Least (HeadedRuleInSeveral S) r
 said-11 (row-11 g a l) = (g, a, l)
 
-said-12 : {S : Units} {u : ℕ} → Right S (Refused (Fault.Cycle u)) → GivenFree S × ConditionA S × ConditionB S × Least (Cycle S) u
+said-12 : {S : Units} {u : ℕ} → VerdictRight S (Refused (Fault.Cycle u)) → GivenFree S × ConditionA S × ConditionB S × Least (Cycle S) u
 said-12 (row-12 g a b l) = (g, a, b, l)
 
-said-13 : {S : Units} {r : ℕ} → Right S (Refused (Fault.NonmonotonicUnseen r))
+said-13 : {S : Units} {r : ℕ} → VerdictRight S (Refused (Fault.NonmonotonicUnseen r))
     → GivenFree S × ConditionA S × ConditionB S × Acyclic S × Least (NonmonotonicUnseen S) r
 said-13 (row-13 g a b y l) = (g, a, b, y, l)
 
-said-14 : {S : Units} {r : ℕ} → Right S (Refused (Fault.MonotonicUnseen r))
+said-14 : {S : Units} {r : ℕ} → VerdictRight S (Refused (Fault.MonotonicUnseen r))
     → GivenFree S × ConditionA S × ConditionB S × Acyclic S × ConditionC S × Least (MonotonicUnseen S) r
 said-14 (row-14 g a b y c l) = (g, a, b, y, c, l)
 
 -- a right verdict that refuses nothing is a pass
-right-refused : {S : Units} {v : Outcome} (table : List ℕ) (next : Answer) → Right S v
+right-refused : {S : Units} {v : Outcome} (table : List ℕ) (next : Answer) → VerdictRight S v
     → ((n s : ℕ) → GraphNumber n → ¬ RefusedBy (unlessRefused v table next .outcome) n s) → Passes S
 unfolding unlessRefused
 right-refused table next (passes p) n = p
@@ -113,10 +92,10 @@ module _ (S : Units) (few-rules : S .rules ≤ MAX_RULES) (few-units : S .units 
       not-accepted (e .fault) (sym (verdict-of-passes S p) ∙ tells (e .fault) (λ q. not-15 g (sym (e .number-is) ∙ q)) .0 (e .is))
 
   -- a refusal by a fault of the graph place says what its row says
-  says : (f : Fault) {Said : Type 0} → ¬ (number f ≡ 15) → (Right S (Refused f) → Said) → (Said → Right S (Refused f))
+  says : (f : Fault) {Said : Type 0} → ¬ (number f ≡ 15) → (VerdictRight S (Refused f) → Said) → (Said → VerdictRight S (Refused f))
       → RefusedBy (afterGraph S table .outcome) (number f) (spot f) ↔ Said
   says f n there back = (
-    λ e. there (subst (Right S) (tells f n .0 (refused-by f .0 e)) (verdict-right S few-rules few-units)),
+    λ e. there (subst (VerdictRight S) (tells f n .0 (refused-by f .0 e)) (verdict-right S few-rules few-units)),
     λ h. refused-by f .1 (tells f n .1 (verdict-only S few-rules few-units (Refused f) (back h))),
   )
 

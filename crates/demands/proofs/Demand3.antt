@@ -1,38 +1,13 @@
 -- Demand 3, from the answer that the function hands back and the theorem of the splitting theory: along the working order the first list above
 -- 256 is refused, and where there is none every list is in the table.
-use mathlib.Core.Path.{_≡_, refl, sym, ap, _∙_, subst}
-use mathlib.Core.Logic.{_↔_, _⊎_, inl, inr}
-use mathlib.Core.List.{List, [], _∷_, List·Memᴰ, List·Memᴰ·head, List·Memᴰ·tail, List·Memᴰ·not-nil, List·Memᴰ·cases-cons}
-use Prim.Native.Nat.{ℕ, _≤_, _<_}
-use native.Mathlib.Omega.{arith}
-use native.Mathlib.Decide.{ℕ-discrete, decLt}
-use lib.ListN.{length}
-use Rattle.atoms.specs.Rising.{Rising}
+use Rattle.demands.proofs.Prelude.{_≡_, refl, sym, ap, _∙_, subst, _↔_, _⊎_, inl, inr, List, [], _∷_, List·Memᴰ, List·Memᴰ·head, List·Memᴰ·tail}
+use Rattle.demands.proofs.Prelude.{List·Memᴰ·not-nil, List·Memᴰ·cases-cons, ℕ, _≤_, _<_, arith, ℕ-discrete, decLt, length, Rising, cut-for, Settles}
+use Rattle.demands.proofs.Prelude.{MAX_UNITS, LIST_WORDS, TABLE_WORDS, LAST_COUNT, LongList, Accepted, Refused, refused-by, reading, IsByte, All}
+use Rattle.demands.proofs.Prelude.{record-fits, Units, workingOrder, unitsOf, order-right, order-each, order-only, verdict-of-passes, Listed}
+use Rattle.demands.proofs.Prelude.{last-list, unitList, lastList, listAt, tableOf, listCounts, cleared, Answer, refuse, workFrom, unitWork, answer}
+use Rattle.demands.proofs.Prelude.{Handed, Holding, Shown, ListOf, FirstLong, here, later, last, ListsComplete, Complete, Demand3, Listing}
 use Rattle.atoms.specs.Cuts.{CutOf}
-use Rattle.atoms.proofs.Cuts.{cut-for}
-use Rattle.plan_meaning.specs.Settled.{Settles}
-use Rattle.plan.specs.Limits.{MAX_UNITS, LIST_WORDS, TABLE_WORDS, LAST_COUNT}
-use Rattle.plan.specs.declared.fault.Fault.the-variants.{LongList}
-use Rattle.plan.specs.declared.fault.Outcome.the-variants.{Accepted, Refused}
-use Rattle.plan.proofs.Refusals.{refused-by}
-use Rattle.reading.specs.Reading.{reading}
-use Rattle.reading.specs.Layout.{IsByte, All}
-use Rattle.reading.proofs.Limits.{record-fits}
-use Rattle.dependency_graph.specs.Units.{Units}
-use Rattle.dependency_graph.specs.Order.{workingOrder}
-use Rattle.dependency_graph.specs.PlanUnits.{unitsOf}
-use Rattle.dependency_graph.proofs.Order.{order-right, order-each, order-only}
 use Rattle.dependency_graph.proofs.PlanUnits.{looks-only}
-use Rattle.dependency_graph.proofs.Verdicts.{verdict-of-passes}
-use Rattle.splitting.specs.UnitList.{Listed}
-use Rattle.splitting.proofs.Last.{last-list}
-use Rattle.demands.specs.Lists.{unitList, lastList}
-use Rattle.demands.specs.Table.{listAt, tableOf, countsOf, cleared}
-use Rattle.demands.specs.Answer.{Answer, refuse, workFrom, unitWork, answer}
-use Rattle.demands.specs.Handed.{Handed}
-use Rattle.demands.specs.Held.{Holding}
-use Rattle.demands.specs.Demands.{Shown, ListOf, FirstLong, here, later, last, ListsAll, Complete, Demand3}
-use Rattle.demands.specs.declared.listing.Listing.{Listing}
 use Rattle.demands.proofs.HeldLists.{list-there, list-absent, list-last, held-count, held-list}
 use Rattle.demands.proofs.Answers.{Passed, not-accepted, read-answer, unless-accepted, work-fits, work-long, last-fits, last-long}
 use Rattle.demands.proofs.CleanPlan.{plan-clean}
@@ -49,7 +24,7 @@ pub record Enumerated (S : Units) (us : List ℕ) : Type 0 where
 pub data Worked (S : Units) (table us : List ℕ) : Type 0 where
   too-long : {u : ℕ} → FirstLong S us u → workFrom S table us ≡ refuse (LongList u) (cleared table) → Worked S table us
   all-fit : ((u : ℕ) → List·Memᴰ u us → length (unitList S u) ≤ LIST_WORDS) → length (lastList S) ≤ LIST_WORDS
-      → workFrom S table us ≡ record { outcome = Accepted; counts = countsOf S; table = tableOf S table } → Worked S table us
+      → workFrom S table us ≡ record { outcome = Accepted; counts = listCounts S; table = tableOf S table } → Worked S table us
 
 module _ {S : Units} (table : List ℕ) where
   first : {v : ℕ} {vs : List ℕ} → Enumerated S (v ∷ vs) → ListOf (Listed S v) (unitList S v)
@@ -87,7 +62,7 @@ module _ {S : Units} (table : List ℕ) where
 -- the lists are in the table, each in its place
 held : (S : Units) (table us : List ℕ) → S .units ≤ MAX_UNITS → TABLE_WORDS ≤ length table → ((u : ℕ) → u < S .units → List·Memᴰ u us)
     → ((u : ℕ) → List·Memᴰ u us → length (unitList S u) ≤ LIST_WORDS) → length (lastList S) ≤ LIST_WORDS
-    → Holding (listAt S) table (tableOf S table) (countsOf S)
+    → Holding (listAt S) table (tableOf S table) (listCounts S)
 held S table us few long all each k =
     record { table-is = refl; counts-are = refl; small = λ i. go i (ℕ-discrete i LAST_COUNT) (decLt i (S .units)); long = long }
   where
@@ -100,7 +75,7 @@ held S table us few long all each k =
 
 -- the answer of a plan whose lists all fit
 abbrev allListed : Units → List ℕ → Answer
-allListed S table = record { outcome = Accepted; counts = countsOf S; table = tableOf S table }
+allListed S table = record { outcome = Accepted; counts = listCounts S; table = tableOf S table }
 
 module _ (bytes table : List ℕ) (all : All IsByte bytes) (passed : Passed bytes table) where
   abbrev S : Units
@@ -133,7 +108,7 @@ module _ (bytes table : List ℕ) (all : All IsByte bytes) (passed : Passed byte
       ∙ unless-accepted table (unitWork S table) (verdict-of-passes S (passed .passes))
 
   all-held : ((u : ℕ) → List·Memᴰ u order → length (unitList S u) ≤ LIST_WORDS) → length (lastList S) ≤ LIST_WORDS
-      → Holding (listAt S) table (tableOf S table) (countsOf S)
+      → Holding (listAt S) table (tableOf S table) (listCounts S)
   all-held = held S table order few (passed .long) (order-each S (passed .passes .acyclic))
 
   -- what is handed back
@@ -141,7 +116,7 @@ module _ (bytes table : List ℕ) (all : All IsByte bytes) (passed : Passed byte
     outcome-is : {a : Answer} → unitWork S table ≡ a → r .outcome ≡ a .outcome
     outcome-is e = h .outcome-is ∙ ap (λ (x : Answer). x .outcome) (answer-is ∙ e)
 
-    lists-held : Holding (listAt S) table (tableOf S table) (countsOf S) → unitWork S table ≡ allListed S table
+    lists-held : Holding (listAt S) table (tableOf S table) (listCounts S) → unitWork S table ≡ allListed S table
         → Holding (listAt S) table table′ (r .counts)
     lists-held k e = record {
       table-is = h .table-is ∙ ap (λ (a : Answer). a .table) (answer-is ∙ e);
@@ -157,7 +132,7 @@ module _ (bytes table : List ℕ) (all : All IsByte bytes) (passed : Passed byte
         go (too-long {u = u} f q) = absurd (not-accepted (LongList u) (sym e ∙ outcome-is q))
         go (all-fit f k q) = lists-held (all-held f k) q
 
-    lists-all : Holding (listAt S) table table′ (r .counts) → r .outcome ≡ Accepted → ListsAll (reading bytes .plan) r table′
+    lists-all : Holding (listAt S) table table′ (r .counts) → r .outcome ≡ Accepted → ListsComplete (reading bytes .plan) r table′
     unfolding unitsOf
     lists-all k e =
         let p = reading bytes .plan in
@@ -193,7 +168,7 @@ module _ (bytes table : List ℕ) (all : All IsByte bytes) (passed : Passed byte
             subst (FirstLong S order) same f
         refused u e (all-fit f k q) = absurd (not-accepted (LongList u) (sym (outcome-is q) ∙ e))
 
-        fits : ((u : ℕ) → ¬ FirstLong S order u) → Worked S table order → ListsAll (reading bytes .plan) r table′
+        fits : ((u : ℕ) → ¬ FirstLong S order u) → Worked S table order → ListsComplete (reading bytes .plan) r table′
         fits none (too-long {u = v} f q) = absurd (none v f)
         fits none (all-fit f k q) = lists-all (lists-held (all-held f k) q) (outcome-is q)
 

@@ -1,21 +1,7 @@
 -- The computing lists enumerate document 01's lists, and no other rising list does; so how long a list is can be told from them.
-use mathlib.Core.Path.{_≡_, subst}
-use mathlib.Core.Logic.{_↔_}
-use mathlib.Core.List.{List}
-use Prim.Native.Nat.{ℕ, suc, _≤_, _<_}
-use native.Mathlib.Omega.{arith}
-use lib.ListN.{length}
-use Rattle.atoms.specs.Rising.{Rising}
-use Rattle.atoms.proofs.Rising.{rising-ext, members-rising}
-use Rattle.atoms.proofs.Cuts.{cut-rising, cut-of-list}
-use Rattle.plan.specs.Limits.{MAX_RULES, LIST_WORDS}
-use Rattle.dependency_graph.specs.Units.{Units, GivenFree}
-use Rattle.dependency_graph.specs.Graph.{Passes}
-use Rattle.dependency_graph.specs.Heads.{reach, heads}
-use Rattle.splitting.specs.UnitList.{Listed, Clean, withLast}
-use Rattle.splitting.proofs.Last.{last-passes, last-free}
-use Rattle.demands.specs.Lists.{inList, unitList, lastList}
-use Rattle.demands.specs.Demands.{Shown, ListOf, Long, Fits}
+use Rattle.demands.proofs.Prelude.{_≡_, subst, _↔_, List, ℕ, suc, _≤_, _<_, arith, length, Rising, rising-ext, members-rising, cut-rising, cut-of-list}
+use Rattle.demands.proofs.Prelude.{MAX_RULES, LIST_WORDS, Units, GivenFree, Passes, reach, heads, Listed, Clean, withLast, last-passes, last-free}
+use Rattle.demands.proofs.Prelude.{inList, unitList, lastList, Shown, ListOf, Long, FitsList}
 use Rattle.demands.proofs.Decided.{unit-list-at, unit-list-has}
 
 pub unit-list-rising : (T : Units) (u : ℕ) → Rising (unitList T u)
@@ -32,7 +18,7 @@ long-iff {xs = xs} a = (
   λ l. record { list = xs; is = a; above = l },
 )
 
-pub fits-iff : {Member : ℕ → Type 0} {xs : List ℕ} → ListOf Member xs → Fits Member ↔ (length xs ≤ LIST_WORDS)
+pub fits-iff : {Member : ℕ → Type 0} {xs : List ℕ} → ListOf Member xs → FitsList Member ↔ (length xs ≤ LIST_WORDS)
 fits-iff {xs = xs} a = (
   λ l. subst (λ (ys : List ℕ). length ys ≤ LIST_WORDS) (list-once (l .is) a) (l .at-most),
   λ l. record { list = xs; is = a; at-most = l },

@@ -1,19 +1,9 @@
 -- Lists in the table, each in its 256 words, and their counts: what is read there, what a store changes, and what clearing leaves.
-use mathlib.Core.Path.{_≡_, refl, sym, ap, ap₂, _∙_, subst}
-use mathlib.Core.List.{List, [], _++_, append-assoc}
-use Prim.Native.Nat.{ℕ, _+_, _-_, _*_, _≤_, _<_}
-use native.Mathlib.Omega.{arith}
-use native.Mathlib.Decide.{ℕ-discrete}
-use lib.ListN.{length, take, drop, getD, set, replicate, length-append, length-drop, length-replicate}
-use lib.Seq.{paste, take-at, drop-at}
-use borrow.Author.Tests.{lt-ltb, le-ltb, ne-eqb}
-use Rattle.atoms.specs.Lists.{padded}
-use Rattle.atoms.proofs.Lists.{padded-nil, padded-long, padded-at, tabulate-long, tabulate-same, tabulate-zero, getD-tabulate, set-tabulate}
-use Rattle.plan.specs.Limits.{MAX_UNITS, LIST_WORDS, TABLE_WORDS, COUNTS, LAST_COUNT}
-use Rattle.dependency_graph.specs.Units.{Units}
-use Rattle.demands.specs.Lists.{unitList, lastList}
-use Rattle.demands.specs.Table.{listAt, runs, tableWith, countsWith, cleared, noCounts}
-use Rattle.demands.specs.Held.{Holding}
+use Rattle.demands.proofs.Prelude.{_≡_, refl, sym, ap, ap₂, _∙_, subst, List, [], _++_, append-assoc, ℕ, _+_, _-_, _*_, _≤_, _<_, arith, ℕ-discrete}
+use Rattle.demands.proofs.Prelude.{length, take, drop, getD, set, replicate, length-append, length-drop, length-replicate, paste, take-at, drop-at}
+use Rattle.demands.proofs.Prelude.{lt-ltb, le-ltb, ne-eqb, padded, padded-nil, padded-long, padded-at, tabulate-long, tabulate-same, tabulate-zero}
+use Rattle.demands.proofs.Prelude.{getD-tabulate, set-tabulate, MAX_UNITS, LIST_WORDS, TABLE_WORDS, COUNTS, LAST_COUNT, Units, unitList, lastList}
+use Rattle.demands.proofs.Prelude.{listAt, runs, tableWith, countsWith, cleared, noCounts, Holding}
 use Rattle.demands.proofs.Runs.{runs-long, runs-same, runs-zero, runs-at, runs-from, runs-paste}
 
 -- ---- the lists by place

@@ -1,22 +1,7 @@
 -- The last count is at most 256, whatever the plan and the table.
-use mathlib.Core.Path.{_≡_, refl, sym, ap, _∙_, subst}
-use mathlib.Core.List.{List, [], _∷_}
-use Prim.Native.Nat.{ℕ, _≤_, _<_}
-use native.Mathlib.Omega.{arith}
-use native.Mathlib.Decide.{decLt}
-use lib.ListN.{length, getD}
-use Rattle.atoms.proofs.Lists.{getD-tabulate}
-use Rattle.plan.specs.Limits.{LIST_WORDS, COUNTS, LAST_COUNT}
-use Rattle.plan.specs.declared.fault.Outcome.{Outcome}
-use Rattle.plan.specs.declared.fault.Outcome.the-variants.{Accepted, Refused}
-use Rattle.reading.specs.Reading.{reading}
-use Rattle.dependency_graph.specs.Units.{Units}
-use Rattle.dependency_graph.specs.PlanUnits.{unitsOf}
-use Rattle.dependency_graph.specs.Check.{verdict}
-use Rattle.dependency_graph.specs.Order.{workingOrder}
-use Rattle.demands.specs.Lists.{unitList, lastList}
-use Rattle.demands.specs.Table.{listAt, countsWith, countsOf, noCounts}
-use Rattle.demands.specs.Answer.{Answer, unlessRefused, workFrom, afterGraph, tableOutcome, answer}
+use Rattle.demands.proofs.Prelude.{_≡_, refl, sym, ap, _∙_, subst, List, [], _∷_, ℕ, _≤_, _<_, arith, decLt, length, getD, getD-tabulate, LIST_WORDS}
+use Rattle.demands.proofs.Prelude.{COUNTS, LAST_COUNT, Outcome, Accepted, Refused, reading, Units, unitsOf, verdict, workingOrder, unitList, lastList}
+use Rattle.demands.proofs.Prelude.{listAt, countsWith, listCounts, noCounts, Answer, unlessRefused, workFrom, afterGraph, tableOutcome, answer}
 use Rattle.demands.proofs.HeldLists.{list-last}
 use Rattle.demands.proofs.Answers.{work-fits, work-long, last-fits, last-long}
 
@@ -30,11 +15,11 @@ none-counted : (a : Answer) → a .counts ≡ noCounts → Small a
 unfolding noCounts
 none-counted a e = record { at-most = subst (λ (c : List ℕ). getD c LAST_COUNT 0 ≤ LIST_WORDS) (sym e) (omega arith) }
 
-pub last-count : (S : Units) → getD (countsOf S) LAST_COUNT 0 ≡ length (lastList S)
+pub last-count : (S : Units) → getD (listCounts S) LAST_COUNT 0 ≡ length (lastList S)
 unfolding countsWith
 last-count S = getD-tabulate COUNTS (λ i. length (listAt S i)) LAST_COUNT (omega arith) ∙ ap length (list-last S)
 
-all-counted : (S : Units) (a : Answer) → a .counts ≡ countsOf S → length (lastList S) ≤ LIST_WORDS → Small a
+all-counted : (S : Units) (a : Answer) → a .counts ≡ listCounts S → length (lastList S) ≤ LIST_WORDS → Small a
 all-counted S a e h = record {
   at-most = subst (λ (k : ℕ). k ≤ LIST_WORDS) (sym (ap (λ (c : List ℕ). getD c LAST_COUNT 0) e ∙ last-count S)) h;
 }

@@ -1,3 +1,5 @@
+-- What the proofs of this crate name of the kit, of the crates below and of its own definitions, each with its home.
+pub mod Prelude
 -- The computing lists are those of `Listed`: along edges, since a unit reaches more than any unit it has an edge to
 pub mod Decided
 -- Runs of 256 words one behind the other: their length, what stands at an index, and what a store changes
@@ -17,7 +19,7 @@ pub mod Demand2
 -- Demand 3, from the answer that the function hands back and the theorem of the splitting theory
 pub mod Demand3
 -- "two accepted plans that agree there (same unit numbers, rules and edges) give it the same list"
-pub mod Agreement
+pub mod ListAgreement
 -- Demand 1, from the answer that the function hands back
 pub mod Demand1
 -- What the atoms that show make of the last list (02, S-11)

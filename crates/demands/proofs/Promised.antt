@@ -1,11 +1,6 @@
 -- What is handed back has demands 1 to 3.
-use mathlib.Core.List.{List}
-use Prim.Native.Nat.{ℕ}
-use Rattle.reading.specs.Layout.{IsByte, All}
-use Rattle.demands.specs.Answer.{answer}
-use Rattle.demands.specs.Handed.{Handed}
+use Rattle.demands.proofs.Prelude.{List, ℕ, IsByte, All, answer, Handed, Listing}
 use Rattle.demands.specs.Promised.{Promised}
-use Rattle.demands.specs.declared.listing.Listing.{Listing}
 use Rattle.demands.proofs.Demand1.{demand-1}
 use Rattle.demands.proofs.Demand2.{demand-2}
 use Rattle.demands.proofs.Demand3.{demand-3}

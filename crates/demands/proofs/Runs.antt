@@ -1,12 +1,7 @@
 -- Runs of 256 words one behind the other: their length, what stands at an index, and what a store changes.
-use mathlib.Core.Path.{_≡_, refl, ap, ap₂, _∙_}
-use mathlib.Core.List.{List, _++_, append-assoc}
-use Prim.Native.Nat.{ℕ, zero, suc, _+_, _*_, _≤_, _<_}
-use native.Mathlib.Omega.{arith}
-use lib.ListN.{length, drop, getD, replicate, length-append, replicate-append-replicate, List·getD-append}
-use lib.Seq.{paste, take-all, take-append-add, drop-append-add, drop-at, getD-append-add}
-use Rattle.plan.specs.Limits.{LIST_WORDS}
-use Rattle.demands.specs.Table.{runs}
+use Rattle.demands.proofs.Prelude.{_≡_, refl, ap, ap₂, _∙_, List, _++_, append-assoc, ℕ, zero, suc, _+_, _*_, _≤_, _<_, arith, length, drop, getD}
+use Rattle.demands.proofs.Prelude.{replicate, length-append, replicate-append-replicate, List·getD-append, paste, take-all, take-append-add}
+use Rattle.demands.proofs.Prelude.{drop-append-add, drop-at, getD-append-add, LIST_WORDS, runs}
 
 pub runs-long : (n : ℕ) (f : ℕ → List ℕ) → ((i : ℕ) → length (f i) ≡ LIST_WORDS) → length (runs n f) ≡ LIST_WORDS * n
 unfolding runs

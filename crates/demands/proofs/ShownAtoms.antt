@@ -1,21 +1,10 @@
 -- What the atoms that show make of the last list (02, S-11): nothing shows, no answer set is there, or atoms show that no answer set has.
-use mathlib.Core.Path.{_≡_, sym, ap, _∙_, subst}
-use mathlib.Core.Logic.{_↔_}
-use mathlib.Core.List.{List, [], _∷_, List·Memᴰ, List·Memᴰ·head, List·Memᴰ·not-nil, List·Memᴰ·eq-of-singleton}
-use Prim.Native.Nat.{ℕ}
-use Rattle.atoms.specs.Word.{Has, _∩_, below}
-use Rattle.atoms.specs.Rising.{above-nil, rising-nil, rising-cons}
-use Rattle.atoms.proofs.Sets.{ext, empty, has-cut, cut-left, cut-right, has-none}
-use Rattle.atoms.proofs.Rising.{rising-ext}
-use Rattle.answer_sets.specs.AnswerSet.{AnswerSet}
-use Rattle.answer_sets.specs.Lent.{lent}
+use Rattle.demands.proofs.Prelude.{_≡_, sym, ap, _∙_, subst, _↔_, List, [], _∷_, List·Memᴰ, List·Memᴰ·head, List·Memᴰ·not-nil}
+use Rattle.demands.proofs.Prelude.{List·Memᴰ·eq-of-singleton, ℕ, Has, _∩_, below, above-nil, rising-nil, rising-cons, ext, empty, has-cut, cut-left}
+use Rattle.demands.proofs.Prelude.{cut-right, has-none, rising-ext, AnswerSet, lent, Settles, Plan, lastIn, ListsComplete, Listing}
 use Rattle.answer_sets.proofs.Support.{Supported, supported}
-use Rattle.plan_meaning.specs.Settled.{Settles}
-use Rattle.plan.specs.declared.record.Plan.{Plan}
-use Rattle.demands.specs.Demands.{lastIn, ListsAll}
-use Rattle.demands.specs.declared.listing.Listing.{Listing}
 
-module _ {p : Plan} {r : Listing} {table : List ℕ} (l : ListsAll p r table) where
+module _ {p : Plan} {r : Listing} {table : List ℕ} (l : ListsComplete p r table) where
   -- where nothing shows and there is an answer set, the list is {0}
   pub none-shown : p .once .shown .word ≡ 0 → (M : ℕ) → Settles p M → lastIn r table ≡ 0 ∷ []
   none-shown e M a =
@@ -63,7 +52,7 @@ module _ {p q : Plan} (g : ShownAlike p q) where
       (subst (λ (w : ℕ). AnswerSet (lent (q .rules)) (below (q .«rule_count»)) w M) (sym (g .given)) a))
 
   -- a shown atom that is in no head and not given changes nothing
-  pub shown-alike : {r s : Listing} {table table′ : List ℕ} → ListsAll p r table → ListsAll q s table′ → lastIn r table ≡ lastIn s table′
+  pub shown-alike : {r s : Listing} {table table′ : List ℕ} → ListsComplete p r table → ListsComplete q s table′ → lastIn r table ≡ lastIn s table′
   shown-alike {r} {s} {table} {table′} l k =
       rising-ext (lastIn r table) (lastIn s table′) (l .rising) (k .rising)
       (λ X m.

@@ -1,21 +1,10 @@
 -- The units of a plan mean what its lists say.
-use mathlib.Core.Path.{_≡_, sym, subst}
-use mathlib.Core.Logic.{_↔_}
-use mathlib.Core.List.{List, List·Memᴰ}
-use Prim.Native.Nat.{ℕ, _<_, _^_}
-use native.Mathlib.Omega.{arith}
-use lib.ListN.{length}
-use Rattle.atoms.specs.Word.{Has}
-use Rattle.atoms.proofs.Sets.{has-lt}
-use Rattle.plan.specs.declared.record.Plan.{Plan}
-use Rattle.reading.specs.Layout.{UnitPair, Contents, GoodEdge, WithinLimits, Lays}
-use Rattle.reading.proofs.Lists.{all-member}
+use Rattle.demands.proofs.Prelude.{_≡_, sym, subst, _↔_, List, List·Memᴰ, ℕ, _<_, _^_, arith, length, Has, has-lt, Plan, UnitPair, Contents, GoodEdge}
+use Rattle.demands.proofs.Prelude.{WithinLimits, Lays, Units, Holds, Edge, unitsOf, unitsIn}
+use Rattle.reading.proofs.ElementLists.{all-member}
 use Rattle.plan_meaning.specs.Meaning.{Number, Means}
 use Rattle.plan_meaning.proofs.RecordMeans.{number-lt, number-there, number-listed, record-means}
 use Rattle.plan_meaning.proofs.AnswerSetsMean.{read-means}
-use Rattle.dependency_graph.specs.Units.{Units, Holds, Edge}
-use Rattle.dependency_graph.specs.PlanUnits.{unitsOf}
-use Rattle.demands.specs.Demand1.{unitsIn}
 use Rattle.demands.specs.UnitsMean.{UnitsMean, ListsMean}
 use Rattle.demands.proofs.Demand1.{lays-units}
 

@@ -14,8 +14,8 @@ use Rattle.dependency_graph.specs.Units.{Units}
 use Rattle.dependency_graph.specs.PlanUnits.{unitsOf}
 use Rattle.dependency_graph.specs.Check.{verdict}
 use Rattle.dependency_graph.specs.Order.{workingOrder}
-use Rattle.demands.specs.Lists.{unitList, lastList}
-use Rattle.demands.specs.Table.{tableOf, cleared, countsOf, noCounts}
+use Rattle.demands.specs.UnitLists.{unitList, lastList}
+use Rattle.demands.specs.LentTable.{tableOf, cleared, listCounts, noCounts}
 
 -- what is handed back: refused or not, the counts, and the table
 pub record Answer : Type 0 where
@@ -37,7 +37,7 @@ unfoldable pub workFrom : Units → List ℕ → List ℕ → Answer
 workFrom S table [] =
     elim (ltb LIST_WORDS (length (lastList S))) [
       | true ↦ refuse (LongList (S .units)) (cleared table)
-      | false ↦ record { outcome = Accepted; counts = countsOf S; table = tableOf S table }
+      | false ↦ record { outcome = Accepted; counts = listCounts S; table = tableOf S table }
     ]
 workFrom S table (u ∷ us) =
     elim (ltb LIST_WORDS (length (unitList S u))) [ true ↦ refuse (LongList u) (cleared table) | false ↦ workFrom S table us ]

@@ -14,10 +14,10 @@ use Rattle.reading.specs.Refusals.{Stopped}
 use Rattle.dependency_graph.specs.Units.{Units}
 use Rattle.dependency_graph.specs.PlanUnits.{unitsOf}
 use Rattle.dependency_graph.specs.Graph.{Passes}
-use Rattle.dependency_graph.specs.Check.{Right}
+use Rattle.dependency_graph.specs.Check.{VerdictRight}
 use Rattle.dependency_graph.specs.Order.{InOrder}
 use Rattle.splitting.specs.UnitList.{Listed}
-use Rattle.demands.specs.Demands.{Shown, ListOf, Fits, FirstLong}
+use Rattle.demands.specs.Demands.{Shown, ListOf, FitsList, FirstLong}
 use Rattle.demands.specs.declared.listing.Listing.{Listing}
 
 -- the units of a plan's lists
@@ -28,11 +28,11 @@ unitsIn c = unitsOf (recordOf c)
 pub record Listable (bytes : List ℕ) (c : Contents) : Type 0 where
   pub lays : Lays bytes c
   pub passes : Passes (unitsIn c)
-  pub unit-fits : (u : ℕ) → u < unitsIn c .units → Fits (Listed (unitsIn c) u)
-  pub last-fits : Fits (Shown (unitsIn c))
+  pub unit-fits : (u : ℕ) → u < unitsIn c .units → FitsList (Listed (unitsIn c) u)
+  pub last-fits : FitsList (Shown (unitsIn c))
 
 -- "all its lists and counts, with every word of the lent table fixed" (01, The lent table)
-pub record AllListed (S : Units) (table : List ℕ) (r : Listing) (table′ : List ℕ) : Type 0 where
+pub record TableFixed (S : Units) (table : List ℕ) (r : Listing) (table′ : List ℕ) : Type 0 where
   pub lists : ℕ → List ℕ
   pub unit-list : (u : ℕ) → u < S .units → ListOf (Listed S u) (lists u)
   pub no-unit : (i : ℕ) → S .units ≤ i → i < LAST_COUNT → lists i ≡ []
@@ -47,7 +47,7 @@ pub record AllListed (S : Units) (table : List ℕ) (r : Listing) (table′ : Li
 pub data FirstFault (bytes table : List ℕ) : ℕ → ℕ → Type 0 where
   table-place : length table < TABLE_WORDS → FirstFault bytes table 1 (length table)
   reading-place : {n s : ℕ} → TABLE_WORDS ≤ length table → Stopped bytes n s → FirstFault bytes table n s
-  graph-place : {n s : ℕ} {c : Contents} {o : Outcome} → TABLE_WORDS ≤ length table → Lays bytes c → Right (unitsIn c) o → RefusedBy o n s
+  graph-place : {n s : ℕ} {c : Contents} {o : Outcome} → TABLE_WORDS ≤ length table → Lays bytes c → VerdictRight (unitsIn c) o → RefusedBy o n s
       → FirstFault bytes table n s
   unit-work : {u : ℕ} {c : Contents} {order : List ℕ} → TABLE_WORDS ≤ length table → Lays bytes c → Passes (unitsIn c)
       → InOrder (unitsIn c) 0 order → FirstLong (unitsIn c) order u → FirstFault bytes table 15 u
@@ -63,6 +63,6 @@ pub record LeftBy (n : ℕ) (table : List ℕ) (r : Listing) (table′ : List �
 -- for every plan, of any length and content, and every table
 pub record Demand1 (bytes table : List ℕ) (r : Listing) (table′ : List ℕ) : Type 0 where
   pub accepts : (r .outcome ≡ Accepted) ↔ ((TABLE_WORDS ≤ length table) × ((c : Contents) × Listable bytes c))
-  pub lists : (c : Contents) → Listable bytes c → TABLE_WORDS ≤ length table → AllListed (unitsIn c) table r table′
+  pub lists : (c : Contents) → Listable bytes c → TABLE_WORDS ≤ length table → TableFixed (unitsIn c) table r table′
   pub refuses : (n s : ℕ) → RefusedBy (r .outcome) n s ↔ FirstFault bytes table n s
   pub leaves : (n s : ℕ) → RefusedBy (r .outcome) n s → LeftBy n table r table′

@@ -62,7 +62,7 @@ pub record Long (Member : ℕ → Type 0) : Type 0 where
   pub above : LIST_WORDS < length list
 
 -- there are not
-pub record Fits (Member : ℕ → Type 0) : Type 0 where
+pub record FitsList (Member : ℕ → Type 0) : Type 0 where
   pub list : List ℕ
   pub is : ListOf Member list
   pub at-most : length list ≤ LIST_WORDS
@@ -71,7 +71,7 @@ pub record Fits (Member : ℕ → Type 0) : Type 0 where
 -- units, comes after all: "refusal 15 for the last list counts cut positions" (02, S-11)
 pub data FirstLong (S : Units) : List ℕ → ℕ → Type 0 where
   here : {u : ℕ} {us : List ℕ} → Long (Listed S u) → FirstLong S (u ∷ us) u
-  later : {u w : ℕ} {us : List ℕ} → Fits (Listed S u) → FirstLong S us w → FirstLong S (u ∷ us) w
+  later : {u w : ℕ} {us : List ℕ} → FitsList (Listed S u) → FirstLong S us w → FirstLong S (u ∷ us) w
   last : Long (Shown S) → FirstLong S [] (S .units)
 
 -- "The list of unit i starts at word 256·i", as many words as its count says
@@ -84,7 +84,7 @@ lastIn r table = take (getD (r .counts) LAST_COUNT 0) (drop LAST_LIST table)
 
 -- each unit's list is in its place; the last list holds what shows of every answer set of all the plan's rules as one set, with its given atoms as
 -- facts, once each, rising, and nothing else; the last count is their number
-pub record ListsAll (p : Plan) (r : Listing) (table : List ℕ) : Type 0 where
+pub record ListsComplete (p : Plan) (r : Listing) (table : List ℕ) : Type 0 where
   pub accepted : r .outcome ≡ Accepted
   pub units : (u : ℕ) → u < p .«unit_count» → ListOf (Listed (unitsOf p) u) (listIn r table u)
   pub rising : Rising (lastIn r table)
@@ -97,7 +97,7 @@ pub record Complete (p : Plan) (r : Listing) (table : List ℕ) : Type 0 where
   pub order : List ℕ
   pub in-order : InOrder (unitsOf p) 0 order
   pub fifteen : (u : ℕ) → RefusedBy (r .outcome) 15 u ↔ FirstLong (unitsOf p) order u
-  pub otherwise : ((u : ℕ) → ¬ FirstLong (unitsOf p) order u) → ListsAll p r table
+  pub otherwise : ((u : ℕ) → ¬ FirstLong (unitsOf p) order u) → ListsComplete p r table
 
 -- for every plan that passes reading and graph, and every long enough table
 pub record Demand3 (bytes table : List ℕ) (r : Listing) (table′ : List ℕ) : Type 0 where

@@ -4,7 +4,7 @@ use mathlib.Core.List.{List}
 use Prim.Native.Nat.{ℕ}
 use Rattle.plan.specs.declared.fault.Fault.{Fault}
 use Rattle.plan.specs.declared.fault.Outcome.the-variants.{Refused}
-use Rattle.demands.specs.Table.{noCounts}
+use Rattle.demands.specs.LentTable.{noCounts}
 use Rattle.demands.specs.Answer.{Answer}
 use Rattle.demands.specs.declared.listing.Listing.{Listing}
 

@@ -1,5 +1,5 @@
-pub mod Lists
-pub mod Table
+pub mod UnitLists
+pub mod LentTable
 pub mod Held
 pub mod Answer
 pub mod Handed

@@ -1,10 +1,6 @@
 -- Induction along the edges of an acyclic graph: what holds of a unit if it holds of its direct predecessors, holds of every unit.
 -- Reach read as a number falls along each edge.
-use Prim.Native.Nat.{ℕ, zero, suc, _<_}
-use native.Mathlib.Omega.{arith}
-use Rattle.dependency_graph.specs.Units.{Units, Edge}
-use Rattle.dependency_graph.specs.Graph.{Acyclic}
-use Rattle.dependency_graph.specs.Heads.{reach}
+use Rattle.dependency_graph.proofs.Prelude.{ℕ, zero, suc, _<_, arith, Units, Edge, Acyclic, reach}
 use Rattle.dependency_graph.proofs.Heads.{edge-rank}
 
 module _ (S : Units) (acyclic : Acyclic S) (P : ℕ → Type 0)

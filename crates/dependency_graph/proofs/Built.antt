@@ -1,15 +1,6 @@
 -- Words that a loop builds number by number, up to a bound.
-use mathlib.Core.Path.{_≡_, refl, sym, ap, _∙_}
-use mathlib.Core.Bool.{Bool}
-use Prim.Native.Nat.{ℕ, suc, _+_, _≤_, _<_}
-use native.Mathlib.Omega.{arith}
-use native.Mathlib.Numerals.{add-one}
-use Rattle.atoms.specs.Word.{_∩_, _∪_}
-use Rattle.atoms.specs.Bounded.{wordBelow, unionIn, singleIf}
-use Rattle.atoms.proofs.Sets.{ext}
-use Rattle.atoms.proofs.Bounded.{word-has, word-at}
-use Rattle.atoms.proofs.GatheredWords.{word-suc}
-use Rattle.dependency_graph.specs.Offenders.{unionBelow, twiceBelow}
+use Rattle.dependency_graph.proofs.Prelude.{_≡_, refl, sym, ap, _∙_, Bool, ℕ, suc, _+_, _≤_, _<_, arith, add-one, _∩_, _∪_, wordBelow, unionIn}
+use Rattle.dependency_graph.proofs.Prelude.{singleIf, ext, word-has, word-at, word-suc, unionBelow, twiceBelow}
 use Rattle.dependency_graph.proofs.Offenders.{union-below-suc}
 
 -- of n numbers the first i are done, and w is what they make

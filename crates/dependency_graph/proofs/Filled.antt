@@ -1,12 +1,6 @@
 -- Tables filled word by word, from the front.
-use mathlib.Core.Path.{_≡_, refl, _∙_}
-use mathlib.Core.List.{List}
-use Prim.Native.Nat.{ℕ, _+_, _≤_, _<_}
-use native.Mathlib.Omega.{arith}
-use native.Mathlib.Decide.{ℕ-discrete}
-use lib.ListN.{length, getD, set, length-set}
-use lib.Seq.{getD-set-same, getD-set-other}
-use Rattle.dependency_graph.specs.Filled.{Filled}
+use Rattle.dependency_graph.proofs.Prelude.{_≡_, refl, _∙_, List, ℕ, _+_, _≤_, _<_, arith, ℕ-discrete, length, getD, set, length-set, getD-set-same}
+use Rattle.dependency_graph.proofs.Prelude.{getD-set-other, FilledFirst}
 
 -- ---- while it is filled
 
@@ -14,7 +8,7 @@ use Rattle.dependency_graph.specs.Filled.{Filled}
 pub record Filling (n i : ℕ) (f : ℕ → ℕ) (before after : List ℕ) : Type 0 where
   pub room : n ≤ length before
   pub within : i ≤ n
-  pub so-far : Filled i f before after
+  pub so-far : FilledFirst i f before after
 
 pub filling-start : {n : ℕ} {f : ℕ → ℕ} {xs : List ℕ} → n ≤ length xs → Filling n 0 f xs xs
 filling-start l = record {
@@ -44,7 +38,7 @@ filling-more {n} {i} {v} {f} {before} {after} t l e = record {
     at j k (yes q) = rw q (getD-set-same after i v 0 (omega (arith, t .room, t .so-far .same-length)) ∙ e)
     at j k (no q) = getD-set-other after i j v 0 q ∙ t .so-far .filled j (omega arith)
 
-pub filling-end : {n i : ℕ} {f : ℕ → ℕ} {before after : List ℕ} → Filling n i f before after → n ≤ i → Filled n f before after
+pub filling-end : {n i : ℕ} {f : ℕ → ℕ} {before after : List ℕ} → Filling n i f before after → n ≤ i → FilledFirst n f before after
 filling-end t l = record {
   same-length = t .so-far .same-length;
   filled = λ j k. t .so-far .filled j (omega (arith, t .within));
@@ -54,8 +48,8 @@ filling-end t l = record {
 -- ---- once it is filled
 
 -- the same table, its words given otherwise
-pub filled-same : {n : ℕ} {f : ℕ → ℕ} {before after : List ℕ} → Filled n f before after → (g : ℕ → ℕ)
-    → ((i : ℕ) → i < n → f i ≡ g i) → Filled n g before after
+pub filled-same : {n : ℕ} {f : ℕ → ℕ} {before after : List ℕ} → FilledFirst n f before after → (g : ℕ → ℕ)
+    → ((i : ℕ) → i < n → f i ≡ g i) → FilledFirst n g before after
 filled-same t g e = record {
   same-length = t .same-length;
   filled = λ i l. t .filled i l ∙ e i l;
@@ -63,12 +57,12 @@ filled-same t g e = record {
 }
 
 -- a table filled again
-pub filled-again : {n : ℕ} {f g : ℕ → ℕ} {xs ys zs : List ℕ} → Filled n f xs ys → Filled n g ys zs → Filled n g xs zs
+pub filled-again : {n : ℕ} {f g : ℕ → ℕ} {xs ys zs : List ℕ} → FilledFirst n f xs ys → FilledFirst n g ys zs → FilledFirst n g xs zs
 filled-again s t = record {
   same-length = t .same-length ∙ s .same-length;
   filled = t .filled;
   kept = λ i l. t .kept i l ∙ s .kept i l;
 }
 
-pub filled-itself : {n : ℕ} {f : ℕ → ℕ} {before after : List ℕ} → Filled n f before after → Filled n f after after
+pub filled-itself : {n : ℕ} {f : ℕ → ℕ} {before after : List ℕ} → FilledFirst n f before after → FilledFirst n f after after
 filled-itself t = record { same-length = refl; filled = t .filled; kept = λ i l. refl }

@@ -1,23 +1,10 @@
 -- The laws of reach and of head atoms. Reach is the paths' relation, by Warshall's recursion over the highest middle unit;
 -- along an edge it shrinks, so reach read as a number is the rank of an acyclic graph.
-use mathlib.Core.Path.{_≡_, refl, ap, subst}
-use mathlib.Core.Bool.{Bool, true, false}
-use mathlib.Core.Logic.{_⊎_, inl, inr}
-use mathlib.Core.List.{List}
-use Prim.Native.Nat.{ℕ, zero, suc, _+_, _≤_, _<_}
-use native.Mathlib.Omega.{arith}
-use native.Mathlib.Decide.{ℕ-discrete}
-use native.Mathlib.Numerals.{add-one}
-use lib.ListN.{getD}
-use Rattle.atoms.specs.Word.{Has, has, _∩_, _∪_, below}
-use Rattle.atoms.specs.Collected.{Collects}
-use Rattle.atoms.proofs.Sets.{decides-has, subset-lt}
-use Rattle.atoms.proofs.Collected.{collects-iff, collects-has, collects-below, collects-cut, collects-union, collects-union-in}
-use Rattle.dependency_graph.specs.Units.{Units, Holds, Edge, Path, one, more}
-use Rattle.dependency_graph.specs.Graph.{Acyclic}
-use Rattle.dependency_graph.specs.Filled.{Filled}
+use Rattle.dependency_graph.proofs.Prelude.{_≡_, refl, ap, subst, Bool, true, false, _⊎_, inl, inr, List, ℕ, zero, suc, _+_, _≤_, _<_, arith}
+use Rattle.dependency_graph.proofs.Prelude.{ℕ-discrete, add-one, getD, Has, has, _∩_, _∪_, below, Collects, decides-has, subset-lt, collects-iff}
+use Rattle.dependency_graph.proofs.Prelude.{collects-has, collects-below, collects-cut, collects-union, collects-union-in, Units, Holds, Edge, Path}
+use Rattle.dependency_graph.proofs.Prelude.{one, more, Acyclic, FilledFirst, through, reachVia, reach, own, heads, inputHeads}
 use Rattle.dependency_graph.proofs.Filled.{filled-same, filled-again}
-use Rattle.dependency_graph.specs.Heads.{through, reachVia, reach, own, heads, inputHeads}
 
 -- ---- paths
 
@@ -76,12 +63,12 @@ unfolding reachVia
 via-next S n k table l f u h = rw (f u h, f k l, add-one)
 
 -- a turn of the loop, and its end
-pub reach-next : (S : Units) (n k : ℕ) {before table after : List ℕ} → Filled n (reachVia S k) before table → k < n
-    → Filled n (λ u. through (getD table u 0) k (getD table k 0)) table after → Filled n (reachVia S (k + 1)) before after
+pub reach-next : (S : Units) (n k : ℕ) {before table after : List ℕ} → FilledFirst n (reachVia S k) before table → k < n
+    → FilledFirst n (λ u. through (getD table u 0) k (getD table k 0)) table after → FilledFirst n (reachVia S (k + 1)) before after
 reach-next S n k {table = table} f l g = filled-same (filled-again f g) (reachVia S (k + 1)) (via-next S n k table l (f .filled))
 
-pub reach-filled : (S : Units) (n : ℕ) {k : ℕ} {before direct after : List ℕ} → Filled n (reachVia S 0) before direct
-    → Filled n (reachVia S k) direct after → k ≤ n → n ≤ k → S .units ≡ n → Filled n (reach S) before after
+pub reach-filled : (S : Units) (n : ℕ) {k : ℕ} {before direct after : List ℕ} → FilledFirst n (reachVia S 0) before direct
+    → FilledFirst n (reachVia S k) direct after → k ≤ n → n ≤ k → S .units ≡ n → FilledFirst n (reach S) before after
 unfolding reach
 reach-filled S n {k} f g a b e =
     let all : k ≡ S .units = omega arith in

@@ -1,3 +1,7 @@
+-- What the proofs of this crate name of the kit, of the crates below and of its own definitions, each with its home.
+pub mod Prelude
+-- The laws of this crate that the proofs of its functions name, each with its home.
+pub mod Face
 -- The laws of reach and of head atoms
 pub mod Heads
 -- Induction along the edges of an acyclic graph
@@ -11,7 +15,7 @@ pub mod Order
 -- The word of a row collects the rules or units that break its condition, so the condition holds exactly if the word is empty
 pub mod Offenders
 -- One row of the verdict: it fits where its word has a number, and otherwise the rows below are asked
-pub mod Rows
+pub mod ConditionRows
 -- The verdict passes exactly the graphs that pass, and a refusal names the first row that fits and its lowest rule or unit
 pub mod Verdicts
 -- Tables filled word by word, from the front
@@ -21,6 +25,6 @@ pub mod Built
 -- The units of a plan: the rest of a body depends on what it looks at alone; and the tables of head atoms
 pub mod PlanUnits
 -- Small circuits of document 01 at the graph place: the definitions give the verdicts that the paper has
-pub mod Circuits
+pub mod GraphCircuits
 -- Tests of words that were read, and the rules of a unit held against the head atoms that it does not see
 pub mod UnseenRules

@@ -1,24 +1,14 @@
 -- The word of a row collects the rules or units that break its condition, so the condition holds exactly if the word is empty.
-use mathlib.Core.Path.{_≡_, ap, subst}
-use mathlib.Core.Logic.{_↔_, _⊎_, inl, inr}
-use Prim.Native.Nat.{ℕ, zero, suc, _<_}
-use native.Mathlib.Omega.{arith}
-use native.Mathlib.Decide.{ℕ-discrete, decLt}
-use Rattle.atoms.specs.Word.{Has, _∪_, _∖_, below, Apart}
-use Rattle.atoms.specs.Bounded.{unionIn}
-use Rattle.atoms.specs.Collected.{Collects}
-use Rattle.atoms.proofs.Tests.{decides-and, decides-not, decides-equal, decided-true}
-use Rattle.atoms.proofs.Sets.{decides-has, decides-apart, has-dec, has-left, has-right, union-cases, has-without, without-right, has-none}
-use Rattle.atoms.proofs.Sets.{has-below, ext, some-atom, apart-of-cut, shared-atom}
-use Rattle.atoms.proofs.Bounded.{union-has, union-at}
-use Rattle.atoms.proofs.Collected.{collects-none, collects-dec, collects-iff, collects-has, collects-below, collects-word, collects-cut}
-use Rattle.atoms.proofs.Collected.{collects-union, collects-without, collects-union-in}
-use Rattle.dependency_graph.specs.Units.{Units, Holds, GivenFree}
-use Rattle.dependency_graph.specs.Graph.{Share, Nonmonotonic, Monotonic, Sees, ConditionA, ConditionB, Acyclic, ConditionC, ConditionD}
-use Rattle.dependency_graph.specs.Heads.{reach}
-use Rattle.dependency_graph.specs.Offenders.{GivenInHead, RuleInNoUnit, HeadedRuleInSeveral, Cycle, NonmonotonicUnseen, MonotonicUnseen}
-use Rattle.dependency_graph.specs.Offenders.{unionBelow, twiceBelow, seen, unseenHeads, nonmonotonicUnseenIn, monotonicSeenIn}
-use Rattle.dependency_graph.specs.Offenders.{givenInHead, ruleInNoUnit, headedRuleInSeveral, cycle, nonmonotonicUnseen, monotonicUnseen}
+use Rattle.dependency_graph.proofs.Prelude.{_≡_, ap, subst, _↔_, _⊎_, inl, inr, ℕ, zero, suc, _<_, arith, ℕ-discrete, decLt, Has, _∪_, _∖_, below}
+use Rattle.dependency_graph.proofs.Prelude.{Apart, unionIn, Collects, decides-and, decides-not, decides-equal, decided-true, decides-has}
+use Rattle.dependency_graph.proofs.Prelude.{decides-apart, has-dec, has-left, has-right, union-cases, has-without, without-right, has-none, has-below}
+use Rattle.dependency_graph.proofs.Prelude.{ext, some-atom, apart-of-cut, shared-atom, union-has, union-at, collects-none, collects-dec, collects-iff}
+use Rattle.dependency_graph.proofs.Prelude.{collects-has, collects-below, collects-word, collects-cut, collects-union, collects-without}
+use Rattle.dependency_graph.proofs.Prelude.{collects-union-in, Units, Holds, GivenFree, Share, Nonmonotonic, Monotonic, Sees, ConditionA, ConditionB}
+use Rattle.dependency_graph.proofs.Prelude.{Acyclic, ConditionC, ConditionD, reach, GivenInHead, RuleInNoUnit, HeadedRuleInSeveral, Cycle}
+use Rattle.dependency_graph.proofs.Prelude.{NonmonotonicUnseen, MonotonicUnseen, unionBelow, twiceBelow, seen, unseenHeads, nonmonotonicUnseenIn}
+use Rattle.dependency_graph.proofs.Prelude.{monotonicSeenIn, givenInHead, ruleInNoUnit, headedRuleInSeveral, cycle, nonmonotonicUnseen}
+use Rattle.dependency_graph.proofs.Prelude.{monotonicUnseen}
 use Rattle.dependency_graph.proofs.Heads.{path-start, reach-path, path-reach}
 
 -- ---- the words of the numbers below a bound

@@ -1,27 +1,13 @@
 -- The working order: the next unit is the lowest that is ready; on an acyclic graph some unit is ready as long as one is not
 -- done, since a unit of the least rank that is not done is; so every unit is worked, once, after its predecessors.
-use mathlib.Core.Path.{_≡_, refl, sym, ap₂, subst}
-use mathlib.Core.Bool.{Bool, true, false, _&&_}
-use mathlib.Core.Logic.{_⊎_, inl, inr}
-use mathlib.Core.List.{List, [], _∷_, _++_, List·Memᴰ, List·Memᴰ·head, List·Memᴰ·tail, List·Memᴰ·not-nil, List·Memᴰ·cases-cons}
-use Prim.Native.Nat.{ℕ, zero, suc, _≤_, _<_}
-use native.Mathlib.Omega.{arith}
-use native.Mathlib.Decide.{ℕ-discrete}
-use lib.Count.{ones, ones-le}
-use lib.Dec.{ltb}
-use borrow.Author.Tests.{ltb-true, ltb-false}
-use Rattle.atoms.specs.Word.{Has, has, _∩_, _∪_, _∖_, atom, below, subset}
-use Rattle.atoms.specs.Bounded.{Decides}
-use Rattle.atoms.specs.Collected.{Collects}
-use Rattle.atoms.proofs.Tests.{decides-iff, decides-and, decides-not, decided}
-use Rattle.atoms.proofs.Sets.{decides-has, decides-subset, has-dec, has-left, has-right, union-cases, has-atom, atom-only, has-none, lt-of-has}
-use Rattle.atoms.proofs.Counts.{count-lt}
-use Rattle.atoms.proofs.Collected.{collects-none, collects-some, collects-has, collects-below, collects-without, least-same}
-use Rattle.atoms.proofs.Collected.{lowest-le, lowest-here, lowest-least, lowest-is, lowest-none}
-use Rattle.dependency_graph.specs.Units.{Units, Edge}
-use Rattle.dependency_graph.specs.Graph.{Acyclic}
-use Rattle.dependency_graph.specs.Heads.{reach}
-use Rattle.dependency_graph.specs.Order.{Ready, ready, nextUnit, orderFrom, workingOrder, InOrder, all-done, next}
+use Rattle.dependency_graph.proofs.Prelude.{_≡_, refl, sym, ap₂, subst, Bool, true, false, _&&_, _⊎_, inl, inr, List, [], _∷_, _++_, List·Memᴰ}
+use Rattle.dependency_graph.proofs.Prelude.{List·Memᴰ·head, List·Memᴰ·tail, List·Memᴰ·not-nil, List·Memᴰ·cases-cons, ℕ, zero, suc, _≤_, _<_, arith}
+use Rattle.dependency_graph.proofs.Prelude.{ℕ-discrete, ones, ones-le, ltb, ltb-true, ltb-false, Has, has, _∩_, _∪_, _∖_, atom, below, subset, Decides}
+use Rattle.dependency_graph.proofs.Prelude.{Collects, decides-iff, decides-and, decides-not, decided, decides-has, decides-subset, has-dec, has-left}
+use Rattle.dependency_graph.proofs.Prelude.{has-right, union-cases, has-atom, atom-only, has-none, lt-of-has, count-lt, collects-none, collects-some}
+use Rattle.dependency_graph.proofs.Prelude.{collects-has, collects-below, collects-without, least-same, lowest-le, lowest-here, lowest-least}
+use Rattle.dependency_graph.proofs.Prelude.{lowest-is, lowest-none, Units, Edge, Acyclic, reach, Ready, ready, nextUnit, orderFrom, workingOrder}
+use Rattle.dependency_graph.proofs.Prelude.{InOrder, all-done, next}
 use Rattle.dependency_graph.proofs.Heads.{collects-direct, edge-rank}
 
 -- ---- ready units

@@ -1,16 +1,9 @@
 -- What a unit sees of the rules that it holds, if the graph passes: own head atoms belong to one unit only, and the atoms that a
 -- body asks for stand in the heads of the unit, so a body says the same of a position and of the position cut to those heads.
 -- The conditions give an edge for each dependence; edges both ways would be a cycle.
-use mathlib.Core.Path.{_≡_, sym, _∙_, subst, subst₂}
-use mathlib.Core.Logic.{_↔_, _⊎_, inl, inr}
-use Prim.Native.Nat.{ℕ, _<_}
-use native.Mathlib.Decide.{ℕ-discrete}
-use Rattle.atoms.specs.Word.{Has, Apart, _⊆_, _∩_}
-use Rattle.atoms.proofs.Sets.{has-cut, cut-left}
+use Rattle.dependency_graph.proofs.Prelude.{_≡_, sym, _∙_, subst, subst₂, _↔_, _⊎_, inl, inr, ℕ, _<_, ℕ-discrete, Has, Apart, _⊆_, _∩_, has-cut}
+use Rattle.dependency_graph.proofs.Prelude.{cut-left, Units, Holds, Edge, Path, one, more, LooksOnly, GivenFree, Sees, Passes, own, heads, inputHeads}
 use Rattle.answer_sets.specs.Program.{Body}
-use Rattle.dependency_graph.specs.Units.{Units, Holds, Edge, Path, one, more, LooksOnly, GivenFree}
-use Rattle.dependency_graph.specs.Graph.{Sees, Passes}
-use Rattle.dependency_graph.specs.Heads.{own, heads, inputHeads}
 use Rattle.dependency_graph.proofs.Heads.{own-has, own-at, heads-given, heads-own, heads-edge, input-cases}
 use Rattle.dependency_graph.proofs.Under.{Under, under-edge, under-unit, heads-source}
 

@@ -1,15 +1,10 @@
 -- The head atoms of a unit by the units under it: the unit itself and those that it reaches. So the words of head atoms have just
 -- the atoms of document 01's H(u), and those of its inputs.
-use mathlib.Core.Logic.{_⊎_, inl, inr}
-use Prim.Native.Nat.{ℕ, _<_}
-use Rattle.atoms.specs.Word.{Has, _∩_}
-use Rattle.atoms.specs.Collected.{Collects}
-use Rattle.atoms.proofs.Collected.{collects-has, collects-cut}
-use Rattle.dependency_graph.specs.Units.{Units, Edge, Path, one, more}
-use Rattle.dependency_graph.specs.Heads.{HeadAtom, given-head, own-head, reached-head, InputAtom, given-input, head-input, Cut}
-use Rattle.dependency_graph.specs.Heads.{reach, own, heads, inputHeads}
-use Rattle.dependency_graph.proofs.Heads.{collects-heads, path-end, own-has, own-at, heads-given, heads-own, heads-edge}
-use Rattle.dependency_graph.proofs.Heads.{input-given, input-edge, input-cases, reach-path}
+use Rattle.dependency_graph.proofs.Prelude.{_⊎_, inl, inr, ℕ, _<_, Has, _∩_, Collects, collects-has, collects-cut, Units, Edge, Path, one, more}
+use Rattle.dependency_graph.proofs.Prelude.{HeadAtom, given-head, own-head, reached-head, InputAtom, given-input, head-input, Cut, reach, own, heads}
+use Rattle.dependency_graph.proofs.Prelude.{inputHeads}
+use Rattle.dependency_graph.proofs.Heads.{collects-heads, path-end, own-has, own-at, heads-given, heads-own, heads-edge, input-given, input-edge}
+use Rattle.dependency_graph.proofs.Heads.{input-cases, reach-path}
 
 -- w is u or a unit that u reaches
 pub data Under (S : Units) : ℕ → ℕ → Type 0 where

@@ -1,11 +1,6 @@
 -- Tests of words that were read, and what a loop over the rules of a unit finds of them.
-use mathlib.Core.Path.{_≡_, ap, ap₂, _∙_}
-use mathlib.Core.Bool.{Bool, not}
-use Prim.Native.Nat.{ℕ}
-use Rattle.atoms.specs.Word.{apart, _∪_}
-use Rattle.atoms.proofs.GatheredWords.{Picks, picks-end}
-use Rattle.dependency_graph.specs.Units.{Units}
-use Rattle.dependency_graph.specs.Offenders.{unseenHeads, nonmonotonicUnseenIn, monotonicSeenIn}
+use Rattle.dependency_graph.proofs.Prelude.{_≡_, ap, ap₂, _∙_, Bool, not, ℕ, apart, _∪_, Picks, picks-end, Units, unseenHeads, nonmonotonicUnseenIn}
+use Rattle.dependency_graph.proofs.Prelude.{monotonicSeenIn}
 
 pub union-read : (x y : ℕ) {a b c : ℕ} → c ≡ a ∪ b → a ≡ x → b ≡ y → c ≡ x ∪ y
 union-read x y e p q = e ∙ ap₂ _∪_ p q

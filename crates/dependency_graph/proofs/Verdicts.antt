@@ -1,24 +1,13 @@
 -- The verdict passes exactly the graphs that pass, and a refusal names the first row that fits and its lowest rule or unit.
-use mathlib.Core.Path.{_≡_, sym, ap, _∙_}
-use mathlib.Core.Logic.{_↔_}
-use Prim.Native.Nat.{ℕ, _≤_, _<_}
-use native.Mathlib.Omega.{arith}
-use native.Mathlib.Decide.{ℕ-discrete}
-use Rattle.atoms.specs.Word.{ATOMS}
-use Rattle.atoms.specs.Collected.{Collects, lowestOf, Least}
-use Rattle.atoms.proofs.Collected.{collects-none, least-same, collects-lowest-of}
-use Rattle.plan.specs.declared.fault.Fault.{Fault}
-use Rattle.plan.specs.declared.fault.Outcome.{Outcome}
-use Rattle.plan.specs.declared.fault.Outcome.the-variants.{Accepted, Refused}
-use Rattle.dependency_graph.specs.Units.{Units}
-use Rattle.dependency_graph.specs.Graph.{Passes}
-use Rattle.dependency_graph.specs.Offenders.{GivenInHead, RuleInNoUnit, HeadedRuleInSeveral, Cycle, NonmonotonicUnseen, MonotonicUnseen}
-use Rattle.dependency_graph.specs.Check.{faultOr, verdict, Right, passes, row-16, row-10, row-11, row-12, row-13, row-14}
+use Rattle.dependency_graph.proofs.Prelude.{_≡_, sym, ap, _∙_, _↔_, ℕ, _≤_, _<_, arith, ℕ-discrete, ATOMS, Collects, lowestOf, Least, collects-none}
+use Rattle.dependency_graph.proofs.Prelude.{least-same, collects-lowest-of, Fault, Outcome, Accepted, Refused, Units, Passes, GivenInHead}
+use Rattle.dependency_graph.proofs.Prelude.{RuleInNoUnit, HeadedRuleInSeveral, Cycle, NonmonotonicUnseen, MonotonicUnseen, faultOr, verdict}
+use Rattle.dependency_graph.proofs.Prelude.{VerdictRight, passes, row-16, row-10, row-11, row-12, row-13, row-14}
 use Rattle.dependency_graph.proofs.Heads.{path-start}
-use Rattle.dependency_graph.proofs.Rows.{row-misses, row-fits}
+use Rattle.dependency_graph.proofs.ConditionRows.{row-misses, row-fits}
 use Rattle.dependency_graph.proofs.Offenders.{collects-given-in-head, collects-rule-in-no-unit, collects-headed-rule-in-several, collects-cycle}
-use Rattle.dependency_graph.proofs.Offenders.{collects-nonmonotonic-unseen, collects-monotonic-unseen}
-use Rattle.dependency_graph.proofs.Offenders.{given-iff, a-iff, b-iff, acyclic-iff, c-iff, d-iff}
+use Rattle.dependency_graph.proofs.Offenders.{collects-nonmonotonic-unseen, collects-monotonic-unseen, given-iff, a-iff, b-iff, acyclic-iff, c-iff}
+use Rattle.dependency_graph.proofs.Offenders.{d-iff}
 
 -- ---- one row
 
@@ -35,10 +24,10 @@ row-passes w f v e = go (ℕ-discrete w 0)
 
 -- a row is right where its fault is, and where it misses the rows below are
 row-right : (S : Units) {K : ℕ → Type 0} {w : ℕ} {C : Type 0} (f : ℕ → Fault) (v : Outcome) → Collects K w → ((r : ℕ) → K r → r < ATOMS)
-    → (w ≡ 0) ↔ C → (Least K (lowestOf w) → Right S (Refused (f (lowestOf w)))) → (C → Right S v) → Right S (faultOr w f v)
+    → (w ≡ 0) ↔ C → (Least K (lowestOf w) → VerdictRight S (Refused (f (lowestOf w)))) → (C → VerdictRight S v) → VerdictRight S (faultOr w f v)
 row-right S {w = w} f v c small iff hit miss = go (ℕ-discrete w 0)
   where
-    go : Dec (w ≡ 0) → Right S (faultOr w f v)
+    go : Dec (w ≡ 0) → VerdictRight S (faultOr w f v)
     go (yes e) = rw (row-misses w f v e) (miss (iff .0 e))
     go (no n) = rw (row-fits w f v n) (hit (collects-lowest-of c small n))
 
@@ -104,7 +93,7 @@ module _ (S : Units) (rules-fit : S .rules ≤ ATOMS) (units-fit : S .units ≤ 
   small-monotonic-unseen r o = omega (arith, o .is-rule)
 
   -- a verdict names the first row that fits and its lowest offender
-  pub verdict-right : Right S (verdict S)
+  pub verdict-right : VerdictRight S (verdict S)
   unfolding verdict
   verdict-right =
       row-right S _ _ (collects-given-in-head S) small-given-in-head (given-iff S) row-16
@@ -116,7 +105,7 @@ module _ (S : Units) (rules-fit : S .rules ≤ ATOMS) (units-fit : S .units ≤ 
       (λ d. passes (record { given-free = g; a = a; b = b; acyclic = y; c = c; d = d })))))))
 
   -- and only one verdict does
-  pub verdict-only : (v : Outcome) → Right S v → verdict S ≡ v
+  pub verdict-only : (v : Outcome) → VerdictRight S v → verdict S ≡ v
   unfolding verdict
   verdict-only v (passes p) = verdict-of-passes S p
   verdict-only v (row-16 least) = row-names Fault.GivenInHead _ (collects-given-in-head S) small-given-in-head least

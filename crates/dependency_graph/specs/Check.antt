@@ -25,13 +25,13 @@ verdict S =
     (faultOr (nonmonotonicUnseen S) Fault.NonmonotonicUnseen (faultOr (monotonicUnseen S) Fault.MonotonicUnseen Accepted)))))
 
 -- what a verdict says: the rows above it do not fit, and its spot is the lowest offender of its row
-pub data Right (S : Units) : Outcome → Type 0 where
-  passes : Passes S → Right S Accepted
-  row-16 : {r : ℕ} → Least (GivenInHead S) r → Right S (Refused (Fault.GivenInHead r))
-  row-10 : {r : ℕ} → GivenFree S → Least (RuleInNoUnit S) r → Right S (Refused (Fault.RuleInNoUnit r))
-  row-11 : {r : ℕ} → GivenFree S → ConditionA S → Least (HeadedRuleInSeveral S) r → Right S (Refused (Fault.HeadedRuleInSeveral r))
-  row-12 : {u : ℕ} → GivenFree S → ConditionA S → ConditionB S → Least (Cycle S) u → Right S (Refused (Fault.Cycle u))
+pub data VerdictRight (S : Units) : Outcome → Type 0 where
+  passes : Passes S → VerdictRight S Accepted
+  row-16 : {r : ℕ} → Least (GivenInHead S) r → VerdictRight S (Refused (Fault.GivenInHead r))
+  row-10 : {r : ℕ} → GivenFree S → Least (RuleInNoUnit S) r → VerdictRight S (Refused (Fault.RuleInNoUnit r))
+  row-11 : {r : ℕ} → GivenFree S → ConditionA S → Least (HeadedRuleInSeveral S) r → VerdictRight S (Refused (Fault.HeadedRuleInSeveral r))
+  row-12 : {u : ℕ} → GivenFree S → ConditionA S → ConditionB S → Least (Cycle S) u → VerdictRight S (Refused (Fault.Cycle u))
   row-13 : {r : ℕ} → GivenFree S → ConditionA S → ConditionB S → Acyclic S → Least (NonmonotonicUnseen S) r
-      → Right S (Refused (Fault.NonmonotonicUnseen r))
+      → VerdictRight S (Refused (Fault.NonmonotonicUnseen r))
   row-14 : {r : ℕ} → GivenFree S → ConditionA S → ConditionB S → Acyclic S → ConditionC S → Least (MonotonicUnseen S) r
-      → Right S (Refused (Fault.MonotonicUnseen r))
+      → VerdictRight S (Refused (Fault.MonotonicUnseen r))

@@ -10,7 +10,7 @@ ghost use Rattle.atoms.specs.Bounded.{unionIn};
 ghost use Rattle.plan.specs.Record.{Fitting};
 ghost use Rattle.dependency_graph.specs.Heads.{own as ownOf, heads as headsOf};
 ghost use Rattle.dependency_graph.specs.PlanUnits.{unitsOf, HeadsOf};
-ghost use Rattle.dependency_graph.specs.Filled.{Filled};
+ghost use Rattle.dependency_graph.specs.Filled.{FilledFirst};
 
 // H(u) and Hp(u) of each unit u, zeros behind.
 pub struct HeadAtoms {
@@ -21,7 +21,7 @@ pub struct HeadAtoms {
 // Fills the table with each unit's own head atoms.
 fn fill_own(plan: Plan, table: &mut [u64])
     requires { ⌜ Fitting plan × (plan .«unit_count» ≤ length (now table)) ⌝ }
-    ensures { λ _. ⌜ Filled (plan .«unit_count») (ownOf (unitsOf plan)) (now (table .entry)) (now (table .exit)) ⌝ }
+    ensures { λ _. ⌜ FilledFirst (plan .«unit_count») (ownOf (unitsOf plan)) (now (table .entry)) (now (table .exit)) ⌝ }
 {
     let mut u = 0;
     while u < plan.unit_count {
@@ -34,7 +34,7 @@ fn fill_own(plan: Plan, table: &mut [u64])
 fn fill_unions(given: u64, words: &[u64], which: &[u64], unit_count: usize, table: &mut [u64])
     requires { ⌜ («unit_count» ≤ ATOMS) × («unit_count» ≤ length (now words)) × («unit_count» ≤ length (now which))
         × («unit_count» ≤ length (now table)) ⌝ }
-    ensures { λ _. ⌜ Filled «unit_count» (λ u. given ∪ unionIn «unit_count» (getD (now (which .entry)) u 0) (λ v. getD (now (words .entry)) v 0))
+    ensures { λ _. ⌜ FilledFirst «unit_count» (λ u. given ∪ unionIn «unit_count» (getD (now (which .entry)) u 0) (λ v. getD (now (words .entry)) v 0))
         (now (table .entry)) (now (table .exit)) ⌝ }
 {
     let mut u = 0;
@@ -47,7 +47,7 @@ fn fill_unions(given: u64, words: &[u64], which: &[u64], unit_count: usize, tabl
 // Adds to each word of the table the one of the same number.
 fn add_words(words: &[u64], unit_count: usize, table: &mut [u64])
     requires { ⌜ («unit_count» ≤ length (now words)) × («unit_count» ≤ length (now table)) ⌝ }
-    ensures { λ _. ⌜ Filled «unit_count» (λ u. getD (now (words .entry)) u 0 ∪ getD (now (table .entry)) u 0)
+    ensures { λ _. ⌜ FilledFirst «unit_count» (λ u. getD (now (words .entry)) u 0 ∪ getD (now (table .entry)) u 0)
         (now (table .entry)) (now (table .exit)) ⌝ }
 {
     let mut u = 0;
@@ -60,7 +60,7 @@ fn add_words(words: &[u64], unit_count: usize, table: &mut [u64])
 // Fills the table with H(u) for each unit u.
 fn fill_heads(plan: Plan, table: &mut [u64])
     requires { ⌜ Fitting plan × (plan .«unit_count» ≤ length (now table)) ⌝ }
-    ensures { λ _. ⌜ Filled (plan .«unit_count») (headsOf (unitsOf plan)) (now (table .entry)) (now (table .exit)) ⌝ }
+    ensures { λ _. ⌜ FilledFirst (plan .«unit_count») (headsOf (unitsOf plan)) (now (table .entry)) (now (table .exit)) ⌝ }
 {
     let unit_count = plan.unit_count;
     let mut own = [0u64; MAX_UNITS];

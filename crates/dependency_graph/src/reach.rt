@@ -7,7 +7,7 @@ ghost use Rattle.atoms.specs.Word.{ATOMS};
 ghost use Rattle.plan.specs.Record.{Fitting};
 ghost use Rattle.dependency_graph.specs.Heads.{reachVia, reach as reachOf, through as throughUnit};
 ghost use Rattle.dependency_graph.specs.PlanUnits.{unitsOf};
-ghost use Rattle.dependency_graph.specs.Filled.{Filled};
+ghost use Rattle.dependency_graph.specs.Filled.{FilledFirst};
 
 // What a unit reaches once its paths may lead through unit k, which reaches `middle`.
 fn through(reached: u64, k: usize, middle: u64) -> u64
@@ -23,7 +23,7 @@ fn through(reached: u64, k: usize, middle: u64) -> u64
 // Fills the table with each unit's direct predecessors.
 fn fill_direct(plan: Plan, table: &mut [u64])
     requires { ⌜ Fitting plan × (plan .«unit_count» ≤ length (now table)) ⌝ }
-    ensures { λ _. ⌜ Filled (plan .«unit_count») (reachVia (unitsOf plan) 0) (now (table .entry)) (now (table .exit)) ⌝ }
+    ensures { λ _. ⌜ FilledFirst (plan .«unit_count») (reachVia (unitsOf plan) 0) (now (table .entry)) (now (table .exit)) ⌝ }
 {
     let all = atoms::first(plan.unit_count);
     let mut u = 0;
@@ -36,7 +36,7 @@ fn fill_direct(plan: Plan, table: &mut [u64])
 // Lets the paths in the table lead through unit k.
 fn open_middle(unit_count: usize, k: usize, table: &mut [u64])
     requires { ⌜ («unit_count» ≤ ATOMS) × (k < «unit_count») × («unit_count» ≤ length (now table)) ⌝ }
-    ensures { λ _. ⌜ Filled «unit_count» (λ u. throughUnit (getD (now (table .entry)) u 0) k (getD (now (table .entry)) k 0))
+    ensures { λ _. ⌜ FilledFirst «unit_count» (λ u. throughUnit (getD (now (table .entry)) u 0) k (getD (now (table .entry)) k 0))
         (now (table .entry)) (now (table .exit)) ⌝ }
 {
     let middle = table[k];
@@ -50,7 +50,7 @@ fn open_middle(unit_count: usize, k: usize, table: &mut [u64])
 // Fills the table with what each unit reaches.
 pub fn fill_reach(plan: Plan, table: &mut [u64])
     requires { ⌜ Fitting plan × (plan .«unit_count» ≤ length (now table)) ⌝ }
-    ensures { λ _. ⌜ Filled (plan .«unit_count») (reachOf (unitsOf plan)) (now (table .entry)) (now (table .exit)) ⌝ }
+    ensures { λ _. ⌜ FilledFirst (plan .«unit_count») (reachOf (unitsOf plan)) (now (table .entry)) (now (table .exit)) ⌝ }
 {
     fill_direct(plan, table);
     let mut k = 0;

@@ -1,10 +1,6 @@
 -- Claims: what a step tells of a goal, through steps that keep the goal.
-use mathlib.Core.Path.{refl, sym, subst, _∙_}
-use mathlib.Core.List.{List}
-use Prim.Native.Nat.{ℕ}
+use Rattle.explaining.proofs.Prelude.{refl, sym, subst, _∙_, List, ℕ, Heeds, Explains, Told}
 use Rattle.states.specs.declared.state.State.{State}
-use Rattle.learning.specs.Reason.{Heeds, Explains}
-use Rattle.explaining.specs.Claims.{Told}
 use Rattle.explaining.specs.declared.reasons.Claim.{Claim}
 
 module _ {K : ℕ → Type 0} {memory : List ℕ} {goal : State} {c : Claim} (t : Told K memory goal c) where

@@ -7,7 +7,7 @@ use learning::reason::learn_once;
 use learning::reason::replace;
 use learning::store::STEPS;
 use learning::trail::read_step;
-use propagating::Unit;
+use propagating::Job;
 use states::State;
 ghost use mathlib.Core.Path.{_≡_};
 ghost use Prim.Native.Nat.{_≤_, _<_};
@@ -36,7 +36,7 @@ fn lift_over(
     table: &[u64],
     counts: &[usize],
     desk: &[u64],
-    unit: Unit,
+    unit: Job,
     memory: &[u64],
     at: usize,
     n: State,
@@ -67,7 +67,7 @@ pub fn lift(
     table: &[u64],
     counts: &[usize],
     desk: &[u64],
-    unit: Unit,
+    unit: Job,
     memory: &mut [u64],
     stretch: Stretch,
     n: State,
@@ -93,12 +93,12 @@ pub fn lift(
 }
 
 // The pair lifted over the stretch, unless nothing can complete it: then there is nothing to blame.
-pub fn blame(
+pub fn lift_unless_clash(
     rules: &[u64],
     table: &[u64],
     counts: &[usize],
     desk: &[u64],
-    unit: Unit,
+    unit: Job,
     memory: &mut [u64],
     stretch: Stretch,
     n: State,

@@ -22,7 +22,7 @@ use parities::sum_step;
 use parities::telling_atoms;
 use pilots::table_step::table_step;
 use plan::FIRST_RULE;
-use propagating::Unit;
+use propagating::Job;
 use propagating::desk::BACKERS;
 use propagating::desk::DESK_WORDS;
 use propagating::desk::INDEX;
@@ -79,7 +79,7 @@ fn step_again(
     counts: &[usize],
     desk: &[u64],
     memory: &[u64],
-    unit: Unit,
+    unit: Job,
     c: Claim,
 ) -> State
     requires { ⌜ Prepared (now rules) (now table) (now counts) (now desk) unit × (MEMORY_WORDS ≤ length (now memory)) ⌝ }
@@ -200,7 +200,7 @@ fn looked_at(
     rules: &[u64],
     desk: &[u64],
     memory: &[u64],
-    unit: Unit,
+    unit: Job,
     step: usize,
     unfounded: u64,
 ) -> State
@@ -241,7 +241,7 @@ fn still_tells(
     counts: &[usize],
     desk: &[u64],
     memory: &[u64],
-    unit: Unit,
+    unit: Job,
     c: Claim,
 ) -> bool
     requires { ⌜ Prepared (now rules) (now table) (now counts) (now desk) unit × (MEMORY_WORDS ≤ length (now memory)) ⌝ }
@@ -259,7 +259,7 @@ fn spare(
     counts: &[usize],
     desk: &[u64],
     memory: &[u64],
-    unit: Unit,
+    unit: Job,
     c: Claim,
     atom: usize,
 ) -> Claim
@@ -293,7 +293,7 @@ fn spare_each(
     counts: &[usize],
     desk: &[u64],
     memory: &[u64],
-    unit: Unit,
+    unit: Job,
     claim: Claim,
     which: u64,
 ) -> Claim
@@ -319,7 +319,7 @@ fn shrink(
     counts: &[usize],
     desk: &[u64],
     memory: &[u64],
-    unit: Unit,
+    unit: Job,
     claim: Claim,
     at: usize,
 ) -> Claim
@@ -341,7 +341,7 @@ fn shrink(
 }
 
 // The atoms that the step drops together because they are unfounded: what the founded step drops from the state, or else those that were noted.
-fn unfounded_atoms(rules: &[u64], memory: &[u64], unit: Unit, step: usize, s: State) -> u64
+fn unfounded_atoms(rules: &[u64], memory: &[u64], unit: Job, step: usize, s: State) -> u64
     requires { ⌜ Lent (now rules) (unit .rules) × (MEMORY_WORDS ≤ length (now memory)) ⌝ }
 {
     match decode(step) {
@@ -369,7 +369,7 @@ pub fn explain(
     counts: &[usize],
     desk: &[u64],
     memory: &[u64],
-    unit: Unit,
+    unit: Job,
     c: Claim,
     at: usize,
 ) -> State

@@ -1,36 +1,24 @@
 -- What code and word tell a host of what a sheet lacks, from what `first_missing` promises; and with S-12 that its positions are just the answer sets.
-use mathlib.Core.Path.{_≡_, refl, ap, _∙_, subst}
-use mathlib.Core.Logic.{_↔_}
-use mathlib.Core.List.{List, List·Memᴰ}
-use Prim.Native.Nat.{ℕ}
-use native.Mathlib.Omega.{arith}
+use Rattle.exports.proofs.Prelude.{_≡_, refl, ap, _∙_, subst, _↔_, List, List·Memᴰ, ℕ, arith, Plan, IsByte, All, Contents, recordOf, Lays, ReadPlan}
+use Rattle.exports.proofs.Prelude.{PlanAnswerSet, Settles, Laid, SheetRight, lays-read, lays-accepted, SheetJudgeHanded, Reply}
 use Rattle.atoms.proofs.Lists.{member-getD, index-of}
-use Rattle.plan.specs.declared.record.Plan.{Plan}
-use Rattle.reading.specs.Layout.{IsByte, All, Contents, recordOf, Lays}
-use Rattle.reading.specs.declared.reader.Reading.{Reading}
-use Rattle.plan_meaning.specs.AnswerSets.{PlanAnswerSet}
-use Rattle.plan_meaning.specs.Settled.{Settles}
-use Rattle.judge.specs.Sheets.{Laid, SheetRight}
-use Rattle.demands.proofs.Demand1.{lays-read, lays-accepted}
-use Rattle.auditing.specs.Audit.{IsFull, Right, is-full, lacks-first, Audited, auditCode}
+use Rattle.auditing.specs.Audit.{IsFull, AuditRight, is-full, lacks-first, Audited, auditCode}
 use Rattle.auditing.specs.declared.Audit.{Audit}
 use Rattle.auditing.specs.declared.Audit.the-variants.{BadSheet}
-use Rattle.exports.specs.Sheets.{SheetJudgeHanded}
-use Rattle.exports.specs.Replies.{Reply}
 use Rattle.exports.specs.Audits.{lackIn, MissingHanded}
 use Rattle.exports.proofs.HostReplies.{replied}
 
 -- ---- what is handed over
 
 -- 0 tells that the sheet is full
-told-full : {p : Plan} {ps : List ℕ} {answer : Audit} {r : ℕ} → Right p ps answer → r ≡ auditCode answer → (r ≡ 0) ↔ IsFull p ps
+told-full : {p : Plan} {ps : List ℕ} {answer : Audit} {r : ℕ} → AuditRight p ps answer → r ≡ auditCode answer → (r ≡ 0) ↔ IsFull p ps
 told-full (is-full f) e = (λ _. f, λ _. e)
 told-full (lacks-first m) e = (λ z. absurd (omega arith), λ f. absurd (m .missing (f .each _ (m .settles))))
 
 module _ (bytes sheet : List ℕ) {found found′ : List ℕ} {r : ℕ} {said : Audit} (small : All IsByte bytes) (a : Audited bytes sheet said)
     (t : Reply auditCode lackIn said found found′ r) where
-  right : (c : Contents) → Lays bytes c → SheetRight BadSheet Right sheet (recordOf c) said
-  right c l = subst (λ (y : Reading). SheetRight BadSheet Right sheet (y .plan) said) (lays-read l) (a .answered .right (lays-accepted l))
+  right : (c : Contents) → Lays bytes c → SheetRight BadSheet AuditRight sheet (recordOf c) said
+  right c l = subst (λ (y : ReadPlan). SheetRight BadSheet AuditRight sheet (y .plan) said) (lays-read l) (a .answered .right (lays-accepted l))
 
   pub missing-handed : MissingHanded bytes sheet found found′ r
   missing-handed = record {

@@ -1,13 +1,7 @@
 -- What code, count and words tell a host that asks for several positions, from what `next_positions` promises.
-use mathlib.Core.Path.{refl}
-use mathlib.Core.List.{List}
-use Prim.Native.Nat.{ℕ}
-use Rattle.reading.specs.Layout.{IsByte, All}
-use Rattle.reading.proofs.Judged.{reading-judged}
-use Rattle.finding.specs.declared.least.From.{From}
+use Rattle.exports.proofs.Prelude.{refl, List, ℕ, IsByte, All, reading-judged, From, Reply}
 use Rattle.stepping.specs.Batch.{Stepped}
 use Rattle.stepping.specs.declared.Batch.{Batch}
-use Rattle.exports.specs.Replies.{Reply}
 use Rattle.exports.specs.Batches.{batchCode, countIn, BatchHanded}
 use Rattle.exports.proofs.HostReplies.{replied}
 

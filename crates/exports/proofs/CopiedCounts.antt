@@ -1,12 +1,6 @@
 -- Counts copied word by word, from the front, as far as there is room.
-use mathlib.Core.Path.{_≡_, refl, sym, ap, ap₂, _∙_}
-use mathlib.Core.List.{List, _++_}
-use Prim.Native.Nat.{ℕ, suc, _+_, _≤_, _<_}
-use native.Mathlib.Omega.{arith}
-use native.Mathlib.Numerals.{add-one}
-use lib.ListN.{length, take, drop, getD, set, length-set, drop-of-length-le}
-use lib.Seq.{take-all, take-suc, drop-cons, append-snoc, set-at, length-take-le}
-use Rattle.exports.specs.Handed.{copied}
+use Rattle.exports.proofs.Prelude.{_≡_, refl, sym, ap, ap₂, _∙_, List, _++_, ℕ, suc, _+_, _≤_, _<_, arith, add-one, length, take, drop, getD, set}
+use Rattle.exports.proofs.Prelude.{length-set, drop-of-length-le, take-all, take-suc, drop-cons, append-snoc, set-at, length-take-le, copied}
 
 -- of n words the first i are copied
 pub record Copying (n : ℕ) (from before after : List ℕ) (i : ℕ) : Type 0 where

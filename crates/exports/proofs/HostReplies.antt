@@ -1,17 +1,9 @@
 -- What code and words tell a host of a question to a plan, from what the question's function promises.
-use mathlib.Core.Path.{_≡_, ap, _∙_, subst}
-use mathlib.Core.List.{List}
-use Prim.Native.Nat.{ℕ}
-use Rattle.plan.specs.Faults.{refusalCode}
-use Rattle.plan.specs.declared.record.Plan.{Plan}
+use Rattle.exports.proofs.Prelude.{_≡_, ap, _∙_, subst, List, ℕ, refusalCode, Plan, IsByte, All, ReadPlan, reading-judged, lays-read, lays-accepted}
+use Rattle.exports.proofs.Prelude.{Reply, Replied}
 use Rattle.plan.specs.declared.fault.Fault.{Fault}
-use Rattle.reading.specs.Layout.{IsByte, All}
-use Rattle.reading.specs.declared.reader.Reading.{Reading}
-use Rattle.reading.proofs.Judged.{reading-judged}
 use Rattle.plan_meaning.specs.Asked.{asked, Answered}
-use Rattle.demands.proofs.Demand1.{lays-read, lays-accepted}
-use Rattle.exports.specs.Replies.{Reply, Replied}
-use Rattle.exports.proofs.Spots.{stopped-at-most, code-exact}
+use Rattle.exports.proofs.ExportedSpots.{stopped-at-most, code-exact}
 
 -- the variant that was told
 pub replies : {A : Type 0} {code : A → ℕ} {left : A → List ℕ → List ℕ} {said x : A} {words words′ : List ℕ} {r : ℕ} → said ≡ x → r ≡ code x
@@ -24,7 +16,7 @@ module _ {A : Type 0} {code : A → ℕ} {left : A → List ℕ → List ℕ} {r
   pub replied : Replied code left Right (asked refuse answer bytes) bytes words words′ r
   replied = record {
     computed = subst (λ (y : A). Reply code left y words words′ r) (a .is) t;
-    right = λ c l. (said, subst (λ (y : Reading). Right (y .plan) said) (lays-read l) (a .right (lays-accepted l)), t);
+    right = λ c l. (said, subst (λ (y : ReadPlan). Right (y .plan) said) (lays-read l) (a .right (lays-accepted l)), t);
     refused = λ n s st.
         let x = reading-judged bytes small .refused n s .1 st in
         let e = a .refused (x .fault) (x .is) in (

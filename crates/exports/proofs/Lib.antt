@@ -1,7 +1,11 @@
+-- What the proofs of this crate name of the kit, of the crates below and of its own definitions, each with its home.
+pub mod Prelude
+-- The laws of this crate that the proofs of its functions name, each with its home.
+pub mod Face
 -- Counts copied word by word, from the front, as far as there is room
 pub mod CopiedCounts
 -- The spot of every refusal fits into its code: a short table's length, a place in the bytes that decide, a rule or a unit
-pub mod Spots
+pub mod ExportedSpots
 -- What the codes tell a host, from what the functions below promise
 pub mod HostCodes
 -- Two words handed back as far as there is room

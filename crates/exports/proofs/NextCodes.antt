@@ -1,16 +1,7 @@
 -- What code and word tell a host that goes from one position to the next, from what `next_position` promises.
-use mathlib.Core.Path.{_≡_, refl, sym, ap}
-use mathlib.Core.List.{List, [], _∷_, _++_}
-use Prim.Native.Nat.{ℕ, _+_}
-use native.Mathlib.Omega.{arith}
-use lib.ListN.{length, set}
-use lib.Seq.{take-nil}
-use Rattle.reading.specs.Layout.{IsByte, All}
-use Rattle.finding.specs.declared.least.From.{From}
-use Rattle.stepping.specs.Followed.{Followed, code}
+use Rattle.exports.proofs.Prelude.{_≡_, refl, sym, ap, List, [], _∷_, _++_, ℕ, _+_, arith, length, set, take-nil, IsByte, All, From, copied, Reply}
+use Rattle.stepping.specs.Followed.{Followed, nextCode}
 use Rattle.stepping.specs.declared.Next.{Next}
-use Rattle.exports.specs.Handed.{copied}
-use Rattle.exports.specs.Replies.{Reply}
 use Rattle.exports.specs.Steps.{foundIn, NextHanded}
 use Rattle.exports.proofs.HostReplies.{replied}
 
@@ -29,5 +20,5 @@ first-word M (x ∷ xs) n = ap (λ (t : List ℕ). M ∷ (t ++ xs)) (sym (take-n
 -- ---- what is handed over
 
 pub next-handed : (bytes : List ℕ) (from : From) {found found′ : List ℕ} {r : ℕ} {next : Next} → All IsByte bytes → Followed bytes from next
-    → Reply code foundIn next found found′ r → NextHanded bytes from found found′ r
+    → Reply nextCode foundIn next found found′ r → NextHanded bytes from found found′ r
 next-handed bytes from small f t = record { replied = replied bytes (λ _. refl) (λ _. refl) small f t; meaning = f .meaning }

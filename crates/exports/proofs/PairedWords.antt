@@ -1,11 +1,5 @@
 -- Two words handed back as far as there is room.
-use mathlib.Core.Path.{_≡_, refl}
-use mathlib.Core.List.{List, [], _∷_}
-use Prim.Native.Nat.{ℕ, _<_}
-use native.Mathlib.Omega.{arith}
-use lib.ListN.{length, set}
-use lib.Seq.{take-nil}
-use Rattle.exports.specs.Handed.{copied}
+use Rattle.exports.proofs.Prelude.{_≡_, refl, List, [], _∷_, ℕ, _<_, arith, length, set, take-nil, copied}
 
 module _ (a b : ℕ) where
   pub no-room : (found : List ℕ) → length found ≡ 0 → found ≡ copied (a ∷ b ∷ []) found

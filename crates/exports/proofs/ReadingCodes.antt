@@ -1,17 +1,13 @@
 -- Readings for hosts: what is asked by a number, the two words of what was found, and that no answer is taken for a refusal.
-use mathlib.Core.Path.{_≡_, refl, sym, ap, _∙_, subst}
-use mathlib.Core.List.{List}
-use mathlib.Core.Logic.{_⊎_, inl, inr}
-use Prim.Native.Nat.{ℕ, _+_, _*_, _≤_, _<_, min}
-use native.Mathlib.Omega.{arith}
-use lib.ListN.{length}
-use borrow.Author.Tests.{eq-eqb, ne-eqb}
-use Rattle.plan.specs.Faults.{CODE_STEP, WIDEST_SPOT}
-use Rattle.packed_decimal.specs.Reading.{MODULUS, NOT_MEASURED}
-use Rattle.packed_decimal.specs.Refusals.{refusalNumber, refusalSpot}
-use Rattle.packed_decimal.specs.Answers.{numberOf, readingOf, addedOf}
+use Rattle.exports.proofs.Prelude.{_≡_, refl, sym, ap, _∙_, subst, List, _⊎_, inl, inr, ℕ, _+_, _*_, _≤_, _<_, min, arith, length, eq-eqb, ne-eqb}
+use Rattle.exports.proofs.Prelude.{CODE_STEP, WIDEST_SPOT, LargestFound, Largest, readingAsked, refusedCode, saidCode, numberCode, readingCode}
+use Rattle.exports.proofs.Prelude.{sumCode, addedCode, orderCode, comparedCode, foundCode, largestCode, largestWords, NumberHanded, ReadingHanded}
+use Rattle.exports.proofs.Prelude.{SumHanded, CompareHanded, LargestHanded}
+use Rattle.packed_decimal.specs.PackedReading.{MODULUS, NOT_MEASURED}
+use Rattle.packed_decimal.specs.ReadingRefusals.{refusalNumber, refusalSpot}
+use Rattle.packed_decimal.specs.ReadingAnswers.{numberOf, readingOf, addedOf}
 use Rattle.packed_decimal.specs.Largest.{READING_BYTES, readings, largestIn}
-use Rattle.packed_decimal.specs.Promised.{SaysNumber, Numbered, Repacked, Summed, HeldAgainst, Sought}
+use Rattle.packed_decimal.specs.ReadingPromises.{SaysNumber, Numbered, Repacked, ReadingsAdded, HeldAgainst, LargestSought}
 use Rattle.packed_decimal.specs.declared.meter.Reading.{Reading}
 use Rattle.packed_decimal.specs.declared.meter.Reading.the-variants.{Measured, NotMeasured}
 use Rattle.packed_decimal.specs.declared.refusal.Refusal.{Refusal}
@@ -26,26 +22,21 @@ use Rattle.packed_decimal.specs.declared.sum.Added.the-variants.{Is as SumIs}
 use Rattle.packed_decimal.specs.declared.limit.Compared.{Compared}
 use Rattle.packed_decimal.specs.declared.limit.Order.{Order}
 use Rattle.packed_decimal.specs.declared.limit.Order.the-variants.{Below, Equal, Above, NotMeasured as NoOrder}
-use Rattle.packed_decimal.specs.declared.largest.LargestFound.{LargestFound}
 use Rattle.packed_decimal.specs.declared.largest.LargestFound.the-variants.{At, NoneMeasured}
-use Rattle.packed_decimal.specs.declared.largest.Largest.{Largest}
 use Rattle.packed_decimal.specs.declared.largest.Largest.the-variants.{Refused}
 use Rattle.packed_decimal.proofs.Conversion.{said-is, word-fits}
 use Rattle.packed_decimal.proofs.Sums.{added-fits}
 use Rattle.packed_decimal.proofs.LargestMeaning.{refused-within}
-use Rattle.exports.specs.Readings.{asked, refusedCode, saidCode, numberCode, readingCode, sumCode, addedCode, orderCode, comparedCode}
-use Rattle.exports.specs.Readings.{foundCode, largestCode, largestWords}
-use Rattle.exports.specs.Readings.{NumberHanded, ReadingHanded, SumHanded, CompareHanded, LargestHanded}
 
 -- ---- what is asked
 
-pub asked-unmeasured : (number : ℕ) → number ≡ NOT_MEASURED → asked number ≡ NotMeasured
-unfolding asked
-asked-unmeasured number e = rw (eq-eqb number NOT_MEASURED e, asked) refl
+pub asked-unmeasured : (number : ℕ) → number ≡ NOT_MEASURED → readingAsked number ≡ NotMeasured
+unfolding readingAsked
+asked-unmeasured number e = rw (eq-eqb number NOT_MEASURED e, readingAsked) refl
 
-pub asked-measured : (number : ℕ) → ¬ (number ≡ NOT_MEASURED) → asked number ≡ Measured number
-unfolding asked
-asked-measured number n = rw (ne-eqb number NOT_MEASURED n, asked) refl
+pub asked-measured : (number : ℕ) → ¬ (number ≡ NOT_MEASURED) → readingAsked number ≡ Measured number
+unfolding readingAsked
+asked-measured number n = rw (ne-eqb number NOT_MEASURED n, readingAsked) refl
 
 -- ---- from what the functions promise to what their codes tell
 
@@ -57,7 +48,7 @@ number-handed p e = record {
   measured = λ x s. e ∙ ap numberCode (p .measured x s);
 }
 
-pub reading-handed : {number r : ℕ} {said : Reading} {answer : Packed} → Repacked said answer → said ≡ asked number → r ≡ readingCode answer
+pub reading-handed : {number r : ℕ} {said : Reading} {answer : Packed} → Repacked said answer → said ≡ readingAsked number → r ≡ readingCode answer
     → ReadingHanded number r
 reading-handed {number} {r} {said} {answer} p q e = record {
   code-is = e ∙ ap readingCode (p .is ∙ ap readingOf q);
@@ -68,7 +59,7 @@ reading-handed {number} {r} {said} {answer} p q e = record {
       subst (λ (w : ℕ). SaysNumber w number) (sym (e ∙ ap readingCode (m .1))) (m .2);
 }
 
-pub sum-handed : {a b r : ℕ} {answer : Added} → Summed a b answer → r ≡ addedCode answer → SumHanded a b r
+pub sum-handed : {a b r : ℕ} {answer : Added} → ReadingsAdded a b answer → r ≡ addedCode answer → SumHanded a b r
 sum-handed p e = record {
   code-is = e ∙ ap addedCode (p .is);
   refuses = record { first = λ h. e ∙ ap addedCode (p .refuses .first h); second = λ g h. e ∙ ap addedCode (p .refuses .second g h) };
@@ -86,7 +77,7 @@ compare-handed p e = record {
   above = λ x y s t l. e ∙ ap comparedCode (p .above x y s t l);
 }
 
-pub largest-handed : {bytes found found′ : List ℕ} {r : ℕ} {answer : Largest} → Sought bytes answer → r ≡ largestCode answer
+pub largest-handed : {bytes found found′ : List ℕ} {r : ℕ} {answer : Largest} → LargestSought bytes answer → r ≡ largestCode answer
     → found′ ≡ largestWords answer found → LargestHanded bytes found found′ r
 largest-handed {bytes} {found} p e w = record {
   code-is = e ∙ ap largestCode (p .is);
@@ -118,8 +109,8 @@ module _ (r : Refusal) where
       go (inl u) = rw u (omega (arith, refused-above r))
       go (inr m) = rw (m .2) (omega (arith, m .1, refused-above r))
 
-  pub word-no-refusal : (number word : ℕ) → readingOf (asked number) ≡ Word word → word < refusedCode r
-  word-no-refusal number word e = omega (arith, word-fits (asked number) word e, refused-above r)
+  pub word-no-refusal : (number word : ℕ) → readingOf (readingAsked number) ≡ Word word → word < refusedCode r
+  word-no-refusal number word e = omega (arith, word-fits (readingAsked number) word e, refused-above r)
 
   pub sum-no-refusal : (a b : ℕ) (s : Sum) → addedOf a b ≡ SumIs s → sumCode s < refusedCode r
   sum-no-refusal a b s e = let fits = added-fits a b s e in omega (arith, fits .carry-fits, fits .reading-fits, refused-above r)

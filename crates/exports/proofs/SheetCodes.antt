@@ -1,28 +1,15 @@
 -- What the number tells a host of a sheet, from what `judge_sheet` promises.
-use mathlib.Core.Path.{_≡_, ap, sym, _∙_, subst}
-use mathlib.Core.Logic.{_↔_}
-use mathlib.Core.List.{List}
-use Prim.Native.Nat.{ℕ, _+_, _*_, _≤_, _<_}
-use native.Mathlib.Omega.{arith}
-use native.Mathlib.Decide.{decLt}
-use lib.ListN.{length}
-use Rattle.plan.specs.Faults.{CODE_STEP}
-use Rattle.plan.specs.declared.record.Plan.{Plan}
-use Rattle.reading.specs.Layout.{IsByte, All, Contents, recordOf, Lays}
-use Rattle.reading.specs.Refusals.{Stopped}
-use Rattle.reading.specs.declared.reader.Reading.{Reading}
-use Rattle.reading.proofs.Judged.{reading-judged}
-use Rattle.judge.specs.Sheets.{sheetCode, AllSettle, FirstNot, Right, all-settled, first-not, SheetRight, SheetJudged}
+use Rattle.exports.proofs.Prelude.{_≡_, ap, sym, _∙_, subst, _↔_, List, ℕ, _+_, _*_, _≤_, _<_, arith, decLt, length, CODE_STEP, Plan, IsByte, All}
+use Rattle.exports.proofs.Prelude.{Contents, recordOf, Lays, Stopped, ReadPlan, reading-judged, sheetCode, AllSettle, FirstNot, PlacesRight}
+use Rattle.exports.proofs.Prelude.{all-settled, first-not, SheetRight, SheetJudged, lays-read, lays-accepted, SheetJudgeHanded}
 use Rattle.judge.specs.declared.sheet.SheetAnswer.{SheetAnswer}
 use Rattle.judge.specs.declared.sheet.SheetAnswer.the-variants.{BadSheet}
-use Rattle.demands.proofs.Demand1.{lays-read, lays-accepted}
-use Rattle.exports.specs.Sheets.{SheetJudgeHanded}
-use Rattle.exports.proofs.Spots.{stopped-at-most, code-exact}
+use Rattle.exports.proofs.ExportedSpots.{stopped-at-most, code-exact}
 
 -- ---- a number tells which it is
 
 module _ {p : Plan} {ps : List ℕ} (few : length ps ≤ 256) where
-  told-all : {r : ℕ} {answer : SheetAnswer} → Right p ps answer → r ≡ sheetCode answer → (r ≡ 256) ↔ AllSettle p ps
+  told-all : {r : ℕ} {answer : SheetAnswer} → PlacesRight p ps answer → r ≡ sheetCode answer → (r ≡ 256) ↔ AllSettle p ps
   told-all (all-settled a) e = (λ _. a, λ _. e)
   told-all (first-not f) e = (λ full. absurd (omega (arith, f .within)), λ a. absurd (f .not-here (a .each _ (f .within))))
 
@@ -35,7 +22,7 @@ module _ {p : Plan} {ps : List ℕ} (few : length ps ≤ 256) where
       go (no l) (yes k) = absurd (g .not-here (f .each-before b k))
       go (no l) (no k) = omega arith
 
-  told-first : {r : ℕ} {answer : SheetAnswer} (place : ℕ) → Right p ps answer → r ≡ sheetCode answer → ((place < 256) × (r ≡ place)) ↔ FirstNot p ps place
+  told-first : {r : ℕ} {answer : SheetAnswer} (place : ℕ) → PlacesRight p ps answer → r ≡ sheetCode answer → ((place < 256) × (r ≡ place)) ↔ FirstNot p ps place
   told-first place (all-settled a) e = (λ q. absurd (omega (arith, q .0, q .1)), λ f. absurd (f .not-here (a .each place (f .within))))
   told-first place (first-not f) e = (λ q. subst (FirstNot p ps) (sym e ∙ q .1) f, λ g. (omega (arith, g .within), e ∙ first-is-one f g))
 
@@ -48,8 +35,8 @@ module _ (bytes sheet : List ℕ) {r : ℕ} {answer : SheetAnswer} (small : All 
         let x = reading-judged bytes small .refused n s .1 st in
         e ∙ ap sheetCode (j .answered .refused (x .fault) (x .is)) ∙ code-exact x (stopped-at-most small st)
 
-    right : (c : Contents) → Lays bytes c → SheetRight BadSheet Right sheet (recordOf c) answer
-    right c l = subst (λ (x : Reading). SheetRight BadSheet Right sheet (x .plan) answer) (lays-read l) (j .answered .right (lays-accepted l))
+    right : (c : Contents) → Lays bytes c → SheetRight BadSheet PlacesRight sheet (recordOf c) answer
+    right c l = subst (λ (x : ReadPlan). SheetRight BadSheet PlacesRight sheet (x .plan) answer) (lays-read l) (j .answered .right (lays-accepted l))
 
     pub sheet-judge-handed : SheetJudgeHanded bytes sheet r
     sheet-judge-handed = record {

@@ -7,10 +7,10 @@ use Rattle.plan.specs.Faults.{refusalCode}
 use Rattle.reading.specs.Refusals.{Stopped}
 use Rattle.plan_meaning.specs.Read.{ReadMeans}
 use Rattle.finding.specs.declared.least.From.{From}
-use Rattle.stepping.specs.Batch.{steps, batch, filled, LeastSteps}
+use Rattle.stepping.specs.Batch.{steps, batch, batchFilled, LeastSteps}
 use Rattle.stepping.specs.declared.Batch.{Batch}
 use Rattle.stepping.specs.declared.Batch.the-variants.{Written, Refused}
-use Rattle.exports.specs.Handed.{copied}
+use Rattle.exports.specs.HandedOut.{copied}
 use Rattle.exports.specs.Replies.{Replied}
 
 -- the result as one number, beside the count
@@ -27,6 +27,6 @@ countIn (Refused f) count = count
 -- atoms as facts behind the place, rising, and all of them where fewer than there are words; with a reading fault nothing is written
 pub record BatchHanded (bytes : List ℕ) (from : From) (found found′ count count′ : List ℕ) (r : ℕ) : Type 0 where
   pub replied : Replied batchCode countIn (λ p _. LeastSteps p bytes from (length found)) (batch bytes from (length found)) bytes count count′ r
-  pub found-are : found′ ≡ filled (steps bytes from (length found)) found
+  pub found-are : found′ ≡ batchFilled (steps bytes from (length found)) found
   pub untouched : (n s : ℕ) → Stopped bytes n s → found′ ≡ found
   pub meaning : ReadMeans bytes

@@ -1,9 +1,9 @@
-pub mod Handed
+pub mod HandedOut
 pub mod Readings
 pub mod Replies
 pub mod Steps
-pub mod Rows
-pub mod Sheets
+pub mod ExportedRows
+pub mod ExportedSheets
 pub mod Blame
 pub mod Batches
 pub mod Audits

@@ -8,11 +8,11 @@ use Prim.Native.Nat.{ℕ, _+_, _*_, _≤_, _<_}
 use lib.Dec.{eqb}
 use Rattle.plan.specs.Faults.{CODE_STEP, codeOf}
 use Rattle.atoms.specs.Collected.{Least}
-use Rattle.packed_decimal.specs.Reading.{MODULUS, NOT_MEASURED, IsReading}
-use Rattle.packed_decimal.specs.Refusals.{refusalNumber, refusalSpot}
-use Rattle.packed_decimal.specs.Answers.{numberOf, readingOf, addedOf, comparedOf}
-use Rattle.packed_decimal.specs.Largest.{readings, wordAt, BadAt, largestIn, Right}
-use Rattle.packed_decimal.specs.Promised.{SaysNumber, RefusesBad, Adds}
+use Rattle.packed_decimal.specs.PackedReading.{MODULUS, NOT_MEASURED, IsReading}
+use Rattle.packed_decimal.specs.ReadingRefusals.{refusalNumber, refusalSpot}
+use Rattle.packed_decimal.specs.ReadingAnswers.{numberOf, readingOf, addedOf, comparedOf}
+use Rattle.packed_decimal.specs.Largest.{readings, readingAt, BadAt, largestIn, LargestRight}
+use Rattle.packed_decimal.specs.ReadingPromises.{SaysNumber, RefusesBad, IsSum}
 use Rattle.packed_decimal.specs.declared.meter.Reading.{Reading}
 use Rattle.packed_decimal.specs.declared.meter.Reading.the-variants.{Measured, NotMeasured}
 use Rattle.packed_decimal.specs.declared.refusal.Refusal.{Refusal}
@@ -32,7 +32,7 @@ use Rattle.packed_decimal.specs.declared.largest.LargestFound.{LargestFound}
 use Rattle.packed_decimal.specs.declared.largest.LargestFound.the-variants.{At, NoneMeasured}
 use Rattle.packed_decimal.specs.declared.largest.Largest.{Largest}
 use Rattle.packed_decimal.specs.declared.largest.Largest.the-variants.{Is as FoundIs, Refused as LargestRefused}
-use Rattle.exports.specs.Handed.{copied}
+use Rattle.exports.specs.HandedOut.{copied}
 
 -- a refusal: 65,536 times its number, and its spot
 abbrev pub refusedCode : Refusal → ℕ
@@ -48,8 +48,8 @@ numberCode (Says said) = saidCode said
 numberCode (NumberRefused r) = refusedCode r
 
 -- what a host asks to be said: 65,535 is not measured
-unfoldable pub asked : ℕ → Reading
-asked number = elim (eqb number NOT_MEASURED) [ true ↦ NotMeasured | false ↦ Measured number ]
+unfoldable pub readingAsked : ℕ → Reading
+readingAsked number = elim (eqb number NOT_MEASURED) [ true ↦ NotMeasured | false ↦ Measured number ]
 
 abbrev pub readingCode : Packed → ℕ
 readingCode (Word word) = word
@@ -103,7 +103,7 @@ pub record NumberHanded (reading r : ℕ) : Type 0 where
 
 -- the way back
 pub record ReadingHanded (number r : ℕ) : Type 0 where
-  pub code-is : r ≡ readingCode (readingOf (asked number))
+  pub code-is : r ≡ readingCode (readingOf (readingAsked number))
   pub unmeasured : number ≡ NOT_MEASURED → r ≡ NOT_MEASURED
   pub refused : ¬ (number ≡ NOT_MEASURED) → MODULUS ≤ number → r ≡ refusedCode LargeNumber
   pub measured : number < MODULUS → SaysNumber r number
@@ -113,7 +113,7 @@ pub record SumHanded (a b r : ℕ) : Type 0 where
   pub code-is : r ≡ addedCode (addedOf a b)
   pub refuses : RefusesBad a b refusedCode r
   pub unmeasured : IsReading a → IsReading b → (a ≡ NOT_MEASURED) ⊎ (b ≡ NOT_MEASURED) → r ≡ NOT_MEASURED
-  pub measured : (x y : ℕ) → SaysNumber a x → SaysNumber b y → (s : Sum) × (r ≡ sumCode s) × Adds x y s
+  pub measured : (x y : ℕ) → SaysNumber a x → SaysNumber b y → (s : Sum) × (r ≡ sumCode s) × IsSum x y s
 
 -- a comparison
 pub record CompareHanded (reading limit r : ℕ) : Type 0 where
@@ -130,4 +130,4 @@ pub record LargestHanded (bytes found found′ : List ℕ) (r : ℕ) : Type 0 wh
   pub found-is : found′ ≡ largestWords (largestIn bytes) found
   pub refused : (i : ℕ) → i < readings bytes → Least (BadAt bytes) i → (r ≡ refusedCode (BadReading i)) × (found′ ≡ found)
   pub sought : ((i : ℕ) → i < readings bytes → ¬ BadAt bytes i)
-      → (what : LargestFound) × Right (wordAt bytes) (readings bytes) what × (r ≡ foundCode what) × (found′ ≡ foundWords what found)
+      → (what : LargestFound) × LargestRight (readingAt bytes) (readings bytes) what × (r ≡ foundCode what) × (found′ ≡ foundWords what found)

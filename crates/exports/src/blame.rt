@@ -3,7 +3,7 @@ use crate::steps::hand_word;
 use blaming::Blame;
 use blaming::blame_plan;
 use plan::refusal_code;
-ghost use Rattle.blaming.specs.Blamed.{code as blameCode};
+ghost use Rattle.blaming.specs.Blamed.{blameCode as blameCode};
 ghost use Rattle.exports.specs.Replies.{Reply};
 ghost use Rattle.exports.specs.Blame.{wordIn, BlameHanded};
 

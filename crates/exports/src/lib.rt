@@ -21,7 +21,7 @@ use questions::count_words;
 use questions::counted_code;
 use unit_lists::list_positions;
 ghost use mathlib.Core.Path.{_≡_};
-ghost use Rattle.exports.specs.Handed.{outcomeCode, copied, ListHanded, JudgeHanded, SheetHanded, CountHanded, CommonHanded};
+ghost use Rattle.exports.specs.HandedOut.{outcomeCode, copied, ListHanded, JudgeHanded, SheetHanded, CountHanded, CommonHanded};
 
 // 0 for a plan that is listed, and 65536 times the number plus the spot for a refusal.
 fn outcome_code(outcome: Outcome) -> u64

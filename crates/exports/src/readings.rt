@@ -21,7 +21,7 @@ use packed_decimal::to_reading;
 use plan::CODE_STEP;
 use plan::code_of;
 ghost use mathlib.Core.Path.{_≡_};
-ghost use Rattle.exports.specs.Readings.{refusedCode, saidCode, asked as askedFor, sumCode, orderCode, foundCode, foundWords};
+ghost use Rattle.exports.specs.Readings.{refusedCode, saidCode, readingAsked as askedFor, sumCode, orderCode, foundCode, foundWords};
 ghost use Rattle.exports.specs.Readings.{NumberHanded, ReadingHanded, SumHanded, CompareHanded, LargestHanded};
 
 // Not measured, as a number.

@@ -2,7 +2,7 @@
 use relay_rows::rearranged_code;
 use relay_rows::to_positions;
 use relay_rows::to_rows;
-ghost use Rattle.exports.specs.Rows.{RowsHanded, PositionsHanded};
+ghost use Rattle.exports.specs.ExportedRows.{RowsHanded, PositionsHanded};
 
 // The rows of the first `count` positions of a list: bit j of row i tells whether position j has atom i up. 0, or the code of the refusal.
 #[no_mangle]

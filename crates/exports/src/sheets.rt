@@ -1,7 +1,7 @@
 // A whole sheet judged: a plan and up to 256 positions, eight bytes each, lowest first.
 use judge::judge_sheet;
 use judge::sheet_code;
-ghost use Rattle.exports.specs.Sheets.{SheetJudgeHanded};
+ghost use Rattle.exports.specs.ExportedSheets.{SheetJudgeHanded};
 
 // Judges the positions in turn: 256 if all are settled, the place from 0 of the first that is not, else the code of the refusal.
 #[no_mangle]

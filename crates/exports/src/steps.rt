@@ -6,8 +6,8 @@ use stepping::next_position;
 ghost use mathlib.Core.Path.{_≡_};
 ghost use mathlib.Core.List.{[], _∷_};
 ghost use Rattle.finding.specs.declared.least.From.the-variants.{Start, Above};
-ghost use Rattle.exports.specs.Handed.{copied};
-ghost use Rattle.stepping.specs.Followed.{code as nextCode};
+ghost use Rattle.exports.specs.HandedOut.{copied};
+ghost use Rattle.stepping.specs.Followed.{nextCode as nextCode};
 ghost use Rattle.exports.specs.Replies.{Reply};
 ghost use Rattle.exports.specs.Steps.{foundIn, NextHanded};
 

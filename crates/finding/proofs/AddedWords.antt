@@ -1,18 +1,8 @@
 -- Words added rising behind a count: none, one, as many as there is room for, and the higher ones behind the lower ones.
-use mathlib.Core.Path.{_≡_, refl, sym, ap, _∙_, subst}
-use mathlib.Core.Logic.{_⊎_, inl, inr}
-use mathlib.Core.List.{List, [], _++_, List·Memᴰ, List·Memᴰ·not-nil}
-use Prim.Native.Nat.{ℕ, _+_, _-_, _≤_, _<_}
-use native.Mathlib.Omega.{arith}
-use native.Mathlib.Decide.{decLt}
-use lib.ListN.{length, getD, set, take, drop, length-set, length-take, length-drop, take-append-drop}
-use lib.Seq.{getD-set-same, getD-set-other, getD-take, getD-drop, ext-getD}
-use Rattle.atoms.proofs.Lists.{member-getD, index-of}
-use Rattle.atoms.proofs.Rising.{rising-by}
-use Rattle.searching.specs.declared.witness.Witness.the-variants.{Member, Nothing}
-use Rattle.finding.specs.Least.{Behind, LeastOf, least, none as no-least, Leasts}
-use Rattle.finding.specs.declared.least.From.{From}
-use Rattle.finding.specs.Gather.{Stands, Added, Sought}
+use Rattle.finding.proofs.Prelude.{_≡_, refl, sym, ap, _∙_, subst, _⊎_, inl, inr, List, [], _++_, List·Memᴰ, List·Memᴰ·not-nil, ℕ, _+_, _-_, _≤_, _<_}
+use Rattle.finding.proofs.Prelude.{arith, decLt, length, getD, set, take, drop, length-set, length-take, length-drop, take-append-drop, getD-set-same}
+use Rattle.finding.proofs.Prelude.{getD-set-other, getD-take, getD-drop, ext-getD, member-getD, index-of, rising-by, Member, Nothing, Behind, LeastOf}
+use Rattle.finding.proofs.Prelude.{least, none as no-least, Leasts, From, StandsAmong, Added, Sought}
 
 -- nothing is to be added
 pub added-none : {Q : ℕ → Type 0} {list : List ℕ} {count : ℕ} → count ≤ length list → ((N : ℕ) → ¬ Q N) → Added Q list count list count
@@ -101,11 +91,11 @@ module _ {A B C : ℕ → Type 0} {list₀ list₁ list₂ : List ℕ} {count₀
       go (no h) (yes g) = absurd (omega arith)
       go (no h) (no g) = b .rises i j (omega arith) m k
 
-  both-all : (N : ℕ) → C N → Stands list₂ count₀ count₂ N ⊎ ((count₂ ≡ length list₀) × ((i : ℕ) → count₀ ≤ i → i < count₂ → getD list₂ i 0 < N))
+  both-all : (N : ℕ) → C N → StandsAmong list₂ count₀ count₂ N ⊎ ((count₂ ≡ length list₀) × ((i : ℕ) → count₀ ≤ i → i < count₂ → getD list₂ i 0 < N))
   both-all N c = go (split N c)
     where
-      higher : B N → Stands list₂ count₁ count₂ N ⊎ ((count₂ ≡ length list₁) × ((i : ℕ) → count₁ ≤ i → i < count₂ → getD list₂ i 0 < N))
-          → Stands list₂ count₀ count₂ N ⊎ ((count₂ ≡ length list₀) × ((i : ℕ) → count₀ ≤ i → i < count₂ → getD list₂ i 0 < N))
+      higher : B N → StandsAmong list₂ count₁ count₂ N ⊎ ((count₂ ≡ length list₁) × ((i : ℕ) → count₁ ≤ i → i < count₂ → getD list₂ i 0 < N))
+          → StandsAmong list₂ count₀ count₂ N ⊎ ((count₂ ≡ length list₀) × ((i : ℕ) → count₀ ≤ i → i < count₂ → getD list₂ i 0 < N))
       higher q (inl s) = inl (record { place = s .place; from = omega (arith, s .from, a .more); to = s .to; is = s .is })
       higher q (inr o) = inr (o .0 ∙ a .long, λ i l k. go i l k (decLt i count₁))
         where
@@ -113,14 +103,14 @@ module _ {A B C : ℕ → Type 0} {list₀ list₁ list₂ : List ℕ} {count₀
           go i l k (yes h) = lower _ _ (low i l h) q
           go i l k (no h) = o .1 i (omega arith) k
 
-      deeper : Stands list₁ count₀ count₁ N ⊎ ((count₁ ≡ length list₀) × ((i : ℕ) → count₀ ≤ i → i < count₁ → getD list₁ i 0 < N))
-          → Stands list₂ count₀ count₂ N ⊎ ((count₂ ≡ length list₀) × ((i : ℕ) → count₀ ≤ i → i < count₂ → getD list₂ i 0 < N))
+      deeper : StandsAmong list₁ count₀ count₁ N ⊎ ((count₁ ≡ length list₀) × ((i : ℕ) → count₀ ≤ i → i < count₁ → getD list₁ i 0 < N))
+          → StandsAmong list₂ count₀ count₂ N ⊎ ((count₂ ≡ length list₀) × ((i : ℕ) → count₀ ≤ i → i < count₂ → getD list₂ i 0 < N))
       deeper (inl s) = inl (record { place = s .place; from = s .from; to = omega (arith, s .to, b .more); is = stays (s .place) (s .to) ∙ s .is })
       deeper (inr o) =
           let k : count₂ ≡ count₁ = omega (arith, o .0, b .more, ends) in
           inr (k ∙ o .0, λ i l m. subst (λ (x : ℕ). x < N) (sym (stays i (omega arith))) (o .1 i l (omega arith)))
 
-      go : A N ⊎ B N → Stands list₂ count₀ count₂ N ⊎ ((count₂ ≡ length list₀) × ((i : ℕ) → count₀ ≤ i → i < count₂ → getD list₂ i 0 < N))
+      go : A N ⊎ B N → StandsAmong list₂ count₀ count₂ N ⊎ ((count₂ ≡ length list₀) × ((i : ℕ) → count₀ ≤ i → i < count₂ → getD list₂ i 0 < N))
       go (inl q) = deeper (a .all N q)
       go (inr q) = higher q (b .all N q)
 
@@ -145,14 +135,14 @@ module _ {Q : ℕ → Type 0} {before after : List ℕ} {r : ℕ} (a : Added Q b
   pub one-none : r ≡ 0 → LeastOf Q Nothing
   one-none z = no-least (λ N q. go N (a .all N q))
     where
-      go : (N : ℕ) → Stands after 0 r N ⊎ ((r ≡ length before) × ((i : ℕ) → 0 ≤ i → i < r → getD after i 0 < N)) → ⊥
+      go : (N : ℕ) → StandsAmong after 0 r N ⊎ ((r ≡ length before) × ((i : ℕ) → 0 ≤ i → i < r → getD after i 0 < N)) → ⊥
       go N (inl s) = omega (arith, s .to)
       go N (inr o) = omega (arith, o .0)
 
   pub one-least : ¬ (r ≡ 0) → LeastOf Q (Member (getD after 0 0))
   one-least n = least (a .each 0 (omega arith) (omega arith)) (λ N q. go N (a .all N q))
     where
-      go : (N : ℕ) → Stands after 0 r N ⊎ ((r ≡ length before) × ((i : ℕ) → 0 ≤ i → i < r → getD after i 0 < N)) → getD after 0 0 ≤ N
+      go : (N : ℕ) → StandsAmong after 0 r N ⊎ ((r ≡ length before) × ((i : ℕ) → 0 ≤ i → i < r → getD after i 0 < N)) → getD after 0 0 ≤ N
       go N (inl s) =
           let z : s .place ≡ 0 = omega (arith, s .to, a .room) in
           let e : getD after 0 0 ≡ N = subst (λ (i : ℕ). getD after i 0 ≡ N) z (s .is) in
@@ -197,7 +187,7 @@ module _ {Q : ℕ → Type 0} {before after : List ℕ} {r : ℕ} (a : Added Q b
     all = λ N q. go N (a .all N q);
   }
     where
-      go : (N : ℕ) → Stands after 0 r N ⊎ ((r ≡ length before) × ((i : ℕ) → 0 ≤ i → i < r → getD after i 0 < N))
+      go : (N : ℕ) → StandsAmong after 0 r N ⊎ ((r ≡ length before) × ((i : ℕ) → 0 ≤ i → i < r → getD after i 0 < N))
           → List·Memᴰ N (take r after) ⊎ ((length (take r after) ≡ length before) × ((M : ℕ) → List·Memᴰ M (take r after) → M < N))
       go N (inl s) = inl (subst (λ (M : ℕ). List·Memᴰ M (take r after)) (s .is) (written-has (s .place) (s .to)))
       go N (inr o) = inr (

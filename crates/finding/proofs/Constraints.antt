@@ -1,23 +1,11 @@
 -- Fewer constraints have no fewer answer sets, and so the greedy pass is right.
-use mathlib.Core.Path.{_≡_, refl, subst}
-use mathlib.Core.Logic.{_⊎_, inl, inr}
-use mathlib.Core.List.{List}
-use Prim.Native.Nat.{ℕ, _^_, _<_}
-use native.Mathlib.Decide.{ℕ-discrete}
-use lib.ListN.{getD}
-use Rattle.atoms.specs.Word.{ATOMS, Has, _⊆_, _∪_, _∖_, atom, Lowest}
-use Rattle.atoms.proofs.Sets.{has-none, has-left, has-right, union-cases, has-without, without-left, without-right, has-atom, atom-only}
-use Rattle.atoms.proofs.Sets.{subset-refl, subset-trans}
-use Rattle.answer_sets.specs.AnswerSet.{AnswerSet}
-use Rattle.answer_sets.specs.Lent.{lent, Lent}
+use Rattle.finding.proofs.Prelude.{_≡_, refl, subst, _⊎_, inl, inr, List, ℕ, _^_, _<_, ℕ-discrete, getD, ATOMS, Has, _⊆_, _∪_, _∖_, atom, Lowest}
+use Rattle.finding.proofs.Prelude.{has-none, has-left, has-right, union-cases, has-without, without-left, without-right, has-atom, atom-only}
+use Rattle.finding.proofs.Prelude.{subset-refl, subset-trans, AnswerSet, lent, Lent, State, Job, Witnessed, Witness, Member, Nothing, unitOf}
+use Rattle.finding.proofs.Prelude.{Unpiloted, Standing, Rooted}
 use Rattle.answer_sets.proofs.Support.{fewer-constraints}
-use Rattle.states.specs.declared.state.State.{State}
-use Rattle.propagating.specs.declared.unit.Unit.{Unit}
-use Rattle.searching.specs.Witness.{Witnessed, none}
-use Rattle.searching.specs.declared.witness.Witness.{Witness}
-use Rattle.searching.specs.declared.witness.Witness.the-variants.{Member, Nothing}
+use Rattle.searching.specs.Witness.{none}
 use Rattle.searching.proofs.Witnesses.{witnessed-iff, witnessed-met}
-use Rattle.finding.specs.Whole.{unitOf, Fitting, Standing, Rooted}
 use Rattle.finding.proofs.Wholes.{fits-answers, answers-fit}
 use Rattle.finding.specs.Few.{Constraints, NoneSettled, OneSettled, Tried, drops, keeps, Going, done, tries, FewBlamed}
 
@@ -132,9 +120,9 @@ lent-some headed held others f e l = rw e (record { each = λ r h. l .each r (go
 pub others-within : (held c : ℕ) {others : ℕ} → others ≡ held ∖ atom c → others ⊆ held
 others-within held c e = rw e (record { each = λ i h. without-left held (atom c) h })
 
-pub any-asked : (rules : List ℕ) {desk memory : List ℕ} {unit : Unit} {which facts : ℕ} {root : State} {w : Witness}
+pub any-asked : (rules : List ℕ) {desk memory : List ℕ} {unit : Job} {which facts : ℕ} {root : State} {w : Witness}
     → ((i : ℕ) → getD rules i 0 < 2 ^ ATOMS) → facts < 2 ^ ATOMS → which < 2 ^ ATOMS → unit ≡ unitOf desk which facts
-    → Standing rules desk memory unit facts root → Rooted rules desk unit facts root → Witnessed (Fitting rules desk unit facts root) w
+    → Standing rules desk memory unit facts root → Rooted rules desk unit facts root → Witnessed (Unpiloted rules desk unit facts root) w
     → Witnessed (AnswerSet (lent rules) which facts) w
 any-asked rules g f h e y t k = witnessed-iff (λ M q. fits-answers y e h q) (λ M a. answers-fit g f h e t a) k
 

@@ -1,16 +1,8 @@
 -- The least with a property: there is one answer, and the lowest number below a bound that passes a test is it.
-use mathlib.Core.Path.{_≡_, refl, ap}
-use mathlib.Core.Bool.{Bool}
-use Prim.Native.Nat.{ℕ, _≤_, _<_}
-use native.Mathlib.Omega.{arith}
-use native.Mathlib.Decide.{decLt}
-use Rattle.atoms.specs.Bounded.{Decides}
+use Rattle.finding.proofs.Prelude.{_≡_, refl, ap, Bool, ℕ, _≤_, _<_, arith, decLt, Decides, decided-true, not-both, Witness, Member, Nothing, LeastOf}
+use Rattle.finding.proofs.Prelude.{least, none}
 use Rattle.atoms.specs.Collected.{lowest}
-use Rattle.atoms.proofs.Tests.{decided-true, not-both}
 use Rattle.atoms.proofs.Collected.{lowest-here, lowest-least}
-use Rattle.searching.specs.declared.witness.Witness.{Witness}
-use Rattle.searching.specs.declared.witness.Witness.the-variants.{Member, Nothing}
-use Rattle.finding.specs.Least.{LeastOf, least, none}
 
 pub least-only : {Q : ℕ → Type 0} {v w : Witness} → LeastOf Q v → LeastOf Q w → v ≡ w
 least-only (least {M = M} q l) (least {M = N} r k) = ap Member (same (l N r) (k M q))

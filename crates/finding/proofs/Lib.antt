@@ -1,3 +1,7 @@
+-- What the proofs of this crate name of the kit, of the crates below and of its own definitions, each with its home.
+pub mod Prelude
+-- The laws of this crate that the proofs of its functions name, each with its home.
+pub mod Face
 -- A whole program as one unit: what belongs to it are its answer sets
 pub mod Wholes
 -- Fewer constraints have no fewer answer sets, and so the greedy pass is right

@@ -1,31 +1,11 @@
 -- Positions that are like the place from an atom on: they are the ones behind it up to the last of them, and all others come later.
-use mathlib.Core.Path.{_≡_, sym, _∙_, subst}
-use mathlib.Core.Bool.{Bool, false, not}
-use mathlib.Core.Logic.{_⊎_, inl, inr}
-use mathlib.Core.List.{List, []}
-use Prim.Native.Nat.{ℕ, _+_, _^_, _≤_, _<_}
-use native.Mathlib.Omega.{arith}
-use native.Mathlib.Decide.{decLt, ℕ-discrete}
-use lib.ListN.{length}
-use lib.Pow.{pow-pos}
-use borrow.Author.Tests.{not-true, not-false}
-use Rattle.atoms.specs.Word.{ATOMS, Has, high, _∩_, _∪_, _∖_, outside, below}
-use Rattle.atoms.specs.Bounded.{Decides}
-use Rattle.atoms.proofs.Sets.{has-dec, has-lt, has-left, has-right, union-cases, has-cut, cut-left, cut-right, has-without, without-left, without-right}
-use Rattle.atoms.proofs.Sets.{has-below, below-lt, has-outside, outside-lt, outside-lacks, subset-le, subset-trans}
-use Rattle.atoms.proofs.HighParts.{high-same, high-at, high-mono}
-use Rattle.states.specs.State.{Completes, undecided}
-use Rattle.states.specs.declared.state.State.{State}
-use Rattle.propagating.specs.declared.unit.Unit.{Unit}
-use Rattle.searching.specs.declared.witness.Witness.{Witness}
-use Rattle.searching.specs.declared.witness.Witness.the-variants.{Member}
-use Rattle.finding.specs.Whole.{hiddenOf, Fitting, Standing}
-use Rattle.finding.specs.Least.{Behind, from-start, above}
-use Rattle.finding.specs.Gather.{Added, Due, darkOf, PlaceIn, at-place, known, Node}
-use Rattle.finding.specs.Near.{likeOf, highFree, lastLike, PlaceAt, Further, Between, Reaches}
-use Rattle.finding.specs.declared.least.From.{From}
-use Rattle.finding.specs.declared.least.From.the-variants.{Start, Above}
-use Rattle.finding.specs.declared.gather.Branch.{Branch}
+use Rattle.finding.proofs.Prelude.{_≡_, sym, _∙_, subst, Bool, false, not, _⊎_, inl, inr, List, [], ℕ, _+_, _^_, _≤_, _<_, arith, decLt, ℕ-discrete}
+use Rattle.finding.proofs.Prelude.{length, pow-pos, not-true, not-false, ATOMS, Has, high, _∩_, _∪_, _∖_, outside, below, Decides, has-dec, has-lt}
+use Rattle.finding.proofs.Prelude.{has-left, has-right, union-cases, has-cut, cut-left, cut-right, has-without, without-left, without-right, has-below}
+use Rattle.finding.proofs.Prelude.{below-lt, has-outside, outside-lt, outside-lacks, subset-le, subset-trans, high-same, high-at, high-mono, Completes}
+use Rattle.finding.proofs.Prelude.{undecided, State, Job, Witness, Member, hiddenOf, Unpiloted, Standing, Behind, from-start, above, Added, Due}
+use Rattle.finding.proofs.Prelude.{darkOf, PlaceIn, at-place, known, Node, likeOf, highFree, lastLike, PlaceAt, Further, BetweenPlaces, Reaches, From}
+use Rattle.finding.proofs.Prelude.{Start, Above, WalkNode}
 use Rattle.finding.specs.declared.near.Reached.{Reached}
 use Rattle.finding.proofs.AddedWords.{added-none, added-iff, added-both}
 use Rattle.finding.proofs.Walks.{behind-up, behind-more, above-of}
@@ -153,9 +133,9 @@ module _ (D : State) (p b : ℕ) (l : p < 2 ^ ATOMS) (c : Completes D p) where
 no-pilot : (s : State) (X b i : ℕ) → Has (highFree s X b) i → ¬ Has X i
 no-pilot s X b i h = dark-free s X (without-left (undecided (darkOf s X .up) (darkOf s X .dropped)) (below b) h)
 
-module _ {rules desk : List ℕ} {unit : Unit} {facts : ℕ} (s : State) where
+module _ {rules desk : List ℕ} {unit : Job} {facts : ℕ} (s : State) where
   -- who fits the state that is like p fits the state
-  fits-back : (H p : ℕ) {M : ℕ} → Fitting rules desk unit facts (likeOf s H p) M → Fitting rules desk unit facts s M
+  fits-back : (H p : ℕ) {M : ℕ} → Unpiloted rules desk unit facts (likeOf s H p) M → Unpiloted rules desk unit facts s M
   fits-back H p f = record {
     whole = f .whole;
     wanted = record { belongs = f .wanted .belongs; completes = like-back s H p (f .wanted .completes) };
@@ -164,7 +144,7 @@ module _ {rules desk : List ℕ} {unit : Unit} {facts : ℕ} (s : State) where
 
   module _ (p b : ℕ) {M : ℕ} where
     -- and is like p without pilots
-    fits-like : Fitting rules desk unit facts (likeOf s (highFree s (hiddenOf unit facts) b) p) M
+    fits-like : Unpiloted rules desk unit facts (likeOf s (highFree s (hiddenOf unit facts) b) p) M
         → Completes (likeOf (darkOf s (hiddenOf unit facts)) (highFree s (hiddenOf unit facts) b) p) M
     fits-like f =
         like-completes (darkOf s X) H p (fits-dark (fits-back H p f))
@@ -179,8 +159,8 @@ module _ {rules desk : List ℕ} {unit : Unit} {facts : ℕ} (s : State) where
         H : ℕ
         H = highFree s (hiddenOf unit facts) b
 
-    like-fits : p < 2 ^ ATOMS → Completes (darkOf s (hiddenOf unit facts)) p → high b M ≡ high b p → Fitting rules desk unit facts s M
-        → Fitting rules desk unit facts (likeOf s (highFree s (hiddenOf unit facts) b) p) M
+    like-fits : p < 2 ^ ATOMS → Completes (darkOf s (hiddenOf unit facts)) p → high b M ≡ high b p → Unpiloted rules desk unit facts s M
+        → Unpiloted rules desk unit facts (likeOf s (highFree s (hiddenOf unit facts) b) p) M
     like-fits l c e f = record {
       whole = f .whole;
       wanted = record { belongs = f .wanted .belongs; completes = like-completes s H p (f .wanted .completes) into back };
@@ -206,7 +186,7 @@ module _ {rules desk : List ℕ} {unit : Unit} {facts : ℕ} (s : State) where
   pub near-added : {from : From} {passed memory before after : List ℕ} {p count r : ℕ} (b : ℕ) → Standing rules desk memory unit facts s
       → PlaceAt unit facts from s p
       → Added (Due rules desk unit facts from passed (likeOf s (highFree s (hiddenOf unit facts) b) p)) before count after r
-      → Added (Between rules desk unit facts from (Above (lastLike s (hiddenOf unit facts) (highFree s (hiddenOf unit facts) b) p)) passed s) before count
+      → Added (BetweenPlaces rules desk unit facts from (Above (lastLike s (hiddenOf unit facts) (highFree s (hiddenOf unit facts) b) p)) passed s) before count
       after r
   near-added {from} {passed} {p = p} b y q a =
       added-iff (λ M d. record {
@@ -224,13 +204,13 @@ module _ {rules desk : List ℕ} {unit : Unit} {facts : ℕ} (s : State) where
       H : ℕ
       H = highFree s (hiddenOf unit facts) b
 
-      go : (M : ℕ) → Between rules desk unit facts from (Above (lastLike s X H p)) passed s M → (high b M ≡ high b p) ⊎ (lastLike s X H p < M)
+      go : (M : ℕ) → BetweenPlaces rules desk unit facts from (Above (lastLike s X H p)) passed s M → (high b M ≡ high b p) ⊎ (lastLike s X H p < M)
           → Due rules desk unit facts from passed (likeOf s H p) M
       go M d (inl e) = record { fits = like-fits p b (q .word) (q .completes) e (d .due .fits); sought = d .due .sought }
       go M d (inr k) = absurd (d .reached (above k))
 
   -- the node of the state that is like the place
-  pub near-node : {from : From} {memory : List ℕ} {p : ℕ} (b : ℕ) {node : Branch} → Standing rules desk memory unit facts s → PlaceAt unit facts from s p
+  pub near-node : {from : From} {memory : List ℕ} {p : ℕ} (b : ℕ) {node : WalkNode} → Standing rules desk memory unit facts s → PlaceAt unit facts from s p
       → node .front .state ≡ likeOf s (highFree s (hiddenOf unit facts) b) p → node .known ≡ Member p → Node rules desk memory unit facts from node
   near-node {from} {p = p} b {node} y q e k = record {
     stands = rw e (record {
@@ -278,11 +258,11 @@ further-more f g = record { each = λ M b. f .each M (g .each M b) }
 pub further-last : {from : From} {m : ℕ} {b : Bool} → Decides (Behind from m) b → not b ≡ false → Further from (Above m)
 further-last {b = b} d t = record { each = λ M o. behind-more (d .yes (not-false b t)) (above-of o) }
 
-pub place-further : {unit : Unit} {facts p : ℕ} {from to : From} {s : State} → Further from to → PlaceAt unit facts from s p → PlaceAt unit facts to s p
+pub place-further : {unit : Job} {facts p : ℕ} {from to : From} {s : State} → Further from to → PlaceAt unit facts from s p → PlaceAt unit facts to s p
 place-further f q = record { word = q .word; completes = q .completes; low = λ M b. q .low M (f .each M b) }
 
 -- the place itself
-pub place-at : {unit : Unit} {facts m : ℕ} {from : From} {s t : State} {w : Witness} → t ≡ darkOf s (hiddenOf unit facts) → w ≡ Member m
+pub place-at : {unit : Job} {facts m : ℕ} {from : From} {s t : State} {w : Witness} → t ≡ darkOf s (hiddenOf unit facts) → w ≡ Member m
     → PlaceIn t from w → PlaceAt unit facts from s m
 place-at {unit} {facts} {m} {from} {s} {t} g k h = go (subst (PlaceIn t from) k h)
   where
@@ -305,9 +285,9 @@ reached-low M N n b = go (decLt M N)
     go (yes l) = l
     go (no l) = absurd (n (behind-up (omega arith) b))
 
-module _ {rules desk : List ℕ} {unit : Unit} {facts : ℕ} {passed : List ℕ} {s : State} where
+module _ {rules desk : List ℕ} {unit : Job} {facts : ℕ} {passed : List ℕ} {s : State} where
   pub between-none : {from : From} {list : List ℕ} {count : ℕ} → count ≤ length list
-      → Added (Between rules desk unit facts from from passed s) list count list count
+      → Added (BetweenPlaces rules desk unit facts from from passed s) list count list count
   between-none l = added-none l (λ N d. d .reached (d .due .sought .behind))
 
   module _ {from mid : From} (f : Further from mid) where
@@ -318,35 +298,35 @@ module _ {rules desk : List ℕ} {unit : Unit} {facts : ℕ} {passed : List ℕ}
     due-on M d b = record { fits = d .fits; sought = record { behind = b; new = d .sought .new } }
 
     pub between-more : {to : From} {list₀ list₁ list₂ : List ℕ} {count₀ count₁ count₂ : ℕ} → Further mid to
-        → Added (Between rules desk unit facts from mid passed s) list₀ count₀ list₁ count₁
-        → Added (Between rules desk unit facts mid to passed s) list₁ count₁ list₂ count₂
-        → Added (Between rules desk unit facts from to passed s) list₀ count₀ list₂ count₂
+        → Added (BetweenPlaces rules desk unit facts from mid passed s) list₀ count₀ list₁ count₁
+        → Added (BetweenPlaces rules desk unit facts mid to passed s) list₁ count₁ list₂ count₂
+        → Added (BetweenPlaces rules desk unit facts from to passed s) list₀ count₀ list₂ count₂
     between-more {to} g a b =
         added-both (λ M d. record { due = d .due; reached = λ o. d .reached (g .each M o) })
         (λ M d. record { due = due-further M (d .due); reached = d .reached }) (λ M d. split M d (behind-dec mid M))
         (λ M N d e. reached-low M N (d .reached) (e .due .sought .behind)) a b
       where
-        split : (M : ℕ) → Between rules desk unit facts from to passed s M → Dec (Behind mid M)
-            → Between rules desk unit facts from mid passed s M ⊎ Between rules desk unit facts mid to passed s M
+        split : (M : ℕ) → BetweenPlaces rules desk unit facts from to passed s M → Dec (Behind mid M)
+            → BetweenPlaces rules desk unit facts from mid passed s M ⊎ BetweenPlaces rules desk unit facts mid to passed s M
         split M d (yes o) = inr (record { due = due-on M (d .due) o; reached = d .reached })
         split M d (no n) = inl (record { due = d .due; reached = n })
 
     -- and behind the last place all that is left
     pub between-rest : {list₀ list₁ list₂ : List ℕ} {count₀ count₁ count₂ : ℕ}
-        → Added (Between rules desk unit facts from mid passed s) list₀ count₀ list₁ count₁
+        → Added (BetweenPlaces rules desk unit facts from mid passed s) list₀ count₀ list₁ count₁
         → Added (Due rules desk unit facts mid passed s) list₁ count₁ list₂ count₂
         → Added (Due rules desk unit facts from passed s) list₀ count₀ list₂ count₂
     between-rest a b =
         added-both (λ M d. d .due) due-further (λ M d. split M d (behind-dec mid M)) (λ M N d e. reached-low M N (d .reached) (e .sought .behind)) a b
       where
         split : (M : ℕ) → Due rules desk unit facts from passed s M → Dec (Behind mid M)
-            → Between rules desk unit facts from mid passed s M ⊎ Due rules desk unit facts mid passed s M
+            → BetweenPlaces rules desk unit facts from mid passed s M ⊎ Due rules desk unit facts mid passed s M
         split M d (yes o) = inr (due-on M d o)
         split M d (no n) = inl (record { due = d; reached = n })
 
 -- ---- how far it reaches
 
-module _ {rules desk : List ℕ} {unit : Unit} {facts : ℕ} {from : From} {passed : List ℕ} {s : State} where
+module _ {rules desk : List ℕ} {unit : Job} {facts : ℕ} {from : From} {passed : List ℕ} {s : State} where
   pub reaches-none : {list : List ℕ} {count : ℕ} {r : Reached} → count ≤ length list → r .from ≡ from → r .count ≡ count
       → Reaches rules desk unit facts from passed s list count list r
   reaches-none l e k = record { added = rw (e, k) (between-none l); further = rw e further-none }

@@ -1,45 +1,17 @@
 -- The tree over undecided atoms: what is known at a node, its two branches, and that all below the dropped one are below all below the other.
-use mathlib.Core.Path.{_≡_, refl, sym, _∙_, subst}
-use mathlib.Core.Bool.{Bool, true, false, not, true≢false, false≢true}
-use mathlib.Core.Logic.{_⊎_, inl, inr}
-use mathlib.Core.List.{List, [], List·Memᴰ}
-use Prim.Native.Nat.{ℕ, _+_, _^_, _≤_, _<_}
-use native.Mathlib.Omega.{arith}
-use native.Mathlib.Decide.{decLt}
-use lib.Count.{ones}
-use lib.ListN.{length, getD, set}
-use lib.Dec.{ltb}
-use borrow.Author.Tests.{not-true, not-false, ltb-true, lt-ltb}
-use Rattle.atoms.specs.Word.{ATOMS, Has, _⊆_, subset, apart, high, _∪_, _∖_, outside, Highest}
-use Rattle.atoms.specs.Bounded.{Decides}
-use Rattle.atoms.proofs.Tests.{decides}
-use Rattle.atoms.proofs.Sets.{has-dec, has-lt, has-none, has-left, has-right, union-cases, has-without, without-left, without-right, has-atom, has-outside}
-use Rattle.atoms.proofs.Sets.{subset-le, subset-antisym, subset-trans, subset-refl}
-use Rattle.atoms.proofs.Sets.{decides-apart, decides-subset}
-use Rattle.atoms.proofs.Lists.{member-getD, index-of}
-use Rattle.atoms.proofs.HighParts.{high-same, high-with, high-without, high-mono}
-use Rattle.answer_sets.specs.AnswerSet.{AnswerSet}
-use Rattle.answer_sets.specs.Lent.{lent}
-use Rattle.states.specs.State.{Completes, undecided}
-use Rattle.states.specs.Narrowing.{Narrows, branchOf}
-use Rattle.states.specs.declared.state.State.{State}
-use Rattle.states.proofs.Narrows.{completes-back}
+use Rattle.finding.proofs.Prelude.{_≡_, refl, sym, _∙_, subst, Bool, true, false, not, true≢false, false≢true, _⊎_, inl, inr, List, [], List·Memᴰ, ℕ}
+use Rattle.finding.proofs.Prelude.{_+_, _^_, _≤_, _<_, arith, decLt, ones, length, getD, set, ltb, not-true, not-false, ltb-true, lt-ltb, ATOMS, Has}
+use Rattle.finding.proofs.Prelude.{_⊆_, subset, apart, high, _∪_, _∖_, outside, Highest, Decides, decides, has-dec, has-lt, has-none, has-left}
+use Rattle.finding.proofs.Prelude.{has-right, union-cases, has-without, without-left, without-right, has-atom, has-outside, subset-le, subset-antisym}
+use Rattle.finding.proofs.Prelude.{subset-trans, subset-refl, decides-apart, decides-subset, member-getD, index-of, high-same, high-with, high-without}
+use Rattle.finding.proofs.Prelude.{high-mono, AnswerSet, lent, Completes, undecided, Narrows, branchOf, State, completes-back, Remembers, Wired, Job}
+use Rattle.finding.proofs.Prelude.{Witnessed, met, Witness, Member, Nothing, noLists, unitOf, hiddenOf, Unpiloted, Standing, Rooted, Behind}
+use Rattle.finding.proofs.Prelude.{from-start, above, Added, Sought, Due, OfferedNext, AllPassed, darkOf, Likely, Hinted, known, unknown, Looked, seen}
+use Rattle.finding.proofs.Prelude.{unseen, KeptWitness, kept, left, PlaceIn, at-place, elsewhere, Node, Descended, Further, From, Start, Above}
+use Rattle.finding.proofs.Prelude.{WalkNode}
 use Rattle.states.proofs.HalfDecided.{decided-cases, undecided-up, undecided-dropped, undecided-lt, undecided-intro}
 use Rattle.states.proofs.Branches.{without-branch, some-branch, decided-falls}
-use Rattle.learning.specs.Reason.{Remembers}
-use Rattle.propagating.specs.Desk.{Wired}
-use Rattle.propagating.specs.declared.unit.Unit.{Unit}
-use Rattle.searching.specs.Witness.{Witnessed, met, none}
-use Rattle.searching.specs.declared.witness.Witness.{Witness}
-use Rattle.searching.specs.declared.witness.Witness.the-variants.{Member, Nothing}
-use Rattle.finding.specs.Whole.{noLists, unitOf, hiddenOf, Fitting, Standing, Rooted}
-use Rattle.finding.specs.Least.{Behind, from-start, above}
-use Rattle.finding.specs.Gather.{Added, Sought, Due, Offered, AllPassed, darkOf, Likely, Hinted, known, unknown, Looked, seen, unseen}
-use Rattle.finding.specs.Gather.{Kept, kept, left, PlaceIn, at-place, elsewhere, Node, Descended}
-use Rattle.finding.specs.Near.{Further}
-use Rattle.finding.specs.declared.least.From.{From}
-use Rattle.finding.specs.declared.least.From.the-variants.{Start, Above}
-use Rattle.finding.specs.declared.gather.Branch.{Branch}
+use Rattle.searching.specs.Witness.{none}
 use Rattle.finding.proofs.AddedWords.{added-none, added-full, added-one, added-iff, added-both}
 use Rattle.finding.proofs.Walks.{behind-up, above-of}
 use Rattle.finding.proofs.Wholes.{fits-settled, fits-answers, answers-fit}
@@ -94,22 +66,22 @@ passed-all {s = s} {b = b} e d t = record {
 -- ---- one is put in
 
 module _ {from : From} {passed : List ℕ} {m : ℕ} {b : Bool} (d : Decides (Sought from passed m) b) (list : List ℕ) (count : ℕ) (l : count < length list) where
-  pub put-none : not b ≡ true → Added (Offered from passed m) list count list count
+  pub put-none : not b ≡ true → Added (OfferedNext from passed m) list count list count
   put-none t = added-none (omega arith) (λ N o. d .no (not-true b t) (subst (Sought from passed) (o .is) (o .sought)))
 
-  pub put-one : not b ≡ false → Added (Offered from passed m) list count (set list count m) (count + 1)
+  pub put-one : not b ≡ false → Added (OfferedNext from passed m) list count (set list count m) (count + 1)
   put-one t = added-one list count m l (record { is = refl; sought = d .yes (not-false b t) }) (λ N o. o .is)
 
 -- ---- what is known at a node
 
-pub overlap-nothing : {rules desk : List ℕ} {unit : Unit} {facts : ℕ} {s : State} {b : Bool} → b ≡ apart (s .up) (s .dropped) → not b ≡ true
-    → Witnessed (Fitting rules desk unit facts s) Nothing
+pub overlap-nothing : {rules desk : List ℕ} {unit : Job} {facts : ℕ} {s : State} {b : Bool} → b ≡ apart (s .up) (s .dropped) → not b ≡ true
+    → Witnessed (Unpiloted rules desk unit facts s) Nothing
 overlap-nothing {s = s} {b = b} e t = none (λ M f.
     decides-apart (s .up) (s .dropped) .no (sym e ∙ not-true b t)
     (record { none = λ i u d. f .wanted .completes .no-dropped .none i d (f .wanted .completes .has-up .each i u) }))
 
 -- who fits the state completes it without pilots
-pub fits-dark : {rules desk : List ℕ} {unit : Unit} {facts : ℕ} {s : State} {M : ℕ} → Fitting rules desk unit facts s M
+pub fits-dark : {rules desk : List ℕ} {unit : Job} {facts : ℕ} {s : State} {M : ℕ} → Unpiloted rules desk unit facts s M
     → Completes (darkOf s (hiddenOf unit facts)) M
 fits-dark {unit = unit} {facts} {s} {M} f = rw (f .is) (record {
   has-up = record {
@@ -125,18 +97,18 @@ fits-dark {unit = unit} {facts} {s} {M} f = rw (f .is) (record {
     go i (inl d) m = f .wanted .completes .no-dropped .none i d (without-left (f .whole) X m)
     go i (inr x) m = without-right (f .whole) X m x
 
-module _ {rules desk memory : List ℕ} {unit : Unit} {facts : ℕ} {from : From} {s : State} (r : Standing rules desk memory unit facts s) where
-  likely-fitting : {M : ℕ} → Fitting rules desk unit facts s M → Likely rules desk unit facts from s M
+module _ {rules desk memory : List ℕ} {unit : Job} {facts : ℕ} {from : From} {s : State} (r : Standing rules desk memory unit facts s) where
+  likely-fitting : {M : ℕ} → Unpiloted rules desk unit facts s M → Likely rules desk unit facts from s M
   likely-fitting f = record { word = fits-settled r f .word; completes = fits-dark f; fits = λ b. f }
 
   pub looked-passed : {t : State} → t ≡ darkOf s (hiddenOf unit facts) → AllPassed t from → Looked rules desk unit facts from s Nothing
   looked-passed e a = unseen (λ M f b. a .none M (fits-settled r f .word) (rw e (fits-dark f)) b)
 
-  pub looked-asked : {w : Witness} → Witnessed (Fitting rules desk unit facts s) w → Looked rules desk unit facts from s w
+  pub looked-asked : {w : Witness} → Witnessed (Unpiloted rules desk unit facts s) w → Looked rules desk unit facts from s w
   looked-asked (met f) = seen (likely-fitting f)
   looked-asked (none n) = unseen (λ M f b. n M f)
 
-module _ {rules desk : List ℕ} {unit : Unit} {facts : ℕ} {from : From} {s : State} where
+module _ {rules desk : List ℕ} {unit : Job} {facts : ℕ} {from : From} {s : State} where
   pub looked-known : {w : Witness} {M : ℕ} → w ≡ Member M → Hinted rules desk unit facts from s w → Looked rules desk unit facts from s (Member M)
   looked-known {M = M} e h = go (subst (Hinted rules desk unit facts from s) e h)
     where
@@ -152,17 +124,17 @@ module _ {rules desk : List ℕ} {unit : Unit} {facts : ℕ} {from : From} {s : 
 -- ---- what is known of a branch
 
 module _ {m : ℕ} {s : State} where
-  pub kept-there : {a b : Bool} → m < 2 ^ ATOMS → a ≡ subset (s .up) m → not a ≡ false → b ≡ apart (s .dropped) m → not b ≡ false → Kept m s (Member m)
+  pub kept-there : {a b : Bool} → m < 2 ^ ATOMS → a ≡ subset (s .up) m → not a ≡ false → b ≡ apart (s .dropped) m → not b ≡ false → KeptWitness m s (Member m)
   kept-there {a} {b} l e f g h = kept l (record {
     has-up = decides-subset (s .up) m .yes (sym e ∙ not-false a f);
     no-dropped = decides-apart (s .dropped) m .yes (sym g ∙ not-false b h);
   })
 
-pub place-kept : {s : State} {from : From} {p : ℕ} {w : Witness} → from ≡ Above p → Kept p s w → PlaceIn s from w
+pub place-kept : {s : State} {from : From} {p : ℕ} {w : Witness} → from ≡ Above p → KeptWitness p s w → PlaceIn s from w
 place-kept e (kept l c) = at-place l e c
 place-kept e left = elsewhere
 
-pub hinted-place : {rules desk : List ℕ} {unit : Unit} {facts : ℕ} {from to : From} {s t : State} {w : Witness} → t ≡ darkOf s (hiddenOf unit facts)
+pub hinted-place : {rules desk : List ℕ} {unit : Job} {facts : ℕ} {from to : From} {s t : State} {w : Witness} → t ≡ darkOf s (hiddenOf unit facts)
     → Further from to → PlaceIn t from w → Hinted rules desk unit facts to s w
 hinted-place {from = from} {to} g f (at-place {p} l e c) = known (record { word = l; completes = rw g at c; fits = λ b. absurd (here (f .each p b)) })
   where
@@ -193,9 +165,9 @@ module _ {s : State} {k N : ℕ} (c : Completes s N) where
       go (inr d) = absurd (n (d .has-up .each k (has-right (s .up) _ (has-atom k))))
 
 -- a position that fits, and lies in the branch, fits there
-module _ {rules desk : List ℕ} {unit : Unit} {facts : ℕ} (s : State) (k : ℕ) {t : State} (free : ¬ Has (hiddenOf unit facts) k) where
+module _ {rules desk : List ℕ} {unit : Job} {facts : ℕ} (s : State) (k : ℕ) {t : State} (free : ¬ Has (hiddenOf unit facts) k) where
   still-fits : (phase : Bool) → Narrows (Wired rules [] noLists desk unit) (branchOf s k phase) t → {M : ℕ}
-      → Completes (darkOf t (hiddenOf unit facts)) M → Fitting rules desk unit facts s M → Fitting rules desk unit facts t M
+      → Completes (darkOf t (hiddenOf unit facts)) M → Unpiloted rules desk unit facts s M → Unpiloted rules desk unit facts t M
   still-fits phase n {M} d f = record {
     whole = f .whole;
     wanted = record { belongs = f .wanted .belongs; completes = n .keeps (f .whole) (f .wanted .belongs) (there phase n) };
@@ -216,10 +188,10 @@ module _ {rules desk : List ℕ} {unit : Unit} {facts : ℕ} (s : State) (k : �
           (λ h. d .no-dropped .none k (has-left (t .dropped) X (n .dropped-grows .each k (has-right (s .dropped) _ (has-atom k))))
           (subst (λ (w : ℕ). Has w k) (sym (f .is)) (has-without (f .whole) X h free)))
 
-pub descended : {rules desk : List ℕ} {unit : Unit} {facts : ℕ} {from : From} (s : State) (k : ℕ) (phase : Bool) {memory after : List ℕ} {node : Branch}
+pub descended : {rules desk : List ℕ} {unit : Job} {facts : ℕ} {from : From} (s : State) (k : ℕ) (phase : Bool) {memory after : List ℕ} {node : WalkNode}
     {m : ℕ} {d : State} → Standing rules desk memory unit facts s → Likely rules desk unit facts from s m → ¬ Has (hiddenOf unit facts) k
     → Narrows (Wired rules [] noLists desk unit) (branchOf s k phase) (node .front .state) → Remembers (Wired rules [] noLists desk unit) after
-    → d ≡ darkOf (node .front .state) (hiddenOf unit facts) → Kept m d (node .known) → Descended rules desk after unit facts from s k phase node
+    → d ≡ darkOf (node .front .state) (hiddenOf unit facts) → KeptWitness m d (node .known) → Descended rules desk after unit facts from s k phase node
 descended {rules} {desk} {unit} {facts} {from} s k phase {node = node} {m} {d} r f free n a e w = record {
   is-node = record {
     stands = record {
@@ -232,7 +204,7 @@ descended {rules} {desk} {unit} {facts} {from} s k phase {node = node} {m} {d} r
   narrows = n;
 }
   where
-    go : (v : Witness) → Kept m d v → Hinted rules desk unit facts from (node .front .state) v
+    go : (v : Witness) → KeptWitness m d v → Hinted rules desk unit facts from (node .front .state) v
     go v (kept l c) = known (record {
       word = f .word;
       completes = rw e at c;
@@ -276,8 +248,8 @@ completion-below {s} {M} {N} {k} t m n c d lacks has = go (decLt M N)
     go (no l) = let g : N ≤ M = omega arith in absurd (omega (arith, high-mono k g, high-with has, high-without lacks, alike))
 
 -- who fits a branch completes its state
-fits-back : {rules desk memory : List ℕ} {unit : Unit} {facts k : ℕ} {from : From} {s : State} {phase : Bool} {node : Branch}
-    → Descended rules desk memory unit facts from s k phase node → {M : ℕ} (f : Fitting rules desk unit facts (node .front .state) M)
+fits-back : {rules desk memory : List ℕ} {unit : Job} {facts k : ℕ} {from : From} {s : State} {phase : Bool} {node : WalkNode}
+    → Descended rules desk memory unit facts from s k phase node → {M : ℕ} (f : Unpiloted rules desk unit facts (node .front .state) M)
     → Completes (branchOf s k phase) (f .whole)
 fits-back n f = completes-back (n .narrows) (f .wanted .completes)
 
@@ -291,7 +263,7 @@ dark-undecided s X {k} h =
     (λ u. undecided-up (s .up ∖ X) (s .dropped ∪ X) h (has-without (s .up) X u (dark-free s X h)))
     (λ d. undecided-dropped (s .up ∖ X) (s .dropped ∪ X) h (has-left (s .dropped) X d))
 
-module _ {rules desk : List ℕ} {unit : Unit} {facts : ℕ} {from : From} {passed : List ℕ} where
+module _ {rules desk : List ℕ} {unit : Job} {facts : ℕ} {from : From} {passed : List ℕ} where
   pub gather-full : {s : State} {list : List ℕ} {count : ℕ} → count ≤ length list → length list ≤ count
       → Added (Due rules desk unit facts from passed s) list count list count
   gather-full l k = added-full l k
@@ -309,18 +281,18 @@ module _ {rules desk : List ℕ} {unit : Unit} {facts : ℕ} {from : From} {pass
 
     pub gather-leaf : {m : ℕ} {before after : List ℕ} {count r : ℕ} → Likely rules desk unit facts from s m
         → undecided (darkOf s (hiddenOf unit facts) .up) (darkOf s (hiddenOf unit facts) .dropped) ≡ 0
-        → Added (Offered from passed m) before count after r → Added (Due rules desk unit facts from passed s) before count after r
+        → Added (OfferedNext from passed m) before count after r → Added (Due rules desk unit facts from passed s) before count after r
     gather-leaf {m} f z a =
         added-iff (λ M o. record {
-          fits = subst (Fitting rules desk unit facts s) (sym (o .is)) (f .fits (subst (Behind from) (o .is) (o .sought .behind)));
+          fits = subst (Unpiloted rules desk unit facts s) (sym (o .is)) (f .fits (subst (Behind from) (o .is) (o .sought .behind)));
           sought = o .sought;
         })
         (λ M d. record { is = completion-one z (due-word d) (f .word) (fits-dark (d .fits)) (f .completes); sought = d .sought }) a
 
-    module _ {memory₁ : List ℕ} {k : ℕ} {low : Branch}
+    module _ {memory₁ : List ℕ} {k : ℕ} {low : WalkNode}
         (h : Highest (undecided (darkOf s (hiddenOf unit facts) .up) (darkOf s (hiddenOf unit facts) .dropped)) k)
         (d : Descended rules desk memory₁ unit facts from s k false low) where
-      due-back : (phase : Bool) {memory : List ℕ} {node : Branch} → Descended rules desk memory unit facts from s k phase node → (M : ℕ)
+      due-back : (phase : Bool) {memory : List ℕ} {node : WalkNode} → Descended rules desk memory unit facts from s k phase node → (M : ℕ)
           → Due rules desk unit facts from passed (node .front .state) M → Due rules desk unit facts from passed s M
       due-back phase n M q = record {
         fits = record {
@@ -331,7 +303,7 @@ module _ {rules desk : List ℕ} {unit : Unit} {facts : ℕ} {from : From} {pass
         sought = q .sought;
       }
 
-      due-after : (phase : Bool) {memory : List ℕ} {node : Branch} → Descended rules desk memory unit facts from s k phase node → (M : ℕ)
+      due-after : (phase : Bool) {memory : List ℕ} {node : WalkNode} → Descended rules desk memory unit facts from s k phase node → (M : ℕ)
           → (q : Due rules desk unit facts from passed s M) → Completes (branchOf s k phase) (q .fits .whole)
           → Due rules desk unit facts from passed (node .front .state) M
       due-after phase n M q c = record {
@@ -375,7 +347,7 @@ module _ {rules desk : List ℕ} {unit : Unit} {facts : ℕ} {from : From} {pass
               go (inl c) = inl (due-after false d M q c)
               go (inr c) = inr (q, c)
 
-      module _ {memory₂ : List ℕ} {up : Branch} (u : Descended rules desk memory₂ unit facts from s k true up) where
+      module _ {memory₂ : List ℕ} {up : WalkNode} (u : Descended rules desk memory₂ unit facts from s k true up) where
         due-split : (M : ℕ) → Due rules desk unit facts from passed s M
             → Due rules desk unit facts from passed (low .front .state) M ⊎ Due rules desk unit facts from passed (up .front .state) M
         due-split M q = go (some-branch s k false (q .fits .wanted .completes))
@@ -394,13 +366,13 @@ module _ {rules desk : List ℕ} {unit : Unit} {facts : ℕ} {from : From} {pass
             added-both (due-back false d) (due-back true u) due-split (λ M N p q. low-below M N p (due-back true u N q) (fits-back u (q .fits))) a b
 
 -- the branches have fewer undecided atoms
-pub descended-falls : {rules desk memory : List ℕ} {unit : Unit} {facts : ℕ} {from : From} (s : State) (X : ℕ) {k n : ℕ} {node : Branch} (phase : Bool)
+pub descended-falls : {rules desk memory : List ℕ} {unit : Job} {facts : ℕ} {from : From} (s : State) (X : ℕ) {k n : ℕ} {node : WalkNode} (phase : Bool)
     → Highest (undecided (darkOf s X .up) (darkOf s X .dropped)) k → Descended rules desk memory unit facts from s k phase node
     → ones (undecided (s .up) (s .dropped)) ≡ n → ones (undecided (node .front .state .up) (node .front .state .dropped)) < n
 descended-falls s X phase h d e = rw e at (decided-falls s phase (dark-undecided s X (h .here)) refl (d .narrows))
 
 -- at the root all answer sets are left
-pub gather-root : (rules : List ℕ) {desk memory : List ℕ} {unit : Unit} {which facts : ℕ} {from : From} {passed : List ℕ} {root : State}
+pub gather-root : (rules : List ℕ) {desk memory : List ℕ} {unit : Job} {which facts : ℕ} {from : From} {passed : List ℕ} {root : State}
     {before after : List ℕ} {r : ℕ} → ((i : ℕ) → getD rules i 0 < 2 ^ ATOMS) → facts < 2 ^ ATOMS → which < 2 ^ ATOMS → unit ≡ unitOf desk which facts
     → Standing rules desk memory unit facts root → Rooted rules desk unit facts root
     → Added (Due rules desk unit facts from passed root) before 0 after r

@@ -1,16 +1,9 @@
 -- A walk from the start to the end: the rising list of all is one, and each has all and nothing else.
-use mathlib.Core.Path.{_≡_, refl, sym, subst}
-use mathlib.Core.Logic.{_⊎_, inl, inr}
-use mathlib.Core.List.{List, [], _∷_, List·Memᴰ, List·Memᴰ·head, List·Memᴰ·tail, List·Memᴰ·not-nil, List·Memᴰ·cases-cons}
-use Prim.Native.Nat.{ℕ, _≤_, _<_}
-use native.Mathlib.Omega.{arith}
-use native.Mathlib.Decide.{ℕ-discrete}
+use Rattle.finding.proofs.Prelude.{_≡_, refl, sym, subst, _⊎_, inl, inr, List, [], _∷_, List·Memᴰ, List·Memᴰ·head, List·Memᴰ·tail, List·Memᴰ·not-nil}
+use Rattle.finding.proofs.Prelude.{List·Memᴰ·cases-cons, ℕ, _≤_, _<_, arith, ℕ-discrete, above-at, Behind, from-start, above, least, none as no-least}
+use Rattle.finding.proofs.Prelude.{From, Above}
 use Rattle.atoms.specs.Rising.{Rising, rising-cons}
-use Rattle.atoms.proofs.Rising.{above-at}
-use Rattle.finding.specs.Least.{Behind, from-start, above, least, none as no-least}
 use Rattle.finding.specs.Walk.{Walk, ends, goes}
-use Rattle.finding.specs.declared.least.From.{From}
-use Rattle.finding.specs.declared.least.From.the-variants.{Above}
 
 -- what is above one that is behind is behind
 pub behind-up : {from : From} {M N : ℕ} → M ≤ N → Behind from M → Behind from N

@@ -1,38 +1,22 @@
 -- A whole program as one unit: what belongs to it are its answer sets, and so is what is wired, without the pilots.
-use mathlib.Core.Path.{_≡_, refl, sym, ap, _∙_, subst}
-use mathlib.Core.Logic.{_⊎_, inl, inr}
-use mathlib.Core.List.{List, []}
-use Prim.Native.Nat.{ℕ, zero, suc, _+_, _-_, _*_, _^_, _<_, min}
-use native.Mathlib.Omega.{arith}
-use lib.ListN.{getD, replicate, length-replicate}
-use Rattle.atoms.specs.Word.{ATOMS, Has, _⊆_, Apart, _∩_, _∪_, _∖_, outside, below}
-use Rattle.atoms.proofs.Tests.{and-true, decided-true}
-use Rattle.atoms.proofs.Sets.{ext, has-cut, cut-right, has-none, has-left, has-right, has-without, without-left, without-right, union-cases}
-use Rattle.atoms.proofs.Sets.{decides-subset}
+use Rattle.finding.proofs.Prelude.{_≡_, refl, sym, ap, _∙_, subst, _⊎_, inl, inr, List, [], ℕ, zero, suc, _+_, _-_, _*_, _^_, _<_, min, arith, getD}
+use Rattle.finding.proofs.Prelude.{replicate, length-replicate, ATOMS, Has, _⊆_, Apart, _∩_, _∪_, _∖_, outside, below, and-true, decided-true, ext}
+use Rattle.finding.proofs.Prelude.{has-cut, cut-right, has-none, has-left, has-right, has-without, without-left, without-right, union-cases}
+use Rattle.finding.proofs.Prelude.{decides-subset, lent, Lent, AnswerSet, Completes, Narrows, bothOf, Wanted, State, Remembers, pilotsOf, LaidOut}
+use Rattle.finding.proofs.Prelude.{Prepared, Wired, Job, joins-none, Witnessed, met, Witness, Member, Nothing, wholeOf, unitOf, hiddenOf, noLists}
+use Rattle.finding.proofs.Prelude.{Settled, Unpiloted, Serves, Standing, Rooted, Darkened, member, nothing}
 use Rattle.plan.specs.Limits.{MAX_UNITS}
-use Rattle.answer_sets.specs.Lent.{lent, Lent}
 use Rattle.answer_sets.specs.Test.{answerSet}
-use Rattle.answer_sets.specs.AnswerSet.{AnswerSet}
 use Rattle.answer_sets.proofs.Judged.{decides-answer-set}
 use Rattle.answer_sets.proofs.Lent.{answer-word}
-use Rattle.states.specs.State.{Completes}
-use Rattle.states.specs.Narrowing.{Narrows, bothOf, Wanted}
-use Rattle.states.specs.declared.state.State.{State}
 use Rattle.narrowing.specs.Inputs.{AnswersInputs}
-use Rattle.learning.specs.Reason.{Remembers}
 use Rattle.propagating.specs.Job.{Belongs, Searchable}
-use Rattle.propagating.specs.Desk.{pilotsOf, LaidOut, Prepared, Wired}
-use Rattle.propagating.specs.declared.unit.Unit.{Unit}
 use Rattle.joining.specs.Filter.{BLOCKS, FILTER_WORDS, Full}
-use Rattle.joining.proofs.JoinedLists.{joins-none}
 use Rattle.searching.specs.Spare.{withInputs, allPilots, Piloted, AllDown}
-use Rattle.searching.specs.Witness.{Witnessed, met, none}
-use Rattle.searching.specs.declared.witness.Witness.{Witness}
-use Rattle.searching.specs.declared.witness.Witness.the-variants.{Member, Nothing}
+use Rattle.searching.specs.Witness.{none}
 use Rattle.searching.proofs.SpareAtoms.{answers-off}
 use Rattle.searching.proofs.PilotedUnits.{litAt, lit-within}
 use Rattle.searching.proofs.PilotedSearches.{piloted-ready, lit-wired, dark-belongs}
-use Rattle.finding.specs.Whole.{wholeOf, unitOf, hiddenOf, noLists, Settled, Fitting, Serves, Standing, Rooted, Darkened, member, nothing}
 
 -- an answer set has the facts
 pub settled-facts : {rules : List ℕ} {which facts M : ℕ} → Settled rules which facts M → facts ⊆ M
@@ -138,7 +122,7 @@ module _ {rules pilots desk : List ℕ} {which facts : ℕ} (l : Lent rules whic
   }
 
 -- the desk that was laid out
-pub desk-serves : {rules pilots desk : List ℕ} {which facts x d : ℕ} {u v : Unit} → Lent rules which → which < 2 ^ ATOMS → x < 2 ^ ATOMS
+pub desk-serves : {rules pilots desk : List ℕ} {which facts x d : ℕ} {u v : Job} → Lent rules which → which < 2 ^ ATOMS → x < 2 ^ ATOMS
     → v ≡ wholeOf which facts → d ≡ outside facts → Piloted rules noLists pilots v (allPilots pilots)
     → AllDown (allPilots pilots) (record { up = facts; dropped = d }) → x ≡ allPilots pilots → u ≡ withInputs v x → LaidOut rules noLists pilots u desk
     → Serves rules desk (unitOf desk which facts) facts
@@ -148,7 +132,7 @@ desk-serves {rules} {pilots} {desk} {which} {facts} {x} {u = u} {v} l fits small
 
 -- ---- where questions begin
 
-module _ {rules desk : List ℕ} {unit : Unit} {facts : ℕ} (y : Serves rules desk unit facts) where
+module _ {rules desk : List ℕ} {unit : Job} {facts : ℕ} (y : Serves rules desk unit facts) where
   -- at first the facts are up, and what is told of that is known of every answer set
   pub root-stands : {memory : List ℕ} {t : State} → Remembers (Wired rules [] noLists desk unit) memory
       → Narrows (Wired rules [] noLists desk unit) (record { up = facts; dropped = 0 }) t → Standing rules desk memory unit facts t
@@ -163,29 +147,29 @@ module _ {rules desk : List ℕ} {unit : Unit} {facts : ℕ} (y : Serves rules d
     };
   }
 
-module _ {rules desk memory : List ℕ} {unit : Unit} {facts : ℕ} {s : State} (r : Standing rules desk memory unit facts s) where
+module _ {rules desk memory : List ℕ} {unit : Job} {facts : ℕ} {s : State} (r : Standing rules desk memory unit facts s) where
   pub stands-still : {after : List ℕ} → Remembers (Wired rules [] noLists desk unit) after → Standing rules desk after unit facts s
   stands-still m = record { serves = r .serves; remembers = m; facts-up = r .facts-up }
 
   -- what fits is an answer set
-  pub fits-settled : {M : ℕ} → Fitting rules desk unit facts s M → Settled rules (unit .rules) facts M
+  pub fits-settled : {M : ℕ} → Unpiloted rules desk unit facts s M → Settled rules (unit .rules) facts M
   fits-settled f =
       subst (Settled rules (unit .rules) facts) (sym (f .is))
       (r .serves .sound (f .whole) (f .wanted .belongs) (record { each = λ i h. f .wanted .completes .has-up .each i (r .facts-up .each i h) }))
 
 -- what fits the root are the answer sets
-module _ {rules desk : List ℕ} {unit : Unit} {which facts : ℕ} {s : State} where
+module _ {rules desk : List ℕ} {unit : Job} {which facts : ℕ} {s : State} where
   pub fits-answers : {memory : List ℕ} → Standing rules desk memory unit facts s → unit ≡ unitOf desk which facts → which < 2 ^ ATOMS → {M : ℕ}
-      → Fitting rules desk unit facts s M → AnswerSet (lent rules) which facts M
+      → Unpiloted rules desk unit facts s M → AnswerSet (lent rules) which facts M
   fits-answers r e h {M} f =
       decides-answer-set (lent rules) which facts M h .yes
-      (subst (λ (w : ℕ). Settled rules w facts M) (ap (λ (u : Unit). u .rules) e) (fits-settled r f) .answers)
+      (subst (λ (w : ℕ). Settled rules w facts M) (ap (λ (u : Job). u .rules) e) (fits-settled r f) .answers)
 
   pub answers-fit : ((i : ℕ) → getD rules i 0 < 2 ^ ATOMS) → facts < 2 ^ ATOMS → which < 2 ^ ATOMS → unit ≡ unitOf desk which facts
-      → Rooted rules desk unit facts s → {M : ℕ} → AnswerSet (lent rules) which facts M → Fitting rules desk unit facts s M
+      → Rooted rules desk unit facts s → {M : ℕ} → AnswerSet (lent rules) which facts M → Unpiloted rules desk unit facts s M
   answers-fit g f h e t {M} q =
       t .each M
-      (subst (λ (w : ℕ). Settled rules w facts M) (sym (ap (λ (u : Unit). u .rules) e))
+      (subst (λ (w : ℕ). Settled rules w facts M) (sym (ap (λ (u : Job). u .rules) e))
       (record { word = answer-word rules g f q; answers = decided-true (decides-answer-set (lent rules) which facts M h) q }))
 
 -- ---- what is asked
@@ -207,15 +191,15 @@ module _ {s : State} where
     no-dropped = record { none = λ i h. c .no-dropped .none i (has-left (s .dropped) (s .dropped) h) };
   }
 
-module _ {rules desk : List ℕ} {unit : Unit} {facts : ℕ} {s : State} where
+module _ {rules desk : List ℕ} {unit : Job} {facts : ℕ} {s : State} where
   pub asked : {w r : Witness} → Witnessed (Wanted (Wired rules [] noLists desk unit) (bothOf s s)) w → Darkened w (hiddenOf unit facts) r
-      → Witnessed (Fitting rules desk unit facts s) r
+      → Witnessed (Unpiloted rules desk unit facts s) r
   asked {w} k (member {N} {M} e f) = go (subst (Witnessed (Wanted (Wired rules [] noLists desk unit) (bothOf s s))) e k)
     where
-      go : Witnessed (Wanted (Wired rules [] noLists desk unit) (bothOf s s)) (Member N) → Witnessed (Fitting rules desk unit facts s) (Member M)
+      go : Witnessed (Wanted (Wired rules [] noLists desk unit) (bothOf s s)) (Member N) → Witnessed (Unpiloted rules desk unit facts s) (Member M)
       go (met g) = met (record { whole = N; wanted = record { belongs = g .belongs; completes = here-both (g .completes) }; is = f })
   asked {w} k (nothing e) = go (subst (Witnessed (Wanted (Wired rules [] noLists desk unit) (bothOf s s))) e k)
     where
-      go : Witnessed (Wanted (Wired rules [] noLists desk unit) (bothOf s s)) Nothing → Witnessed (Fitting rules desk unit facts s) Nothing
+      go : Witnessed (Wanted (Wired rules [] noLists desk unit) (bothOf s s)) Nothing → Witnessed (Unpiloted rules desk unit facts s) Nothing
       go (none n) =
           none (λ M f. n (f .whole) (record { belongs = f .wanted .belongs; completes = both-here (f .wanted .completes) }))

@@ -3,7 +3,7 @@
 use joining::filter::full_filter;
 use narrowing::loops::looped_atoms;
 use plan::MAX_UNITS;
-use propagating::Unit;
+use propagating::Job;
 use propagating::agenda::every_step;
 use propagating::agenda::with_tables;
 use propagating::desk::DESK_WORDS;
@@ -25,13 +25,13 @@ ghost use Rattle.answer_sets.specs.Lent.{Lent};
 ghost use Rattle.learning.specs.Store.{Empty};
 ghost use Rattle.propagating.specs.Desk.{DESK_WORDS};
 ghost use Rattle.searching.specs.Witness.{Witnessed};
-ghost use Rattle.finding.specs.Whole.{wholeOf, unitOf, hiddenOf, Fitting, Serves, Standing, Rooted, Darkened};
+ghost use Rattle.finding.specs.Whole.{wholeOf, unitOf, hiddenOf, Unpiloted, Serves, Standing, Rooted, Darkened};
 
 // The unit of a program: its rules, its facts for input, and no predecessors.
-pub fn whole(which: u64, facts: u64) -> Unit
+pub fn whole(which: u64, facts: u64) -> Job
     ensures { λ r. ⌜ r ≡ wholeOf which facts ⌝ }
 {
-    Unit {
+    Job {
         rules: which,
         inputs: facts,
         predecessors: 0,
@@ -57,7 +57,7 @@ pub fn desk_of(rules: &[u64], which: u64, facts: u64) -> [u64; DESK_WORDS]
 }
 
 // The unit of a program with the desk's pilots.
-pub fn unit_of(desk: &[u64], which: u64, facts: u64) -> Unit
+pub fn unit_of(desk: &[u64], which: u64, facts: u64) -> Job
     requires { ⌜ length (now desk) ≡ DESK_WORDS ⌝ }
     ensures { λ r. ⌜ r ≡ unitOf (now (desk .entry)) which facts ⌝ }
 {
@@ -65,7 +65,7 @@ pub fn unit_of(desk: &[u64], which: u64, facts: u64) -> Unit
 }
 
 // Where every question begins: what is known of all answer sets.
-pub fn root_of(rules: &[u64], desk: &[u64], memory: &mut [u64], unit: Unit, facts: u64) -> Front
+pub fn root_of(rules: &[u64], desk: &[u64], memory: &mut [u64], unit: Job, facts: u64) -> Front
     requires { ⌜ Serves (now rules) (now desk) unit facts × Empty (now memory) ⌝ }
     ensures stands { λ f. ⌜ Standing (now (rules .entry)) (now (desk .entry)) (now (memory .exit)) unit facts (f .state) ⌝ }
     ensures rooted { λ f. ⌜ Rooted (now (rules .entry)) (now (desk .entry)) unit facts (f .state) ⌝ }
@@ -110,12 +110,12 @@ pub fn ask(
     rules: &[u64],
     desk: &[u64],
     memory: &mut [u64],
-    unit: Unit,
+    unit: Job,
     facts: u64,
     f: Front,
 ) -> Witness
     requires { ⌜ Standing (now rules) (now desk) (now memory) unit facts (f .state) ⌝ }
-    ensures witnessed { λ r. ⌜ Witnessed (Fitting (now (rules .entry)) (now (desk .entry)) unit facts (f .state)) r ⌝ }
+    ensures witnessed { λ r. ⌜ Witnessed (Unpiloted (now (rules .entry)) (now (desk .entry)) unit facts (f .state)) r ⌝ }
     ensures stands { λ _. ⌜ Standing (now (rules .entry)) (now (desk .entry)) (now (memory .exit)) unit facts (f .state) ⌝ }
 {
     let s = f.state;

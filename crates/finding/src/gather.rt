@@ -11,7 +11,7 @@ use crate::near::gather_nearest;
 use joining::filter::FILTER_WORDS;
 use learning::store::empty_store;
 use plan::MAX_UNITS;
-use propagating::Unit;
+use propagating::Job;
 use propagating::agenda::woken;
 use propagating::desk::INDEX;
 use propagating::desk::PILOTS;
@@ -33,17 +33,17 @@ ghost use Rattle.states.specs.Narrowing.{Narrows, branchOf};
 ghost use Rattle.learning.specs.Reason.{Remembers};
 ghost use Rattle.propagating.specs.Desk.{DESK_WORDS, Wired};
 ghost use Rattle.finding.specs.Whole.{noLists, hiddenOf, Standing};
-ghost use Rattle.finding.specs.Gather.{Added, Sought, Due, AllPassed, darkOf, Likely, Looked, Kept, PlaceIn, Node, Descended};
+ghost use Rattle.finding.specs.Gather.{Added, Sought, Due, AllPassed, darkOf, Likely, Looked, KeptWitness, PlaceIn, Node, Descended};
 
 // What is asked: the program as one unit, its facts, and the place behind which answer sets are sought.
 pub struct Query {
-    pub unit: Unit,
+    pub unit: Job,
     pub facts: u64,
     pub from: From,
 }
 
 // A node of the tree: where propagation stands, and a position that completes its state, if one is known: an answer set, or one that is passed.
-pub struct Branch {
+pub struct WalkNode {
     pub front: Front,
     pub known: Witness,
 }
@@ -57,7 +57,7 @@ fn is_passed(s: State, from: From) -> bool
 
 // The position m, if it completes the state.
 fn kept(m: u64, s: State) -> Witness
-    ensures { λ r. ⌜ Kept m s r ⌝ }
+    ensures { λ r. ⌜ KeptWitness m s r ⌝ }
 {
     if !atoms::is_subset(s.up, m) {
         return Witness::Nothing;
@@ -103,7 +103,7 @@ pub fn onward(desk: &[u64], f: Front, after: State) -> Front
 }
 
 // The position that is known of the node, or an answer set that completes its state; or that none there is behind the place.
-fn look(rules: &[u64], desk: &[u64], memory: &mut [u64], query: Query, node: Branch) -> Witness
+fn look(rules: &[u64], desk: &[u64], memory: &mut [u64], query: Query, node: WalkNode) -> Witness
     requires { ⌜ Node (now rules) (now desk) (now memory) (query .unit) (query .facts) (query .from) node ⌝ }
     ensures looked { λ r. ⌜ Looked (now (rules .entry)) (now (desk .entry)) (query .unit) (query .facts) (query .from) (node .front .state) r ⌝ }
     ensures stands { λ _. ⌜ Standing (now (rules .entry)) (now (desk .entry)) (now (memory .exit)) (query .unit) (query .facts) (node .front .state) ⌝ }
@@ -166,7 +166,7 @@ fn descend(
     m: u64,
     k: usize,
     phase: bool,
-) -> Branch
+) -> WalkNode
     requires { ⌜ Standing (now rules) (now desk) (now memory) (query .unit) (query .facts) (f .state)
         × Likely (now rules) (now desk) (query .unit) (query .facts) (query .from) (f .state) m × (k < ATOMS)
         × (Has (hiddenOf (query .unit) (query .facts)) k → ⊥) ⌝ }
@@ -175,7 +175,7 @@ fn descend(
 {
     let front = step_down(rules, desk, memory, query, f, k, phase);
     let dark = dark_of(front.state, atoms::without(query.unit.inputs, query.facts));
-    Branch {
+    WalkNode {
         front,
         known: kept(m, dark),
     }
@@ -188,7 +188,7 @@ pub fn gather(
     desk: &[u64],
     memory: &mut [u64],
     query: Query,
-    node: Branch,
+    node: WalkNode,
     skip: &[u64],
     out: &mut [u64],
     at: usize,
@@ -242,7 +242,7 @@ pub fn gather_all(
     let query = Query { unit, facts, from };
     let near = gather_nearest(rules, &desk, &mut memory, query, front, passed, out);
     let dark = dark_of(front.state, atoms::without(unit.inputs, facts));
-    let root = Branch {
+    let root = WalkNode {
         front,
         known: place_in(dark, from),
     };

@@ -4,7 +4,7 @@ ghost use mathlib.Core.List.{List·Memᴰ};
 ghost use lib.ListN.{length};
 ghost use Rattle.atoms.specs.Bounded.{Decides};
 ghost use Rattle.finding.specs.Least.{Behind};
-ghost use Rattle.finding.specs.Gather.{Added, Sought, Offered};
+ghost use Rattle.finding.specs.Gather.{Added, Sought, OfferedNext};
 
 // From the start, or above a position.
 pub enum From {
@@ -49,7 +49,7 @@ fn is_sought(from: From, passed: &[u64], m: u64) -> bool
 // Puts m into the next word if it is sought: the new count.
 pub fn put(out: &mut [u64], count: usize, from: From, passed: &[u64], m: u64) -> usize
     requires { ⌜ count < length (now out) ⌝ }
-    ensures { λ r. ⌜ Added (Offered from (now (passed .entry)) m) (now (out .entry)) count (now (out .exit)) r ⌝ }
+    ensures { λ r. ⌜ Added (OfferedNext from (now (passed .entry)) m) (now (out .entry)) count (now (out .exit)) r ⌝ }
 {
     if !is_sought(from, passed, m) {
         return count;

@@ -1,7 +1,7 @@
 // Answer sets near the place: those that differ from it in the lowest undecided atoms alone come before all others, and no steps are taken on a way
 // down to them.
-use crate::gather::Branch;
 use crate::gather::Query;
+use crate::gather::WalkNode;
 use crate::gather::dark_of;
 use crate::gather::gather;
 use crate::gather::onward;
@@ -91,7 +91,7 @@ fn gather_near(
         return Reached { from, count: at };
     }
     let t = like_place(f.state, high, near.place);
-    let node = Branch {
+    let node = WalkNode {
         front: onward(desk, f, t),
         known: Witness::Member(near.place),
     };

@@ -1,16 +1,8 @@
 -- Units whose head atoms cover a word.
-use mathlib.Core.Path.{_≡_, refl, sym, _∙_}
-use mathlib.Core.Bool.{Bool, true, false, false≢true}
-use mathlib.Core.List.{List}
-use Prim.Native.Nat.{ℕ, _^_, _≤_, _<_}
-use native.Mathlib.Omega.{arith}
-use lib.ListN.{length, getD}
-use Rattle.atoms.specs.Word.{Has, _⊆_, subset, Lowest}
+use Rattle.joining.proofs.Prelude.{_≡_, refl, sym, _∙_, Bool, true, false, false≢true, List, ℕ, _^_, _≤_, _<_, arith, length, getD, Has, _⊆_, subset}
+use Rattle.joining.proofs.Prelude.{Lowest, decides-subset, Taking, taking-end, taken-lt, MAX_UNITS}
 use Rattle.atoms.specs.Bounded.{Decides}
-use Rattle.atoms.proofs.Sets.{decides-subset}
 use Rattle.atoms.proofs.Tests.{decides}
-use Rattle.atoms.proofs.TakenNumbers.{Taking, taking-end, taken-lt}
-use Rattle.plan.specs.Limits.{MAX_UNITS}
 use Rattle.joining.specs.Nearest.{Covered}
 
 module _ (heads : List ℕ) (units word : ℕ) where

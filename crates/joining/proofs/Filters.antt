@@ -1,28 +1,14 @@
 -- The filter: a position that joins a list and completes the state is one of the list's agreeing entries, cut to the head atoms, so its bit stays.
-use mathlib.Core.Path.{_≡_, refl, sym, subst, ap, ap₂, _∙_}
-use mathlib.Core.Bool.{Bool, true, false}
-use mathlib.Core.Logic.{_⊎_, inl, inr}
-use mathlib.Core.List.{List}
-use Prim.Native.Nat.{ℕ, _+_, _-_, _*_, _/_, _%_, _≤_, _<_, min}
-use native.Mathlib.Omega.{arith}
-use native.Mathlib.Decide.{ℕ-discrete}
-use lib.Dec.{eqb}
-use lib.ListN.{length, getD, set, length-set}
-use lib.Seq.{getD-set-same, getD-set-other}
-use borrow.Author.Tests.{eqb-true}
-use Rattle.atoms.specs.Word.{ATOMS, Has, _⊆_, subset, _∩_, _∪_, _∖_, atom, below, Lowest}
-use Rattle.atoms.proofs.Sets.{subset-refl, decides-subset, has-cut, cut-left, cut-right, has-left, has-right, union-cases, has-without, without-left}
-use Rattle.atoms.proofs.Sets.{without-right, has-atom, atom-only, has-below, ext}
-use Rattle.atoms.proofs.TakenNumbers.{Taking, taking-start, taking-next, taking-end}
-use Rattle.atoms.proofs.Bounded.{some-at}
-use Rattle.plan.specs.Limits.{MAX_UNITS, LIST_WORDS}
+use Rattle.joining.proofs.Prelude.{_≡_, refl, sym, subst, ap, ap₂, _∙_, Bool, true, false, _⊎_, inl, inr, List, ℕ, _+_, _-_, _*_, _/_, _%_, _≤_, _<_}
+use Rattle.joining.proofs.Prelude.{min, arith, ℕ-discrete, eqb, length, getD, set, length-set, getD-set-same, getD-set-other, eqb-true, ATOMS, Has}
+use Rattle.joining.proofs.Prelude.{_⊆_, subset, _∩_, _∪_, _∖_, atom, below, Lowest, subset-refl, decides-subset, has-cut, cut-left, cut-right}
+use Rattle.joining.proofs.Prelude.{has-left, has-right, union-cases, has-without, without-left, without-right, has-atom, atom-only, has-below, ext}
+use Rattle.joining.proofs.Prelude.{Taking, taking-start, taking-next, taking-end, some-at, MAX_UNITS, LIST_WORDS, Overlaps, Narrows, clashed, branchOf}
+use Rattle.joining.proofs.Prelude.{isListed, Joinable, BLOCKS, FILTER_WORDS, EntryAgrees, Spans, EntrySifted, BlockSifted, ListSifted, Picked, Refined}
+use Rattle.joining.proofs.Prelude.{JoinsAll, Filtered, Full}
 use Rattle.states.specs.State.{Completes}
-use Rattle.states.specs.Narrowing.{Overlaps, Narrows, clashed, branchOf}
 use Rattle.states.specs.declared.state.State.{State}
 use Rattle.states.proofs.Narrows.{clash-narrows, completes-back, overlap-none}
-use Rattle.joining.specs.Joins.{isListed, Joinable}
-use Rattle.joining.specs.Filter.{BLOCKS, FILTER_WORDS, Agrees, Spans, EntrySifted, BlockSifted, ListSifted, Picked, Refined, JoinsAll, Filtered}
-use Rattle.joining.specs.Filter.{Full}
 use Rattle.joining.specs.declared.sift.Sifted.{Sifted}
 use Rattle.joining.proofs.JoinedLists.{joins-one, joined-lt}
 
@@ -57,7 +43,7 @@ entry-stays up decided entry i all some r e f = record {
 module _ (words : List ℕ) (at bits up decided : ℕ) (before : Sifted) where
   -- entry i is kept and spanned
   pub record Kept (r : Sifted) (i : ℕ) : Type 0 where
-    pub kept : Agrees up decided (getD words (at + i) 0) → Has (r .kept) i × Spans r (getD words (at + i) 0)
+    pub kept : EntryAgrees up decided (getD words (at + i) 0) → Has (r .kept) i × Spans r (getD words (at + i) 0)
 
   -- so it is for each entry that is done; the others are kept as yet
   pub record Sifting (r : Sifted) (rest : ℕ) : Type 0 where
@@ -84,10 +70,10 @@ module _ (words : List ℕ) (at bits up decided : ℕ) (before : Sifted) where
       later : (j : ℕ) → Kept r j → Kept r′ j
       later j k = record { kept = λ a. let b = k .kept a in (go (ℕ-discrete j i) a b, n .still (getD words (at + j) 0) (b .1)) }
         where
-          go : Dec (j ≡ i) → (a : Agrees up decided (getD words (at + j) 0)) → Has (r .kept) j × Spans r (getD words (at + j) 0) → Has (r′ .kept) j
+          go : Dec (j ≡ i) → (a : EntryAgrees up decided (getD words (at + j) 0)) → Has (r .kept) j × Spans r (getD words (at + j) 0) → Has (r′ .kept) j
           go (no d) a b = n .others j d (b .0)
           go (yes q) a b =
-              rw q (n .stays (subst (λ (x : ℕ). Agrees up decided (getD words (at + x) 0)) q a) (rw q at (b .0)))
+              rw q (n .stays (subst (λ (x : ℕ). EntryAgrees up decided (getD words (at + x) 0)) q a) (rw q at (b .0)))
 
   pub sifting-end : (r : Sifted) (rest : ℕ) → Sifting r rest → rest ≡ 0 → BlockSifted words at bits up decided before r
   sifting-end r rest s e = record { still = s .still; new = λ i h a. taking-end (s .done) e i h .kept a }
@@ -109,7 +95,7 @@ module _ (words : List ℕ) (base up decided at : ℕ) (before : List ℕ) where
     pub within : k ≤ BLOCKS
     pub same-length : length after ≡ length before
     pub others : (j : ℕ) → (at ≤ j → j < at + k → ⊥) → getD after j 0 ≡ getD before j 0
-    pub new : (l i : ℕ) → l < k → Has (getD before (at + l) 0) i → Agrees up decided (getD words (base + ATOMS * l + i) 0)
+    pub new : (l i : ℕ) → l < k → Has (getD before (at + l) 0) i → EntryAgrees up decided (getD words (base + ATOMS * l + i) 0)
         → Has (getD after (at + l) 0) i × Spans r (getD words (base + ATOMS * l + i) 0)
 
   pub listing-start : (r : Sifted) → Listing 0 before r
@@ -125,11 +111,11 @@ module _ (words : List ℕ) (base up decided at : ℕ) (before : List ℕ) where
     new = λ l i n h a. go l i n h a (ℕ-discrete l k);
   }
     where
-      go : (l i : ℕ) → l < k + 1 → Has (getD before (at + l) 0) i → Agrees up decided (getD words (base + ATOMS * l + i) 0) → Dec (l ≡ k)
+      go : (l i : ℕ) → l < k + 1 → Has (getD before (at + l) 0) i → EntryAgrees up decided (getD words (base + ATOMS * l + i) 0) → Dec (l ≡ k)
           → Has (getD (set after (at + k) (r′ .kept)) (at + l) 0) i × Spans r′ (getD words (base + ATOMS * l + i) 0)
       go l i n h a (yes q) =
           let here = s .others (at + k) (λ p t. absurd (omega arith)) in
-          let found = b .new i (rw (here, sym q) h) (subst (λ (x : ℕ). Agrees up decided (getD words (base + ATOMS * x + i) 0)) q a) in
+          let found = b .new i (rw (here, sym q) h) (subst (λ (x : ℕ). EntryAgrees up decided (getD words (base + ATOMS * x + i) 0)) q a) in
           (rw (q, getD-set-same after (at + k) (r′ .kept) 0 (omega (arith, s .same-length))) (found .0), rw q (found .1))
       go l i n h a (no d) =
           let old = s .new l i (omega arith) h a in
@@ -148,7 +134,7 @@ module _ (words : List ℕ) (base up decided at : ℕ) (before : List ℕ) where
 module _ (words : List ℕ) (base heads at up decided : ℕ) (s : State) (before after : List ℕ) (r : Sifted) (up-is : up ≡ s .up ∩ heads)
     (decided-is : decided ≡ up ∪ s .dropped) (sifted : ListSifted words base up decided at before after r) where
   -- the position's own entry agrees
-  own-agrees : (M : ℕ) → Completes s M → Agrees up decided (M ∩ heads)
+  own-agrees : (M : ℕ) → Completes s M → EntryAgrees up decided (M ∩ heads)
   own-agrees M c = rw (decided-is, up-is) (record { same = same })
     where
       only-up : (i : ℕ) → Has M i → Has (s .up ∩ heads) i ⊎ Has (s .dropped) i → Has (s .up ∩ heads) i

@@ -1,19 +1,7 @@
 -- The lists of direct predecessors: to join all is to join each.
-use mathlib.Core.Path.{_≡_, sym, ap, _∙_}
-use mathlib.Core.Bool.{Bool, true, false, not}
-use mathlib.Core.List.{List}
-use Prim.Native.Nat.{ℕ, _+_, _*_, _≤_, _<_}
-use native.Mathlib.Omega.{arith}
-use lib.ListN.{length, getD}
-use lib.Dec.{eqb}
-use borrow.Author.Tests.{not-true, not-false, eq-eqb}
-use Rattle.atoms.proofs.TakenNumbers.{Taking, taking-end, taken-lent, taken-lt}
-use Rattle.atoms.specs.Word.{Has, _⊆_, _∩_, Lowest}
-use Rattle.atoms.proofs.Sets.{has-lt, subset-le}
-use Rattle.atoms.proofs.Bounded.{some-intro, all-in-at, all-in-intro, all-in-fails, all-in-none}
-use Rattle.plan.specs.Limits.{MAX_UNITS, LIST_WORDS}
-use Rattle.joining.specs.Joins.{isListed, joins, Joinable}
-use Rattle.joining.specs.Filter.{JoinsAll}
+use Rattle.joining.proofs.Prelude.{_≡_, sym, ap, _∙_, Bool, true, false, not, List, ℕ, _+_, _*_, _≤_, _<_, arith, length, getD, eqb, not-true}
+use Rattle.joining.proofs.Prelude.{not-false, eq-eqb, Taking, taking-end, taken-lent, taken-lt, Has, _⊆_, _∩_, Lowest, has-lt, subset-le, some-intro}
+use Rattle.joining.proofs.Prelude.{all-in-at, all-in-intro, all-in-fails, all-in-none, MAX_UNITS, LIST_WORDS, isListed, joins, Joinable, JoinsAll}
 
 -- no list
 pub joins-none : (table counts heads : List ℕ) (M : ℕ) → joins table counts heads 0 M ≡ true

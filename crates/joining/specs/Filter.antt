@@ -21,7 +21,7 @@ FILTER_WORDS = BLOCKS * MAX_UNITS
 -- ---- one list
 
 -- of the decided atoms the entry has just those that are up
-pub record Agrees (up decided entry : ℕ) : Type 0 where
+pub record EntryAgrees (up decided entry : ℕ) : Type 0 where
   pub same : entry ∩ decided ≡ up
 
 -- the entry has what all have, and some has what it has
@@ -32,20 +32,20 @@ pub record Spans (r : Sifted) (entry : ℕ) : Type 0 where
 -- entry i is looked at: it stays and is spanned where it agrees, and what was spanned and what was kept besides still is
 pub record EntrySifted (up decided entry i : ℕ) (before after : Sifted) : Type 0 where
   pub still : (e : ℕ) → Spans before e → Spans after e
-  pub new : Agrees up decided entry → Spans after entry
-  pub stays : Agrees up decided entry → Has (before .kept) i → Has (after .kept) i
+  pub new : EntryAgrees up decided entry → Spans after entry
+  pub stays : EntryAgrees up decided entry → Has (before .kept) i → Has (after .kept) i
   pub others : (j : ℕ) → ¬ (j ≡ i) → Has (before .kept) j → Has (after .kept) j
 
 -- so are the entries of a word, from `at` on: each that agrees is kept and spanned
 pub record BlockSifted (words : List ℕ) (at bits up decided : ℕ) (before after : Sifted) : Type 0 where
   pub still : (e : ℕ) → Spans before e → Spans after e
-  pub new : (i : ℕ) → Has bits i → Agrees up decided (getD words (at + i) 0) → Has (after .kept) i × Spans after (getD words (at + i) 0)
+  pub new : (i : ℕ) → Has bits i → EntryAgrees up decided (getD words (at + i) 0) → Has (after .kept) i × Spans after (getD words (at + i) 0)
 
 -- and those of a whole list, whose filter stands from `at` on
 pub record ListSifted (words : List ℕ) (base up decided at : ℕ) (before after : List ℕ) (r : Sifted) : Type 0 where
   pub same-length : length after ≡ length before
   pub others : (j : ℕ) → (at ≤ j → j < at + BLOCKS → ⊥) → getD after j 0 ≡ getD before j 0
-  pub new : (k i : ℕ) → k < BLOCKS → Has (getD before (at + k) 0) i → Agrees up decided (getD words (base + ATOMS * k + i) 0)
+  pub new : (k i : ℕ) → k < BLOCKS → Has (getD before (at + k) 0) i → EntryAgrees up decided (getD words (base + ATOMS * k + i) 0)
       → Has (getD after (at + k) 0) i × Spans r (getD words (base + ATOMS * k + i) 0)
 
 -- the position cut to the head atoms is an entry of the list whose bit is set

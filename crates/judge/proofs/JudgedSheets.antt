@@ -1,41 +1,20 @@
 -- A sheet judged: the answer where the loop returns, what the definition says of a sheet laid down from its positions, and that 256 is no place.
-use mathlib.Core.Path.{_≡_, refl, ap, ap₂, sym, _∙_, subst}
-use mathlib.Core.Bool.{Bool, true, false, not}
-use mathlib.Core.List.{List, [], _∷_, _++_, flatMap}
-use mathlib.Core.Logic.{inl, inr}
-use Prim.Native.Nat.{ℕ, zero, suc, _+_, _*_, _/_, _%_, _≤_, _<_}
-use native.Mathlib.Omega.{arith}
-use native.Mathlib.Decide.{decLt, ℕ-discrete}
-use lib.Dec.{eqb}
-use lib.ListN.{length, getD, take, drop, length-drop, take-append-drop}
-use lib.Seq.{drop-append-add}
-use borrow.Author.Tests.{lt-ltb, le-ltb, eqb-true, eqb-false, not-true, not-false}
-use Rattle.atoms.specs.Word.{below}
-use Rattle.atoms.specs.Bounded.{Decides}
+use Rattle.judge.proofs.Prelude.{_≡_, refl, ap, ap₂, sym, _∙_, subst, Bool, true, false, not, List, [], _∷_, _++_, flatMap, inl, inr, ℕ, zero, suc}
+use Rattle.judge.proofs.Prelude.{_+_, _*_, _/_, _%_, _≤_, _<_, arith, decLt, ℕ-discrete, eqb, length, getD, take, drop, length-drop, take-append-drop}
+use Rattle.judge.proofs.Prelude.{drop-append-add, lt-ltb, le-ltb, eqb-true, eqb-false, not-true, not-false, below, Decides, not-both, lent, answerSet}
+use Rattle.judge.proofs.Prelude.{Fitting, Plan, Fault, Outcome, Accepted, Refused as RefusedWith, All, IsByte, wordBytes, reading, ReadPlan, Settles}
+use Rattle.judge.proofs.Prelude.{settled, MAX_POSITIONS, badBytes, positionsIn, positionAt, unsettledAt, placesJudged, sheetIn, sheetJudged, NoSheet}
+use Rattle.judge.proofs.Prelude.{Laid, PlacesRight, all-settled, first-not, SheetRight, SheetJudged, asked-refused, asked-accepted, refused-answered}
+use Rattle.judge.proofs.Prelude.{accepted-answered, read-fits}
 use Rattle.atoms.specs.Collected.{lowest}
 use Rattle.atoms.proofs.Collected.{lowest-is, lowest-none, lowest-here, lowest-least}
-use Rattle.atoms.proofs.Tests.{not-both}
-use Rattle.answer_sets.specs.Lent.{lent}
-use Rattle.answer_sets.specs.Test.{answerSet}
-use Rattle.plan.specs.Record.{Fitting}
-use Rattle.plan.specs.declared.record.Plan.{Plan}
-use Rattle.plan.specs.declared.fault.Fault.{Fault}
-use Rattle.plan.specs.declared.fault.Outcome.{Outcome}
-use Rattle.plan.specs.declared.fault.Outcome.the-variants.{Accepted, Refused as RefusedWith}
 use Rattle.reading.specs.Words.{WORD_BYTES, WORD_VALUES, spelled, wordAt}
-use Rattle.reading.specs.Layout.{All, IsByte, wordBytes}
-use Rattle.reading.specs.Reading.{reading}
-use Rattle.reading.specs.declared.reader.Reading.{Reading}
 use Rattle.reading.proofs.Longest.{elements-long}
 use Rattle.reading.proofs.Numbers.{length-bytes, word-behind, word-bytes, word-fits, all-drop}
-use Rattle.plan_meaning.specs.Settled.{Settles, settled}
-use Rattle.judge.specs.Sheets.{MAX_POSITIONS, badBytes, positionsIn, positionAt, unsettledAt, placesJudged, sheetIn, sheetJudged}
-use Rattle.judge.specs.Sheets.{NoSheet, Laid, Right, all-settled, first-not, SheetRight, SheetJudged}
 use Rattle.judge.specs.declared.sheet.SheetAnswer.{SheetAnswer}
 use Rattle.judge.specs.declared.sheet.SheetAnswer.the-variants.{AllSettled, NotSettledAt, Refused, BadSheet}
 use Rattle.judge.proofs.Settled.{decides-settled}
 use Rattle.plan_meaning.specs.Asked.{Answered}
-use Rattle.plan_meaning.proofs.AskedPlans.{asked-refused, asked-accepted, refused-answered, accepted-answered, read-fits}
 
 -- ---- what is no sheet
 
@@ -161,10 +140,10 @@ module _ {ps sheet : List ℕ} (laid : Laid ps sheet) where
     settles place l t = decides-settled p (getD ps place 0) fits .yes (ap (settled p) (sym (laid-at place l)) ∙ t)
 
     -- "all are answer sets, or the place from 0 of the first that isn't"
-    pub places-right : Right p ps (placesJudged p sheet)
+    pub places-right : PlacesRight p ps (placesJudged p sheet)
     places-right = go (places-tested p sheet)
       where
-        go : {answer : SheetAnswer} → Tested p sheet answer → Right p ps answer
+        go : {answer : SheetAnswer} → Tested p sheet answer → PlacesRight p ps answer
         go (all-pass each) = all-settled (record { each = λ place l. settles place l (each place (omega (arith, laid-count))) })
         go (stops-at place l before here) =
             let k : place < length ps = omega (arith, laid-count) in
@@ -264,23 +243,23 @@ answer-below bytes sheet = go (reading bytes .outcome) refl (badBytes (length sh
 
 -- ---- the answers of the code, from what reading and the test of the sheet gave
 
-module _ (bytes sheet : List ℕ) {r : Reading} {t : Bool} (read : r ≡ reading bytes) (o : r .outcome ≡ Accepted) (bad-is : t ≡ badBytes (length sheet))
-    {A : Type 0} {refuse : Fault → A} {bad : A} (answer : Plan → List ℕ → A) {Right : Plan → List ℕ → A → Type 0} where
-  pub bad-answered : t ≡ true → Answered refuse (sheetIn bad answer sheet) (SheetRight bad Right sheet) bytes bad
+module _ (bytes sheet : List ℕ) {r : ReadPlan} {t : Bool} (read : r ≡ reading bytes) (o : r .outcome ≡ Accepted) (bad-is : t ≡ badBytes (length sheet))
+    {A : Type 0} {refuse : Fault → A} {bad : A} (answer : Plan → List ℕ → A) {PlacesRight : Plan → List ℕ → A → Type 0} where
+  pub bad-answered : t ≡ true → Answered refuse (sheetIn bad answer sheet) (SheetRight bad PlacesRight sheet) bytes bad
   bad-answered b =
       let is-bad : badBytes (length sheet) ≡ true = sym bad-is ∙ b in
       accepted-answered bytes read o (sym (in-bad bad answer sheet (r .plan) is-bad))
       (record { no-sheet = λ _. refl; of-sheet = λ ps l. absurd (laid-is-sheet l (decides-no-sheet sheet .yes is-bad)) })
 
-  pub sheet-answered : {a : A} → t ≡ false → a ≡ answer (r .plan) sheet → ((ps : List ℕ) → Laid ps sheet → Right (r .plan) ps a)
-      → Answered refuse (sheetIn bad answer sheet) (SheetRight bad Right sheet) bytes a
+  pub sheet-answered : {a : A} → t ≡ false → a ≡ answer (r .plan) sheet → ((ps : List ℕ) → Laid ps sheet → PlacesRight (r .plan) ps a)
+      → Answered refuse (sheetIn bad answer sheet) (SheetRight bad PlacesRight sheet) bytes a
   sheet-answered b is right =
       let is-sheet : badBytes (length sheet) ≡ false = sym bad-is ∙ b in
       accepted-answered bytes read o (is ∙ sym (in-sheet bad answer sheet (r .plan) is-sheet))
       (record { no-sheet = λ n. absurd (decides-no-sheet sheet .no is-sheet n); of-sheet = right })
 
 module _ (bytes sheet : List ℕ) (small : All IsByte sheet) where
-  whole-answer : {answer : SheetAnswer} → Answered Refused (sheetIn BadSheet placesJudged sheet) (SheetRight BadSheet Right sheet) bytes answer
+  whole-answer : {answer : SheetAnswer} → Answered Refused (sheetIn BadSheet placesJudged sheet) (SheetRight BadSheet PlacesRight sheet) bytes answer
       → SheetJudged bytes sheet answer
   whole-answer a = record {
     answered = a;
@@ -288,15 +267,16 @@ module _ (bytes sheet : List ℕ) (small : All IsByte sheet) where
     place-below = λ place e. subst PlaceBelow (sym (a .is) ∙ e) (answer-below bytes sheet);
   }
 
-  pub refused-sheet : {r : Reading} {f : Fault} → r ≡ reading bytes → r .outcome ≡ RefusedWith f → SheetJudged bytes sheet (Refused f)
+  pub refused-sheet : {r : ReadPlan} {f : Fault} → r ≡ reading bytes → r .outcome ≡ RefusedWith f → SheetJudged bytes sheet (Refused f)
   refused-sheet read o = whole-answer (refused-answered bytes read o refl)
 
-  pub bad-sheet : {r : Reading} {t : Bool} → r ≡ reading bytes → r .outcome ≡ Accepted → t ≡ badBytes (length sheet) → t ≡ true
+  pub bad-sheet : {r : ReadPlan} {t : Bool} → r ≡ reading bytes → r .outcome ≡ Accepted → t ≡ badBytes (length sheet) → t ≡ true
       → SheetJudged bytes sheet BadSheet
   bad-sheet read o t b = whole-answer (bad-answered bytes sheet read o t placesJudged b)
 
-  pub judged-sheet : {r : Reading} {t : Bool} {answer : SheetAnswer} → r ≡ reading bytes → r .outcome ≡ Accepted → t ≡ badBytes (length sheet) → t ≡ false
+  pub judged-sheet : {r : ReadPlan} {t : Bool} {answer : SheetAnswer} → r ≡ reading bytes → r .outcome ≡ Accepted → t ≡ badBytes (length sheet) → t ≡ false
       → answer ≡ placesJudged (r .plan) sheet → SheetJudged bytes sheet answer
   judged-sheet {r} read o t b e =
-      let right : (ps : List ℕ) → Laid ps sheet → Right (r .plan) ps (placesJudged (r .plan) sheet) = λ ps l. places-right l (r .plan) (read-fits bytes read) in
+      let right : (ps : List ℕ) → Laid ps sheet → PlacesRight (r .plan) ps (placesJudged (r .plan) sheet) =
+      λ ps l. places-right l (r .plan) (read-fits bytes read) in
       whole-answer (sheet-answered bytes sheet read o t placesJudged b e (λ ps l. rw e (right ps l)))

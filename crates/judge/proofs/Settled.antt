@@ -1,31 +1,14 @@
 -- Demand 2's first half: for every plan that reads the answer is yes exactly if the position is an answer set of all its rules
 -- as one set, with the given atoms as facts; and a position with an atom that is in no head and not given gets the answer no.
-use mathlib.Core.Path.{_≡_, refl, ap, sym, _∙_}
-use mathlib.Core.Bool.{Bool, true, false, true≢false}
-use mathlib.Core.List.{List}
-use mathlib.Core.Logic.{_⊎_, inl, inr}
-use Prim.Native.Nat.{ℕ, _<_}
-use native.Mathlib.Omega.{arith}
-use lib.ListN.{length}
-use Rattle.atoms.specs.Word.{Has, below}
-use Rattle.atoms.specs.Bounded.{Decides}
+use Rattle.judge.proofs.Prelude.{_≡_, refl, ap, sym, _∙_, Bool, true, false, true≢false, List, _⊎_, inl, inr, ℕ, _<_, arith, length, Has, below}
+use Rattle.judge.proofs.Prelude.{Decides, decided-true, decided-false, lent, Lent, Fitting, reading, record-fits, asked-accepted, accepted-answered}
+use Rattle.judge.proofs.Prelude.{read-fits, Plan, Accepted, ReadPlan, Settles, settled, yesNo, isYes, settledIn, judged, Judged, Settled, NotSettled}
 use Rattle.atoms.proofs.Sets.{below-lt, lt-of-has}
-use Rattle.atoms.proofs.Tests.{decided-true, decided-false}
-use Rattle.answer_sets.specs.Lent.{lent, Lent}
 use Rattle.answer_sets.proofs.Judged.{decides-answer-set}
 use Rattle.answer_sets.proofs.Support.{Supported, supported}
 use Rattle.plan.specs.Limits.{MAX_RULES, PROGRAM_WORDS}
-use Rattle.plan.specs.Record.{Fitting}
-use Rattle.reading.specs.Reading.{reading}
-use Rattle.reading.proofs.Limits.{record-fits}
-use Rattle.plan_meaning.proofs.AskedPlans.{asked-accepted, accepted-answered, read-fits}
-use Rattle.plan.specs.declared.record.Plan.{Plan}
-use Rattle.plan.specs.declared.fault.Outcome.the-variants.{Accepted}
-use Rattle.reading.specs.declared.reader.Reading.{Reading}
-use Rattle.plan_meaning.specs.Settled.{Settles, settled}
-use Rattle.judge.specs.Answers.{yesNo, isYes, settledIn, judged, Judged}
 use Rattle.judge.specs.declared.Answer.{Answer}
-use Rattle.judge.specs.declared.Answer.the-variants.{Settled, NotSettled, Refused}
+use Rattle.judge.specs.declared.Answer.the-variants.{Refused}
 
 -- ---- the whole program of a record
 
@@ -54,17 +37,17 @@ judged-decides bytes position e =
     (decides-settled (reading bytes .plan) position (record-fits bytes))
 
 -- the answer of the code, from what reading and the test gave
-pub test-judged : (bytes : List ℕ) (position : ℕ) {r : Reading} {t : Bool} (b : Bool) → r ≡ reading bytes → r .outcome ≡ Accepted
+pub test-judged : (bytes : List ℕ) (position : ℕ) {r : ReadPlan} {t : Bool} (b : Bool) → r ≡ reading bytes → r .outcome ≡ Accepted
     → t ≡ settled (r .plan) position → t ≡ b → Judged bytes position (yesNo b)
 test-judged bytes position {r} b read o e t =
     let s : b ≡ settled (r .plan) position = sym t ∙ e in
     accepted-answered bytes read o (ap yesNo s) (rw (yes-no b, s) (decides-settled (r .plan) position (read-fits bytes read)))
 
-pub yes-judged : (bytes : List ℕ) (position : ℕ) {r : Reading} {t : Bool} → r ≡ reading bytes → r .outcome ≡ Accepted → t ≡ settled (r .plan) position
+pub yes-judged : (bytes : List ℕ) (position : ℕ) {r : ReadPlan} {t : Bool} → r ≡ reading bytes → r .outcome ≡ Accepted → t ≡ settled (r .plan) position
     → t ≡ true → Judged bytes position Settled
 yes-judged bytes position = test-judged bytes position true
 
-pub no-judged : (bytes : List ℕ) (position : ℕ) {r : Reading} {t : Bool} → r ≡ reading bytes → r .outcome ≡ Accepted → t ≡ settled (r .plan) position
+pub no-judged : (bytes : List ℕ) (position : ℕ) {r : ReadPlan} {t : Bool} → r ≡ reading bytes → r .outcome ≡ Accepted → t ≡ settled (r .plan) position
     → t ≡ false → Judged bytes position NotSettled
 no-judged bytes position = test-judged bytes position false
 

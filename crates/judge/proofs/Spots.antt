@@ -1,23 +1,11 @@
 -- The spot of a reading fault lies within the plan's bytes.
-use mathlib.Core.Path.{_≡_, refl, ap, subst}
-use mathlib.Core.Bool.{Bool, true, false}
-use mathlib.Core.List.{List, [], _∷_}
-use mathlib.Core.Option.{Option, some, none}
-use Prim.Native.Nat.{ℕ, suc, _+_, _≤_}
-use native.Mathlib.Omega.{arith}
-use lib.ListN.{length, drop, length-drop}
-use Rattle.plan.specs.Faults.{spot}
-use Rattle.plan.specs.Record.{emptyPlan}
-use Rattle.reading.specs.Commands.{Kind, single, table, rule, usage, unit, edge, end, kindOf, carrying, commandAt}
-use Rattle.reading.specs.Commands.{Row, operandRows, rows, firstFit, ofKind}
-use Rattle.reading.specs.Reading.{Step, onward, ended, stepOf, reading, commandBytes}
+use Rattle.judge.proofs.Prelude.{_≡_, refl, ap, subst, Bool, true, false, List, [], _∷_, Option, some, none, ℕ, suc, _+_, _≤_, arith, length, drop}
+use Rattle.judge.proofs.Prelude.{length-drop, spot, emptyPlan, Step, onward, ended, stepOf, reading, commandBytes, Plan, Fault, Outcome, Accepted}
+use Rattle.judge.proofs.Prelude.{Refused as RefusedWith}
+use Rattle.reading.specs.Commands.{Kind, single, table, rule, usage, unit, edge, end, kindOf, carrying, commandAt, Row, operandRows, rows, firstFit, ofKind}
 use Rattle.reading.proofs.Commands.{known-command, unknown-command, adds, step-when, Leads}
 use Rattle.reading.proofs.Walk.{walk-keeps}
-use Rattle.plan.specs.declared.record.Plan.{Plan}
-use Rattle.plan.specs.declared.fault.Fault.{Fault}
 use Rattle.plan.specs.declared.fault.Fault.the-variants.{UnknownCommand}
-use Rattle.plan.specs.declared.fault.Outcome.{Outcome}
-use Rattle.plan.specs.declared.fault.Outcome.the-variants.{Accepted, Refused as RefusedWith}
 use Rattle.reading.specs.declared.command.Command.{Command}
 
 -- the fault of an outcome, if it is a refusal, has a spot of at most n

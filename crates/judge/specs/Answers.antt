@@ -37,7 +37,7 @@ abbrev pub Judged : List ℕ → ℕ → Answer → Type 0
 Judged bytes position answer = Answered Refused (settledIn position) (SaysSettled position) bytes answer
 
 -- the answer as one number
-abbrev pub code : Answer → ℕ
-code Settled = 1
-code NotSettled = 0
-code (Refused f) = refusalCode f
+abbrev pub judgeCode : Answer → ℕ
+judgeCode Settled = 1
+judgeCode NotSettled = 0
+judgeCode (Refused f) = refusalCode f

@@ -14,7 +14,7 @@ pub use sheet::sheet_code;
 ghost use mathlib.Core.Path.{_≡_};
 ghost use Rattle.plan.specs.Record.{Fitting};
 ghost use Rattle.plan_meaning.specs.Settled.{settled};
-ghost use Rattle.judge.specs.Answers.{Judged, code};
+ghost use Rattle.judge.specs.Answers.{Judged, judgeCode};
 
 // What the question is answered: yes, no, or the fault for which the plan is refused.
 pub enum Answer {
@@ -50,7 +50,7 @@ pub fn judge(plan: &[u8], position: u64) -> Answer
 
 // The answer as one number, for hosts: 1 settled, 0 not settled, from 65,536 on a refusal.
 pub fn answer_code(answer: Answer) -> u64
-    ensures { λ r. ⌜ r ≡ code answer ⌝ }
+    ensures { λ r. ⌜ r ≡ judgeCode answer ⌝ }
 {
     match answer {
         Answer::Settled => 1,

@@ -10,7 +10,7 @@ use reading::WORD_BYTES;
 use reading::read_word;
 ghost use mathlib.Core.Path.{_≡_};
 ghost use Rattle.plan.specs.Record.{Fitting};
-ghost use Rattle.judge.specs.Sheets.{badBytes, placesJudged, SheetJudged, sheetCode};
+ghost use Rattle.judge.specs.JudgedSheets.{badBytes, placesJudged, SheetJudged, sheetCode};
 
 // How many positions a sheet may have.
 pub const MAX_POSITIONS: usize = 256;

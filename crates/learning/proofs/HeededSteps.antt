@@ -1,14 +1,7 @@
 -- Steps run again: what belongs to the list and completes no learnt pair survives each of them.
-use mathlib.Core.Path.{_≡_, sym, subst, _∙_}
-use mathlib.Core.List.{List}
-use Prim.Native.Nat.{ℕ, _<_}
-use Rattle.states.specs.Narrowing.{Narrows}
-use Rattle.states.specs.declared.state.State.{State}
-use Rattle.states.proofs.Narrows.{narrows-for}
-use Rattle.learning.specs.Nogood.{Avoids}
-use Rattle.learning.specs.Store.{PAIRS, pairAt, AvoidsAll, Keeps, SamePairs}
+use Rattle.learning.proofs.Prelude.{_≡_, sym, subst, _∙_, List, ℕ, _<_, Narrows, State, narrows-for, Avoids, PAIRS, pairAt, AvoidsAll, Keeps}
+use Rattle.learning.proofs.Prelude.{SamePairs, Heeds, Lifted}
 use Rattle.learning.proofs.Stores.{keeps-trans, keeps-for, keeps-same}
-use Rattle.learning.specs.Reason.{Heeds, Lifted}
 
 module _ {K : ℕ → Type 0} {memory : List ℕ} {s t : State} where
   pub heeds-narrows : Narrows K s t → Narrows (Heeds K memory) s t

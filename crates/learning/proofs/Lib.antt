@@ -1,3 +1,7 @@
+-- What the proofs of this crate name of the kit, of the crates below and of its own definitions, each with its home.
+pub mod Prelude
+-- The laws of this crate that the proofs of its functions name, each with its home.
+pub mod Face
 -- Nogoods: what lies within what, what a pair that is avoided says of a state, and resolution
 pub mod Nogoods
 -- The store: what it is at first, and what a write changes

@@ -1,17 +1,9 @@
 -- Nogoods: what lies within what, what a pair that is avoided says of a state, and resolution.
-use mathlib.Core.Path.{_≡_, refl, sym, subst, _∙_}
-use Prim.Native.Nat.{ℕ}
-use native.Mathlib.Decide.{ℕ-discrete}
-use Rattle.atoms.specs.Word.{Has, _⊆_, Apart, _∩_, _∖_, atom}
-use Rattle.atoms.proofs.Sets.{has-none, has-left, has-right, has-without, without-left, without-right, has-dec, atom-only}
-use Rattle.atoms.proofs.Sets.{some-atom, shared-atom, apart-of-cut}
-use Rattle.states.specs.State.{Completes}
-use Rattle.states.specs.Narrowing.{Narrows, Within, Overlaps, SomeUp, SomeDown, OneGoes}
-use Rattle.states.specs.declared.state.State.{State}
-use Rattle.states.proofs.Narrows.{narrows-when, narrows-for, overlap-none}
-use Rattle.states.proofs.Within.{completes-within}
+use Rattle.learning.proofs.Prelude.{_≡_, refl, sym, subst, _∙_, ℕ, ℕ-discrete, Has, _⊆_, Apart, _∩_, _∖_, atom, has-none, has-left, has-right}
+use Rattle.learning.proofs.Prelude.{has-without, without-left, without-right, has-dec, atom-only, some-atom, shared-atom, apart-of-cut, Completes}
+use Rattle.learning.proofs.Prelude.{Narrows, Within, Overlaps, SomeUp, SomeDown, OneGoes, State, narrows-when, narrows-for, overlap-none}
+use Rattle.learning.proofs.Prelude.{completes-within, Avoids, Nogood, resolvent, Resolves}
 use Rattle.states.proofs.OneAtom.{none-left}
-use Rattle.learning.specs.Nogood.{Avoids, Nogood, resolvent, Resolves}
 
 -- ---- what lies within what
 

@@ -1,24 +1,10 @@
 -- Reasons: a goal told by a step, a pair with the reason in the goal's place, and a nogood lifted over a trail.
-use mathlib.Core.Path.{_≡_, sym, ap, _∙_}
-use mathlib.Core.Bool.{Bool, true, false, not, true≢false}
-use mathlib.Core.Logic.{_⊎_, inl, inr}
-use mathlib.Core.List.{List}
-use Prim.Native.Nat.{ℕ}
-use native.Mathlib.Omega.{arith}
-use borrow.Author.Tests.{not-true, not-false}
-use Rattle.atoms.specs.Word.{Has, AtMostOne, Apart, apart, _∩_, _∪_}
-use Rattle.atoms.specs.Bounded.{Decides}
-use Rattle.atoms.proofs.Sets.{has-cut, has-left, has-right, has-without, has-dec, decides-apart}
-use Rattle.atoms.proofs.Tests.{not-both}
-use Rattle.states.specs.State.{Completes}
-use Rattle.states.specs.Narrowing.{Narrows, Within, Overlaps}
-use Rattle.states.specs.declared.state.State.{State}
-use Rattle.learning.specs.Nogood.{Avoids, Nogood}
-use Rattle.learning.specs.Store.{AvoidsAll, Empty, Keeps, SamePairs, Learnt}
-use Rattle.learning.specs.Reason.{Heeds, Remembers, Explains, Tells, beyondOf, replaced, Leads, Lifted, WorthLearning, LearntOnce}
+use Rattle.learning.proofs.Prelude.{_≡_, sym, ap, _∙_, Bool, true, false, not, true≢false, _⊎_, inl, inr, List, ℕ, arith, not-true, not-false, Has}
+use Rattle.learning.proofs.Prelude.{AtMostOne, Apart, apart, _∩_, _∪_, Decides, has-cut, has-left, has-right, has-without, has-dec, decides-apart}
+use Rattle.learning.proofs.Prelude.{not-both, Completes, Narrows, Within, Overlaps, State, Avoids, Nogood, AvoidsAll, Empty, Keeps, SamePairs, Learnt}
+use Rattle.learning.proofs.Prelude.{Heeds, Remembers, Explains, Tells, beyondOf, replaced, Leads, Lifted, WorthLearning, LearntOnce, completes-within}
+use Rattle.learning.proofs.Prelude.{narrows-for}
 use Rattle.learning.proofs.Nogoods.{overlap-avoided}
-use Rattle.states.proofs.Within.{completes-within}
-use Rattle.states.proofs.Narrows.{narrows-for}
 use Rattle.learning.proofs.Stores.{keeps-refl, keeps-same, same-pairs}
 
 -- ---- a goal and its reason

@@ -1,24 +1,10 @@
 -- The store: what it is at first, and what a write changes.
-use mathlib.Core.Path.{_≡_, refl, sym, ap, subst, _∙_}
-use mathlib.Core.Bool.{Bool, true, false, not, true≢false, false≢true}
-use mathlib.Core.List.{List, _++_}
-use Prim.Native.Nat.{ℕ, _+_, _*_, _%_, _≤_, _<_}
-use native.Mathlib.Omega.{arith}
-use native.Mathlib.Decide.{ℕ-discrete}
-use lib.Dec.{ltb}
-use lib.ListN.{length, getD, set, take, replicate, length-set, length-replicate, getD-replicate, List·getD-append}
-use lib.Seq.{getD-set-same, getD-set-other, getD-take, length-take-le}
-use borrow.Rule.Slice.PartMut.{midOf, postOf, putMid, same-len-mid}
-use borrow.Author.Tests.{lt-ltb, le-ltb, not-true, not-false}
-use Rattle.atoms.specs.Word.{Has, AtMostOne, Apart, apart, _∪_, _∖_}
-use Rattle.atoms.specs.Bounded.{Decides}
-use Rattle.atoms.proofs.Sets.{decides-apart}
-use Rattle.atoms.proofs.Tests.{decides-iff}
-use Rattle.states.specs.declared.state.State.{State}
-use Rattle.learning.specs.Nogood.{Avoids}
-use Rattle.states.specs.Narrowing.{Overlaps}
-use Rattle.learning.specs.Store.{RING, PAIRS, PLACE, MEMORY_WORDS, pairAt, AvoidsAll, Empty, Keeps, SamePairs, PairWritten, Learnt}
-use Rattle.learning.specs.Store.{withPair, nextPlace, learntIn, learntPairs, missing, News, NextNews}
+use Rattle.learning.proofs.Prelude.{_≡_, refl, sym, ap, subst, _∙_, Bool, true, false, not, true≢false, false≢true, List, _++_, ℕ, _+_, _*_, _%_, _≤_}
+use Rattle.learning.proofs.Prelude.{_<_, arith, ℕ-discrete, ltb, length, getD, set, take, replicate, length-set, length-replicate, getD-replicate}
+use Rattle.learning.proofs.Prelude.{List·getD-append, getD-set-same, getD-set-other, getD-take, length-take-le, midOf, postOf, putMid, same-len-mid}
+use Rattle.learning.proofs.Prelude.{lt-ltb, le-ltb, not-true, not-false, Has, AtMostOne, Apart, apart, _∪_, _∖_, Decides, decides-apart, decides-iff}
+use Rattle.learning.proofs.Prelude.{State, Avoids, Overlaps, RING, PAIRS, PLACE, MEMORY_WORDS, pairAt, AvoidsAll, Empty, Keeps, SamePairs, PairWritten}
+use Rattle.learning.proofs.Prelude.{Learnt, withPair, nextPlace, learntIn, learntPairs, missing, News, NextNews}
 use Rattle.learning.proofs.Nogoods.{overlap-avoided}
 
 -- ---- at first

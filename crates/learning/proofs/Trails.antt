@@ -1,18 +1,8 @@
 -- The trail and the scores: a step that is noted, and a tally that is a part of the memory.
-use mathlib.Core.Path.{_≡_, refl, sym, ap, _∙_}
-use mathlib.Core.Bool.{Bool, true, false, true≢false}
-use mathlib.Core.List.{List, _++_}
-use mathlib.Core.Logic.{_⊎_, inl, inr}
-use Prim.Native.Nat.{ℕ, _+_, _-_, _≤_, _<_}
-use native.Mathlib.Omega.{arith}
-use lib.ListN.{length, getD, set, take, drop, List·getD-append}
-use lib.Seq.{getD-take, getD-drop, length-take-le, take-at, drop-at}
-use borrow.Rule.Slice.PartMut.{midOf, postOf, putMid, mid-len, drop-put}
-use Rattle.atoms.specs.Bounded.{Decides}
-use Rattle.atoms.specs.Tally.{Counted}
-use Rattle.atoms.proofs.Tests.{decides-iff}
-use Rattle.states.specs.declared.state.State.{State}
-use Rattle.learning.specs.Store.{STEPS, SCORES, SCORE_PLACES, MEMORY_WORDS}
+use Rattle.learning.proofs.Prelude.{_≡_, refl, sym, ap, _∙_, Bool, true, false, true≢false, List, _++_, _⊎_, inl, inr, ℕ, _+_, _-_, _≤_, _<_, arith}
+use Rattle.learning.proofs.Prelude.{length, getD, set, take, drop, List·getD-append, getD-take, getD-drop, length-take-le, take-at, drop-at, midOf}
+use Rattle.learning.proofs.Prelude.{postOf, putMid, mid-len, drop-put, Decides, decides-iff, State, STEPS, SCORES, SCORE_PLACES, MEMORY_WORDS}
+use Rattle.atoms.specs.Tally.{Tallied}
 use Rattle.learning.specs.Trail.{stepPlace, withStep, StepNoted, Scored}
 use Rattle.learning.proofs.Stores.{pair-of}
 
@@ -47,7 +37,7 @@ module _ (memory : List ℕ) (at step : ℕ) {s t : State} where
 
 -- ---- scores
 
-pub scored-part : (memory part : List ℕ) (which : ℕ) → MEMORY_WORDS ≤ length memory → Counted which (midOf SCORES SCORE_PLACES memory) part
+pub scored-part : (memory part : List ℕ) (which : ℕ) → MEMORY_WORDS ≤ length memory → Tallied which (midOf SCORES SCORE_PLACES memory) part
     → Scored which memory (putMid SCORES SCORE_PLACES memory part)
 scored-part memory part which l c = record {
   scores = rw here c;

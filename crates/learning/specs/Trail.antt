@@ -4,7 +4,7 @@ use mathlib.Core.List.{List}
 use mathlib.Core.Logic.{_⊎_}
 use Prim.Native.Nat.{ℕ, _+_, _*_, _≤_, _<_}
 use lib.ListN.{getD, set, take, drop}
-use Rattle.atoms.specs.Tally.{Counted, MostCounted}
+use Rattle.atoms.specs.Tally.{Tallied, MostCounted}
 use Rattle.states.specs.declared.state.State.{State}
 use Rattle.learning.specs.Store.{TRAIL, STEPS, STEP_WORDS, SCORES, SCORE_PLACES, MEMORY_WORDS, learntPairs}
 use Rattle.learning.specs.declared.trail.Recorded.{Recorded}
@@ -34,7 +34,7 @@ scoresOf memory = take SCORE_PLACES (drop SCORES memory)
 
 -- each of these atoms scores once more, and no other word is written
 pub record Scored (which : ℕ) (before after : List ℕ) : Type 0 where
-  pub scores : Counted which (scoresOf before) (scoresOf after)
+  pub scores : Tallied which (scoresOf before) (scoresOf after)
   pub others : (i : ℕ) → i < SCORES ⊎ (MEMORY_WORDS ≤ i) → getD after i 0 ≡ getD before i 0
 
 -- those of the atoms with the highest score, and all while nothing is learnt

@@ -1,16 +1,8 @@
 -- The table of the rules that may back an atom: one rule more is noted at each turn.
-use mathlib.Core.Path.{_≡_, refl, sym, subst, _∙_}
-use mathlib.Core.Logic.{_⊎_, inl, inr}
-use mathlib.Core.List.{List}
-use Prim.Native.Nat.{ℕ, zero, suc}
-use native.Mathlib.Nat.{zero-add}
-use lib.ListN.{length, getD, replicate}
-use Rattle.atoms.specs.Word.{ATOMS, Has, _∪_, _∖_, atom, Lowest}
-use Rattle.atoms.proofs.Sets.{has-none, has-atom, atom-only, has-without, without-left, without-right, has-left, has-right, union-cases}
-use Rattle.atoms.proofs.TakenNumbers.{Taking, taking-start, taking-next, taking-end, taken-lent}
-use Rattle.answer_sets.specs.Lent.{lent, negative}
-use Rattle.narrowing.specs.Marks.{NotedAt, Marked}
-use Rattle.narrowing.specs.Backers.{Backs, RuleBacks, RulesBack, Backers}
+use Rattle.narrowing.proofs.Prelude.{_≡_, refl, sym, subst, _∙_, _⊎_, inl, inr, List, ℕ, zero, suc, zero-add, length, getD, replicate, ATOMS, Has, _∪_}
+use Rattle.narrowing.proofs.Prelude.{_∖_, atom, Lowest, has-none, has-atom, atom-only, has-without, without-left, without-right, has-left, has-right}
+use Rattle.narrowing.proofs.Prelude.{union-cases, Taking, taking-start, taking-next, taking-end, taken-lent, lent, negative, NotedAt, Marked, Backs}
+use Rattle.narrowing.proofs.Prelude.{RuleBacks, RulesBack, Backers}
 
 -- one rule
 pub rule-backs : (rules : List ℕ) (r : ℕ) {head positives negatives body which word : ℕ} {before after : List ℕ} → head ≡ lent rules .head r

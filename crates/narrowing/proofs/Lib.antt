@@ -1,3 +1,7 @@
+-- What the proofs of this crate name of the kit, of the crates below and of its own definitions, each with its home.
+pub mod Prelude
+-- The laws of this crate that the proofs of its functions name, each with its home.
+pub mod Face
 -- Support: each atom of an answer set that is no fact has a rule that supports it
 pub mod Supports
 -- Tables of words to which numbers are added: one after the other, by a loop over the numbers of a word, and one word at a place

@@ -1,16 +1,9 @@
 -- Atoms that hold each other up: what one rule adds, what all rules add, and the largest such set, which is come to from all atoms down.
-use mathlib.Core.Path.{_≡_, sym, subst, _∙_}
-use mathlib.Core.Bool.{Bool, true, false}
-use mathlib.Core.List.{List}
-use mathlib.Core.Logic.{_⊎_, inl, inr}
-use Prim.Native.Nat.{ℕ, _^_, _<_}
-use Rattle.atoms.specs.Word.{ATOMS, Has, _⊆_, apart, _∩_, _∪_, _∖_, atom, below, Lowest}
-use Rattle.atoms.proofs.Sets.{has-lt, has-below, has-none, has-atom, has-left, has-right, has-cut, cut-left, cut-right, union-cases, subset-refl, has-without}
-use Rattle.atoms.proofs.Sets.{without-left, without-right, decides-apart, shared-atom, apart-of-cut}
-use Rattle.atoms.proofs.Counts.{taken-within}
-use Rattle.atoms.proofs.TakenNumbers.{none-done, all-done, done-cases, taken-lent}
-use Rattle.answer_sets.specs.Lent.{lent}
-use Rattle.narrowing.specs.Loops.{HeldBy, HeldOn, HoldsUp, Looped, HeldMore, HeldAmong}
+use Rattle.narrowing.proofs.Prelude.{_≡_, sym, subst, _∙_, Bool, true, false, List, _⊎_, inl, inr, ℕ, _^_, _<_, ATOMS, Has, _⊆_, apart, _∩_, _∪_, _∖_}
+use Rattle.narrowing.proofs.Prelude.{atom, below, Lowest, has-lt, has-below, has-none, has-atom, has-left, has-right, has-cut, cut-left, cut-right}
+use Rattle.narrowing.proofs.Prelude.{union-cases, subset-refl, has-without, without-left, without-right, decides-apart, shared-atom, apart-of-cut}
+use Rattle.narrowing.proofs.Prelude.{taken-within, none-done, all-done, done-cases, taken-lent, lent, HeldBy, HeldOn, HoldsUp, Looped, HeldMore}
+use Rattle.narrowing.proofs.Prelude.{HeldAmong}
 
 -- ---- one rule
 

@@ -1,16 +1,8 @@
 -- Tables of words to which numbers are added: one after the other, by a loop over the numbers of a word, and one word at a place.
-use mathlib.Core.Path.{_≡_, refl, sym, subst, _∙_}
-use mathlib.Core.Logic.{_⊎_, inl, inr}
-use mathlib.Core.List.{List}
-use Prim.Native.Nat.{ℕ, _+_, _<_, _≤_}
-use native.Mathlib.Decide.{ℕ-discrete}
-use lib.ListN.{length, getD, set, length-set}
-use lib.Seq.{getD-set-same, getD-set-other}
-use Rattle.atoms.specs.Word.{Has, _⊆_, _∪_, _∖_, atom, Lowest}
-use Rattle.atoms.proofs.Sets.{subset-refl, subset-trans, has-left, has-right, union-cases, has-without, without-left, without-right, has-atom}
-use Rattle.atoms.proofs.Counts.{taken-within}
-use Rattle.atoms.proofs.TakenNumbers.{none-done, all-done, done-cases, taken-lent}
-use Rattle.narrowing.specs.Marks.{Adds, ByOne, Marked}
+use Rattle.narrowing.proofs.Prelude.{_≡_, refl, sym, subst, _∙_, _⊎_, inl, inr, List, ℕ, _+_, _<_, _≤_, ℕ-discrete, length, getD, set, length-set}
+use Rattle.narrowing.proofs.Prelude.{getD-set-same, getD-set-other, Has, _⊆_, _∪_, _∖_, atom, Lowest, subset-refl, subset-trans, has-left, has-right}
+use Rattle.narrowing.proofs.Prelude.{union-cases, has-without, without-left, without-right, has-atom, taken-within, none-done, all-done, done-cases}
+use Rattle.narrowing.proofs.Prelude.{taken-lent, AddsAt, ByOne, Marked}
 
 -- a table that keeps its length is still long enough
 pub still-long : (n : ℕ) (before table : List ℕ) → length table ≡ length before → n ≤ length before → n ≤ length table
@@ -19,11 +11,11 @@ still-long n before table e l = rw e l
 -- ---- one after the other
 
 module _ {N : ℕ → ℕ → Type 0} where
-  pub adds-none : {table : List ℕ} → ((i q : ℕ) → ¬ N i q) → Adds N table table
+  pub adds-none : {table : List ℕ} → ((i q : ℕ) → ¬ N i q) → AddsAt N table table
   adds-none n = record { same-length = refl; grown = λ i. subset-refl; added = λ i q k. absurd (n i q k); no-more = λ i q h. inl h }
 
-  pub adds-iff : {M : ℕ → ℕ → Type 0} {before after : List ℕ} → ((i q : ℕ) → N i q → M i q) → ((i q : ℕ) → M i q → N i q) → Adds N before after
-      → Adds M before after
+  pub adds-iff : {M : ℕ → ℕ → Type 0} {before after : List ℕ} → ((i q : ℕ) → N i q → M i q) → ((i q : ℕ) → M i q → N i q) → AddsAt N before after
+      → AddsAt M before after
   adds-iff {M} {before} f g a = record {
     same-length = a .same-length;
     grown = a .grown;
@@ -35,8 +27,8 @@ module _ {N : ℕ → ℕ → Type 0} where
       go i q (inl h) = inl h
       go i q (inr k) = inr (f i q k)
 
-  pub adds-trans : {M : ℕ → ℕ → Type 0} {before table after : List ℕ} → Adds N before table → Adds M table after
-      → Adds (λ i q. N i q ⊎ M i q) before after
+  pub adds-trans : {M : ℕ → ℕ → Type 0} {before table after : List ℕ} → AddsAt N before table → AddsAt M table after
+      → AddsAt (λ i q. N i q ⊎ M i q) before after
   adds-trans {M} {before} {table} {after} a b = record {
     same-length = b .same-length ∙ a .same-length;
     grown = λ i. subset-trans (a .grown i) (b .grown i);
@@ -60,13 +52,13 @@ module _ {N : ℕ → ℕ → Type 0} where
 
 pub record Adding (N : ℕ → ℕ → ℕ → Type 0) (which rest : ℕ) (before table : List ℕ) : Type 0 where
   pub within : rest ⊆ which
-  pub done : Adds (ByOne N (which ∖ rest)) before table
+  pub done : AddsAt (ByOne N (which ∖ rest)) before table
 
 pub adding-start : {N : ℕ → ℕ → ℕ → Type 0} {which : ℕ} {table : List ℕ} → Adding N which which table table
 adding-start {which = which} = record { within = subset-refl; done = adds-none (λ i q k. none-done which (k .numbered)) }
 
 pub adding-next : {N : ℕ → ℕ → ℕ → Type 0} {which rest rest′ r : ℕ} {before table after : List ℕ} → Adding N which rest before table
-    → Lowest rest r → rest′ ≡ rest ∖ atom r → Adds (N r) table after → Adding N which rest′ before after
+    → Lowest rest r → rest′ ≡ rest ∖ atom r → AddsAt (N r) table after → Adding N which rest′ before after
 adding-next {N} {which} {rest} {r = r} k low e a = record {
   within = taken-within (k .within) low e;
   done = rw e (adds-iff into from (adds-trans (k .done) a));
@@ -90,7 +82,7 @@ adding-next {N} {which} {rest} {r = r} k low e a = record {
         go (inr f) = inr (subst (λ (x : ℕ). N x i q) (sym f) (b .adds))
 
 pub adding-end : {N : ℕ → ℕ → ℕ → Type 0} {which rest : ℕ} {before table : List ℕ} → Adding N which rest before table → rest ≡ 0
-    → Adds (ByOne N which) before table
+    → AddsAt (ByOne N which) before table
 adding-end {which = which} {rest} k e =
     adds-iff (λ i q b. record { number = b .number; numbered = without-left which rest (b .numbered); adds = b .adds })
     (λ i q b. record { number = b .number; numbered = all-done which rest e (b .numbered); adds = b .adds })
@@ -103,7 +95,7 @@ pub record IsAt (base word a i q : ℕ) : Type 0 where
   pub in-word : Has word q
 
 pub word-added : (base word a : ℕ) (table : List ℕ) {v : ℕ} → base + a < length table → v ≡ getD table (base + a) 0 ∪ word
-    → Adds (IsAt base word a) table (set table (base + a) v)
+    → AddsAt (IsAt base word a) table (set table (base + a) v)
 word-added base word a table {v} l e = record {
   same-length = length-set table (base + a) v;
   grown = λ i. record { each = λ q h. more i q h (ℕ-discrete i (base + a)) };

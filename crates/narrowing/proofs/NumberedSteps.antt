@@ -1,20 +1,6 @@
 -- The steps by number: what each promises holds of every answer set that has its inputs as facts.
-use mathlib.Core.Path.{_≡_}
-use mathlib.Core.List.{List}
-use mathlib.Core.Logic.{_⊎_, inl, inr}
-use Prim.Native.Nat.{ℕ, _^_, _<_}
-use lib.ListN.{getD}
-use Rattle.atoms.specs.Word.{ATOMS, Has, _⊆_, _∩_, _∪_}
-use Rattle.atoms.proofs.Sets.{cut-left, union-cases}
-use Rattle.answer_sets.specs.Program.{Satisfies, SatisfiesAll}
-use Rattle.answer_sets.specs.Lent.{lent, Lent}
-use Rattle.states.specs.Narrowing.{Narrows}
-use Rattle.states.specs.declared.state.State.{State}
-use Rattle.states.proofs.Narrows.{narrows-for}
-use Rattle.answer_sets.proofs.Support.{satisfied}
-use Rattle.narrowing.specs.Inputs.{AnswersInputs}
-use Rattle.narrowing.specs.Backers.{Backers}
-use Rattle.narrowing.specs.Support.{SupportedIfUp}
+use Rattle.narrowing.proofs.Prelude.{_≡_, List, _⊎_, inl, inr, ℕ, _^_, _<_, getD, ATOMS, Has, _⊆_, _∩_, _∪_, cut-left, union-cases, Satisfies}
+use Rattle.narrowing.proofs.Prelude.{SatisfiesAll, lent, Lent, Narrows, State, narrows-for, satisfied, AnswersInputs, Backers, SupportedIfUp}
 use Rattle.narrowing.proofs.SupportSteps.{answers-held}
 
 module _ (rules : List ℕ) (which inputs : ℕ) {s t : State} where

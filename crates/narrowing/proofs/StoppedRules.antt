@@ -1,32 +1,16 @@
 -- Rules at a stop (document 02, S-7): what that means, where a rule stands, and that no answer set completes the state there.
-use mathlib.Core.Path.{_≡_, refl, sym, _∙_, subst}
-use mathlib.Core.Bool.{Bool, true, false, not, true≢false, false≢true}
-use mathlib.Core.Logic.{_↔_}
-use mathlib.Core.List.{List}
-use Prim.Native.Nat.{ℕ}
-use native.Mathlib.Omega.{arith}
-use borrow.Author.Tests.{not-true, not-false}
-use Rattle.atoms.specs.Word.{Has, _⊆_, subset, Apart, apart, _∩_, _∖_, atom, Lowest}
-use Rattle.atoms.proofs.Sets.{has-without, without-left, without-right, decides-subset, decides-apart}
-use Rattle.atoms.proofs.TakenNumbers.{Taking, taking-start, taking-next, taking-end}
-use Rattle.answer_sets.specs.Lent.{lent}
+use Rattle.narrowing.proofs.Prelude.{_≡_, refl, sym, _∙_, subst, Bool, true, false, not, true≢false, false≢true, _↔_, List, ℕ, arith, not-true}
+use Rattle.narrowing.proofs.Prelude.{not-false, Has, _⊆_, subset, Apart, apart, _∩_, _∖_, atom, Lowest, has-without, without-left, without-right}
+use Rattle.narrowing.proofs.Prelude.{decides-subset, decides-apart, Taking, taking-start, taking-next, taking-end, lent, Completes, halfDecided, Part}
+use Rattle.narrowing.proofs.Prelude.{PartHolds, InBody, BodySays, State, Truth, Holds, Fails, Open, up-apart, up-completes, completes-known, satisfied}
+use Rattle.narrowing.proofs.Prelude.{AnswersInputs, AtStop, NoStop, StopFound, RulesCounted, IsSpent, IsLive, SameLengths, head-up, body-fails, Stands}
+use Rattle.narrowing.proofs.Prelude.{Chosen, Standing, Spent, Stopped, Live}
 use Rattle.answer_sets.specs.declared.reduct.FoundRule.{FoundRule}
 use Rattle.answer_sets.specs.declared.reduct.FoundRule.the-variants.{Rule, Nothing}
-use Rattle.states.specs.State.{Completes, halfDecided}
-use Rattle.answer_sets.specs.Known.{Part, PartHolds, InBody, BodySays}
-use Rattle.states.specs.declared.state.State.{State}
-use Rattle.answer_sets.specs.declared.truth.Truth.{Truth}
-use Rattle.answer_sets.specs.declared.truth.Truth.the-variants.{Holds, Fails, Open}
 use Rattle.answer_sets.proofs.Truths.{holds-not-fails, open-not-holds, open-not-fails}
-use Rattle.answer_sets.proofs.Parts.{up-apart, up-completes, completes-known}
 use Rattle.answer_sets.proofs.HalfKnown.{none-satisfies}
-use Rattle.answer_sets.proofs.Support.{satisfied}
-use Rattle.narrowing.specs.Inputs.{AnswersInputs}
-use Rattle.narrowing.specs.Stops.{AtStop, NoStop, Met, RulesCounted, IsSpent, IsLive, SameLengths, head-up, body-fails, Stands, Chosen}
 use Rattle.narrowing.specs.declared.choice.Choice.{Choice}
 use Rattle.narrowing.specs.declared.choice.Choice.the-variants.{Atom, Stop}
-use Rattle.narrowing.specs.declared.choice.Standing.{Standing}
-use Rattle.narrowing.specs.declared.choice.Standing.the-variants.{Spent, Stopped, Live}
 
 module _ (rules : List ℕ) (r : ℕ) (s : State) where
   -- every part of the body is true in every completion, and every head atom is dropped and not up: just then the rule is at a stop
@@ -147,10 +131,10 @@ lengths-kept k l = record { of-first = l .of-first ∙ k .of-first; of-others = 
 module _ {rules : List ℕ} {which : ℕ} {s : State} {first others first′ others′ : List ℕ} {f : FoundRule}
     (k : RulesCounted rules which s first others first′ others′ f) where
   pub met-stop : {r : ℕ} → f ≡ Rule r → Has which r × AtStop rules r s
-  met-stop e = subst (Met rules which s) e (k .met)
+  met-stop e = subst (StopFound rules which s) e (k .met)
 
   pub met-none : f ≡ Nothing → NoStop rules which s
-  met-none e = subst (Met rules which s) e (k .met)
+  met-none e = subst (StopFound rules which s) e (k .met)
 
 -- what comes next of some of the free atoms comes next of all
 pub chosen-within : (rules : List ℕ) (which : ℕ) (s : State) {some free : ℕ} (c : Choice) → some ⊆ free → Chosen rules which s some c

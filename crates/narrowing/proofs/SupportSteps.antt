@@ -1,30 +1,10 @@
 -- The support step: which rules may support an atom, and what follows where none or one is left.
-use mathlib.Core.Path.{_≡_, sym, subst, _∙_}
-use mathlib.Core.Bool.{Bool, true, false, not, true≢false}
-use mathlib.Core.Logic.{_⊎_, inl, inr}
-use mathlib.Core.List.{List}
-use Prim.Native.Nat.{ℕ, _^_, _<_}
-use lib.ListN.{getD}
-use borrow.Author.Tests.{not-true}
-use Rattle.atoms.specs.Word.{ATOMS, Has, _∩_, _∪_, _∖_, apart, atom, Lowest}
-use Rattle.atoms.proofs.Singles.{numbered-by}
-use Rattle.atoms.proofs.Sets.{decides-apart, subset-refl, cut-right, has-none, has-atom, atom-only, without-left, without-right}
-use Rattle.atoms.proofs.Sets.{union-cases}
-use Rattle.atoms.proofs.TakenNumbers.{taken-cases}
-use Rattle.atoms.proofs.Counts.{taken-within}
-use Rattle.answer_sets.specs.Lent.{lent, IsLent, Lent, negative}
-use Rattle.states.specs.State.{Completes}
-use Rattle.states.specs.Narrowing.{Narrows}
-use Rattle.answer_sets.specs.Known.{BodySays}
-use Rattle.states.specs.declared.state.State.{State}
-use Rattle.answer_sets.specs.declared.truth.Truth.{Truth}
-use Rattle.answer_sets.specs.declared.truth.Truth.the-variants.{Fails}
-use Rattle.answer_sets.proofs.Parts.{known-fails, completes-known}
-use Rattle.answer_sets.proofs.Bodies.{negative-down}
-use Rattle.states.proofs.Narrows.{narrows-trans, narrows-when, up-narrows, down-narrows}
-use Rattle.narrowing.specs.Inputs.{AnswersInputs}
-use Rattle.narrowing.specs.Backers.{Backs, Backers}
-use Rattle.narrowing.specs.Support.{Supports, Excluded, Supporters, SupportedIfUp}
+use Rattle.narrowing.proofs.Prelude.{_≡_, sym, subst, _∙_, Bool, true, false, not, true≢false, _⊎_, inl, inr, List, ℕ, _^_, _<_, getD, not-true, ATOMS}
+use Rattle.narrowing.proofs.Prelude.{Has, _∩_, _∪_, _∖_, apart, atom, Lowest, numbered-by, decides-apart, subset-refl, cut-right, has-none, has-atom}
+use Rattle.narrowing.proofs.Prelude.{atom-only, without-left, without-right, union-cases, taken-cases, taken-within, lent, IsLent, Lent, negative}
+use Rattle.narrowing.proofs.Prelude.{Completes, Narrows, BodySays, State, Truth, Fails, known-fails, completes-known, negative-down, narrows-trans}
+use Rattle.narrowing.proofs.Prelude.{narrows-when, up-narrows, down-narrows, AnswersInputs, Backs, Backers, Supports, Excluded, Supporters}
+use Rattle.narrowing.proofs.Prelude.{SupportedIfUp}
 use Rattle.narrowing.proofs.Supports.{supporter}
 
 -- ---- one rule

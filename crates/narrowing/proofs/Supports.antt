@@ -1,20 +1,12 @@
 -- Support: each atom of an answer set that is no fact has a rule that supports it.
-use mathlib.Core.Path.{_≡_, sym, subst}
-use mathlib.Core.Bool.{Bool, true, false, not, _&&_}
-use mathlib.Core.Logic.{_⊎_, inl, inr}
-use Prim.Native.Nat.{ℕ, _^_, _<_}
-use native.Mathlib.Decide.{ℕ-discrete}
-use Rattle.atoms.specs.Word.{ATOMS, Has, has, _⊂_, _∖_, atom}
-use Rattle.atoms.specs.Bounded.{someBelow}
-use Rattle.atoms.proofs.Tests.{test-cases, and-true, not-is-true, not-both, decided, decided-true, decided-false}
-use Rattle.atoms.proofs.Sets.{decides-has, has-lt, has-without, without-left, without-right, has-atom, atom-only}
+use Rattle.narrowing.proofs.Prelude.{_≡_, sym, subst, Bool, true, false, not, _&&_, _⊎_, inl, inr, ℕ, _^_, _<_, ℕ-discrete, ATOMS, Has, has, _⊂_, _∖_}
+use Rattle.narrowing.proofs.Prelude.{atom, someBelow, test-cases, and-true, not-is-true, not-both, decided, decided-true, decided-false, decides-has}
+use Rattle.narrowing.proofs.Prelude.{has-lt, has-without, without-left, without-right, has-atom, atom-only, Program, Body, Satisfies, Kept, AnswerSet}
+use Rattle.narrowing.proofs.Prelude.{Supports}
 use Rattle.atoms.proofs.Bounded.{some-at, some-intro}
 use Rattle.plan.specs.Limits.{MAX_RULES}
-use Rattle.answer_sets.specs.Program.{Program, Body, Satisfies}
-use Rattle.answer_sets.specs.AnswerSet.{Kept, AnswerSet}
 use Rattle.answer_sets.specs.Test.{kept, satisfies}
 use Rattle.answer_sets.proofs.Judged.{decides-body, decides-satisfies, kept-has, kept-at, kept-fits}
-use Rattle.narrowing.specs.Support.{Supports}
 
 -- ---- an answer set's atom is supported
 

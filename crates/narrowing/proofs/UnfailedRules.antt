@@ -1,16 +1,6 @@
 -- Whether an atom of its own makes a rule's body fail.
-use mathlib.Core.Path.{_≡_, refl, sym, ap, subst, _∙_}
-use mathlib.Core.Bool.{Bool, true, false, not, true≢false}
-use mathlib.Core.List.{List}
-use Prim.Native.Nat.{ℕ}
-use borrow.Author.Tests.{not-true, not-false}
-use Rattle.atoms.specs.Word.{Apart, apart}
-use Rattle.atoms.specs.Bounded.{Decides}
-use Rattle.atoms.proofs.Sets.{decides-apart}
-use Rattle.atoms.proofs.Tests.{decides-iff}
-use Rattle.answer_sets.specs.Lent.{lent, negative}
-use Rattle.states.specs.declared.state.State.{State}
-use Rattle.narrowing.specs.Stops.{Unfailed}
+use Rattle.narrowing.proofs.Prelude.{_≡_, refl, sym, ap, subst, _∙_, Bool, true, false, not, true≢false, List, ℕ, not-true, not-false, Apart, apart}
+use Rattle.narrowing.proofs.Prelude.{Decides, decides-apart, decides-iff, lent, negative, State, Unfailed}
 
 module _ (rules : List ℕ) (r : ℕ) (s : State) {p : ℕ} {t : Bool} (e : p ≡ lent rules .positive r) (f : t ≡ apart p (s .dropped)) where
   positive-decided : Decides (Apart (lent rules .positive r) (s .dropped)) t

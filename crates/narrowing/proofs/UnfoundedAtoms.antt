@@ -1,26 +1,8 @@
 -- Unfounded atoms: by what a rule can do without them, and that an answer set has none.
-use mathlib.Core.Path.{_≡_, sym, ap, subst, _∙_}
-use mathlib.Core.Bool.{Bool, true, false, not}
-use mathlib.Core.Logic.{_↔_, _⊎_, inl, inr}
-use mathlib.Core.List.{List}
-use Prim.Native.Nat.{ℕ}
-use borrow.Author.Tests.{not-true, not-false}
-use Rattle.atoms.specs.Word.{Has, _∩_, _∪_, _∖_, apart}
-use Rattle.atoms.proofs.Sets.{cut-left, cut-right, has-left, union-cases, has-without, without-left, without-right, shared-atom, apart-of-cut, decides-apart}
-use Rattle.answer_sets.specs.AnswerSet.{ReductModel}
-use Rattle.answer_sets.specs.Lent.{lent, negative}
-use Rattle.states.specs.State.{Completes}
-use Rattle.states.specs.Narrowing.{Narrows}
-use Rattle.answer_sets.specs.Known.{BodySays}
-use Rattle.states.specs.declared.state.State.{State}
-use Rattle.answer_sets.specs.declared.truth.Truth.{Truth}
-use Rattle.answer_sets.specs.declared.truth.Truth.the-variants.{Fails}
-use Rattle.answer_sets.proofs.Support.{least}
-use Rattle.states.proofs.Narrows.{down-narrows}
-use Rattle.answer_sets.proofs.Parts.{known-fails, completes-known}
-use Rattle.answer_sets.proofs.Bodies.{negative-down}
-use Rattle.narrowing.specs.Inputs.{AnswersInputs}
-use Rattle.narrowing.specs.Unfounded.{Spares, Unfounded}
+use Rattle.narrowing.proofs.Prelude.{_≡_, sym, ap, subst, _∙_, Bool, true, false, not, _↔_, _⊎_, inl, inr, List, ℕ, not-true, not-false, Has, _∩_, _∪_}
+use Rattle.narrowing.proofs.Prelude.{_∖_, apart, cut-left, cut-right, has-left, union-cases, has-without, without-left, without-right, shared-atom}
+use Rattle.narrowing.proofs.Prelude.{apart-of-cut, decides-apart, ReductModel, lent, negative, Completes, Narrows, BodySays, State, Truth, Fails}
+use Rattle.narrowing.proofs.Prelude.{least, down-narrows, known-fails, completes-known, negative-down, AnswersInputs, Spares, Unfounded}
 
 -- ---- one rule
 

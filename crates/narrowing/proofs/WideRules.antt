@@ -1,21 +1,6 @@
 -- Rules with a wide head: where a rule stands it stands alone, and what a loop over the rules finds.
-use mathlib.Core.Path.{_≡_, ap, sym, subst, _∙_}
-use mathlib.Core.Bool.{Bool, true, false, false≢true}
-use mathlib.Core.List.{List}
-use Prim.Native.Nat.{ℕ}
-use lib.Count.{ones}
-use lib.Dec.{leb}
-use borrow.Author.Tests.{leb-true, le-leb}
-use Rattle.atoms.specs.Word.{Has, _∖_}
-use Rattle.atoms.specs.Bounded.{Decides}
-use Rattle.atoms.proofs.Tests.{decides}
-use Rattle.atoms.proofs.TakenNumbers.{Taking, taking-end}
-use Rattle.answer_sets.specs.Lent.{lent}
-use Rattle.states.specs.declared.state.State.{State}
-use Rattle.narrowing.specs.declared.choice.Standing.{Standing}
-use Rattle.narrowing.specs.declared.choice.Standing.the-variants.{Spent, Stopped, Live}
-use Rattle.narrowing.specs.Stops.{Stands}
-use Rattle.narrowing.specs.Wide.{WIDE, IsWide, SomeWide}
+use Rattle.narrowing.proofs.Prelude.{_≡_, ap, sym, subst, _∙_, Bool, true, false, false≢true, List, ℕ, ones, leb, leb-true, le-leb, Has, _∖_, Decides}
+use Rattle.narrowing.proofs.Prelude.{decides, Taking, taking-end, lent, State, Standing, Spent, Stopped, Live, Stands, WIDE, IsWide, SomeWide}
 
 module _ {rules : List ℕ} {r : ℕ} {s : State} where
   -- a rule that is spent or at a stop is not wide

@@ -1,19 +1,13 @@
 -- The steps that a rule has woken: the four parts of the table.
-use mathlib.Core.Path.{_≡_}
-use mathlib.Core.List.{List}
-use mathlib.Core.Logic.{_⊎_, inl, inr}
-use Prim.Native.Nat.{ℕ}
-use Rattle.atoms.specs.Word.{_∪_, _∖_, atom}
-use Rattle.answer_sets.specs.Lent.{lent, negative, looks}
-use Rattle.narrowing.specs.Marks.{Adds, NotedAt}
-use Rattle.narrowing.specs.Woken.{RULES_UP, RULES_DOWN, SUPPORTS_UP, SUPPORTS_DOWN, holdsUp, failsUp, Wakes, rule-up, support-down, rule-down, support-up}
+use Rattle.narrowing.proofs.Prelude.{_≡_, List, _⊎_, inl, inr, ℕ, _∪_, _∖_, atom, lent, negative, looks, AddsAt, NotedAt, RULES_UP, RULES_DOWN}
+use Rattle.narrowing.proofs.Prelude.{SUPPORTS_UP, SUPPORTS_DOWN, holdsUp, failsUp, Wakes, rule-up, support-down, rule-down, support-up}
 use Rattle.narrowing.proofs.MarkedTables.{adds-iff, adds-trans}
 
 pub rule-wakes : (rules : List ℕ) (r : ℕ) {head negatives seen either positives holds wide fails this : ℕ} {before table after : List ℕ}
     → head ≡ lent rules .head r → negatives ≡ negative rules r → seen ≡ looks rules r → either ≡ seen ∖ negatives → positives ≡ lent rules .positive r
     → holds ≡ positives ∪ either → wide ≡ head ∪ negatives → fails ≡ wide ∪ either → this ≡ atom r
-    → Adds (λ i q. NotedAt RULES_UP holds this i q ⊎ NotedAt SUPPORTS_DOWN holds head i q) before table
-    → Adds (λ i q. NotedAt RULES_DOWN fails this i q ⊎ NotedAt SUPPORTS_UP fails head i q) table after → Adds (Wakes rules r) before after
+    → AddsAt (λ i q. NotedAt RULES_UP holds this i q ⊎ NotedAt SUPPORTS_DOWN holds head i q) before table
+    → AddsAt (λ i q. NotedAt RULES_DOWN fails this i q ⊎ NotedAt SUPPORTS_UP fails head i q) table after → AddsAt (Wakes rules r) before after
 rule-wakes rules r {head} {holds = holds} {fails = fails} {this = this} e n l x p c w d t a b = adds-iff into from (adds-trans a b)
   where
     h : holds ≡ holdsUp rules r

@@ -7,7 +7,7 @@ use lib.ListN.{length, getD}
 use Rattle.atoms.specs.Word.{Has, _⊆_}
 
 -- at place i are the numbers that were there, and those with N; nothing else came and nothing went
-pub record Adds (N : ℕ → ℕ → Type 0) (before after : List ℕ) : Type 0 where
+pub record AddsAt (N : ℕ → ℕ → Type 0) (before after : List ℕ) : Type 0 where
   pub same-length : length after ≡ length before
   pub grown : (i : ℕ) → getD before i 0 ⊆ getD after i 0
   pub added : (i q : ℕ) → N i q → Has (getD after i 0) q
@@ -28,4 +28,4 @@ pub record NotedAt (base which word i q : ℕ) : Type 0 where
 
 -- the word is noted for each atom of the set
 abbrev pub Marked : ℕ → ℕ → ℕ → List ℕ → List ℕ → Type 0
-Marked base which word before after = Adds (NotedAt base which word) before after
+Marked base which word before after = AddsAt (NotedAt base which word) before after

@@ -30,9 +30,9 @@ Chosen rules which s free (Atom i) = Has free i × (i < ATOMS) × NoStop rules w
 Chosen rules which s free (Stop r) = Has which r × AtStop rules r s
 
 -- Inner: a rule of the word that is at a stop, or that none is
-abbrev pub Met : List ℕ → ℕ → State → FoundRule → Type 0
-Met rules which s (Rule r) = Has which r × AtStop rules r s
-Met rules which s Nothing = NoStop rules which s
+abbrev pub StopFound : List ℕ → ℕ → State → FoundRule → Type 0
+StopFound rules which s (Rule r) = Has which r × AtStop rules r s
+StopFound rules which s Nothing = NoStop rules which s
 
 -- Inner: two tallies keep their lengths
 pub record SameLengths (first others first′ others′ : List ℕ) : Type 0 where
@@ -41,7 +41,7 @@ pub record SameLengths (first others first′ others′ : List ℕ) : Type 0 whe
 
 -- Inner: what a count of the rules says, and that both tallies keep their lengths
 pub record RulesCounted (rules : List ℕ) (which : ℕ) (s : State) (first others first′ others′ : List ℕ) (r : FoundRule) : Type 0 where
-  pub met : Met rules which s r
+  pub met : StopFound rules which s r
   pub lengths : SameLengths first others first′ others′
 
 -- Inner: rule r has nothing more to ask for: a head atom is up, or its body fails

@@ -11,7 +11,7 @@ ghost use Prim.Native.Nat.{_+_, _≤_, _<_};
 ghost use lib.ListN.{length};
 ghost use Rattle.atoms.specs.Word.{ATOMS};
 ghost use Rattle.answer_sets.specs.Lent.{IsLent, Lent};
-ghost use Rattle.narrowing.specs.Marks.{Adds, NotedAt};
+ghost use Rattle.narrowing.specs.Marks.{AddsAt, NotedAt};
 ghost use Rattle.narrowing.specs.Woken.{WOKEN_WORDS, Wakes, SomeWakes};
 
 // The table's parts, a word for each atom in each: the rules to look at once the atom is up, and once it is dropped; the atoms whose support to
@@ -29,7 +29,7 @@ pub const WOKEN_WORDS: usize = 4 * ATOMS;
 // Notes for these atoms a rule in one part of the table and its head in another.
 fn note(table: &mut [u64], rules_at: usize, supports_at: usize, which: u64, rule: u64, head: u64)
     requires { ⌜ («rules_at» + ATOMS ≤ length (now table)) × («supports_at» + ATOMS ≤ length (now table)) ⌝ }
-    ensures { λ _. ⌜ Adds (λ i q. NotedAt «rules_at» which rule i q ⊎ NotedAt «supports_at» which head i q) (now (table .entry)) (now (table .exit)) ⌝ }
+    ensures { λ _. ⌜ AddsAt (λ i q. NotedAt «rules_at» which rule i q ⊎ NotedAt «supports_at» which head i q) (now (table .entry)) (now (table .exit)) ⌝ }
 {
     mark(table, rules_at, which, rule);
     mark(table, supports_at, which, head);
@@ -39,7 +39,7 @@ fn note(table: &mut [u64], rules_at: usize, supports_at: usize, which: u64, rule
 // concern its head atoms' support. What else the body looks at may do either.
 fn note_rule(rules: &[u64], rule: usize, table: &mut [u64])
     requires { ⌜ IsLent (now rules) rule × (rule < ATOMS) × (WOKEN_WORDS ≤ length (now table)) ⌝ }
-    ensures { λ _. ⌜ Adds (Wakes (now (rules .entry)) rule) (now (table .entry)) (now (table .exit)) ⌝ }
+    ensures { λ _. ⌜ AddsAt (Wakes (now (rules .entry)) rule) (now (table .entry)) (now (table .exit)) ⌝ }
 {
     let head = head(rules, rule);
     let negative = negative_body(rules, rule);
@@ -54,7 +54,7 @@ fn note_rule(rules: &[u64], rule: usize, table: &mut [u64])
 // Notes for each atom the steps that rules of the word have woken.
 pub fn note_rules(rules: &[u64], which: u64, table: &mut [u64])
     requires { ⌜ Lent (now rules) which × (WOKEN_WORDS ≤ length (now table)) ⌝ }
-    ensures { λ _. ⌜ Adds (SomeWakes (now (rules .entry)) which) (now (table .entry)) (now (table .exit)) ⌝ }
+    ensures { λ _. ⌜ AddsAt (SomeWakes (now (rules .entry)) which) (now (table .entry)) (now (table .exit)) ⌝ }
 {
     let mut rest = which;
     while rest != 0 {

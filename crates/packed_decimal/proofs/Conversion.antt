@@ -1,26 +1,13 @@
 -- Conversion is inverse both ways. For any number of digits it is one argument: the digits are the same and only their base changes
 -- (`read-back`, by induction over the number of digits). What the functions answer cites it at four.
-use mathlib.Core.Path.{_≡_, refl, sym, ap, _∙_, subst}
-use mathlib.Core.Bool.{true, false, not}
-use mathlib.Core.List.{List, [], _∷_}
-use mathlib.Core.Logic.{_⊎_, inl, inr}
-use Prim.Native.Nat.{ℕ, _^_, _≤_, _<_}
-use native.Mathlib.Omega.{arith}
-use native.Mathlib.Decide.{decLt, ℕ-discrete}
-use borrow.Author.Tests.{lt-ltb, le-ltb}
-use Rattle.atoms.proofs.Tests.{decided-true, test-cases}
-use Rattle.packed_decimal.specs.Digits.{digits, Below}
-use Rattle.packed_decimal.specs.Reading.{TEN, DIGITS, DIGIT_VALUES, MODULUS, NOT_MEASURED, unpacked, packed, Decimal, isReading, says}
-use Rattle.packed_decimal.specs.Refusals.{badOf}
-use Rattle.packed_decimal.specs.Answers.{numberOf, readingOf}
-use Rattle.packed_decimal.specs.declared.meter.Reading.{Reading}
-use Rattle.packed_decimal.specs.declared.meter.Reading.the-variants.{Measured, NotMeasured}
-use Rattle.packed_decimal.specs.declared.refusal.Refusal.the-variants.{BadReading, LargeNumber}
-use Rattle.packed_decimal.specs.declared.convert.Number.the-variants.{Says, Refused as NumberRefused}
-use Rattle.packed_decimal.specs.declared.convert.Packed.the-variants.{Word, Refused as PackedRefused}
+use Rattle.packed_decimal.proofs.Prelude.{_≡_, refl, sym, ap, _∙_, subst, true, false, not, List, [], _∷_, _⊎_, inl, inr, ℕ, _^_, _≤_, _<_, arith}
+use Rattle.packed_decimal.proofs.Prelude.{decLt, ℕ-discrete, lt-ltb, le-ltb, decided-true, test-cases, digits, Below, TEN, DIGITS, DIGIT_VALUES}
+use Rattle.packed_decimal.proofs.Prelude.{MODULUS, NOT_MEASURED, unpacked, packed, Decimal, isReading, says, badOf, numberOf, readingOf, Reading}
+use Rattle.packed_decimal.proofs.Prelude.{Measured, NotMeasured, BadReading, LargeNumber, Says, Word}
+use Rattle.packed_decimal.specs.declared.convert.Number.the-variants.{Refused as NumberRefused}
+use Rattle.packed_decimal.specs.declared.convert.Packed.the-variants.{Refused as PackedRefused}
 use Rattle.packed_decimal.proofs.Positional.{digits-below, digits-kept, read-back, number-lt, number-order}
-use Rattle.packed_decimal.proofs.Readings.{decides-decimal, unmeasured-says, decimal-measured}
-use Rattle.packed_decimal.proofs.Readings.{measured-is, measured-says, measured-decimal}
+use Rattle.packed_decimal.proofs.Readings.{decides-decimal, unmeasured-says, decimal-measured, measured-is, measured-says, measured-decimal}
 use Rattle.packed_decimal.proofs.FirstBad.{unless-first, unless-none}
 
 -- ---- any number of digits

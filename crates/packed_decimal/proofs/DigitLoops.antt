@@ -1,14 +1,8 @@
 -- The two loops that take the digits of a word from the low end. What is known of the digits that are left is known of all: Testing, whether
 -- they are decimal; Respelling, the number that they make in another base, with bounds so that nothing wraps.
-use mathlib.Core.Path.{_≡_, refl, sym, ap, _∙_}
-use mathlib.Core.Bool.{true, false}
-use Prim.Native.Nat.{ℕ, suc, _+_, _-_, _*_, _/_, _%_, _^_, _≤_, _<_}
-use native.Mathlib.Omega.{arith}
-use native.Mathlib.Nat.{pow-suc, pow-zero, pow-le-pow-right, mul-add, mul-comm, mul-assoc, mul-le-mul-left, mul-le-mul-right, mod-lt}
-use native.Mathlib.Numerals.{add-one}
-use borrow.Author.Tests.{lt-ltb, le-ltb}
-use Rattle.packed_decimal.specs.Digits.{digits, valueOf}
-use Rattle.packed_decimal.specs.Reading.{TEN, DIGIT_VALUES, decimal}
+use Rattle.packed_decimal.proofs.Prelude.{_≡_, refl, sym, ap, _∙_, true, false, ℕ, suc, _+_, _-_, _*_, _/_, _%_, _^_, _≤_, _<_, arith, pow-suc}
+use Rattle.packed_decimal.proofs.Prelude.{pow-zero, pow-le-pow-right, mul-add, mul-comm, mul-assoc, mul-le-mul-left, mul-le-mul-right, mod-lt, add-one}
+use Rattle.packed_decimal.proofs.Prelude.{lt-ltb, le-ltb, digits, valueOf, TEN, DIGIT_VALUES, isDecimal}
 use Rattle.packed_decimal.proofs.Positional.{number-digits-suc}
 
 -- what is left of n digits after i + 1 is one less than after i
@@ -19,26 +13,26 @@ one-fewer n i l = omega arith
 
 pub record Testing (n word i rest : ℕ) : Type 0 where
   pub within : i ≤ n
-  pub left : decimal n word ≡ decimal (n - i) rest
+  pub left : isDecimal n word ≡ isDecimal (n - i) rest
 
 pub testing-start : (n word : ℕ) → Testing n word 0 word
-testing-start n word = record { within = omega arith; left = let e : n ≡ n - 0 = omega arith in ap (λ (k : ℕ). decimal k word) e }
+testing-start n word = record { within = omega arith; left = let e : n ≡ n - 0 = omega arith in ap (λ (k : ℕ). isDecimal k word) e }
 
-pub testing-bad : {n word i rest : ℕ} → Testing n word i rest → i < n → TEN ≤ rest % DIGIT_VALUES → false ≡ decimal n word
-unfolding decimal
+pub testing-bad : {n word i rest : ℕ} → Testing n word i rest → i < n → TEN ≤ rest % DIGIT_VALUES → false ≡ isDecimal n word
+unfolding isDecimal
 testing-bad {n} {word} {i} {rest} t l bad =
-    sym (t .left ∙ rw (one-fewer n i l, decimal, le-ltb (rest % DIGIT_VALUES) TEN bad) refl)
+    sym (t .left ∙ rw (one-fewer n i l, isDecimal, le-ltb (rest % DIGIT_VALUES) TEN bad) refl)
 
 pub testing-more : {n word i rest : ℕ} → Testing n word i rest → i < n → rest % DIGIT_VALUES < TEN
     → Testing n word (i + 1) (rest / DIGIT_VALUES)
-unfolding decimal
+unfolding isDecimal
 testing-more {n} {word} {i} {rest} t l good = record {
   within = omega arith;
-  left = t .left ∙ rw (one-fewer n i l, decimal, lt-ltb (rest % DIGIT_VALUES) TEN good) refl;
+  left = t .left ∙ rw (one-fewer n i l, isDecimal, lt-ltb (rest % DIGIT_VALUES) TEN good) refl;
 }
 
-pub testing-all : {n word i rest : ℕ} → Testing n word i rest → n ≤ i → true ≡ decimal n word
-unfolding decimal
+pub testing-all : {n word i rest : ℕ} → Testing n word i rest → n ≤ i → true ≡ isDecimal n word
+unfolding isDecimal
 testing-all {n} {word} {i} {rest} t l = let none : n - i ≡ 0 = omega arith in sym (t .left ∙ rw none refl)
 
 -- ---- the digits in another base

@@ -1,19 +1,8 @@
 -- "Errors, tried first": what `unlessBad` gives where the first bad reading is known, or that there is none.
-use mathlib.Core.Path.{_≡_, refl, sym, ap, _∙_}
-use mathlib.Core.Bool.{Bool, true, false, not}
-use mathlib.Core.List.{[], _∷_}
-use mathlib.Core.Logic.{_⊎_, inl, inr}
-use Prim.Native.Nat.{ℕ, _≤_, _<_}
-use native.Mathlib.Omega.{arith}
-use native.Mathlib.Decide.{decLt}
-use borrow.Author.Tests.{lt-ltb, le-ltb, not-true, not-false}
-use Rattle.atoms.specs.Bounded.{Decides}
-use Rattle.atoms.specs.Collected.{Least, lowest}
+use Rattle.packed_decimal.proofs.Prelude.{_≡_, refl, sym, ap, _∙_, Bool, true, false, not, [], _∷_, _⊎_, inl, inr, ℕ, _≤_, _<_, arith, decLt, lt-ltb}
+use Rattle.packed_decimal.proofs.Prelude.{le-ltb, not-true, not-false, Decides, Least, lowest, isReading, unlessBad, badOf, firstBad, Refusal}
+use Rattle.packed_decimal.proofs.Prelude.{BadReading}
 use Rattle.atoms.proofs.Collected.{lowest-is, lowest-none, lowest-here, lowest-least}
-use Rattle.packed_decimal.specs.Reading.{isReading}
-use Rattle.packed_decimal.specs.Refusals.{unlessBad, badOf, firstBad}
-use Rattle.packed_decimal.specs.declared.refusal.Refusal.{Refusal}
-use Rattle.packed_decimal.specs.declared.refusal.Refusal.the-variants.{BadReading}
 
 module _ {A : Type 0} (n : ℕ) (bad : ℕ → Bool) (refused : Refusal → A) (answer : A) where
   pub unless-refused : lowest n bad < n → unlessBad n bad refused answer ≡ refused (BadReading (lowest n bad))

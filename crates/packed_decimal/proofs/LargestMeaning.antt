@@ -1,26 +1,11 @@
 -- What the definition of the largest reading means: it is the one that IsLargest describes, and there is no other.
-use mathlib.Core.Path.{_≡_, refl, sym, ap, ap₂, _∙_, subst}
-use mathlib.Core.Bool.{Bool, true, false, cond}
-use mathlib.Core.List.{List}
-use Prim.Native.Nat.{ℕ, zero, suc, _+_, _*_, _≤_, _<_}
-use native.Mathlib.Omega.{arith}
-use native.Mathlib.Decide.{decLt, ℕ-discrete}
-use lib.Dec.{ltb, leb}
-use lib.ListN.{length}
-use borrow.Author.Tests.{ltb-true, ltb-false, leb-true, le-leb}
-use Rattle.atoms.specs.Bounded.{Decides}
-use Rattle.atoms.specs.Collected.{lowest}
-use Rattle.atoms.proofs.Tests.{decides, decides-iff, decides-or, decides-not}
-use Rattle.packed_decimal.specs.Reading.{DIGITS, NOT_MEASURED, unpacked, says}
-use Rattle.packed_decimal.specs.Largest.{READING_BYTES, readings, wordAt, BadAt, badAt, larger, largestOf, largestIn}
-use Rattle.packed_decimal.specs.Largest.{IsLargest, Right, Right.largest, Right.none-measured}
-use Rattle.packed_decimal.specs.Refusals.{refusalSpot}
-use Rattle.packed_decimal.specs.declared.meter.Reading.the-variants.{Measured}
-use Rattle.packed_decimal.specs.declared.refusal.Refusal.{Refusal}
-use Rattle.packed_decimal.specs.declared.refusal.Refusal.the-variants.{BadReading}
-use Rattle.packed_decimal.specs.declared.largest.Largest.the-variants.{Is, Refused}
-use Rattle.packed_decimal.specs.declared.largest.LargestFound.{LargestFound}
-use Rattle.packed_decimal.specs.declared.largest.LargestFound.the-variants.{At}
+use Rattle.packed_decimal.proofs.Prelude.{_≡_, refl, sym, ap, ap₂, _∙_, subst, Bool, true, false, cond, List, ℕ, zero, suc, _+_, _*_, _≤_, _<_, arith}
+use Rattle.packed_decimal.proofs.Prelude.{decLt, ℕ-discrete, ltb, leb, length, ltb-true, ltb-false, leb-true, le-leb, Decides, lowest, decides}
+use Rattle.packed_decimal.proofs.Prelude.{decides-iff, decides-or, decides-not, DIGITS, NOT_MEASURED, unpacked, says, READING_BYTES, readings}
+use Rattle.packed_decimal.proofs.Prelude.{readingAt, BadAt, badAt, larger, largestOf, largestIn, IsLargest, LargestRight, refusalSpot, Measured}
+use Rattle.packed_decimal.proofs.Prelude.{Refusal, BadReading, Refused, LargestFound, At}
+use Rattle.packed_decimal.specs.Largest.{LargestRight.largest, LargestRight.none-measured}
+use Rattle.packed_decimal.specs.declared.largest.Largest.the-variants.{Is}
 use Rattle.packed_decimal.proofs.FirstBad.{unless-refused, unless-answered}
 use Rattle.packed_decimal.proofs.Readings.{decides-reading, unmeasured-says, measured-says}
 
@@ -46,7 +31,7 @@ module _ (words : ℕ → ℕ) (n : ℕ) where
     none-before = r .none-before;
   }
 
-  unmeasured-more : {found : LargestFound} → words n ≡ NOT_MEASURED → Right words n found → Right words (suc n) found
+  unmeasured-more : {found : LargestFound} → words n ≡ NOT_MEASURED → LargestRight words n found → LargestRight words (suc n) found
   unmeasured-more e (largest r) = largest (stays-largest r (λ m. absurd (m e)))
   unmeasured-more e (none-measured f) = none-measured (one-more n f e)
 
@@ -72,22 +57,23 @@ module _ (words : ℕ → ℕ) (n : ℕ) where
     }
 
     either-more : {best at : ℕ} (b : Bool) → ltb (unpacked DIGITS best) (unpacked DIGITS (words n)) ≡ b → IsLargest words n best at
-        → Right words (suc n) (cond b (At (words n) n) (At best at))
+        → LargestRight words (suc n) (cond b (At (words n) n) (At best at))
     either-more true e r = largest (larger-more r (ltb-true _ _ e))
     either-more false e r = largest (stays-largest r (λ m. ltb-false _ _ e))
 
-    measured-more : {found : LargestFound} → Right words n found → Right words (suc n) (larger found (Measured (unpacked DIGITS (words n))) (words n) n)
+    measured-more : {found : LargestFound} → LargestRight words n found
+        → LargestRight words (suc n) (larger found (Measured (unpacked DIGITS (words n))) (words n) n)
     measured-more (largest {word = best} r) = either-more (ltb (unpacked DIGITS best) (unpacked DIGITS (words n))) refl r
     measured-more (none-measured f) = largest (first-more f)
 
 -- what the definition gives is right
-pub largest-right : (words : ℕ → ℕ) (n : ℕ) → Right words n (largestOf words n)
+pub largest-right : (words : ℕ → ℕ) (n : ℕ) → LargestRight words n (largestOf words n)
 unfolding largestOf
 largest-right words zero = none-measured (λ i l. absurd (omega arith))
 largest-right words (suc n) = go (ℕ-discrete (words n) NOT_MEASURED) (largest-right words n)
   where
-    go : Dec (words n ≡ NOT_MEASURED) → Right words n (largestOf words n)
-        → Right words (suc n) (larger (largestOf words n) (says (words n)) (words n) n)
+    go : Dec (words n ≡ NOT_MEASURED) → LargestRight words n (largestOf words n)
+        → LargestRight words (suc n) (larger (largestOf words n) (says (words n)) (words n) n)
     go (yes e) r = rw (unmeasured-says (words n) e) (unmeasured-more words n e r)
     go (no e) r = rw (measured-says (words n) e) (measured-more words n e r)
 
@@ -101,7 +87,7 @@ module _ {words : ℕ → ℕ} {n : ℕ} where
       let second′ : unpacked DIGITS w ≤ unpacked DIGITS v = rw (b .here) at second in
       omega arith
 
-  right-same : {f g : LargestFound} → Right words n f → Right words n g → f ≡ g
+  right-same : {f g : LargestFound} → LargestRight words n f → LargestRight words n g → f ≡ g
   right-same (largest {word = v} {place = p} a) (largest {word = w} {place = q} b) =
       let e : p ≡ q = omega (arith, not-before a b, not-before b a) in
       ap₂ At (sym (a .here) ∙ ap words e ∙ b .here) e
@@ -109,7 +95,7 @@ module _ {words : ℕ → ℕ} {n : ℕ} where
   right-same (none-measured f) (largest {place = q} b) = absurd (b .measured (sym (b .here) ∙ f q (b .within)))
   right-same (none-measured f) (none-measured g) = refl
 
-pub largest-only : {words : ℕ → ℕ} {n : ℕ} {found : LargestFound} → Right words n found → found ≡ largestOf words n
+pub largest-only : {words : ℕ → ℕ} {n : ℕ} {found : LargestFound} → LargestRight words n found → found ≡ largestOf words n
 largest-only {words} {n} r = right-same r (largest-right words n)
 
 -- ---- bad readings of a run
@@ -119,7 +105,7 @@ unfolding badAt
 decides-bad bytes i =
     let lone : Decides (length bytes ≤ READING_BYTES * i + 1) (leb (length bytes) (READING_BYTES * i + 1)) =
     decides _ (leb-true _ _) (le-leb _ _) in
-    decides-iff (λ b. record { bad = b }) (λ h. h .bad) (decides-or lone (decides-not (decides-reading (wordAt bytes i))))
+    decides-iff (λ b. record { bad = b }) (λ h. h .bad) (decides-or lone (decides-not (decides-reading (readingAt bytes i))))
 
 -- a run is refused at one of its readings
 pub refused-within : (bytes : List ℕ) (r : Refusal) → largestIn bytes ≡ Refused r → refusalSpot r < readings bytes
@@ -128,10 +114,10 @@ refused-within bytes r e = go (decLt (lowest (readings bytes) (badAt bytes)) (re
   where
     go : Dec (lowest (readings bytes) (badAt bytes) < readings bytes) → refusalSpot r < readings bytes
     go (yes l) =
-        let refused = unless-refused (readings bytes) (badAt bytes) Refused (Is (largestOf (wordAt bytes) (readings bytes))) l in
+        let refused = unless-refused (readings bytes) (badAt bytes) Refused (Is (largestOf (readingAt bytes) (readings bytes))) l in
         let same : r ≡ BadReading (lowest (readings bytes) (badAt bytes)) = cc in
         rw same l
     go (no l) =
-        let answered = unless-answered (readings bytes) (badAt bytes) Refused (Is (largestOf (wordAt bytes) (readings bytes))) (omega arith) in
+        let answered = unless-answered (readings bytes) (badAt bytes) Refused (Is (largestOf (readingAt bytes) (readings bytes))) (omega arith) in
         let z : _≡_ {A = ℕ} 0 1 = cc in
         absurd (omega arith)

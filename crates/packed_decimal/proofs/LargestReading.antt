@@ -1,23 +1,9 @@
 -- The largest reading of a run: what one reading more changes, and the loop over a run of bytes (Seeking).
-use mathlib.Core.Path.{_≡_, refl, sym, ap, ap₂, _∙_}
-use mathlib.Core.Bool.{Bool, true, false, cond, or-true}
-use mathlib.Core.List.{List}
-use Prim.Native.Nat.{ℕ, _+_, _*_, _/_, _^_, _≤_, _<_}
-use native.Mathlib.Omega.{arith}
-use native.Mathlib.Decide.{ℕ-discrete}
-use native.Mathlib.Numerals.{add-one}
-use lib.Dec.{ltb, leb}
-use lib.ListN.{length}
-use borrow.Author.Count.{below-more}
-use borrow.Author.Tests.{lt-ltb, le-ltb, lt-leb, le-leb}
-use Rattle.packed_decimal.specs.Reading.{DIGITS, DIGIT_VALUES, NOT_MEASURED, unpacked, isReading, says}
-use Rattle.packed_decimal.specs.Largest.{READING_BYTES, readings, wordAt, badAt, larger, largestOf, largestIn}
-use Rattle.packed_decimal.specs.MeasuredWord.{MeasuredWord, MeasuredFound}
-use Rattle.packed_decimal.specs.declared.meter.Reading.the-variants.{Measured}
-use Rattle.packed_decimal.specs.declared.refusal.Refusal.the-variants.{BadReading}
-use Rattle.packed_decimal.specs.declared.largest.LargestFound.{LargestFound}
-use Rattle.packed_decimal.specs.declared.largest.LargestFound.the-variants.{At, NoneMeasured}
-use Rattle.packed_decimal.specs.declared.largest.Largest.the-variants.{Is, Refused}
+use Rattle.packed_decimal.proofs.Prelude.{_≡_, refl, sym, ap, ap₂, _∙_, Bool, true, false, cond, or-true, List, ℕ, _+_, _*_, _/_, _^_, _≤_, _<_, arith}
+use Rattle.packed_decimal.proofs.Prelude.{ℕ-discrete, add-one, ltb, leb, length, below-more, lt-ltb, le-ltb, lt-leb, le-leb, DIGITS, DIGIT_VALUES}
+use Rattle.packed_decimal.proofs.Prelude.{NOT_MEASURED, unpacked, isReading, says, READING_BYTES, readings, readingAt, badAt, larger, largestOf}
+use Rattle.packed_decimal.proofs.Prelude.{largestIn, MeasuredWord, MeasuredFound, Measured, BadReading, LargestFound, At, NoneMeasured, Refused}
+use Rattle.packed_decimal.specs.declared.largest.Largest.the-variants.{Is}
 use Rattle.packed_decimal.proofs.Readings.{unmeasured-says, measured-says, measured-word}
 use Rattle.packed_decimal.proofs.FirstBad.{unless-first, unless-none}
 use Rattle.packed_decimal.proofs.Orders.{words-lt, words-le}
@@ -62,11 +48,11 @@ larger-measured found word place m l r = go (ℕ-discrete word NOT_MEASURED)
 
 -- ---- the loop over a run of bytes
 
-whole-good : (bytes : List ℕ) (i : ℕ) → READING_BYTES * i + 1 < length bytes → isReading (wordAt bytes i) ≡ true → badAt bytes i ≡ false
+whole-good : (bytes : List ℕ) (i : ℕ) → READING_BYTES * i + 1 < length bytes → isReading (readingAt bytes i) ≡ true → badAt bytes i ≡ false
 unfolding badAt
 whole-good bytes i l e = rw (lt-leb (length bytes) (READING_BYTES * i + 1) l, e) refl
 
-whole-bad : (bytes : List ℕ) (i : ℕ) → isReading (wordAt bytes i) ≡ false → badAt bytes i ≡ true
+whole-bad : (bytes : List ℕ) (i : ℕ) → isReading (readingAt bytes i) ≡ false → badAt bytes i ≡ true
 unfolding badAt
 whole-bad bytes i e = rw e (or-true (leb (length bytes) (READING_BYTES * i + 1)))
 
@@ -78,14 +64,14 @@ lone-bad bytes i l = rw (le-leb (length bytes) (READING_BYTES * i + 1) l) refl
 pub record Seeking (bytes : List ℕ) (i : ℕ) (found : LargestFound) : Type 0 where
   pub within : i ≤ length bytes / READING_BYTES
   pub good : (j : ℕ) → j < i → badAt bytes j ≡ false
-  pub found-is : found ≡ largestOf (wordAt bytes) i
+  pub found-is : found ≡ largestOf (readingAt bytes) i
   pub measured : MeasuredFound found
 
 pub seeking-start : (bytes : List ℕ) → Seeking bytes 0 NoneMeasured
 unfolding largestOf
 seeking-start bytes = record { within = omega arith; good = λ j l. absurd (omega arith); found-is = refl; measured = tt }
 
-module _ {bytes : List ℕ} {i word : ℕ} {found : LargestFound} (s : Seeking bytes i found) (e : word ≡ wordAt bytes i) where
+module _ {bytes : List ℕ} {i word : ℕ} {found : LargestFound} (s : Seeking bytes i found) (e : word ≡ readingAt bytes i) where
   pub seeking-bad : i < length bytes / READING_BYTES → isReading word ≡ false → largestIn bytes ≡ Refused (BadReading i)
   unfolding largestIn
   seeking-bad l r =
@@ -100,7 +86,7 @@ module _ {bytes : List ℕ} {i word : ℕ} {found : LargestFound} (s : Seeking b
     found-is =
         n
         ∙ ap₂ (λ (f : LargestFound) (w : ℕ). larger f (says w) w i) (s .found-is) e
-        ∙ ap (largestOf (wordAt bytes)) (sym (add-one i));
+        ∙ ap (largestOf (readingAt bytes)) (sym (add-one i));
     measured = rw n (larger-measured found word i (s .measured) fits r);
   }
 
@@ -118,4 +104,4 @@ unfolding largestIn
 seeking-all {bytes} {i} {found} s l even =
     let all : readings bytes ≡ i = omega (arith, s .within) in
     unless-none (readings bytes) (badAt bytes) Refused _ (λ j k. s .good j (omega arith))
-    ∙ ap Is (ap (largestOf (wordAt bytes)) all ∙ sym (s .found-is))
+    ∙ ap Is (ap (largestOf (readingAt bytes)) all ∙ sym (s .found-is))

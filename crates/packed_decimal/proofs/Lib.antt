@@ -1,3 +1,7 @@
+-- What the proofs of this crate name of the kit, of the crates below and of its own definitions, each with its home.
+pub mod Prelude
+-- The laws of this crate that the proofs of its functions name, each with its home.
+pub mod Face
 -- The laws of digits, in any base and any number of them, each by induction over that number
 pub mod Positional
 -- The two loops that take the digits of a word from the low end

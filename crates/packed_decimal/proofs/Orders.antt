@@ -1,41 +1,31 @@
 -- Words in place of numbers: packed digits stand to each other as the numbers do, so a comparison needs no conversion.
-use mathlib.Core.Path.{_≡_, refl, sym, ap, ap₂, _∙_}
-use mathlib.Core.List.{[], _∷_}
-use Prim.Native.Nat.{ℕ, _≤_, _<_}
-use native.Mathlib.Omega.{arith}
-use native.Mathlib.Decide.{decLt}
-use borrow.Author.Tests.{lt-ltb, le-ltb}
-use Rattle.packed_decimal.specs.Reading.{DIGITS, NOT_MEASURED, unpacked, says}
-use Rattle.packed_decimal.specs.Refusals.{badOf, firstBad}
-use Rattle.packed_decimal.specs.Answers.{orderBy, orderOf, comparedOf}
-use Rattle.packed_decimal.specs.MeasuredWord.{MeasuredWord}
-use Rattle.packed_decimal.specs.declared.meter.Reading.{Reading}
-use Rattle.packed_decimal.specs.declared.meter.Reading.the-variants.{Measured, NotMeasured}
-use Rattle.packed_decimal.specs.declared.refusal.Refusal.the-variants.{BadReading}
+use Rattle.packed_decimal.proofs.Prelude.{_≡_, refl, sym, ap, ap₂, _∙_, [], _∷_, ℕ, _≤_, _<_, arith, decLt, lt-ltb, le-ltb, DIGITS, NOT_MEASURED}
+use Rattle.packed_decimal.proofs.Prelude.{unpacked, says, badOf, firstBad, orderBy, readingOrder, comparedOf, MeasuredWord, Reading, Measured}
+use Rattle.packed_decimal.proofs.Prelude.{NotMeasured, BadReading, Equal, Above}
 use Rattle.packed_decimal.specs.declared.limit.Compared.the-variants.{Is, Refused}
-use Rattle.packed_decimal.specs.declared.limit.Order.the-variants.{Below, Equal, Above, NotMeasured as NoOrder}
+use Rattle.packed_decimal.specs.declared.limit.Order.the-variants.{Below, NotMeasured as NoOrder}
 use Rattle.packed_decimal.proofs.FirstBad.{unless-refused, unless-answered}
 use Rattle.packed_decimal.proofs.Conversion.{unpacked-order}
 use Rattle.packed_decimal.proofs.Readings.{measured-says}
 
-pub order-unmeasured-left : (r s : Reading) → r ≡ NotMeasured → orderOf r s ≡ NoOrder
+pub order-unmeasured-left : (r s : Reading) → r ≡ NotMeasured → readingOrder r s ≡ NoOrder
 order-unmeasured-left r s e = rw e refl
 
-pub order-unmeasured-right : (r s : Reading) → s ≡ NotMeasured → orderOf r s ≡ NoOrder
+pub order-unmeasured-right : (r s : Reading) → s ≡ NotMeasured → readingOrder r s ≡ NoOrder
 order-unmeasured-right r s e = rw e (go r)
   where
-    go : (r : Reading) → orderOf r NotMeasured ≡ NoOrder
+    go : (r : Reading) → readingOrder r NotMeasured ≡ NoOrder
     go (Measured x) = refl
     go NotMeasured = refl
 
 -- "(below, equal, above)"
-pub order-below : (x y : ℕ) → x < y → orderOf (Measured x) (Measured y) ≡ Below
+pub order-below : (x y : ℕ) → x < y → readingOrder (Measured x) (Measured y) ≡ Below
 order-below x y l = ap₂ orderBy (lt-ltb x y l) (le-ltb y x (omega arith))
 
-pub order-above : (x y : ℕ) → y < x → orderOf (Measured x) (Measured y) ≡ Above
+pub order-above : (x y : ℕ) → y < x → readingOrder (Measured x) (Measured y) ≡ Above
 order-above x y l = ap₂ orderBy (le-ltb x y (omega arith)) (lt-ltb y x l)
 
-pub order-equal : (x y : ℕ) → x ≤ y → y ≤ x → orderOf (Measured x) (Measured y) ≡ Equal
+pub order-equal : (x y : ℕ) → x ≤ y → y ≤ x → readingOrder (Measured x) (Measured y) ≡ Equal
 order-equal x y l k = ap₂ orderBy (le-ltb x y k) (le-ltb y x l)
 
 -- ---- by the words
@@ -53,16 +43,16 @@ module _ {v w : ℕ} (mv : MeasuredWord v) (mw : MeasuredWord w) where
 
 -- two words that are measured readings
 module _ (v w : ℕ) (mv : MeasuredWord v) (mw : MeasuredWord w) (nv : ¬ (v ≡ NOT_MEASURED)) (nw : ¬ (w ≡ NOT_MEASURED)) where
-  both-say : orderOf (says v) (says w) ≡ orderOf (Measured (unpacked DIGITS v)) (Measured (unpacked DIGITS w))
-  both-say = ap₂ orderOf (measured-says v nv) (measured-says w nw)
+  both-say : readingOrder (says v) (says w) ≡ readingOrder (Measured (unpacked DIGITS v)) (Measured (unpacked DIGITS w))
+  both-say = ap₂ readingOrder (measured-says v nv) (measured-says w nw)
 
-  pub words-below : v < w → orderOf (says v) (says w) ≡ Below
+  pub words-below : v < w → readingOrder (says v) (says w) ≡ Below
   words-below l = both-say ∙ order-below (unpacked DIGITS v) (unpacked DIGITS w) (words-lt mv mw l)
 
-  pub words-above : w < v → orderOf (says v) (says w) ≡ Above
+  pub words-above : w < v → readingOrder (says v) (says w) ≡ Above
   words-above l = both-say ∙ order-above (unpacked DIGITS v) (unpacked DIGITS w) (words-lt mw mv l)
 
-  pub words-equal : v ≤ w → w ≤ v → orderOf (says v) (says w) ≡ Equal
+  pub words-equal : v ≤ w → w ≤ v → readingOrder (says v) (says w) ≡ Equal
   words-equal l k = both-say ∙ order-equal (unpacked DIGITS v) (unpacked DIGITS w) (words-le mv mw l) (words-le mw mv k)
 
 -- ---- the answer for two words
@@ -71,9 +61,9 @@ pub compared-refused : (word limit : ℕ) {spot : ℕ} → spot ≡ firstBad (wo
     → comparedOf word limit ≡ Refused (BadReading spot)
 unfolding comparedOf
 compared-refused word limit e l =
-    unless-refused 2 (badOf (word ∷ limit ∷ [])) Refused (Is (orderOf (says word) (says limit))) (omega arith)
+    unless-refused 2 (badOf (word ∷ limit ∷ [])) Refused (Is (readingOrder (says word) (says limit))) (omega arith)
     ∙ ap (λ (s : ℕ). Refused (BadReading s)) (sym e)
 
-pub compared-is : (word limit : ℕ) → 2 ≤ firstBad (word ∷ limit ∷ []) → comparedOf word limit ≡ Is (orderOf (says word) (says limit))
+pub compared-is : (word limit : ℕ) → 2 ≤ firstBad (word ∷ limit ∷ []) → comparedOf word limit ≡ Is (readingOrder (says word) (says limit))
 unfolding comparedOf
-compared-is word limit l = unless-answered 2 (badOf (word ∷ limit ∷ [])) Refused (Is (orderOf (says word) (says limit))) l
+compared-is word limit l = unless-answered 2 (badOf (word ∷ limit ∷ [])) Refused (Is (readingOrder (says word) (says limit))) l

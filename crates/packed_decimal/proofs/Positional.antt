@@ -1,17 +1,10 @@
 -- The laws of digits, in any base and any number of them, each by induction over that number: the digits of a number make the number, and
 -- digits that are read in another base are the digits there.
-use mathlib.Core.Path.{_≡_, refl, ap, _∙_}
-use mathlib.Core.List.{List, [], _∷_, _++_, List·Memᴰ, List·Memᴰ·head, List·Memᴰ·not-nil, List·Memᴰ·append-cases, List·Memᴰ·eq-of-singleton}
-use mathlib.Core.List.{Memᴰ·append-left, Memᴰ·append-right}
-use mathlib.Core.Logic.{_⊎_, inl, inr}
-use Prim.Native.Nat.{ℕ, zero, suc, _+_, _*_, _/_, _%_, _^_, _≤_, _<_}
-use native.Mathlib.Omega.{arith}
-use native.Mathlib.Nat.{pow-suc, pow-zero, mul-assoc, add-mul, mod-lt, div-add-mod', div-mul-le-self, div-lt-iff-lt-mul, le-div-iff-mul-le}
-use native.Mathlib.Decide.{decLt}
-use native.Mathlib.Numerals.{add-one}
-use lib.Arith.{digits-lt, digits-div, digits-mod}
-use lib.ListN.{length, length-append}
-use Rattle.packed_decimal.specs.Digits.{digits, valueOf, Below}
+use Rattle.packed_decimal.proofs.Prelude.{_≡_, refl, ap, _∙_, List, [], _∷_, _++_, List·Memᴰ, List·Memᴰ·head, List·Memᴰ·not-nil}
+use Rattle.packed_decimal.proofs.Prelude.{List·Memᴰ·append-cases, List·Memᴰ·eq-of-singleton, Memᴰ·append-left, Memᴰ·append-right, _⊎_, inl, inr, ℕ}
+use Rattle.packed_decimal.proofs.Prelude.{zero, suc, _+_, _*_, _/_, _%_, _^_, _≤_, _<_, arith, pow-suc, pow-zero, mul-assoc, add-mul, mod-lt}
+use Rattle.packed_decimal.proofs.Prelude.{div-add-mod', div-mul-le-self, div-lt-iff-lt-mul, le-div-iff-mul-le, decLt, add-one, digits-lt, digits-div}
+use Rattle.packed_decimal.proofs.Prelude.{digits-mod, length, length-append, digits, valueOf, Below}
 
 -- ---- a digit more at the low end
 

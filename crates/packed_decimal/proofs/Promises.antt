@@ -1,40 +1,27 @@
 -- The definitions of the answers say what document 02 says: each promise of specs/Promised.antt holds of its definition, and of a result that
 -- equals it.
-use mathlib.Core.Path.{_≡_, sym, ap, ap₂, _∙_}
-use mathlib.Core.Bool.{true, false}
-use mathlib.Core.List.{List, [], _∷_}
-use mathlib.Core.Logic.{_⊎_, inl, inr}
-use Prim.Native.Nat.{ℕ, _+_, _*_, _/_, _%_, _≤_, _<_}
-use native.Mathlib.Omega.{arith}
-use Rattle.atoms.proofs.Tests.{decided-true, decided-false}
-use Rattle.packed_decimal.specs.Reading.{DIGITS, MODULUS, NOT_MEASURED, packed, IsReading, isReading, says}
-use Rattle.packed_decimal.specs.Refusals.{firstBad}
-use Rattle.packed_decimal.specs.Answers.{numberOf, readingOf, sumOf, addedOf, orderOf, comparedOf}
-use lib.ListN.{length}
-use Rattle.packed_decimal.specs.Largest.{READING_BYTES, readings, wordAt, badAt, largestOf, largestIn}
-use Rattle.packed_decimal.specs.Promised.{SaysNumber, Numbered, Repacked, Adds, Summed, HeldAgainst, Sought}
-use Rattle.packed_decimal.specs.declared.meter.Reading.{Reading}
-use Rattle.packed_decimal.specs.declared.meter.Reading.the-variants.{Measured}
+use Rattle.packed_decimal.proofs.Prelude.{_≡_, sym, ap, ap₂, _∙_, true, false, List, [], _∷_, _⊎_, inl, inr, ℕ, _+_, _*_, _/_, _%_, _≤_, _<_, arith}
+use Rattle.packed_decimal.proofs.Prelude.{decided-true, decided-false, DIGITS, MODULUS, NOT_MEASURED, packed, IsReading, isReading, says, firstBad}
+use Rattle.packed_decimal.proofs.Prelude.{numberOf, readingOf, sumOf, addedOf, readingOrder, comparedOf, length, READING_BYTES, readings, readingAt}
+use Rattle.packed_decimal.proofs.Prelude.{badAt, largestOf, largestIn, Reading, Measured, Says, Is as SumIs, Refused as LargestRefused, BadReading}
+use Rattle.packed_decimal.proofs.Prelude.{LargestFound}
+use Rattle.packed_decimal.specs.ReadingPromises.{SaysNumber, Numbered, Repacked, IsSum, ReadingsAdded, HeldAgainst, LargestSought}
 use Rattle.packed_decimal.specs.declared.convert.Number.{Number}
-use Rattle.packed_decimal.specs.declared.convert.Number.the-variants.{Says}
 use Rattle.packed_decimal.specs.declared.convert.Packed.{Packed}
 use Rattle.packed_decimal.specs.declared.sum.Added.{Added}
-use Rattle.packed_decimal.specs.declared.sum.Added.the-variants.{Is as SumIs}
 use Rattle.packed_decimal.specs.declared.limit.Order.the-variants.{NotMeasured as NoOrder}
 use Rattle.packed_decimal.specs.declared.limit.Compared.{Compared}
 use Rattle.packed_decimal.specs.declared.limit.Compared.the-variants.{Is as OrderIs}
 use Rattle.packed_decimal.specs.declared.largest.Largest.{Largest}
-use Rattle.packed_decimal.specs.declared.largest.Largest.the-variants.{Is as FoundIs, Refused as LargestRefused}
-use Rattle.packed_decimal.specs.declared.refusal.Refusal.the-variants.{BadReading}
-use Rattle.packed_decimal.specs.declared.largest.LargestFound.{LargestFound}
+use Rattle.packed_decimal.specs.declared.largest.Largest.the-variants.{Is as FoundIs}
 use Rattle.packed_decimal.proofs.LargestReading.{Seeking, seeking-bad, seeking-lone, seeking-all}
 use Rattle.packed_decimal.proofs.FirstBad.{unless-first, unless-none, pair-first, pair-second, pair-none}
 use Rattle.packed_decimal.proofs.Sums.{unmeasuredSum, sum-unmeasured-left, sum-unmeasured-right, added-refused, added-is}
-use Rattle.packed_decimal.proofs.Orders.{order-unmeasured-left, order-unmeasured-right, order-below, order-above, order-equal}
-use Rattle.packed_decimal.proofs.Orders.{compared-refused, compared-is}
+use Rattle.packed_decimal.proofs.Orders.{order-unmeasured-left, order-unmeasured-right, order-below, order-above, order-equal, compared-refused}
+use Rattle.packed_decimal.proofs.Orders.{compared-is}
 use Rattle.packed_decimal.proofs.LargestMeaning.{largest-right, decides-bad}
-use Rattle.packed_decimal.proofs.Conversion.{number-bad, number-says, reading-large, reading-word, reading-unmeasured}
-use Rattle.packed_decimal.proofs.Conversion.{unpacked-packed, packed-decimal, packed-fits, unpacked-fits}
+use Rattle.packed_decimal.proofs.Conversion.{number-bad, number-says, reading-large, reading-word, reading-unmeasured, unpacked-packed, packed-decimal}
+use Rattle.packed_decimal.proofs.Conversion.{packed-fits, unpacked-fits}
 use Rattle.packed_decimal.proofs.Readings.{decides-reading, unmeasured-is, unmeasured-says, measured-says, decimal-measured, decimal-reading}
 
 -- ---- a word that says a number
@@ -77,7 +64,7 @@ repacked number e = record {
 
 -- ---- two readings
 
-sum-adds-up : (x y : ℕ) → x < MODULUS → y < MODULUS → Adds x y (sumOf (Measured x) (Measured y))
+sum-adds-up : (x y : ℕ) → x < MODULUS → y < MODULUS → IsSum x y (sumOf (Measured x) (Measured y))
 sum-adds-up x y hx hy = record { rest = (x + y) % MODULUS; says-rest = packed-says ((x + y) % MODULUS) (omega arith); total = omega arith }
 
 module _ (a b : ℕ) {r : Added} (e : r ≡ addedOf a b) where
@@ -88,7 +75,7 @@ module _ (a b : ℕ) {r : Added} (e : r ≡ addedOf a b) where
   added-unmeasured (inl u) = sum-unmeasured-left (says a) (says b) (unmeasured-says a u)
   added-unmeasured (inr u) = sum-unmeasured-right (says a) (says b) (unmeasured-says b u)
 
-  pub summed : Summed a b r
+  pub summed : ReadingsAdded a b r
   summed = record {
     is = e;
     refuses = record {
@@ -104,15 +91,15 @@ module _ (a b : ℕ) {r : Added} (e : r ≡ addedOf a b) where
   }
 
 module _ (word limit : ℕ) {r : Compared} (e : r ≡ comparedOf word limit) where
-  compared : isReading word ≡ true → isReading limit ≡ true → r ≡ OrderIs (orderOf (says word) (says limit))
+  compared : isReading word ≡ true → isReading limit ≡ true → r ≡ OrderIs (readingOrder (says word) (says limit))
   compared gw gl = let none : firstBad (word ∷ limit ∷ []) ≡ 2 = pair-none word limit gw gl in e ∙ compared-is word limit (omega arith)
 
-  compared-unmeasured : (word ≡ NOT_MEASURED) ⊎ (limit ≡ NOT_MEASURED) → orderOf (says word) (says limit) ≡ NoOrder
+  compared-unmeasured : (word ≡ NOT_MEASURED) ⊎ (limit ≡ NOT_MEASURED) → readingOrder (says word) (says limit) ≡ NoOrder
   compared-unmeasured (inl u) = order-unmeasured-left (says word) (says limit) (unmeasured-says word u)
   compared-unmeasured (inr u) = order-unmeasured-right (says word) (says limit) (unmeasured-says limit u)
 
-  numbers : {x y : ℕ} → SaysNumber word x → SaysNumber limit y → r ≡ OrderIs (orderOf (Measured x) (Measured y))
-  numbers s t = compared (said-good s) (said-good t) ∙ ap OrderIs (ap₂ orderOf (said s) (said t))
+  numbers : {x y : ℕ} → SaysNumber word x → SaysNumber limit y → r ≡ OrderIs (readingOrder (Measured x) (Measured y))
+  numbers s t = compared (said-good s) (said-good t) ∙ ap OrderIs (ap₂ readingOrder (said s) (said t))
 
   pub held : HeldAgainst word limit r
   held = record {
@@ -129,29 +116,29 @@ module _ (word limit : ℕ) {r : Compared} (e : r ≡ comparedOf word limit) whe
 
 -- ---- a run
 
-pub sought : (bytes : List ℕ) {r : Largest} → r ≡ largestIn bytes → Sought bytes r
+pub sought : (bytes : List ℕ) {r : Largest} → r ≡ largestIn bytes → LargestSought bytes r
 unfolding largestIn
 sought bytes e = record {
   is = e;
   refused = λ i l least.
-      e ∙ unless-first (readings bytes) (badAt bytes) LargestRefused (FoundIs (largestOf (wordAt bytes) (readings bytes))) i l
+      e ∙ unless-first (readings bytes) (badAt bytes) LargestRefused (FoundIs (largestOf (readingAt bytes) (readings bytes))) i l
       (decided-true (decides-bad bytes i) (least .here)) (λ j k. decided-false (decides-bad bytes j) (least .least j k));
   found = λ none. (
-    largestOf (wordAt bytes) (readings bytes),
-    e ∙ unless-none (readings bytes) (badAt bytes) LargestRefused (FoundIs (largestOf (wordAt bytes) (readings bytes)))
+    largestOf (readingAt bytes) (readings bytes),
+    e ∙ unless-none (readings bytes) (badAt bytes) LargestRefused (FoundIs (largestOf (readingAt bytes) (readings bytes)))
         (λ j k. decided-false (decides-bad bytes j) (none j k)),
-    largest-right (wordAt bytes) (readings bytes),
+    largest-right (readingAt bytes) (readings bytes),
   );
 }
 
-pub sought-bad : {bytes : List ℕ} {i word : ℕ} {found : LargestFound} → Seeking bytes i found → word ≡ wordAt bytes i → i < length bytes / READING_BYTES
-    → isReading word ≡ false → Sought bytes (LargestRefused (BadReading i))
+pub sought-bad : {bytes : List ℕ} {i word : ℕ} {found : LargestFound} → Seeking bytes i found → word ≡ readingAt bytes i → i < length bytes / READING_BYTES
+    → isReading word ≡ false → LargestSought bytes (LargestRefused (BadReading i))
 sought-bad {bytes} s e l r = sought bytes (sym (seeking-bad s e l r))
 
 pub sought-lone : {bytes : List ℕ} {i : ℕ} {found : LargestFound} → Seeking bytes i found → length bytes / READING_BYTES ≤ i
-    → READING_BYTES * (length bytes / READING_BYTES) < length bytes → Sought bytes (LargestRefused (BadReading (length bytes / READING_BYTES)))
+    → READING_BYTES * (length bytes / READING_BYTES) < length bytes → LargestSought bytes (LargestRefused (BadReading (length bytes / READING_BYTES)))
 sought-lone {bytes} s l odd = sought bytes (sym (seeking-lone s l odd))
 
 pub sought-all : {bytes : List ℕ} {i : ℕ} {found : LargestFound} → Seeking bytes i found → length bytes / READING_BYTES ≤ i
-    → length bytes ≤ READING_BYTES * (length bytes / READING_BYTES) → Sought bytes (FoundIs found)
+    → length bytes ≤ READING_BYTES * (length bytes / READING_BYTES) → LargestSought bytes (FoundIs found)
 sought-all {bytes} s l even = sought bytes (sym (seeking-all s l even))

@@ -1,20 +1,13 @@
 -- What a word says as a reading, by cases: 0xFFFF, or four decimal digits.
-use mathlib.Core.Path.{_≡_, refl, sym, _∙_}
-use mathlib.Core.Bool.{true}
-use Prim.Native.Nat.{ℕ, zero, suc, _/_, _%_, _^_, _<_}
-use lib.Dec.{ltb}
-use borrow.Author.Tests.{ltb-true, lt-ltb, eq-eqb, ne-eqb}
-use Rattle.atoms.specs.Bounded.{Decides}
-use Rattle.atoms.proofs.Tests.{decides, decided-true, decides-iff, decides-and, decides-or, decides-equal}
-use Rattle.packed_decimal.specs.Reading.{TEN, DIGITS, DIGIT_VALUES, NOT_MEASURED, unpacked, Decimal, decimal, IsReading, isReading, says}
-use Rattle.packed_decimal.specs.MeasuredWord.{MeasuredWord}
-use Rattle.packed_decimal.specs.declared.meter.Reading.the-variants.{Measured, NotMeasured}
+use Rattle.packed_decimal.proofs.Prelude.{_≡_, refl, sym, _∙_, true, ℕ, zero, suc, _/_, _%_, _^_, _<_, ltb, ltb-true, lt-ltb, eq-eqb, ne-eqb, Decides}
+use Rattle.packed_decimal.proofs.Prelude.{decides, decided-true, decides-iff, decides-and, decides-or, decides-equal, TEN, DIGITS, DIGIT_VALUES}
+use Rattle.packed_decimal.proofs.Prelude.{NOT_MEASURED, unpacked, Decimal, isDecimal, IsReading, isReading, says, MeasuredWord, Measured, NotMeasured}
 use Rattle.packed_decimal.proofs.Positional.{below-none, below-suc, below-last, below-rest}
 
 -- ---- the computing twins
 
-pub decides-decimal : (n word : ℕ) → Decides (Decimal n word) (decimal n word)
-unfolding decimal
+pub decides-decimal : (n word : ℕ) → Decides (Decimal n word) (isDecimal n word)
+unfolding isDecimal
 decides-decimal zero word = decides true (λ e. below-none DIGIT_VALUES word) (λ d. refl)
 decides-decimal (suc n) word =
     let last : Decides (word % DIGIT_VALUES < TEN) (ltb (word % DIGIT_VALUES) TEN) = decides _ (ltb-true _ _) (lt-ltb _ _) in
@@ -38,13 +31,13 @@ unmeasured-says word e = rw (eq-eqb word NOT_MEASURED e, says) refl
 
 -- its digits are not decimal
 pub unmeasured-breaks-rule : ¬ Decimal DIGITS NOT_MEASURED
-unfolding decimal
+unfolding isDecimal
 unmeasured-breaks-rule = decides-decimal DIGITS NOT_MEASURED .no refl
 
 -- ---- any other word
 
 module _ (word : ℕ) (other : ¬ (word ≡ NOT_MEASURED)) where
-  pub measured-is : isReading word ≡ decimal DIGITS word
+  pub measured-is : isReading word ≡ isDecimal DIGITS word
   unfolding isReading
   measured-is = rw (ne-eqb word NOT_MEASURED other) refl
 

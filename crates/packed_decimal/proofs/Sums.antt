@@ -1,18 +1,9 @@
 -- Sums through the numbers: what two readings say together is 10,000 times the carry and what the sum says.
-use mathlib.Core.Path.{_≡_, refl, sym, ap, ap₂, _∙_}
-use mathlib.Core.Bool.{true}
-use mathlib.Core.List.{[], _∷_}
-use Prim.Native.Nat.{ℕ, _+_, _-_, _*_, _/_, _%_, _^_, _≤_, _<_}
-use native.Mathlib.Omega.{arith}
-use native.Mathlib.Decide.{decLt, ℕ-discrete}
-use Rattle.packed_decimal.specs.Reading.{DIGITS, DIGIT_VALUES, MODULUS, NOT_MEASURED, unpacked, packed, Decimal, isReading, says}
-use Rattle.packed_decimal.specs.Refusals.{badOf, firstBad}
-use Rattle.packed_decimal.specs.Answers.{sumOf, addedOf}
-use Rattle.packed_decimal.specs.declared.meter.Reading.{Reading}
-use Rattle.packed_decimal.specs.declared.meter.Reading.the-variants.{Measured, NotMeasured}
-use Rattle.packed_decimal.specs.declared.refusal.Refusal.the-variants.{BadReading}
+use Rattle.packed_decimal.proofs.Prelude.{_≡_, refl, sym, ap, ap₂, _∙_, true, [], _∷_, ℕ, _+_, _-_, _*_, _/_, _%_, _^_, _≤_, _<_, arith, decLt}
+use Rattle.packed_decimal.proofs.Prelude.{ℕ-discrete, DIGITS, DIGIT_VALUES, MODULUS, NOT_MEASURED, unpacked, packed, Decimal, isReading, says, badOf}
+use Rattle.packed_decimal.proofs.Prelude.{firstBad, sumOf, addedOf, Reading, Measured, NotMeasured, BadReading, Is}
 use Rattle.packed_decimal.specs.declared.sum.Sum.{Sum}
-use Rattle.packed_decimal.specs.declared.sum.Added.the-variants.{Is, Refused}
+use Rattle.packed_decimal.specs.declared.sum.Added.the-variants.{Refused}
 use Rattle.packed_decimal.proofs.FirstBad.{unless-refused, unless-answered, pair-good}
 use Rattle.packed_decimal.proofs.Conversion.{unpacked-packed, packed-decimal, packed-fits, unpacked-fits}
 use Rattle.packed_decimal.proofs.Readings.{unmeasured-says, measured-says, measured-decimal}

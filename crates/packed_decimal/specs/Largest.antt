@@ -7,8 +7,8 @@ use mathlib.Core.Logic.{_⊎_}
 use Prim.Native.Nat.{ℕ, zero, suc, _+_, _*_, _/_, _^_, _≤_, _<_}
 use lib.Dec.{ltb, leb}
 use lib.ListN.{length, getD}
-use Rattle.packed_decimal.specs.Reading.{DIGITS, NOT_MEASURED, unpacked, IsReading, isReading, says}
-use Rattle.packed_decimal.specs.Refusals.{unlessBad}
+use Rattle.packed_decimal.specs.PackedReading.{DIGITS, NOT_MEASURED, unpacked, IsReading, isReading, says}
+use Rattle.packed_decimal.specs.ReadingRefusals.{unlessBad}
 use Rattle.packed_decimal.specs.declared.meter.Reading.{Reading}
 use Rattle.packed_decimal.specs.declared.meter.Reading.the-variants.{Measured, NotMeasured}
 use Rattle.packed_decimal.specs.declared.largest.LargestFound.{LargestFound}
@@ -21,24 +21,24 @@ abbrev pub READING_BYTES : ℕ
 READING_BYTES = 2
 
 -- how many values a byte has
-abbrev pub BYTE_VALUES : ℕ
-BYTE_VALUES = 2 ^ 8
+abbrev pub BYTE_BASE : ℕ
+BYTE_BASE = 2 ^ 8
 
 -- how many readings there are, a lone last byte among them
 abbrev pub readings : List ℕ → ℕ
 readings bytes = (length bytes + 1) / READING_BYTES
 
 -- the word of reading number i: the first byte is the high one
-abbrev pub wordAt : List ℕ → ℕ → ℕ
-wordAt bytes i = getD bytes (READING_BYTES * i) 0 * BYTE_VALUES + getD bytes (READING_BYTES * i + 1) 0
+abbrev pub readingAt : List ℕ → ℕ → ℕ
+readingAt bytes i = getD bytes (READING_BYTES * i) 0 * BYTE_BASE + getD bytes (READING_BYTES * i + 1) 0
 
 -- reading number i is bad: "a digit above 9 or a lone last byte"
 pub record BadAt (bytes : List ℕ) (i : ℕ) : Type 0 where
-  pub bad : (length bytes ≤ READING_BYTES * i + 1) ⊎ (¬ IsReading (wordAt bytes i))
+  pub bad : (length bytes ≤ READING_BYTES * i + 1) ⊎ (¬ IsReading (readingAt bytes i))
 
 -- the same, computed
 unfoldable pub badAt : List ℕ → ℕ → Bool
-badAt bytes i = leb (length bytes) (READING_BYTES * i + 1) || not (isReading (wordAt bytes i))
+badAt bytes i = leb (length bytes) (READING_BYTES * i + 1) || not (isReading (readingAt bytes i))
 
 -- with one reading more: it is found if it is measured and larger than what was found before it
 abbrev pub larger : LargestFound → Reading → ℕ → ℕ → LargestFound
@@ -53,7 +53,7 @@ largestOf words (suc n) = larger (largestOf words n) (says (words n)) (words n) 
 
 -- the answer for a run of bytes
 unfoldable pub largestIn : List ℕ → Largest
-largestIn bytes = unlessBad (readings bytes) (badAt bytes) Refused (Is (largestOf (wordAt bytes) (readings bytes)))
+largestIn bytes = unlessBad (readings bytes) (badAt bytes) Refused (Is (largestOf (readingAt bytes) (readings bytes)))
 
 -- what that means: it is a measured reading of the run at that place, no measured reading is larger, and none as large stands before it
 pub record IsLargest (words : ℕ → ℕ) (n word place : ℕ) : Type 0 where
@@ -64,6 +64,6 @@ pub record IsLargest (words : ℕ → ℕ) (n word place : ℕ) : Type 0 where
   pub none-before : (i : ℕ) → i < place → ¬ (words i ≡ NOT_MEASURED) → unpacked DIGITS (words i) < unpacked DIGITS word
 
 -- what was found is the largest; or "that none was measured", and so it is
-pub data Right (words : ℕ → ℕ) (n : ℕ) : LargestFound → Type 0 where
-  largest : {word place : ℕ} → IsLargest words n word place → Right words n (At word place)
-  none-measured : ((i : ℕ) → i < n → words i ≡ NOT_MEASURED) → Right words n NoneMeasured
+pub data LargestRight (words : ℕ → ℕ) (n : ℕ) : LargestFound → Type 0 where
+  largest : {word place : ℕ} → IsLargest words n word place → LargestRight words n (At word place)
+  none-measured : ((i : ℕ) → i < n → words i ≡ NOT_MEASURED) → LargestRight words n NoneMeasured

@@ -1,7 +1,7 @@
 pub mod Digits
-pub mod Reading
-pub mod Refusals
-pub mod Answers
+pub mod PackedReading
+pub mod ReadingRefusals
+pub mod ReadingAnswers
 pub mod Largest
-pub mod Promised
+pub mod ReadingPromises
 pub mod MeasuredWord

@@ -1,6 +1,6 @@
 -- Inner: what the functions ask that compare words in place of numbers.
 use Prim.Native.Nat.{ℕ, _^_, _<_}
-use Rattle.packed_decimal.specs.Reading.{DIGITS, DIGIT_VALUES, Decimal}
+use Rattle.packed_decimal.specs.PackedReading.{DIGITS, DIGIT_VALUES, Decimal}
 use Rattle.packed_decimal.specs.declared.largest.LargestFound.{LargestFound}
 use Rattle.packed_decimal.specs.declared.largest.LargestFound.the-variants.{At, NoneMeasured}
 

@@ -6,7 +6,7 @@ use crate::meter::Reading;
 use crate::meter::is_reading;
 use crate::meter::says;
 use crate::refusal::Refusal;
-ghost use Rattle.packed_decimal.specs.Promised.{Numbered, Repacked};
+ghost use Rattle.packed_decimal.specs.ReadingPromises.{Numbered, Repacked};
 
 // What a word says as a reading, or its refusal.
 pub enum Number {

@@ -2,7 +2,7 @@
 ghost use mathlib.Core.Path.{_≡_};
 ghost use Prim.Native.Nat.{_≤_, _<_};
 ghost use Rattle.packed_decimal.specs.Digits.{digits, valueOf};
-ghost use Rattle.packed_decimal.specs.Reading.{DIGITS as Reading·DIGITS, DIGIT_VALUES as Reading·DIGIT_VALUES, unpacked, packed, decimal};
+ghost use Rattle.packed_decimal.specs.PackedReading.{DIGITS as Reading·DIGITS, DIGIT_VALUES as Reading·DIGIT_VALUES, unpacked, packed, isDecimal};
 
 const DIGITS: usize = 4;
 
@@ -16,7 +16,7 @@ pub const MODULUS: u64 = TEN * TEN * TEN * TEN;
 
 // Whether none of the word's packed digits is above 9.
 pub fn is_decimal(word: u16) -> bool
-    ensures { λ r. ⌜ r ≡ decimal Reading·DIGITS word ⌝ }
+    ensures { λ r. ⌜ r ≡ isDecimal Reading·DIGITS word ⌝ }
 {
     let mut rest = word as u64;
     let mut i = 0;

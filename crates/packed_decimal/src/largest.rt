@@ -6,10 +6,10 @@ ghost use mathlib.Core.Path.{_≡_};
 ghost use Prim.Native.Nat.{_+_, _*_, _<_};
 ghost use lib.ListN.{length};
 ghost use mathlib.Core.Bool.{true};
-ghost use Rattle.packed_decimal.specs.Reading.{isReading, says};
+ghost use Rattle.packed_decimal.specs.PackedReading.{isReading, says};
 ghost use Rattle.packed_decimal.specs.MeasuredWord.{MeasuredFound};
-ghost use Rattle.packed_decimal.specs.Largest.{larger as largerOf, READING_BYTES as Largest·READING_BYTES, wordAt};
-ghost use Rattle.packed_decimal.specs.Promised.{Sought};
+ghost use Rattle.packed_decimal.specs.Largest.{larger as largerOf, READING_BYTES as Largest·READING_BYTES, readingAt};
+ghost use Rattle.packed_decimal.specs.ReadingPromises.{LargestSought};
 
 // What a run of readings has: the word of its largest measured one with its lowest place, counted in readings from 0; or none measured.
 pub enum LargestFound {
@@ -29,7 +29,7 @@ const BYTE_VALUES: u16 = 0x100;
 
 // The largest measured reading of the bytes, or that none was measured.
 pub fn find_largest(bytes: &[u8]) -> Largest
-    ensures { λ r. ⌜ Sought (now (bytes .entry)) r ⌝ }
+    ensures { λ r. ⌜ LargestSought (now (bytes .entry)) r ⌝ }
 {
     let whole = bytes.len() / READING_BYTES;
     let mut found = LargestFound::NoneMeasured;
@@ -82,7 +82,7 @@ fn wide(b: u8) -> u16
 // The word of a reading of the bytes.
 fn word_at(bytes: &[u8], place: usize) -> u16
     requires { ⌜ Largest·READING_BYTES * place + 1 < length (now bytes) ⌝ }
-    ensures { λ r. ⌜ r ≡ wordAt (now (bytes .entry)) place ⌝ }
+    ensures { λ r. ⌜ r ≡ readingAt (now (bytes .entry)) place ⌝ }
 {
     let at = READING_BYTES * place;
     wide(bytes[at]) * BYTE_VALUES + wide(bytes[at + 1])

@@ -5,9 +5,9 @@ use crate::pair::first_bad;
 use crate::refusal::Refusal;
 ghost use mathlib.Core.Path.{_≡_};
 ghost use mathlib.Core.Bool.{true};
-ghost use Rattle.packed_decimal.specs.Reading.{isReading, says};
-ghost use Rattle.packed_decimal.specs.Answers.{orderOf};
-ghost use Rattle.packed_decimal.specs.Promised.{HeldAgainst};
+ghost use Rattle.packed_decimal.specs.PackedReading.{isReading, says};
+ghost use Rattle.packed_decimal.specs.ReadingAnswers.{readingOrder};
+ghost use Rattle.packed_decimal.specs.ReadingPromises.{HeldAgainst};
 
 // How a reading stands to its limit.
 pub enum Order {
@@ -37,7 +37,7 @@ pub fn compare(word: u16, limit: u16) -> Compared
 // How two readings stand to each other. Packed digits stand as the numbers do.
 fn order_of(word: u16, limit: u16) -> Order
     requires { ⌜ (isReading word ≡ true) × (isReading limit ≡ true) ⌝ }
-    ensures { λ r. ⌜ r ≡ orderOf (says word) (says limit) ⌝ }
+    ensures { λ r. ⌜ r ≡ readingOrder (says word) (says limit) ⌝ }
 {
     if word == NOT_MEASURED {
         return Order::NotMeasured;

@@ -2,7 +2,7 @@
 use crate::digits::is_decimal;
 use crate::digits::unpack;
 ghost use mathlib.Core.Path.{_≡_};
-ghost use Rattle.packed_decimal.specs.Reading.{isReading, says as saysOf};
+ghost use Rattle.packed_decimal.specs.PackedReading.{isReading, says as saysOf};
 
 // What a reading says: tenths of a millisecond as a whole number, or that nothing was measured.
 pub enum Reading {

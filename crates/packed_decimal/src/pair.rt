@@ -2,7 +2,7 @@
 use crate::meter::is_reading;
 ghost use mathlib.Core.Path.{_≡_};
 ghost use mathlib.Core.List.{[], _∷_};
-ghost use Rattle.packed_decimal.specs.Refusals.{firstBad as firstBadOf};
+ghost use Rattle.packed_decimal.specs.ReadingRefusals.{firstBad as firstBadOf};
 
 // How many readings that is.
 pub const PAIR: usize = 2;

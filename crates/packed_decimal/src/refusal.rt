@@ -1,6 +1,6 @@
 // Refusal 20, with its spot.
 ghost use mathlib.Core.Path.{_≡_};
-ghost use Rattle.packed_decimal.specs.Refusals.{refusalNumber, refusalSpot};
+ghost use Rattle.packed_decimal.specs.ReadingRefusals.{refusalNumber, refusalSpot};
 
 // What is refused: a bad reading, by its number from 0 among those given; or a whole number above 9999.
 pub enum Refusal {

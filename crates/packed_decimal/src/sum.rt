@@ -8,9 +8,9 @@ use crate::pair::first_bad;
 use crate::refusal::Refusal;
 ghost use mathlib.Core.Path.{_≡_};
 ghost use mathlib.Core.Bool.{true};
-ghost use Rattle.packed_decimal.specs.Reading.{isReading, says};
-ghost use Rattle.packed_decimal.specs.Answers.{sumOf};
-ghost use Rattle.packed_decimal.specs.Promised.{Summed};
+ghost use Rattle.packed_decimal.specs.PackedReading.{isReading, says};
+ghost use Rattle.packed_decimal.specs.ReadingAnswers.{sumOf};
+ghost use Rattle.packed_decimal.specs.ReadingPromises.{ReadingsAdded};
 ghost use Rattle.packed_decimal.specs.declared.meter.Reading.{Reading};
 
 // A sum: its word, and 1 where it went past 9999.
@@ -27,7 +27,7 @@ pub enum Added {
 
 // The sum modulo 10,000, and its carry.
 pub fn add(a: u16, b: u16) -> Added
-    ensures { λ r. ⌜ Summed a b r ⌝ }
+    ensures { λ r. ⌜ ReadingsAdded a b r ⌝ }
 {
     let bad = first_bad(a, b);
     if bad < PAIR {

@@ -1,16 +1,8 @@
 -- Counts of words: of words apart, of an atom, of a word's atoms below a bound.
-use mathlib.Core.Path.{_≡_, refl, ap, _∙_, subst}
-use mathlib.Core.Logic.{_⊎_, inl, inr}
-use Prim.Native.Nat.{ℕ, zero, suc, _+_, _/_, _%_, _^_, _<_}
-use native.Mathlib.Omega.{arith}
-use native.Mathlib.Nat.{pow-suc}
-use native.Mathlib.Decide.{ℕ-discrete}
-use lib.Count.{ones, ones-step}
-use lib.Arith.{bin-ind}
-use Rattle.atoms.specs.Word.{ATOMS, digit, Has, Apart, _∩_, _∪_, _∖_, atom, below}
-use Rattle.atoms.proofs.Digits.{digit-lt, digit-low, digit-next, digit-zero, and-at, or-at, sub-at, no-digit}
-use Rattle.atoms.proofs.Sets.{has-dec, has-cut, cut-left, cut-right, has-left, has-right, union-cases, has-atom, atom-only}
-use Rattle.atoms.proofs.Sets.{has-none, has-below, below-lt, ext, has-lt}
+use Rattle.parities.proofs.Prelude.{_≡_, refl, ap, _∙_, subst, _⊎_, inl, inr, ℕ, zero, suc, _+_, _/_, _%_, _^_, _<_, arith, pow-suc, ℕ-discrete, ones}
+use Rattle.parities.proofs.Prelude.{ones-step, bin-ind, ATOMS, digit, Has, Apart, _∩_, _∪_, _∖_, atom, below, digit-lt, digit-low, digit-next}
+use Rattle.parities.proofs.Prelude.{digit-zero, and-at, or-at, sub-at, no-digit, has-dec, has-cut, cut-left, cut-right, has-left, has-right}
+use Rattle.parities.proofs.Prelude.{union-cases, has-atom, atom-only, has-none, has-below, below-lt, ext, has-lt}
 
 -- ---- two words
 

@@ -1,3 +1,7 @@
+-- What the proofs of this crate name of the kit, of the crates below and of its own definitions, each with its home.
+pub mod Prelude
+-- The laws of this crate that the proofs of its functions name, each with its home.
+pub mod Face
 -- Counts of words: of words apart, of an atom, of a word's atoms below a bound
 pub mod CountedWords
 -- Parities: of the atoms that are in one of two words

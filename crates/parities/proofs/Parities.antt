@@ -1,12 +1,6 @@
 -- Parities: of the atoms that are in one of two words.
-use mathlib.Core.Path.{_≡_, ap}
-use mathlib.Core.Logic.{_⊎_, inl, inr}
-use Prim.Native.Nat.{ℕ, _+_, _*_, _%_, _<_}
-use native.Mathlib.Omega.{arith}
-use lib.Count.{ones}
-use Rattle.atoms.specs.Word.{Has, Apart, _∩_, _∪_, _∖_}
-use Rattle.atoms.proofs.Sets.{has-cut, cut-left, cut-right, has-left, has-right, union-cases, has-without, without-left, without-right, ext}
-use Rattle.parities.specs.Parity.{odd, _△_}
+use Rattle.parities.proofs.Prelude.{_≡_, ap, _⊎_, inl, inr, ℕ, _+_, _*_, _%_, _<_, arith, ones, Has, Apart, _∩_, _∪_, _∖_, has-cut, cut-left}
+use Rattle.parities.proofs.Prelude.{cut-right, has-left, has-right, union-cases, has-without, without-left, without-right, ext, odd, _△_}
 use Rattle.parities.proofs.CountedWords.{count-parts, count-apart, cut-swap}
 
 pub odd-lt : (w : ℕ) → odd w < 2

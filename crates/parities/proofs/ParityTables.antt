@@ -1,37 +1,16 @@
 -- Contact tables that are parities: what such a table says, what that makes of its inputs and its pilot, and which tables are such.
-use mathlib.Core.Path.{_≡_, refl, sym, ap, _∙_, subst}
-use mathlib.Core.Bool.{Bool, true, false, true≢false, false≢true}
-use mathlib.Core.List.{List}
-use mathlib.Core.Logic.{_⊎_, inl, inr}
-use Prim.Native.Nat.{ℕ, zero, suc, _+_, _-_, _%_, _^_, _<_, _≤_}
-use native.Mathlib.Omega.{arith}
-use native.Mathlib.Decide.{ℕ-discrete}
-use lib.Count.{ones}
-use lib.Dec.{eqb}
-use lib.ListN.{length, getD}
-use lib.Pow.{pow-mono}
-use borrow.Author.Tests.{eqb-true}
-use Rattle.atoms.specs.Word.{ATOMS, digit, Has, has, _⊆_, Apart, _∩_, _∪_, _∖_, atom, below, Lowest}
-use Rattle.atoms.specs.Bounded.{Decides, allBelow, unionIn, singleIf}
-use Rattle.atoms.specs.Collected.{Collects}
-use Rattle.atoms.proofs.Digits.{digit-lt, digit-low, and-at, sub-at}
-use Rattle.atoms.proofs.Sets.{has-dec, has-cut, cut-left, cut-right, has-left, has-right, union-cases, has-without, atom-only, has-none, has-below, ext}
-use Rattle.atoms.proofs.Sets.{lt-of-has, decides-has, cut-fits, cut-of-apart, union-none-left, subset-refl}
+use Rattle.parities.proofs.Prelude.{_≡_, refl, sym, ap, _∙_, subst, Bool, true, false, true≢false, false≢true, List, _⊎_, inl, inr, ℕ, zero, suc, _+_}
+use Rattle.parities.proofs.Prelude.{_-_, _%_, _^_, _<_, _≤_, arith, ℕ-discrete, ones, eqb, length, getD, pow-mono, eqb-true, ATOMS, digit, Has, has}
+use Rattle.parities.proofs.Prelude.{_⊆_, Apart, _∩_, _∪_, _∖_, atom, below, Lowest, Decides, allBelow, unionIn, singleIf, Collects, digit-lt}
+use Rattle.parities.proofs.Prelude.{digit-low, and-at, sub-at, has-dec, has-cut, cut-left, cut-right, has-left, has-right, union-cases, has-without}
+use Rattle.parities.proofs.Prelude.{atom-only, has-none, has-below, ext, lt-of-has, decides-has, cut-fits, cut-of-apart, union-none-left, subset-refl}
+use Rattle.parities.proofs.Prelude.{collects-iff, collects-has, collects-union-in, taken-within, Gathers, gathers-next, gathers-end, single-if-at}
+use Rattle.parities.proofs.Prelude.{single-if-has, taken-lent, decides, decides-iff, decides-equal, decided-true, decided-false, MAX_TABLES}
+use Rattle.parities.proofs.Prelude.{MAX_INPUTS, FIRST_RULE, place, row, tableAnswer, inputs, truth, FollowsWords, FollowAll, odd, ODD_ROWS, oddTruth}
+use Rattle.parities.proofs.Prelude.{evenTruth, Parity, ParityTable, ParityAtom, RowHolds, tableRow}
 use Rattle.atoms.proofs.Bounded.{all-at, union-at}
-use Rattle.atoms.proofs.Collected.{collects-iff, collects-has, collects-union-in}
-use Rattle.atoms.proofs.Counts.{taken-within}
-use Rattle.atoms.proofs.GatheredWords.{Gathers, gathers-next, gathers-end}
-use Rattle.atoms.proofs.Singles.{single-if-at, single-if-has}
-use Rattle.atoms.proofs.TakenNumbers.{taken-lent}
-use Rattle.atoms.proofs.Tests.{decides, decides-iff, decides-equal, decided-true, decided-false}
-use Rattle.plan.specs.Limits.{MAX_TABLES, MAX_INPUTS, FIRST_RULE}
-use Rattle.contact_tables.specs.Table.{place, row, tableAnswer}
 use Rattle.contact_tables.proofs.Places.{place-input, place-other, place-lt}
 use Rattle.contact_tables.proofs.RowBits.{row-lt, row-bit}
-use Rattle.answer_sets.specs.Lent.{inputs, truth}
-use Rattle.pilots.specs.Pilots.{FollowsWords, FollowAll}
-use Rattle.parities.specs.Parity.{odd, ODD_ROWS, oddTruth, evenTruth, Parity, ParityTable, ParityAtom}
-use Rattle.parities.specs.Rows.{RowHolds, tableRow}
 use Rattle.parities.proofs.CountedWords.{digit-none, count-none, count-apart, count-atom, cut-swap, below-more, below-same, below-none, whole-word}
 use Rattle.parities.proofs.Parities.{odd-lt, odd-sum}
 

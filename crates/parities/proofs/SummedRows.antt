@@ -1,31 +1,12 @@
 -- Rows of parities: what is put where, what is added to what, and what a row says of a state.
-use mathlib.Core.Path.{_≡_, refl, sym, ap, ap₂, _∙_, subst}
-use mathlib.Core.Bool.{Bool, true, false}
-use mathlib.Core.Logic.{_⊎_, inl, inr}
-use mathlib.Core.List.{List}
-use Prim.Native.Nat.{ℕ, _+_, _%_, _^_, _<_}
-use native.Mathlib.Omega.{arith}
-use native.Mathlib.Decide.{ℕ-discrete}
-use lib.Count.{ones}
-use lib.ListN.{length, getD, set, replicate, length-set, getD-replicate}
-use lib.Seq.{getD-set-same, getD-set-other}
-use Rattle.atoms.specs.Word.{ATOMS, digit, Has, Apart, apart, _∩_, _∪_, _∖_, atom, AtMostOne}
-use Rattle.atoms.proofs.Digits.{digit-lt, digit-zero, or-at, sub-at}
-use Rattle.atoms.proofs.Sets.{has-dec, has-lt, has-cut, cut-left, cut-right, has-left, has-right, union-cases, has-atom, atom-only, has-none, some-atom}
-use Rattle.atoms.proofs.Sets.{ext, empty, union-fits, without-fits}
-use Rattle.atoms.proofs.Singles.{numbered-by, lacked-by}
-use Rattle.states.specs.State.{Completes, undecided}
-use Rattle.states.specs.Narrowing.{Narrows, SomeUp}
-use Rattle.states.specs.declared.state.State.{State}
+use Rattle.parities.proofs.Prelude.{_≡_, refl, sym, ap, ap₂, _∙_, subst, Bool, true, false, _⊎_, inl, inr, List, ℕ, _+_, _%_, _^_, _<_, arith}
+use Rattle.parities.proofs.Prelude.{ℕ-discrete, ones, length, getD, set, replicate, length-set, getD-replicate, getD-set-same, getD-set-other, ATOMS}
+use Rattle.parities.proofs.Prelude.{digit, Has, Apart, apart, _∩_, _∪_, _∖_, atom, AtMostOne, digit-lt, digit-zero, or-at, sub-at, has-dec, has-lt}
+use Rattle.parities.proofs.Prelude.{has-cut, cut-left, cut-right, has-left, has-right, union-cases, has-atom, atom-only, has-none, some-atom, ext}
+use Rattle.parities.proofs.Prelude.{empty, union-fits, without-fits, numbered-by, lacked-by, Completes, undecided, Narrows, SomeUp, State}
+use Rattle.parities.proofs.Prelude.{narrows-when, narrows-trans, narrows-for, down-narrows, SatisfiesAll, lent, inputs, truth, FollowAll, odd, _△_}
+use Rattle.parities.proofs.Prelude.{ParityTable, SUM_ROWS, RowHolds, tableRow, openRow, RowsHold, RowsGathered, BitPut, SameRows, Summed, Row}
 use Rattle.states.proofs.HalfDecided.{undecided-up, undecided-intro}
-use Rattle.states.proofs.Narrows.{narrows-when, narrows-trans, narrows-for, down-narrows}
-use Rattle.answer_sets.specs.Program.{SatisfiesAll}
-use Rattle.answer_sets.specs.Lent.{lent, inputs, truth}
-use Rattle.pilots.specs.Pilots.{FollowAll}
-use Rattle.parities.specs.Parity.{odd, _△_, ParityTable}
-use Rattle.parities.specs.Rows.{ROWS, RowHolds, tableRow, openRow, RowsHold, Gathered, BitPut, SameRows}
-use Rattle.parities.specs.Told.{Summed}
-use Rattle.parities.specs.declared.rows.Row.{Row}
 use Rattle.parities.proofs.CountedWords.{count-none, count-apart, count-atom, digit-none}
 use Rattle.parities.proofs.Parities.{odd-lt, odd-sum}
 use Rattle.parities.proofs.ParityTables.{table-row}
@@ -70,29 +51,29 @@ none-holds : (N : ℕ) → RowHolds 0 0 N
 unfolding odd
 none-holds N = record { parity = omega (arith, ap ones (empty (N ∩ 0) (λ i h. has-none (cut-right N 0 h))), count-none) }
 
-pub rows-none : (N : ℕ) → RowsHold (replicate ROWS 0) 0 N
-rows-none N = record { each = λ i l. rw (getD-replicate {A = ℕ} ROWS i 0 0 l, digit-zero i) (none-holds N) }
+pub rows-none : (N : ℕ) → RowsHold (replicate SUM_ROWS 0) 0 N
+rows-none N = record { each = λ i l. rw (getD-replicate {A = ℕ} SUM_ROWS i 0 0 l, digit-zero i) (none-holds N) }
 
-pub gathered-refl : {K : ℕ → Type 0} {s : State} {words : List ℕ} {bits : ℕ} → Gathered K s words bits words bits
+pub gathered-refl : {K : ℕ → Type 0} {s : State} {words : List ℕ} {bits : ℕ} → RowsGathered K s words bits words bits
 gathered-refl = record { same-length = refl; right = λ N k c h. h }
 
-pub gathered-trans : {K : ℕ → Type 0} {s : State} {words words′ words″ : List ℕ} {bits bits′ bits″ : ℕ} → Gathered K s words bits words′ bits′
-    → Gathered K s words′ bits′ words″ bits″ → Gathered K s words bits words″ bits″
+pub gathered-trans : {K : ℕ → Type 0} {s : State} {words words′ words″ : List ℕ} {bits bits′ bits″ : ℕ} → RowsGathered K s words bits words′ bits′
+    → RowsGathered K s words′ bits′ words″ bits″ → RowsGathered K s words bits words″ bits″
 gathered-trans f g = record { same-length = g .same-length ∙ f .same-length; right = λ N k c h. g .right N k c (f .right N k c h) }
 
-pub gathered-for : {K L : ℕ → Type 0} {s : State} {words words′ : List ℕ} {bits bits′ : ℕ} → ((N : ℕ) → L N → K N) → Gathered K s words bits words′ bits′
-    → Gathered L s words bits words′ bits′
+pub gathered-for : {K L : ℕ → Type 0} {s : State} {words words′ : List ℕ} {bits bits′ : ℕ} → ((N : ℕ) → L N → K N) → RowsGathered K s words bits words′ bits′
+    → RowsGathered L s words bits words′ bits′
 gathered-for f g = record { same-length = g .same-length; right = λ N l c h. g .right N (f N l) c h }
 
 -- one row is written
-pub row-put : {K : ℕ → Type 0} {s : State} {words : List ℕ} {bits t w b r : ℕ} → length words ≡ ROWS → t < ROWS
-    → ((N : ℕ) → K N → Completes s N → RowHolds w b N) → BitPut bits t b r → Gathered K s words bits (set words t w) r
+pub row-put : {K : ℕ → Type 0} {s : State} {words : List ℕ} {bits t w b r : ℕ} → length words ≡ SUM_ROWS → t < SUM_ROWS
+    → ((N : ℕ) → K N → Completes s N → RowHolds w b N) → BitPut bits t b r → RowsGathered K s words bits (set words t w) r
 row-put {K} {s} {words} {bits} {t} {w} {b} {r} long l f put = record {
   same-length = length-set words t w;
   right = λ N k c h. record { each = λ i m. go N k c h i m (ℕ-discrete i t) };
 }
   where
-    go : (N : ℕ) → K N → Completes s N → RowsHold words bits N → (i : ℕ) → i < ROWS → Dec (i ≡ t) → RowHolds (getD (set words t w) i 0) (digit r i) N
+    go : (N : ℕ) → K N → Completes s N → RowsHold words bits N → (i : ℕ) → i < SUM_ROWS → Dec (i ≡ t) → RowHolds (getD (set words t w) i 0) (digit r i) N
     go N k c h i m (yes q) = rw q (rw (getD-set-same words t w 0 (omega (arith, long, l)), put .here) (f N k c))
     go N k c h i m (no n) = rw (getD-set-other words t i w 0 n, put .others i n) (h .each i m)
 
@@ -121,7 +102,7 @@ same-rows-trans f g = record {
   back = λ N h. f .back N (g .back N h);
 }
 
-pub row-added : (words : List ℕ) (bits from to : ℕ) {w a b r : ℕ} → length words ≡ ROWS → from < ROWS → to < ROWS → ¬ (from ≡ to)
+pub row-added : (words : List ℕ) (bits from to : ℕ) {w a b r : ℕ} → length words ≡ SUM_ROWS → from < SUM_ROWS → to < SUM_ROWS → ¬ (from ≡ to)
     → w ≡ getD words to 0 △ getD words from 0 → a ≡ digit bits to → b ≡ digit bits from → BitPut bits to ((a + b) % 2) r
     → SameRows words bits (set words to w) r
 row-added words bits from to {w} {a} {b} {r} long k l apart e f g put = record {
@@ -136,15 +117,15 @@ row-added words bits from to {w} {a} {b} {r} long k l apart e f g put = record {
     sums : (N : ℕ) → odd (N ∩ w) ≡ (odd (N ∩ getD words to 0) + odd (N ∩ getD words from 0)) % 2
     sums N = ap (λ (x : ℕ). odd (N ∩ x)) e ∙ odd-sum N (getD words to 0) (getD words from 0)
 
-    go : (N : ℕ) → RowsHold words bits N → (i : ℕ) → i < ROWS → Dec (i ≡ to) → RowHolds (getD (set words to w) i 0) (digit r i) N
+    go : (N : ℕ) → RowsHold words bits N → (i : ℕ) → i < SUM_ROWS → Dec (i ≡ to) → RowHolds (getD (set words to w) i 0) (digit r i) N
     go N h i m (yes q) =
         rw q (rw here (record { parity = omega (arith, sums N, h .each to l .parity, h .each from k .parity, f, g, put .here) }))
     go N h i m (no n) = rw (getD-set-other words to i w 0 n, put .others i n) (h .each i m)
 
-    same : (N : ℕ) → RowsHold (set words to w) r N → (i : ℕ) → i < ROWS → ¬ (i ≡ to) → RowHolds (getD words i 0) (digit bits i) N
+    same : (N : ℕ) → RowsHold (set words to w) r N → (i : ℕ) → i < SUM_ROWS → ¬ (i ≡ to) → RowHolds (getD words i 0) (digit bits i) N
     same N h i m n = rw (getD-set-other words to i w 0 n, put .others i n) at (h .each i m)
 
-    come : (N : ℕ) → RowsHold (set words to w) r N → (i : ℕ) → i < ROWS → Dec (i ≡ to) → RowHolds (getD words i 0) (digit bits i) N
+    come : (N : ℕ) → RowsHold (set words to w) r N → (i : ℕ) → i < SUM_ROWS → Dec (i ≡ to) → RowHolds (getD words i 0) (digit bits i) N
     come N h i m (yes q) = rw q (record {
       parity =
           omega (
@@ -243,13 +224,13 @@ pub row-drops : (s : State) {word bit dropped : ℕ} → bit < 2 → ¬ (bit ≡
 row-drops s {word} l n one e = rw e (down-narrows s word (λ N h c. row-none l n one h))
 
 -- the state after one more row
-pub rows-more : {words : List ℕ} {bits : ℕ} {s t u : State} (i : ℕ) {w b : ℕ} → i < ROWS → w ≡ getD words i 0 → b ≡ digit bits i
+pub rows-more : {words : List ℕ} {bits : ℕ} {s t u : State} (i : ℕ) {w b : ℕ} → i < SUM_ROWS → w ≡ getD words i 0 → b ≡ digit bits i
     → Narrows (RowsHold words bits) s t → Narrows (RowHolds w b) t u → Narrows (RowsHold words bits) s u
 rows-more i l e f m n = narrows-trans m (narrows-for (λ N h. rw (e, f) (h .each i l)) n)
 
 -- and after all, where they are sums of rows that are right
 pub rows-narrow : {rules pilots : List ℕ} {which : ℕ} {told words sums : List ℕ} {bits bits′ bits″ : ℕ} {s t : State}
-    → Gathered (SatisfiesAll (lent rules) which) s (replicate ROWS 0) 0 told bits → Gathered (FollowAll rules pilots) s told bits words bits′
+    → RowsGathered (SatisfiesAll (lent rules) which) s (replicate SUM_ROWS 0) 0 told bits → RowsGathered (FollowAll rules pilots) s told bits words bits′
     → SameRows words bits′ sums bits″ → Narrows (RowsHold sums bits″) s t → Narrows (Summed rules pilots which) s t
 rows-narrow f g same n =
     narrows-when (λ N k c. same .there N (g .right N (k .follow) c (f .right N (k .satisfies) c (rows-none N)))) n

@@ -1,34 +1,13 @@
 -- A constraint whose words hold says that its one use fails; of a parity table that is a row. And which rules are constraints with one such use.
-use mathlib.Core.Path.{_≡_, refl, sym, ap, ap₂, _∙_, subst}
-use mathlib.Core.Bool.{Bool, true, false, not, false≢true}
-use mathlib.Core.List.{List}
-use mathlib.Core.Logic.{_⊎_, inl, inr}
-use Prim.Native.Nat.{ℕ, _+_, _/_, _%_, _^_, _<_, _≤_}
-use native.Mathlib.Omega.{arith}
-use native.Mathlib.Decide.{decLt}
-use Rattle.atoms.specs.Word.{ATOMS, digit, Has, has, _⊆_, subset, _∩_, _∪_, _∖_, atom, below, Lowest, AtMostOne}
-use Rattle.atoms.specs.Bounded.{Decides, singleIf, unionIn}
-use Rattle.atoms.specs.Collected.{Collects}
-use Rattle.atoms.proofs.Counts.{taken-within}
-use Rattle.atoms.proofs.Sets.{ext, has-cut, cut-right, has-left, has-right, union-cases, has-none, has-atom, atom-only, has-below, below-lt, has-lt}
-use Rattle.atoms.proofs.Sets.{subset-refl, subset-trans, decides-has, decides-subset, union-none-left}
-use Rattle.atoms.proofs.Collected.{collects-iff, collects-has, collects-union-in}
-use Rattle.atoms.proofs.GatheredWords.{Gathers, gathers-next, gathers-end}
-use Rattle.atoms.proofs.Singles.{single-if-at, single-if-has}
-use Rattle.atoms.proofs.TakenNumbers.{taken-lent, done-more}
-use Rattle.atoms.proofs.Tests.{decides-iff, decided-true}
-use Rattle.plan.specs.Limits.{MAX_TABLES}
-use Rattle.contact_tables.specs.Table.{row, tableAnswer}
-use Rattle.states.specs.State.{Completes}
-use Rattle.states.specs.declared.state.State.{State}
-use Rattle.answer_sets.specs.Program.{Body, Satisfies}
-use Rattle.answer_sets.specs.Lent.{lent, looks, negative, uses, USE_BITS, usedTable, inputs, truth, useHolds}
+use Rattle.parities.proofs.Prelude.{_≡_, refl, sym, ap, ap₂, _∙_, subst, Bool, true, false, not, false≢true, List, _⊎_, inl, inr, ℕ, _+_, _/_, _%_}
+use Rattle.parities.proofs.Prelude.{_^_, _<_, _≤_, arith, decLt, ATOMS, digit, Has, has, _⊆_, subset, _∩_, _∪_, _∖_, atom, below, Lowest, AtMostOne}
+use Rattle.parities.proofs.Prelude.{Decides, singleIf, unionIn, Collects, taken-within, ext, has-cut, cut-right, has-left, has-right, union-cases}
+use Rattle.parities.proofs.Prelude.{has-none, has-atom, atom-only, has-below, below-lt, has-lt, subset-refl, subset-trans, decides-has, decides-subset}
+use Rattle.parities.proofs.Prelude.{union-none-left, collects-iff, collects-has, collects-union-in, Gathers, gathers-next, gathers-end, single-if-at}
+use Rattle.parities.proofs.Prelude.{single-if-has, taken-lent, done-more, decides-iff, decided-true, MAX_TABLES, row, tableAnswer, Completes, State}
+use Rattle.parities.proofs.Prelude.{Body, Satisfies, lent, looks, negative, uses, USE_BITS, usedTable, inputs, truth, useHolds, parts-body}
+use Rattle.parities.proofs.Prelude.{wanted-true, wanted-false, odd, Parity, RowHolds, openRow, TellsParity, ToldAtom, Held, useRow, Row}
 use Rattle.answer_sets.specs.Known.{Part, InBody, PartHolds, has-positive, has-negative, has-use}
-use Rattle.answer_sets.proofs.Bodies.{parts-body, wanted-true, wanted-false}
-use Rattle.parities.specs.Parity.{odd, Parity}
-use Rattle.parities.specs.Rows.{RowHolds, openRow}
-use Rattle.parities.specs.Told.{Tells, ToldAtom, Held, useRow}
-use Rattle.parities.specs.declared.rows.Row.{Row}
 use Rattle.parities.proofs.CountedWords.{cut-swap, digit-none}
 use Rattle.parities.proofs.Parities.{odd-lt}
 use Rattle.parities.proofs.ParityTables.{parity-answer}
@@ -43,34 +22,34 @@ lone-atom {w} {i} one h =
 pub use-small : (u : ℕ) {first used i : ℕ} → first ≡ below USE_BITS → used ≡ u ∩ first → Lowest used i → i < USE_BITS
 use-small u f g low = below-lt USE_BITS (cut-right u (below USE_BITS) (rw (g, f) at (low .here)))
 
-pub some-head : {rules : List ℕ} {r h : ℕ} → h ≡ lent rules .head r → ¬ (h ≡ 0) → Decides (Tells rules r) false
+pub some-head : {rules : List ℕ} {r h : ℕ} → h ≡ lent rules .head r → ¬ (h ≡ 0) → Decides (TellsParity rules r) false
 some-head at n = record { yes = λ t. absurd (false≢true t); no = λ t p. n (at ∙ p .headless) }
 
 module _ (rules : List ℕ) (r : ℕ) {u first used : ℕ} (e : u ≡ uses rules r) (f : first ≡ below USE_BITS) (g : used ≡ u ∩ first) where
   used-is : used ≡ uses rules r ∩ below USE_BITS
   used-is = rw (g, e, f) refl
 
-  pub no-use : used ≡ 0 → Decides (Tells rules r) false
+  pub no-use : used ≡ 0 → Decides (TellsParity rules r) false
   no-use z = record {
     yes = λ t. absurd (false≢true t);
     no = λ t p. has-none (subst (λ (w : ℕ). Has w (p .made)) (sym (p .one) ∙ sym used-is ∙ z) (has-atom (p .made)));
   }
 
-  pub several-uses : ¬ AtMostOne used → Decides (Tells rules r) false
+  pub several-uses : ¬ AtMostOne used → Decides (TellsParity rules r) false
   several-uses n = record {
     yes = λ t. absurd (false≢true t);
     no = λ t p. n (subst AtMostOne (sym (used-is ∙ p .one)) (record { same = λ i j h k. sym (atom-only (p .made) h) ∙ atom-only (p .made) k }));
   }
 
   -- the use that a telling rule makes is the lowest
-  pub same-use : {i : ℕ} → Has used i → (p : Tells rules r) → p .made ≡ i
+  pub same-use : {i : ℕ} → Has used i → (p : TellsParity rules r) → p .made ≡ i
   same-use {i} h p = atom-only (p .made) (subst (λ (w : ℕ). Has w i) (used-is ∙ p .one) h)
 
   pub one-use : {h i t x y : ℕ} {b : Bool} → h ≡ lent rules .head r → h ≡ 0 → AtMostOne used → Lowest used i → t ≡ usedTable i
-      → x ≡ inputs rules t → y ≡ truth rules t → Decides (Parity x y) b → Decides (Tells rules r) b
+      → x ≡ inputs rules t → y ≡ truth rules t → Decides (Parity x y) b → Decides (TellsParity rules r) b
   one-use {i = i} at none one low a h k d = decides-iff into back (rw (h, k, a) at d)
     where
-      into : Parity (inputs rules (usedTable i)) (truth rules (usedTable i)) → Tells rules r
+      into : Parity (inputs rules (usedTable i)) (truth rules (usedTable i)) → TellsParity rules r
       into p = record {
         headless = sym at ∙ none;
         made = i;
@@ -79,11 +58,11 @@ module _ (rules : List ℕ) (r : ℕ) {u first used : ℕ} (e : u ≡ uses rules
         parity = p;
       }
 
-      back : Tells rules r → Parity (inputs rules (usedTable i)) (truth rules (usedTable i))
+      back : TellsParity rules r → Parity (inputs rules (usedTable i)) (truth rules (usedTable i))
       back p = subst (λ (j : ℕ). Parity (inputs rules (usedTable j)) (truth rules (usedTable j))) (same-use (low .here) p) (p .parity)
 
   -- it makes one
-  pub some-use : Tells rules r → ¬ (used ≡ 0)
+  pub some-use : TellsParity rules r → ¬ (used ≡ 0)
   some-use p z = has-none (subst (λ (w : ℕ). Has w (p .made)) (sym (p .one) ∙ sym used-is ∙ z) (has-atom (p .made)))
 
 -- ---- the rules that make one
@@ -129,12 +108,12 @@ ruleAtoms rules r = lent rules .head r ∪ (lent rules .positive r ∪ looks rul
 -- the atoms of those that are not among the rest
 pub record GatheringTold (rules : List ℕ) (which all rest : ℕ) : Type 0 where
   pub telling : ℕ
-  pub tell : Collects (λ r. Has which r × Tells rules r) telling
+  pub tell : Collects (λ r. Has which r × TellsParity rules r) telling
   pub within : rest ⊆ telling
   pub gathers : Gathers ATOMS (ruleAtoms rules) telling all rest
 
 module _ {rules : List ℕ} {which : ℕ} where
-  pub told-start : {telling : ℕ} → which < 2 ^ ATOMS → Collects (λ r. Has which r × Tells rules r) telling → GatheringTold rules which 0 telling
+  pub told-start : {telling : ℕ} → which < 2 ^ ATOMS → Collects (λ r. Has which r × TellsParity rules r) telling → GatheringTold rules which 0 telling
   told-start {telling} l c = record {
     telling = telling;
     tell = c;
@@ -171,7 +150,7 @@ held-when {s = s} {p} {n} f g y u z v = record {
   down = rw g at (decides-subset n (s .dropped) .yes (sym z ∙ v));
 }
 
-module _ {rules : List ℕ} {r : ℕ} {s : State} (h : Held rules r s) (t : Tells rules r) (N : ℕ) (k : Satisfies (lent rules) r N) (c : Completes s N) where
+module _ {rules : List ℕ} {r : ℕ} {s : State} (h : Held rules r s) (t : TellsParity rules r) (N : ℕ) (k : Satisfies (lent rules) r N) (c : Completes s N) where
   -- the one use fails
   use-fails : ¬ (useHolds rules (t .made) N ≡ true)
   use-fails e = let x = k .head-up body in has-none (subst (λ (w : ℕ). Has w (x .0)) (t .headless) (x .1))
@@ -214,7 +193,7 @@ bit-from : (t : ℕ) {d o q : ℕ} → d ≡ (o + t % 2) % 2 → d ≡ q → o <
 bit-from t e f l m = omega (arith, e, f, l, m)
 
 -- the row of a use that fails
-pub told-row : {rules : List ℕ} {r i : ℕ} {s : State} {a b : Row} → Held rules r s → (t : Tells rules r) → t .made ≡ i
+pub told-row : {rules : List ℕ} {r i : ℕ} {s : State} {a b : Row} → Held rules r s → (t : TellsParity rules r) → t .made ≡ i
     → inputs rules (usedTable i) < 2 ^ ATOMS → a ≡ useRow rules i → b ≡ openRow a s → (N : ℕ) → Satisfies (lent rules) r N → Completes s N
     → RowHolds (b .word) (b .bit) N
 told-row {rules} {r} {i} {s} h t e l f g N k c = rw (g, f) (row-opened s (inputs rules (usedTable i)) l N c whole)

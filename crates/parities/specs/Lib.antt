@@ -1,3 +1,3 @@
 pub mod Parity
-pub mod Rows
+pub mod ParityRows
 pub mod Told

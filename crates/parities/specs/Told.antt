@@ -12,7 +12,7 @@ use Rattle.parities.specs.Parity.{Parity}
 use Rattle.parities.specs.declared.rows.Row.{Row}
 
 -- rule r is a constraint with one use, and that is of a parity table
-pub record Tells (rules : List ℕ) (r : ℕ) : Type 0 where
+pub record TellsParity (rules : List ℕ) (r : ℕ) : Type 0 where
   pub headless : lent rules .head r ≡ 0
   pub made : ℕ
   pub small : made < USE_BITS
@@ -23,7 +23,7 @@ pub record Tells (rules : List ℕ) (r : ℕ) : Type 0 where
 pub record ToldAtom (rules : List ℕ) (which a : ℕ) : Type 0 where
   pub rule : ℕ
   pub numbered : Has which rule
-  pub tells : Tells rules rule
+  pub tells : TellsParity rules rule
   pub within : Has (lent rules .head rule ∪ (lent rules .positive rule ∪ looks rules rule)) a
 
 -- the rule's words hold

@@ -9,7 +9,7 @@ ghost use lib.ListN.{length};
 ghost use Rattle.atoms.specs.Word.{ATOMS, digit};
 ghost use Rattle.states.specs.Narrowing.{Narrows};
 ghost use Rattle.parities.specs.Parity.{_△_};
-ghost use Rattle.parities.specs.Rows.{ROWS as Rows·ROWS, RowHolds, RowsHold, BitPut, SameRows};
+ghost use Rattle.parities.specs.ParityRows.{SUM_ROWS as Rows·ROWS, RowHolds, RowsHold, BitPut, SameRows};
 
 // A row for each table.
 pub const ROWS: usize = MAX_TABLES;

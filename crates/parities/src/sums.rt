@@ -25,8 +25,8 @@ ghost use Rattle.states.specs.Narrowing.{Narrows};
 ghost use Rattle.answer_sets.specs.Program.{Satisfies, SatisfiesAll};
 ghost use Rattle.answer_sets.specs.Lent.{lent, IsLent, Lent};
 ghost use Rattle.pilots.specs.Pilots.{FollowAll};
-ghost use Rattle.parities.specs.Rows.{ROWS as Rows·ROWS, tableRow, openRow, Gathered};
-ghost use Rattle.parities.specs.Told.{Tells, Summed};
+ghost use Rattle.parities.specs.ParityRows.{SUM_ROWS as Rows·ROWS, tableRow, openRow, RowsGathered};
+ghost use Rattle.parities.specs.Told.{TellsParity, Summed};
 
 // The row of a parity table: its inputs and its pilot. With no input up the table that asks for an even number is true.
 fn table_row(rules: &[u64], pilots: &[u64], t: usize) -> Row
@@ -60,7 +60,7 @@ fn gather_row(
     bits: u64,
 ) -> u64
     requires { ⌜ (MAX_TABLES ≤ length (now pilots)) × (t < MAX_TABLES) × (length (now words) ≡ Rows·ROWS) ⌝ }
-    ensures { λ r. ⌜ Gathered (FollowAll (now (rules .entry)) (now (pilots .entry))) s (now (words .entry)) bits (now (words .exit)) r ⌝ }
+    ensures { λ r. ⌜ RowsGathered (FollowAll (now (rules .entry)) (now (pilots .entry))) s (now (words .entry)) bits (now (words .exit)) r ⌝ }
 {
     if !is_parity_table(rules, pilots, t) {
         return bits;
@@ -73,7 +73,7 @@ fn gather_row(
 // Writes the rows of all parity tables with a pilot: the new word of bits.
 fn gather_rows(rules: &[u64], pilots: &[u64], s: State, words: &mut [u64], bits: u64) -> u64
     requires { ⌜ (MAX_TABLES ≤ length (now pilots)) × (length (now words) ≡ Rows·ROWS) ⌝ }
-    ensures { λ r. ⌜ Gathered (FollowAll (now (rules .entry)) (now (pilots .entry))) s (now (words .entry)) bits (now (words .exit)) r ⌝ }
+    ensures { λ r. ⌜ RowsGathered (FollowAll (now (rules .entry)) (now (pilots .entry))) s (now (words .entry)) bits (now (words .exit)) r ⌝ }
 {
     let mut sums = bits;
     let mut t = 0;
@@ -86,8 +86,8 @@ fn gather_rows(rules: &[u64], pilots: &[u64], s: State, words: &mut [u64], bits:
 
 // Writes the row that a constraint with one use tells at the state, if it does: the new word of bits.
 fn gather_told(rules: &[u64], rule: usize, s: State, words: &mut [u64], bits: u64) -> u64
-    requires { ⌜ IsLent (now rules) rule × Tells (now rules) rule × (length (now words) ≡ Rows·ROWS) ⌝ }
-    ensures { λ r. ⌜ Gathered (Satisfies (lent (now (rules .entry))) rule) s (now (words .entry)) bits (now (words .exit)) r ⌝ }
+    requires { ⌜ IsLent (now rules) rule × TellsParity (now rules) rule × (length (now words) ≡ Rows·ROWS) ⌝ }
+    ensures { λ r. ⌜ RowsGathered (Satisfies (lent (now (rules .entry))) rule) s (now (words .entry)) bits (now (words .exit)) r ⌝ }
 {
     if !is_held(rules, rule, s) {
         return bits;
@@ -102,7 +102,7 @@ fn gather_told(rules: &[u64], rule: usize, s: State, words: &mut [u64], bits: u6
 // Writes the rows that the constraints of the word tell: the new word of bits.
 fn gather_all_told(rules: &[u64], which: u64, s: State, words: &mut [u64], bits: u64) -> u64
     requires { ⌜ Lent (now rules) which × (length (now words) ≡ Rows·ROWS) ⌝ }
-    ensures { λ r. ⌜ Gathered (SatisfiesAll (lent (now (rules .entry))) which) s (now (words .entry)) bits (now (words .exit)) r ⌝ }
+    ensures { λ r. ⌜ RowsGathered (SatisfiesAll (lent (now (rules .entry))) which) s (now (words .entry)) bits (now (words .exit)) r ⌝ }
 {
     let mut sums = bits;
     let mut rest = telling_rules(rules, which);

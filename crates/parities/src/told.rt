@@ -19,7 +19,7 @@ ghost use Rattle.atoms.specs.Bounded.{Decides};
 ghost use Rattle.atoms.specs.Collected.{Collects};
 ghost use Rattle.plan.specs.Limits.{FIRST_RULE, MAX_TABLES as Limits·MAX_TABLES};
 ghost use Rattle.answer_sets.specs.Lent.{IsLent, Lent, USE_BITS as Lent·USE_BITS, usedTable};
-ghost use Rattle.parities.specs.Told.{Tells, ToldAtom, Held, useRow};
+ghost use Rattle.parities.specs.Told.{TellsParity, ToldAtom, Held, useRow};
 
 // A bit for each table that must be true, and one for each that must be false.
 pub const USE_BITS: usize = 2 * MAX_TABLES;
@@ -35,7 +35,7 @@ pub fn used_table(i: usize) -> usize
 // Whether the rule is a constraint with one use, of a parity table.
 fn is_telling(rules: &[u64], rule: usize) -> bool
     requires { ⌜ IsLent (now rules) rule ⌝ }
-    ensures { λ r. ⌜ Decides (Tells (now (rules .entry)) rule) r ⌝ }
+    ensures { λ r. ⌜ Decides (TellsParity (now (rules .entry)) rule) r ⌝ }
 {
     if head(rules, rule) != 0 {
         return false;
@@ -54,7 +54,7 @@ fn is_telling(rules: &[u64], rule: usize) -> bool
 // The constraints of the word with one use, of a parity table.
 pub fn telling_rules(rules: &[u64], which: u64) -> u64
     requires { ⌜ Lent (now rules) which ⌝ }
-    ensures { λ r. ⌜ Collects (λ i. Has which i × Tells (now (rules .entry)) i) r ⌝ }
+    ensures { λ r. ⌜ Collects (λ i. Has which i × TellsParity (now (rules .entry)) i) r ⌝ }
 {
     let mut telling = 0;
     let mut rest = which;

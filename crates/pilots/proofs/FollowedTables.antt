@@ -1,29 +1,13 @@
 -- Pilots at a full position: one row is left there, and it tells what the table says.
-use mathlib.Core.Path.{_≡_, refl, sym, subst, _∙_}
-use mathlib.Core.Bool.{Bool, true, false, true≢false, false≢true}
-use mathlib.Core.Logic.{_↔_}
-use mathlib.Core.List.{List}
-use Prim.Native.Nat.{ℕ, _+_, _≤_, _<_}
-use native.Mathlib.Omega.{arith}
-use native.Mathlib.Decide.{ℕ-discrete}
-use lib.ListN.{getD}
-use Rattle.atoms.specs.Word.{ATOMS, Has, _⊆_, subset, Apart, apart, outside}
-use Rattle.atoms.specs.Bounded.{Decides}
-use Rattle.atoms.specs.Collected.{Collects}
-use Rattle.atoms.proofs.Sets.{ext, has-dec, has-outside, has-without, without-left, without-right, outside-lacks, subset-refl, decides-has, decides-subset}
-use Rattle.atoms.proofs.Sets.{decides-apart, has-none}
-use Rattle.atoms.proofs.Tests.{decided-true, decided-false}
-use Rattle.plan.specs.Limits.{MAX_INPUTS, MAX_TABLES}
-use Rattle.states.specs.State.{Completes, halfDecided}
-use Rattle.contact_tables.specs.Table.{row, tableAnswer}
-use Rattle.contact_tables.specs.Rows.{Reached}
-use Rattle.contact_tables.proofs.RowBits.{UpAt, row-bit}
-use Rattle.pilots.specs.Pilots.{FollowsWords, Follows, FollowAll}
-use Rattle.pilots.specs.Linked.{NoPilots}
+use Rattle.pilots.proofs.Prelude.{_≡_, refl, sym, subst, _∙_, Bool, true, false, true≢false, false≢true, _↔_, List, ℕ, _+_, _≤_, _<_, arith}
+use Rattle.pilots.proofs.Prelude.{ℕ-discrete, getD, ATOMS, Has, _⊆_, subset, Apart, apart, outside, Decides, Collects, ext, has-dec, has-outside}
+use Rattle.pilots.proofs.Prelude.{has-without, without-left, without-right, outside-lacks, subset-refl, decides-has, decides-subset, decides-apart}
+use Rattle.pilots.proofs.Prelude.{has-none, decided-true, decided-false, MAX_INPUTS, MAX_TABLES, Completes, halfDecided, row, tableAnswer, RowReached}
+use Rattle.pilots.proofs.Prelude.{UpAt, row-bit, FollowsWords, FollowsTable, FollowAll, NoPilots}
 
 -- ---- one row
 
-module _ (inputs M : ℕ) {down rows : ℕ} (e : down ≡ outside M) (c : Collects (Reached inputs M down) rows) where
+module _ (inputs M : ℕ) {down rows : ℕ} (e : down ≡ outside M) (c : Collects (RowReached inputs M down) rows) where
   here : Has rows (row inputs M)
   here = c .all _ (record {
     position = M;
@@ -93,22 +77,22 @@ module _ {inputs truth w M : ℕ} {r : Bool} where
 
 -- those below t follow their tables
 pub record Followed (rules pilots : List ℕ) (M t : ℕ) : Type 0 where
-  pub each : (u : ℕ) → u < t → Follows rules u (getD pilots u 0) M
+  pub each : (u : ℕ) → u < t → FollowsTable rules u (getD pilots u 0) M
 
 pub followed-start : {rules pilots : List ℕ} {M : ℕ} → Followed rules pilots M 0
 followed-start = record { each = λ u l. absurd (omega (arith, l)) }
 
-pub followed-next : {rules pilots : List ℕ} {M t : ℕ} → Followed rules pilots M t → Follows rules t (getD pilots t 0) M → Followed rules pilots M (t + 1)
+pub followed-next : {rules pilots : List ℕ} {M t : ℕ} → Followed rules pilots M t → FollowsTable rules t (getD pilots t 0) M → Followed rules pilots M (t + 1)
 followed-next {rules} {pilots} {M} {t} k f = record { each = λ u l. go u l (ℕ-discrete t u) }
   where
-    go : (u : ℕ) → u < t + 1 → Dec (t ≡ u) → Follows rules u (getD pilots u 0) M
-    go u l (yes q) = subst (λ (x : ℕ). Follows rules x (getD pilots x 0) M) q f
+    go : (u : ℕ) → u < t + 1 → Dec (t ≡ u) → FollowsTable rules u (getD pilots u 0) M
+    go u l (yes q) = subst (λ (x : ℕ). FollowsTable rules x (getD pilots x 0) M) q f
     go u l (no n) = k .each u (omega (arith, l, n))
 
 pub followed-end : {rules pilots : List ℕ} {M t : ℕ} → Followed rules pilots M t → MAX_TABLES ≤ t → Decides (FollowAll rules pilots M) true
 followed-end k l = record { yes = λ e. record { each = λ u m. k .each u (omega (arith, l, m)) }; no = λ e. absurd (true≢false e) }
 
-pub not-followed : {rules pilots : List ℕ} {M t : ℕ} → t < MAX_TABLES → ¬ Follows rules t (getD pilots t 0) M → Decides (FollowAll rules pilots M) false
+pub not-followed : {rules pilots : List ℕ} {M t : ℕ} → t < MAX_TABLES → ¬ FollowsTable rules t (getD pilots t 0) M → Decides (FollowAll rules pilots M) false
 not-followed {t = t} l n = record { yes = λ e. absurd (false≢true e); no = λ e f. n (f .each t l) }
 
 -- without pilots nothing is to follow

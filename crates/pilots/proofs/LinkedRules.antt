@@ -1,28 +1,16 @@
 -- Linked rules: their bodies where pilots follow their tables, and their answer sets.
-use mathlib.Core.Path.{_≡_, refl, sym, subst, ap, ap₂, _∙_}
-use mathlib.Core.Bool.{Bool, true, false, not, true≢false}
-use mathlib.Core.Logic.{_⊎_, inl, inr}
-use mathlib.Core.List.{List}
-use Prim.Native.Nat.{ℕ, _+_, _-_, _*_, _/_, _^_, _≤_, _<_}
-use native.Mathlib.Omega.{arith}
-use borrow.Author.Tests.{not-true, not-false}
-use lib.ListN.{getD}
-use native.Mathlib.Decide.{decLt}
-use Rattle.atoms.specs.Word.{Has, _⊆_, _⊂_, Apart, _∩_, _∪_, _∖_}
+use Rattle.pilots.proofs.Prelude.{_≡_, refl, sym, subst, ap, ap₂, _∙_, Bool, true, false, not, true≢false, _⊎_, inl, inr, List, ℕ, _+_, _-_, _*_, _/_}
+use Rattle.pilots.proofs.Prelude.{_^_, _≤_, _<_, arith, not-true, not-false, getD, decLt, Has, _⊆_, _⊂_, Apart, _∩_, _∪_, _∖_, has-dec, has-cut}
+use Rattle.pilots.proofs.Prelude.{cut-left, has-left, has-right, has-without, without-left, union-cases, some-atom, union-has, union-at, MAX_TABLES}
+use Rattle.pilots.proofs.Prelude.{FIRST_RULE, CONTACT_WORDS, tableAnswer, lent, negative, uses, USE_BITS, usedTable, inputs, truth, asks, useHolds}
+use Rattle.pilots.proofs.Prelude.{said, wanted-true, wanted-false, table-first, table-second, body-parts, parts-body, FollowsWords, FollowsTable}
+use Rattle.pilots.proofs.Prelude.{FollowAll, onPilots, offPilots, LinkedRule, ToldUses, Linked, PilotsWithin}
 use Rattle.atoms.proofs.Digits.{shifted-digit}
-use Rattle.atoms.proofs.Sets.{has-dec, has-cut, cut-left, has-left, has-right, has-without, without-left, union-cases, some-atom}
-use Rattle.atoms.proofs.Bounded.{union-has, union-at}
-use Rattle.plan.specs.Limits.{MAX_TABLES, FIRST_RULE, CONTACT_WORDS}
-use Rattle.contact_tables.specs.Table.{tableAnswer}
 use Rattle.answer_sets.specs.Program.{Body, Satisfies}
 use Rattle.answer_sets.specs.AnswerSet.{AnswerSet, ReductModel, Kept}
-use Rattle.answer_sets.specs.Lent.{lent, negative, uses, USE_BITS, usedTable, inputs, truth, asks, useHolds}
 use Rattle.answer_sets.specs.Known.{Part, positive-word, negative-word, table-use, PartHolds, InBody, has-positive, has-negative, has-use}
-use Rattle.answer_sets.proofs.Bodies.{said, wanted-true, wanted-false, table-first, table-second, body-parts, parts-body}
 use Rattle.answer_sets.proofs.Support.{satisfied}
 use Rattle.narrowing.specs.Inputs.{AnswersInputs}
-use Rattle.pilots.specs.Pilots.{FollowsWords, Follows, FollowAll}
-use Rattle.pilots.specs.Linked.{onPilots, offPilots, LinkedRule, ToldUses, Linked, PilotsWithin}
 
 -- ---- uses and their tables
 

@@ -1,25 +1,12 @@
 -- How rules are linked one after the other.
-use mathlib.Core.Path.{_≡_, refl, sym, ap, subst, _∙_}
-use mathlib.Core.Logic.{_⊎_, inl, inr}
-use mathlib.Core.List.{List}
-use Prim.Native.Nat.{ℕ, _+_, _*_, _/_, _^_, _≤_, _<_}
-use native.Mathlib.Omega.{arith}
-use native.Mathlib.Decide.{ℕ-discrete, decLt}
-use lib.Dec.{eqb}
-use lib.ListN.{length, getD, take, set, length-set}
-use lib.Seq.{paste, getD-set-same, getD-set-other, getD-take, length-take-le}
-use Rattle.atoms.specs.Word.{ATOMS, Has, Lowest, _⊆_, _∪_, _∖_, atom}
-use Rattle.atoms.proofs.Bounded.{union-at}
-use Rattle.atoms.specs.Bounded.{Decides, unionIn}
-use Rattle.atoms.proofs.Tests.{decides-iff, decides-equal}
-use Rattle.atoms.proofs.Sets.{has-left, has-right}
-use Rattle.atoms.proofs.Sets.{ext, empty, has-none, has-lt, has-without, without-left, union-cases, union-none-right, atom-only}
-use Rattle.atoms.proofs.TakenNumbers.{Taking, taking-start, taking-next, taking-end}
+use Rattle.pilots.proofs.Prelude.{_≡_, refl, sym, ap, subst, _∙_, _⊎_, inl, inr, List, ℕ, _+_, _*_, _/_, _^_, _≤_, _<_, arith, ℕ-discrete, decLt, eqb}
+use Rattle.pilots.proofs.Prelude.{length, getD, take, set, length-set, paste, getD-set-same, getD-set-other, getD-take, length-take-le, ATOMS, Has}
+use Rattle.pilots.proofs.Prelude.{Lowest, _⊆_, _∪_, _∖_, atom, union-at, Decides, unionIn, decides-iff, decides-equal, has-left, has-right, ext, empty}
+use Rattle.pilots.proofs.Prelude.{has-none, has-lt, has-without, without-left, union-cases, union-none-right, atom-only, Taking, taking-start}
+use Rattle.pilots.proofs.Prelude.{taking-next, taking-end, MAX_TABLES, FIRST_RULE, RULE_WORDS, lent, Lent, negative, uses, usedTable, ruleAt}
+use Rattle.pilots.proofs.Prelude.{table-first, table-second, LINKED_WORDS, written, onPilots, offPilots, LinkedRule, NoPilots, Plain, ToldUses}
+use Rattle.pilots.proofs.Prelude.{RuleLinked, RulesLinked, Linked}
 use Rattle.atoms.proofs.StoredWords.{stored-front}
-use Rattle.plan.specs.Limits.{MAX_TABLES, FIRST_RULE, RULE_WORDS}
-use Rattle.answer_sets.specs.Lent.{lent, Lent, negative, uses, usedTable, ruleAt}
-use Rattle.answer_sets.proofs.Bodies.{table-first, table-second}
-use Rattle.pilots.specs.Linked.{LINKED_WORDS, written, onPilots, offPilots, LinkedRule, NoPilots, Plain, ToldUses, RuleLinked, RulesLinked, Linked}
 
 -- ---- the uses that are told
 

@@ -1,21 +1,12 @@
 -- Rows of a table that a state leaves, and what they tell of inputs and of the pilot.
-use mathlib.Core.Path.{_≡_, refl, sym, subst, _∙_}
-use mathlib.Core.Bool.{Bool, true, false, not}
-use Prim.Native.Nat.{ℕ, _^_, _<_}
-use borrow.Author.Tests.{not-true}
-use Rattle.atoms.specs.Word.{ATOMS, Has, _⊆_, subset, Apart, apart, _∩_, _∪_, outside}
-use Rattle.atoms.specs.Collected.{Collects}
-use Rattle.atoms.proofs.Sets.{has-dec, has-none, has-cut, has-left, has-outside, decides-has, decides-apart, decides-subset, without-left}
-use Rattle.atoms.proofs.Tests.{decided-true, decided-false}
-use Rattle.states.specs.State.{Completes, halfDecided}
+use Rattle.pilots.proofs.Prelude.{_≡_, refl, sym, subst, _∙_, Bool, true, false, not, ℕ, _^_, _<_, not-true, ATOMS, Has, _⊆_, subset, Apart, apart}
+use Rattle.pilots.proofs.Prelude.{_∩_, _∪_, outside, Collects, has-dec, has-none, has-cut, has-left, has-outside, decides-has, decides-apart}
+use Rattle.pilots.proofs.Prelude.{decides-subset, without-left, decided-true, decided-false, Completes, halfDecided, narrows-trans, narrows-when}
+use Rattle.pilots.proofs.Prelude.{clash-narrows, up-narrows, down-narrows, row, tableAnswer, RowReached, EachRow, NoRow, row-lt, FollowsWords}
+use Rattle.pilots.proofs.Prelude.{RowAmong}
 use Rattle.states.specs.Narrowing.{Narrows, clashed}
 use Rattle.states.specs.declared.state.State.{State}
-use Rattle.states.proofs.Narrows.{narrows-trans, narrows-when, clash-narrows, up-narrows, down-narrows}
-use Rattle.contact_tables.specs.Table.{row, tableAnswer}
-use Rattle.contact_tables.specs.Rows.{Reached, EachRow, NoRow}
-use Rattle.contact_tables.proofs.RowBits.{row-lt}
 use Rattle.contact_tables.proofs.ToldInputs.{told-completes}
-use Rattle.pilots.specs.Pilots.{FollowsWords, RowAmong}
 
 -- ---- what tests of two words say
 
@@ -38,20 +29,20 @@ half-completes up dropped c = record {
 }
 
 -- so its row is left
-row-left : {inputs up dropped left N : ℕ} → Collects (Reached inputs up dropped) left → Completes (record { up = up; dropped = dropped }) N
+row-left : {inputs up dropped left N : ℕ} → Collects (RowReached inputs up dropped) left → Completes (record { up = up; dropped = dropped }) N
     → Has left (row inputs N)
 row-left {up = up} {dropped} {N = N} c d = c .all _ (record { position = N; completes = half-completes up dropped d; is = refl })
 
 -- ---- inputs
 
 -- no row is left of those that it may be: nothing completes the state
-pub none-left : {inputs rows reached left : ℕ} {s t : State} → Collects (Reached inputs (s .up) (s .dropped)) reached → left ≡ reached ∩ rows → left ≡ 0
+pub none-left : {inputs rows reached left : ℕ} {s t : State} → Collects (RowReached inputs (s .up) (s .dropped)) reached → left ≡ reached ∩ rows → left ≡ 0
     → t ≡ clashed s → Narrows (RowAmong inputs rows) s t
 none-left {inputs} {rows} {reached} {s = s} c e z f =
     rw f (clash-narrows s (λ N k d. has-none (subst (λ (w : ℕ). Has w (row inputs N)) (sym e ∙ z) (has-cut reached rows (row-left c d) (k .among)))))
 
 -- what the rows that are left tell of the inputs
-pub inputs-told : {inputs rows reached left up dropped : ℕ} {s t : State} → inputs < 2 ^ ATOMS → Collects (Reached inputs (s .up) (s .dropped)) reached
+pub inputs-told : {inputs rows reached left up dropped : ℕ} {s t : State} → inputs < 2 ^ ATOMS → Collects (RowReached inputs (s .up) (s .dropped)) reached
     → left ≡ reached ∩ rows → Collects (EachRow inputs left) (t .up) → Collects (NoRow inputs left) (t .dropped) → up ≡ s .up ∪ t .up
     → dropped ≡ s .dropped ∪ t .dropped → Narrows (RowAmong inputs rows) s (record { up = up; dropped = dropped })
 inputs-told {inputs} {rows} {reached} {left} {s = s} {t} fits c e u d f g =
@@ -96,7 +87,7 @@ module _ {inputs truth pilot : ℕ} (s : State) {t : State} where
           absurd (h (record { none = λ a q u. d .no-dropped .none a u (k .when-true (says-true inputs truth N p) .each a q) }))
       go N k d (no p) = has-outside truth (row-lt inputs N) p
 
-module _ {inputs truth pilot left : ℕ} (s : State) (c : Collects (Reached inputs (s .up) (s .dropped)) left) where
+module _ {inputs truth pilot left : ℕ} (s : State) (c : Collects (RowReached inputs (s .up) (s .dropped)) left) where
   -- all rows that are left are in the truth word
   pub all-true : {up : ℕ} → left ⊆ truth → up ≡ s .up ∪ pilot → Narrows (FollowsWords inputs truth pilot) s (record { up = up; dropped = s .dropped })
   all-true f e = rw e (up-narrows s pilot (λ N k d. k .when-true (says-true inputs truth N (f .each _ (row-left c d)))))

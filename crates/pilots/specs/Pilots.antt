@@ -6,7 +6,7 @@ use Prim.Native.Nat.{ℕ, _<_}
 use lib.ListN.{getD}
 use Rattle.atoms.specs.Word.{Has, _⊆_, Apart}
 use Rattle.plan.specs.Limits.{MAX_TABLES}
-use Rattle.contact_tables.specs.Table.{row, tableAnswer}
+use Rattle.contact_tables.specs.ContactTable.{row, tableAnswer}
 use Rattle.answer_sets.specs.Lent.{inputs, truth}
 
 -- the atoms of w follow a table with these words at M: they are up where it is true, and dropped where it is false
@@ -15,12 +15,12 @@ pub record FollowsWords (inputs truth w M : ℕ) : Type 0 where
   pub when-false : tableAnswer inputs truth M ≡ false → Apart w M
 
 -- they follow table t
-abbrev pub Follows : List ℕ → ℕ → ℕ → ℕ → Type 0
-Follows rules t w M = FollowsWords (inputs rules t) (truth rules t) w M
+abbrev pub FollowsTable : List ℕ → ℕ → ℕ → ℕ → Type 0
+FollowsTable rules t w M = FollowsWords (inputs rules t) (truth rules t) w M
 
 -- each table's pilot follows it
 pub record FollowAll (rules pilots : List ℕ) (M : ℕ) : Type 0 where
-  pub each : (t : ℕ) → t < MAX_TABLES → Follows rules t (getD pilots t 0) M
+  pub each : (t : ℕ) → t < MAX_TABLES → FollowsTable rules t (getD pilots t 0) M
 
 -- the row at M is one of these rows
 pub record RowAmong (inputs rows M : ℕ) : Type 0 where

@@ -8,7 +8,7 @@ ghost use Prim.Native.Nat.{_≤_, _<_};
 ghost use lib.ListN.{length, getD};
 ghost use Rattle.atoms.specs.Bounded.{Decides};
 ghost use Rattle.plan.specs.Limits.{MAX_TABLES};
-ghost use Rattle.pilots.specs.Pilots.{Follows, FollowAll};
+ghost use Rattle.pilots.specs.Pilots.{FollowsTable, FollowAll};
 
 // A word of the rules, and none behind their end.
 pub fn word_at(words: &[u64], i: usize) -> u64
@@ -23,7 +23,7 @@ pub fn word_at(words: &[u64], i: usize) -> u64
 // Whether the pilot follows table t at the position: of a full position one row is left.
 fn follows(rules: &[u64], t: usize, pilot: u64, position: u64) -> bool
     requires { ⌜ t < MAX_TABLES ⌝ }
-    ensures { λ r. ⌜ Decides (Follows (now (rules .entry)) t pilot position) r ⌝ }
+    ensures { λ r. ⌜ Decides (FollowsTable (now (rules .entry)) t pilot position) r ⌝ }
 {
     if pilot == 0 {
         return true;

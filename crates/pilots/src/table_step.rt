@@ -9,7 +9,7 @@ use states::clash;
 ghost use Prim.Native.Nat.{_<_};
 ghost use Rattle.plan.specs.Limits.{MAX_TABLES};
 ghost use Rattle.states.specs.Narrowing.{Narrows};
-ghost use Rattle.pilots.specs.Pilots.{Follows, FollowsWords, RowAmong};
+ghost use Rattle.pilots.specs.Pilots.{FollowsTable, FollowsWords, RowAmong};
 
 // The state after the inputs of a table whose row is one of these: an input that each row that is left has is up, one that none has is dropped; with
 // none left nothing completes it.
@@ -50,7 +50,7 @@ fn tell_pilot(inputs: u64, truth: u64, pilot: u64, s: State) -> State
 // The state after table t with its pilot, where there are tables.
 pub fn table_step(rules: &[u64], t: usize, pilot: u64, s: State) -> State
     requires { ⌜ t < MAX_TABLES ⌝ }
-    ensures { λ r. ⌜ Narrows (Follows (now (rules .entry)) t pilot) s r ⌝ }
+    ensures { λ r. ⌜ Narrows (FollowsTable (now (rules .entry)) t pilot) s r ⌝ }
 {
     if rules.len() < FIRST_RULE {
         return s;

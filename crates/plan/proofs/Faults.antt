@@ -1,12 +1,7 @@
 -- The number of a fault fits the 16 bits above those of its spot.
-use Prim.Native.Nat.{_<_}
-use native.Mathlib.Omega.{arith}
-use Rattle.plan.specs.Faults.{number, CODE_STEP}
-use Rattle.plan.specs.declared.fault.Fault.{Fault}
-use Rattle.plan.specs.declared.fault.Fault.the-variants.{TableShort, Truncated, UnknownCommand, OutOfOrder, TooMany}
-use Rattle.plan.specs.declared.fault.Fault.the-variants.{EmptyRule, AbsentRule, BadEdge, TrailingBytes}
-use Rattle.plan.specs.declared.fault.Fault.the-variants.{RuleInNoUnit, HeadedRuleInSeveral, Cycle, NonmonotonicUnseen, MonotonicUnseen, LongList}
-use Rattle.plan.specs.declared.fault.Fault.the-variants.{GivenInHead, BadTable, BadUse, ContradictoryBody, WrongCount}
+use Rattle.plan.proofs.Prelude.{_<_, arith, number, CODE_STEP, Fault, TableShort, Truncated, UnknownCommand, OutOfOrder, TooMany, EmptyRule}
+use Rattle.plan.proofs.Prelude.{AbsentRule, BadEdge, TrailingBytes, RuleInNoUnit, HeadedRuleInSeveral, Cycle, NonmonotonicUnseen, MonotonicUnseen}
+use Rattle.plan.proofs.Prelude.{LongList, GivenInHead, BadTable, BadUse, ContradictoryBody, WrongCount}
 
 pub number-fits : (f : Fault) → number f < CODE_STEP
 number-fits (TableShort s) = omega arith

@@ -1,15 +1,7 @@
 -- A refusal is told by its number and spot: they name one fault.
-use mathlib.Core.Path.{_≡_, refl, sym, ap, ap₂, _∙_, subst}
-use mathlib.Core.Logic.{_↔_}
-use mathlib.Core.List.{[], _∷_}
-use Prim.Native.Nat.{ℕ}
-use lib.ListN.{getD}
-use Rattle.plan.specs.Faults.{number, spot, RefusedBy}
-use Rattle.plan.specs.declared.fault.Fault.{Fault}
-use Rattle.plan.specs.declared.fault.Fault.the-variants.{TableShort, Truncated, UnknownCommand, OutOfOrder, TooMany}
-use Rattle.plan.specs.declared.fault.Fault.the-variants.{EmptyRule, AbsentRule, BadEdge, TrailingBytes}
-use Rattle.plan.specs.declared.fault.Fault.the-variants.{RuleInNoUnit, HeadedRuleInSeveral, Cycle, NonmonotonicUnseen, MonotonicUnseen, LongList}
-use Rattle.plan.specs.declared.fault.Fault.the-variants.{GivenInHead, BadTable, BadUse, ContradictoryBody, WrongCount}
+use Rattle.plan.proofs.Prelude.{_≡_, refl, sym, ap, ap₂, _∙_, subst, _↔_, [], _∷_, ℕ, getD, number, spot, RefusedBy, Fault, TableShort, Truncated}
+use Rattle.plan.proofs.Prelude.{UnknownCommand, OutOfOrder, TooMany, EmptyRule, AbsentRule, BadEdge, TrailingBytes, RuleInNoUnit, HeadedRuleInSeveral}
+use Rattle.plan.proofs.Prelude.{Cycle, NonmonotonicUnseen, MonotonicUnseen, LongList, GivenInHead, BadTable, BadUse, ContradictoryBody, WrongCount}
 use Rattle.plan.specs.declared.fault.Outcome.{Outcome}
 use Rattle.plan.specs.declared.fault.Outcome.the-variants.{Refused}
 

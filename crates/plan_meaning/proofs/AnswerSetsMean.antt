@@ -1,19 +1,8 @@
 -- The answer sets of a record that means what the lists say are those of the lists.
-use mathlib.Core.Path.{_≡_, sym, subst}
-use mathlib.Core.Logic.{_↔_}
-use mathlib.Core.List.{List, List·Memᴰ}
-use Prim.Native.Nat.{ℕ, _<_}
-use native.Mathlib.Omega.{arith}
-use lib.ListN.{length}
-use Rattle.atoms.specs.Word.{Has, _⊆_, _⊂_, below}
-use Rattle.atoms.proofs.Sets.{has-below, below-lt}
-use Rattle.plan.specs.declared.record.Plan.{Plan}
-use Rattle.reading.specs.Layout.{RuleWords, Contents, Lays}
-use Rattle.reading.specs.Reading.{reading}
-use Rattle.answer_sets.specs.Lent.{lent}
+use Rattle.plan_meaning.proofs.Prelude.{_≡_, sym, subst, _↔_, List, List·Memᴰ, ℕ, _<_, arith, length, Has, _⊆_, _⊂_, below, has-below, below-lt, Plan}
+use Rattle.plan_meaning.proofs.Prelude.{RuleWords, Contents, Lays, reading, lent, Number, RuleMeans, Means}
 use Rattle.answer_sets.specs.Program.{Program, Body, Satisfies}
 use Rattle.answer_sets.specs.AnswerSet.{ReductModel, AnswerSet}
-use Rattle.plan_meaning.specs.Meaning.{Number, RuleMeans, Means}
 use Rattle.plan_meaning.specs.AnswerSets.{BodyHolds, RuleSatisfied, KeptModel, AnswerSetOf, PlanAnswerSet}
 use Rattle.plan_meaning.specs.Settled.{Settles}
 use Rattle.plan_meaning.specs.Read.{ReadMeans}

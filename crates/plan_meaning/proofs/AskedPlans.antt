@@ -1,15 +1,9 @@
 -- Questions to a plan: what the frame says of a plan that is refused and of one that reads, and the answers of code, from what it read.
-use mathlib.Core.Path.{_≡_, sym, ap, _∙_, subst}
-use mathlib.Core.List.{List}
-use Prim.Native.Nat.{ℕ}
-use native.Mathlib.Omega.{arith}
+use Rattle.plan_meaning.proofs.Prelude.{_≡_, sym, ap, _∙_, subst, List, ℕ, arith, Plan, reading, ReadPlan}
 use Rattle.plan.specs.Record.{Fitting}
-use Rattle.plan.specs.declared.record.Plan.{Plan}
 use Rattle.plan.specs.declared.fault.Fault.{Fault}
 use Rattle.plan.specs.declared.fault.Outcome.{Outcome}
 use Rattle.plan.specs.declared.fault.Outcome.the-variants.{Accepted, Refused}
-use Rattle.reading.specs.Reading.{reading}
-use Rattle.reading.specs.declared.reader.Reading.{Reading}
 use Rattle.reading.proofs.Limits.{record-fits}
 use Rattle.plan_meaning.specs.Asked.{asked, Answered}
 use Rattle.plan_meaning.proofs.AnswerSetsMean.{read-means}
@@ -28,13 +22,13 @@ module _ {A : Type 0} (refuse : Fault → A) (answer : Plan → A) (bytes : List
 
 -- ---- the answers of code, from what reading gave
 
-module _ (bytes : List ℕ) {r : Reading} (read : r ≡ reading bytes) where
+module _ (bytes : List ℕ) {r : ReadPlan} (read : r ≡ reading bytes) where
   pub outcome-is : {o : Outcome} → r .outcome ≡ o → reading bytes .outcome ≡ o
-  outcome-is e = sym (ap (λ (x : Reading). x .outcome) read) ∙ e
+  outcome-is e = sym (ap (λ (x : ReadPlan). x .outcome) read) ∙ e
 
   -- the record that was read is within the limits
   pub read-fits : Fitting (r .plan)
-  read-fits = subst (λ (x : Reading). Fitting (x .plan)) (sym read) (record-fits bytes)
+  read-fits = subst (λ (x : ReadPlan). Fitting (x .plan)) (sym read) (record-fits bytes)
 
   module _ {A : Type 0} {refuse : Fault → A} {answer : Plan → A} {Right : Plan → A → Type 0} where
     pub refused-answered : {f : Fault} {a : A} → r .outcome ≡ Refused f → a ≡ refuse f → Answered refuse answer Right bytes a
@@ -49,8 +43,8 @@ module _ (bytes : List ℕ) {r : Reading} (read : r ≡ reading bytes) where
 
     pub accepted-answered : {a : A} → r .outcome ≡ Accepted → a ≡ answer (r .plan) → Right (r .plan) a → Answered refuse answer Right bytes a
     accepted-answered {a} e is right = record {
-      is = is ∙ ap (λ (x : Reading). answer (x .plan)) read ∙ sym (asked-accepted refuse answer bytes (outcome-is e));
+      is = is ∙ ap (λ (x : ReadPlan). answer (x .plan)) read ∙ sym (asked-accepted refuse answer bytes (outcome-is e));
       refused = λ f o. absurd (not-accepted f (sym (outcome-is e) ∙ o));
-      right = λ _. subst (λ (x : Reading). Right (x .plan) a) read right;
+      right = λ _. subst (λ (x : ReadPlan). Right (x .plan) a) read right;
       meaning = read-means bytes;
     }

@@ -1,36 +1,23 @@
 -- The record of a plan's lists means what the lists say.
-use mathlib.Core.Path.{_≡_, refl, sym, ap, _∙_, subst}
-use mathlib.Core.Bool.{Bool, true, false, not}
-use mathlib.Core.Logic.{_↔_, _⊎_, inl, inr}
-use mathlib.Core.List.{List, [], _∷_, flatMap, List·Memᴰ, List·Memᴰ·head, List·Memᴰ·not-nil, List·Memᴰ·eq-of-singleton}
-use Prim.Native.Nat.{ℕ, zero, suc, _+_, _*_, _-_, _≤_, _<_}
-use native.Mathlib.Omega.{arith}
-use lib.Dec.{ltb}
-use lib.ListN.{length, getD}
-use lib.Seq.{getD-append-add}
-use lib.ListN.{List·getD-append}
-use borrow.Author.Tests.{lt-ltb, le-ltb}
-use Rattle.atoms.specs.Word.{ATOMS, EVERY_ATOM, Has, Apart, apart, below}
+use Rattle.plan_meaning.proofs.Prelude.{_≡_, refl, sym, ap, _∙_, subst, Bool, true, false, not, _↔_, _⊎_, inl, inr, List, [], _∷_, flatMap, List·Memᴰ}
+use Rattle.plan_meaning.proofs.Prelude.{List·Memᴰ·head, List·Memᴰ·not-nil, List·Memᴰ·eq-of-singleton, ℕ, zero, suc, _+_, _*_, _-_, _≤_, _<_, arith}
+use Rattle.plan_meaning.proofs.Prelude.{ltb, length, getD, getD-append-add, List·getD-append, lt-ltb, le-ltb, ATOMS, EVERY_ATOM, Has, Apart, apart}
+use Rattle.plan_meaning.proofs.Prelude.{below, and-true, not-is-true, not-both, decided-true, false-of-not-true, has-none, has-left, has-right}
+use Rattle.plan_meaning.proofs.Prelude.{union-cases, has-below, decides-apart, MAX_TABLES, MAX_RULES, MAX_UNITS, CONTACT_WORDS, FIRST_RULE, RULE_WORDS}
+use Rattle.plan_meaning.proofs.Prelude.{tableAnswer, lent, ruleAt, negative, inputs, truth, uses, looks, USE_BITS, usedTable, asks, useHolds, usesHold}
+use Rattle.plan_meaning.proofs.Prelude.{usedInputs, TableWords, RuleWords, TableUse, UnitPair, Contents, twoWords, usesOf, ruleWords, predecessorsOf}
+use Rattle.plan_meaning.proofs.Prelude.{recordOf, GoodTable, GoodUse, All, WithinLimits, Lays, reading, ReadPlan, TrueAt, Number, first, later}
+use Rattle.plan_meaning.proofs.Prelude.{UseHolds, RestHolds, LooksAt, input, RuleMeans, Means}
 use Rattle.atoms.specs.Lists.{padded}
-use Rattle.atoms.proofs.Tests.{and-true, not-is-true, not-both, decided-true, false-of-not-true}
-use Rattle.atoms.proofs.Sets.{has-none, has-left, has-right, union-cases, has-below, decides-apart}
 use Rattle.atoms.proofs.Bounded.{all-in-at, all-in-intro, union-has, union-at}
 use Rattle.atoms.proofs.Lists.{padded-at}
-use Rattle.plan.specs.Limits.{MAX_TABLES, MAX_RULES, MAX_UNITS, CONTACT_WORDS, FIRST_RULE, RULE_WORDS}
-use Rattle.contact_tables.specs.Table.{tableAnswer}
-use Rattle.answer_sets.specs.Lent.{lent, ruleAt, negative, inputs, truth, uses, looks, USE_BITS, usedTable, asks, useHolds, usesHold, usedInputs}
 use Rattle.reading.specs.Kinds.{single, given, show, table}
-use Rattle.reading.specs.Layout.{TableWords, RuleWords, TableUse, UnitPair, Contents, twoWords, usesOf, ruleWords, predecessorsOf, recordOf}
-use Rattle.reading.specs.Layout.{GoodTable, GoodUse, All, WithinLimits, Lays}
-use Rattle.reading.specs.Reading.{reading}
-use Rattle.reading.specs.declared.reader.Reading.{Reading}
 use Rattle.reading.proofs.RoundTrip.{layout-is-read}
-use Rattle.reading.proofs.Lists.{all-member}
+use Rattle.reading.proofs.ElementLists.{all-member}
 use Rattle.reading.proofs.KeyedWords.{has-entry, entry-has}
 use Rattle.reading.proofs.Program.{bitOf, tableWords, table-words-long, use-has}
 use Rattle.reading.proofs.Elements.{few-within, row-is, uses-are}
-use Rattle.plan_meaning.specs.Tables.{TrueAt}
-use Rattle.plan_meaning.specs.Meaning.{Number, first, later, UseHolds, RestHolds, LooksAt, negative as looks-negative, input, RuleMeans, Means}
+use Rattle.plan_meaning.specs.Meaning.{negative as looks-negative}
 use Rattle.plan_meaning.proofs.TruthTables.{answer-true}
 
 -- ---- numbers in a list
@@ -308,4 +295,4 @@ module _ (c : Contents) (within : WithinLimits c) where
 -- what was read is the record of the lists
 pub read-record : (bytes : List ℕ) {c : Contents} → Lays bytes c → Means c (reading bytes .plan)
 read-record bytes {c} l =
-    subst (λ (r : Reading). Means c (r .plan)) (sym (ap reading (l .bytes-are) ∙ layout-is-read c (l .within) (l .counted))) (record-means c (l .within))
+    subst (λ (r : ReadPlan). Means c (r .plan)) (sym (ap reading (l .bytes-are) ∙ layout-is-read c (l .within) (l .counted))) (record-means c (l .within))

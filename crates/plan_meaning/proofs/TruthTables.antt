@@ -1,22 +1,12 @@
 -- The computed answer of a contact table is what its words say: bit k of the row is the k-th lowest input, counted by the list of lower ones.
-use mathlib.Core.Path.{_≡_, refl, sym, ap, _∙_, subst}
-use mathlib.Core.Bool.{Bool, true, false}
-use mathlib.Core.Logic.{_↔_}
-use mathlib.Core.List.{List, [], _∷_, _++_}
-use Prim.Native.Nat.{ℕ, zero, suc, _+_, _^_, _≤_, _<_}
-use native.Mathlib.Omega.{arith}
-use lib.Count.{ones}
-use lib.ListN.{length, length-append}
-use Rattle.atoms.specs.Word.{ATOMS, Has, has, _⊆_, _∩_, below}
+use Rattle.plan_meaning.proofs.Prelude.{_≡_, refl, sym, ap, _∙_, subst, Bool, true, false, _↔_, List, [], _∷_, _++_, ℕ, zero, suc, _+_, _^_, _≤_, _<_}
+use Rattle.plan_meaning.proofs.Prelude.{arith, ones, length, length-append, ATOMS, Has, has, _⊆_, _∩_, below, decided-true, decided-false, has-dec}
+use Rattle.plan_meaning.proofs.Prelude.{decides-has, has-cut, cut-left, cut-right, has-below, below-lt, has-lt, ext, MAX_INPUTS, place, row}
+use Rattle.plan_meaning.proofs.Prelude.{tableAnswer, KthInput, RowAt, TrueAt}
 use Rattle.atoms.specs.Rising.{members}
-use Rattle.atoms.proofs.Tests.{decided-true, decided-false}
-use Rattle.atoms.proofs.Sets.{has-dec, decides-has, has-cut, cut-left, cut-right, has-below, below-lt, has-lt, ext}
 use Rattle.atoms.proofs.Counts.{count-le, count-lt}
-use Rattle.plan.specs.Limits.{MAX_INPUTS}
-use Rattle.contact_tables.specs.Table.{place, row, tableAnswer}
 use Rattle.contact_tables.proofs.Places.{place-input, place-other, place-one}
 use Rattle.contact_tables.proofs.RowBits.{row-bit}
-use Rattle.plan_meaning.specs.Tables.{KthInput, RowAt, TrueAt}
 
 -- ---- places
 

@@ -1,18 +1,11 @@
 -- The sheet of a kept part: the buffer has room for every sheet, and what follows the part changes nothing.
-use mathlib.Core.Path.{_≡_, sym, ap, _∙_, subst}
-use mathlib.Core.List.{List, _++_}
-use Prim.Native.Nat.{ℕ, zero, suc, _-_, _≤_, min}
-use native.Mathlib.Decide.{decLe}
-use native.Mathlib.Omega.{arith}
-use borrow.Author.Tests.{le-leb}
-use lib.ListN.{length, take, drop, replicate, length-replicate, length-append}
-use lib.Seq.{take-at, drop-at, take-all}
-use Rattle.plan.specs.Limits.{TABLE_WORDS}
-use Rattle.sheet.specs.Lent.{bytesWritten as written, filled}
+use Rattle.plan_sheet.proofs.Prelude.{_≡_, sym, ap, _∙_, subst, List, _++_, ℕ, zero, suc, _-_, _≤_, min, decLe, arith, le-leb, length, take, drop}
+use Rattle.plan_sheet.proofs.Prelude.{replicate, length-replicate, length-append, take-at, drop-at, take-all, TABLE_WORDS, SHEET_BYTES, KEPT_BYTES}
+use Rattle.plan_sheet.proofs.Prelude.{SheetSays, Printed, writtenBytes, planSheet, SheetKept}
+use Rattle.sheet.specs.LentSheet.{bytesWritten as written, filled}
 use Rattle.sheet.specs.declared.Written.{Written}
-use Rattle.plan_sheet.specs.Sheets.{SHEET_BYTES, KEPT_BYTES, SheetSays, Printed, writtenBytes, planSheet, SheetKept}
 use Rattle.plan_sheet.specs.declared.Sheet.{Sheet}
-use Rattle.plan_sheet.proofs.Prefix.{first-4096-decide}
+use Rattle.plan_sheet.proofs.SheetPrefix.{first-4096-decide}
 use Rattle.plan_sheet.proofs.Said.{sheet-says}
 
 -- the part of the area that the function takes is what was read

@@ -1,20 +1,14 @@
 -- What the sheet of an answer says, by demands 1 and 3.
-use mathlib.Core.Path.{_≡_, refl, sym, ap₂, _∙_}
-use mathlib.Core.List.{List}
-use Prim.Native.Nat.{ℕ, _≤_}
-use lib.ListN.{length}
-use Rattle.plan.specs.Limits.{TABLE_WORDS}
+use Rattle.plan_sheet.proofs.Prelude.{_≡_, refl, sym, ap₂, _∙_, List, ℕ, _≤_, length, TABLE_WORDS, positionsSheet, refusalSheet, answer, sheetOf}
+use Rattle.plan_sheet.proofs.Prelude.{Positions, SheetSays}
 use Rattle.reading.specs.Layout.{IsByte, All, Contents, recordOf}
-use Rattle.sheet.specs.Sheet.{positionsSheet, refusalSheet}
-use Rattle.demands.specs.Answer.{answer}
 use Rattle.demands.specs.Demand1.{Listable, FirstFault}
 use Rattle.demands.specs.Demands.{lastIn}
 use Rattle.demands.specs.Promised.{Promised}
 use Rattle.demands.specs.declared.listing.Listing.{Listing}
 use Rattle.demands.proofs.Demand1.{listable-lists}
 use Rattle.demands.proofs.Promised.{promised}
-use Rattle.plan_sheet.specs.Sheets.{sheetOf, Positions, SheetSays}
-use Rattle.plan_sheet.proofs.Sheets.{sheet-refused, sheet-listed}
+use Rattle.plan_sheet.proofs.PlanSheets.{sheet-refused, sheet-listed}
 
 module _ (bytes table : List ℕ) (all : All IsByte bytes) where
   -- the answer as a listing

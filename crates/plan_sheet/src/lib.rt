@@ -15,7 +15,7 @@ use unit_lists::list_positions;
 ghost use Prim.Native.Nat.{min};
 ghost use mathlib.Core.Path.{_≡_};
 ghost use lib.ListN.{length};
-ghost use Rattle.plan_sheet.specs.Sheets.{SHEET_BYTES, Printed, writtenBytes, KEPT_BYTES as Sheets·KEPT_BYTES, SheetKept};
+ghost use Rattle.plan_sheet.specs.PlanSheets.{SHEET_BYTES, Printed, writtenBytes, KEPT_BYTES as Sheets·KEPT_BYTES, SheetKept};
 
 // Decimal digits of the greatest count of a list.
 const COUNT_DIGITS: usize = 3;

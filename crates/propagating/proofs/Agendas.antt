@@ -1,17 +1,7 @@
 -- The agenda: each step taken makes it lighter, and it grows only where an atom was decided.
-use mathlib.Core.Path.{_≡_, refl, sym, subst, _∙_}
-use Prim.Native.Nat.{ℕ, _+_, _*_, _^_, _≤_, _<_}
-use native.Mathlib.Omega.{arith}
-use native.Mathlib.Decide.{ℕ-discrete}
-use lib.Count.{ones}
-use Rattle.atoms.specs.Word.{ATOMS, Has, _∖_}
-use Rattle.atoms.proofs.Sets.{some-atom, without-left, without-right}
-use Rattle.atoms.proofs.Counts.{count-proper, counts-small}
-use Rattle.states.specs.State.{undecided}
-use Rattle.states.specs.Narrowing.{Narrows}
-use Rattle.states.specs.declared.state.State.{State}
+use Rattle.propagating.proofs.Prelude.{_≡_, refl, sym, subst, _∙_, ℕ, _+_, _*_, _^_, _≤_, _<_, arith, ℕ-discrete, ones, ATOMS, Has, _∖_, some-atom}
+use Rattle.propagating.proofs.Prelude.{without-left, without-right, count-proper, counts-small, undecided, Narrows, State, weight, Woken}
 use Rattle.states.proofs.HalfDecided.{undecided-shrinks}
-use Rattle.propagating.specs.Agenda.{weight, Woken}
 use Rattle.propagating.specs.declared.agenda.Agenda.{Agenda}
 
 -- ---- the agenda is empty, or an atom was decided

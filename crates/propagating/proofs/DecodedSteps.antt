@@ -1,9 +1,5 @@
 -- A decoded step is one that there is: its rule, atom, list, table or pair.
-use mathlib.Core.Path.{_≡_}
-use Prim.Native.Nat.{ℕ, _<_}
-use Rattle.atoms.specs.Word.{ATOMS}
-use Rattle.plan.specs.Limits.{MAX_RULES, MAX_TABLES, MAX_UNITS}
-use Rattle.learning.specs.Store.{PAIRS}
+use Rattle.propagating.proofs.Prelude.{_≡_, ℕ, _<_, ATOMS, MAX_RULES, MAX_TABLES, MAX_UNITS, PAIRS}
 use Rattle.propagating.specs.Step.{Decoded}
 use Rattle.propagating.specs.declared.step.Step.{Step}
 use Rattle.propagating.specs.declared.step.Step.the-variants.{Rule, Support, List, Table, Pair}

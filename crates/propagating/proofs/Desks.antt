@@ -1,27 +1,16 @@
 -- The desk: its parts stand where they are looked for.
-use mathlib.Core.Path.{_≡_, sym, ap, subst, _∙_}
-use mathlib.Core.Bool.{Bool}
-use mathlib.Core.List.{List, [], _++_, append-assoc, append-nil}
-use Prim.Native.Nat.{ℕ, _+_, _*_, _≤_, _<_}
-use native.Mathlib.Omega.{arith}
-use lib.ListN.{length, take, drop, getD, length-drop}
-use lib.Seq.{paste, length-paste, take-all, length-take-le, getD-take, getD-drop}
-use Rattle.atoms.specs.Word.{_∩_}
-use Rattle.atoms.specs.Bounded.{allIn}
+use Rattle.propagating.proofs.Prelude.{_≡_, sym, ap, subst, _∙_, Bool, List, [], _++_, append-assoc, append-nil, ℕ, _+_, _*_, _≤_, _<_, arith, length}
+use Rattle.propagating.proofs.Prelude.{take, drop, getD, length-drop, paste, length-paste, take-all, length-take-le, getD-take, getD-drop, _∩_, allIn}
+use Rattle.propagating.proofs.Prelude.{bool-ext, MAX_TABLES, MAX_UNITS, LIST_WORDS, INDEX_WORDS, Belongs, Searchable, BACKERS_AT, INDEX_AT, PILOTS_AT}
+use Rattle.propagating.proofs.Prelude.{LINKED_AT, DESK_WORDS, backersOf, pilotsOf, linkedOf, LaidOut, Prepared, Job}
 use Rattle.atoms.proofs.Bounded.{all-in-at, all-in-intro}
-use Rattle.atoms.proofs.Tests.{bool-ext}
-use Rattle.plan.specs.Limits.{MAX_TABLES, MAX_UNITS, LIST_WORDS}
 use Rattle.pilots.specs.Linked.{LINKED_WORDS, Linked, PilotsWithin}
 use Rattle.narrowing.specs.Backers.{Backers}
-use Rattle.propagating.specs.Agenda.{INDEX_WORDS}
-use Rattle.propagating.specs.Job.{Belongs, Searchable}
 use Rattle.joining.specs.Joins.{isListed, joins}
-use Rattle.propagating.specs.Desk.{BACKERS_AT, INDEX_AT, PILOTS_AT, LINKED_AT, DESK_WORDS, backersOf, pilotsOf, linkedOf, LaidOut, Prepared}
-use Rattle.propagating.specs.declared.unit.Unit.{Unit}
 use Rattle.atoms.proofs.StoredWords.{stored-front, first-at, second-part}
 
 -- put together of five parts
-pub laid-out : {rules : List ℕ} {unit : Unit} (heads d b w p l : List ℕ) {d₁ d₂ d₃ d₄ d₅ : List ℕ} → length d ≡ DESK_WORDS → MAX_UNITS ≤ length heads
+pub laid-out : {rules : List ℕ} {unit : Job} (heads d b w p l : List ℕ) {d₁ d₂ d₃ d₄ d₅ : List ℕ} → length d ≡ DESK_WORDS → MAX_UNITS ≤ length heads
     → Linked rules p (unit .rules) l → length p ≡ MAX_TABLES → length l ≡ LINKED_WORDS
     → Backers l (unit .rules) b → length w ≡ INDEX_WORDS
     → d₁ ≡ paste d 0 (take MAX_UNITS heads) (length (take MAX_UNITS heads))
@@ -102,7 +91,7 @@ all-in-alike n w p q f =
     bool-ext (allIn n w p) (allIn n w q) (λ e. all-in-intro n w q (λ i l h. sym (f i l) ∙ all-in-at n w p e i l h))
     (λ e. all-in-intro n w p (λ i l h. f i l ∙ all-in-at n w q e i l h))
 
-module _ {rules heads pilots desk : List ℕ} {unit : Unit} (l : LaidOut rules heads pilots unit desk) where
+module _ {rules heads pilots desk : List ℕ} {unit : Job} (l : LaidOut rules heads pilots unit desk) where
   pub prepared : {table counts : List ℕ} → PilotsWithin pilots (unit .inputs) → Searchable rules table counts heads unit
       → Prepared rules table counts desk unit
   prepared w s = record {

@@ -1,34 +1,20 @@
 -- Propagation: what is sought survives each step, and the filter keeps its entry.
-use mathlib.Core.Path.{_≡_}
-use mathlib.Core.List.{List}
-use Prim.Native.Nat.{ℕ, _^_, _<_}
-use Rattle.atoms.specs.Word.{ATOMS, _∩_}
-use lib.ListN.{getD}
-use Rattle.plan.specs.Limits.{MAX_TABLES}
+use Rattle.propagating.proofs.Prelude.{_≡_, List, ℕ, _^_, _<_, ATOMS, _∩_, getD, MAX_TABLES, lent, Narrows, State, narrows-for, Summed, Belongs}
+use Rattle.propagating.proofs.Prelude.{pilotsOf, linkedOf, Prepared, Wired, JoinsAll, Job, joins-some}
 use Rattle.answer_sets.specs.Program.{SatisfiesAll}
-use Rattle.answer_sets.specs.Lent.{lent}
-use Rattle.states.specs.Narrowing.{Narrows}
-use Rattle.states.specs.declared.state.State.{State}
 use Rattle.answer_sets.proofs.Judged.{decides-answer-set}
-use Rattle.states.proofs.Narrows.{narrows-for}
 use Rattle.narrowing.specs.Inputs.{AnswersInputs}
 use Rattle.narrowing.proofs.NumberedSteps.{satisfying-narrow}
-use Rattle.pilots.specs.Pilots.{Follows, FollowAll}
+use Rattle.pilots.specs.Pilots.{FollowsTable, FollowAll}
 use Rattle.pilots.proofs.LinkedRules.{answers-linked}
-use Rattle.parities.specs.Told.{Summed}
 use Rattle.answer_sets.proofs.Support.{satisfied}
-use Rattle.propagating.specs.Job.{Belongs}
-use Rattle.propagating.specs.Desk.{pilotsOf, linkedOf, Prepared, Wired}
-use Rattle.joining.specs.Filter.{JoinsAll}
-use Rattle.propagating.specs.declared.unit.Unit.{Unit}
-use Rattle.joining.proofs.JoinedLists.{joins-some}
 
-answers : {rules table counts desk : List ℕ} {unit : Unit} → unit .rules < 2 ^ ATOMS → (M : ℕ) → Wired rules table counts desk unit M
+answers : {rules table counts desk : List ℕ} {unit : Job} → unit .rules < 2 ^ ATOMS → (M : ℕ) → Wired rules table counts desk unit M
     → AnswersInputs rules (unit .rules) (unit .inputs) M
 answers {rules} {unit = unit} fits M b =
     record { answer = decides-answer-set (lent rules) (unit .rules) (M ∩ unit .inputs) M fits .yes (b .belongs .answers) }
 
-module _ {rules table counts desk : List ℕ} {unit : Unit} {s t : State} (ready : Prepared rules table counts desk unit) where
+module _ {rules table counts desk : List ℕ} {unit : Job} {s t : State} (ready : Prepared rules table counts desk unit) where
   -- what is sought joins the lists that the search looks at
   pub lists-narrow : Narrows (JoinsAll table counts desk (unit .nearest)) s t → Narrows (Wired rules table counts desk unit) s t
   lists-narrow n =
@@ -58,6 +44,6 @@ module _ {rules table counts desk : List ℕ} {unit : Unit} {s t : State} (ready
         }) n
 
   -- each pilot follows its table
-  pub table-narrows : {i w : ℕ} → i < MAX_TABLES → w ≡ getD (pilotsOf desk) i 0 → Narrows (Follows rules i w) s t
+  pub table-narrows : {i w : ℕ} → i < MAX_TABLES → w ≡ getD (pilotsOf desk) i 0 → Narrows (FollowsTable rules i w) s t
       → Narrows (Wired rules table counts desk unit) s t
   table-narrows {i} l e n = narrows-for (λ M b. rw e (b .follow .each i l)) n

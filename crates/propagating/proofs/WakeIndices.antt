@@ -1,34 +1,18 @@
 -- The index of woken steps: its lists, the founded step, the tables, their sums, and all of it from zeros on; and the places of tables on an agenda.
-use mathlib.Core.Path.{_≡_, sym, subst, _∙_}
-use mathlib.Core.Bool.{Bool, true, false, not}
-use mathlib.Core.List.{List}
-use mathlib.Core.Logic.{_⊎_, inl, inr}
-use Prim.Native.Nat.{ℕ, _+_, _≤_, _<_}
-use native.Mathlib.Omega.{arith}
-use native.Mathlib.Decide.{ℕ-discrete}
-use lib.Dec.{eqb}
-use lib.ListN.{length, getD}
-use Rattle.atoms.specs.Word.{Has, Apart, apart, _∪_, atom, AtMostOne}
-use Rattle.atoms.specs.Bounded.{Decides, singleIf}
-use Rattle.atoms.specs.Collected.{Collects}
-use Rattle.atoms.proofs.Sets.{has-none, has-atom, atom-only, decides-apart}
-use Rattle.atoms.proofs.Tests.{decided, decided-true, decides-not, decides-equal}
+use Rattle.propagating.proofs.Prelude.{_≡_, sym, subst, _∙_, Bool, true, false, not, List, _⊎_, inl, inr, ℕ, _+_, _≤_, _<_, arith, ℕ-discrete, eqb}
+use Rattle.propagating.proofs.Prelude.{length, getD, Has, Apart, apart, _∪_, atom, AtMostOne, Decides, singleIf, Collects, has-none, has-atom}
+use Rattle.propagating.proofs.Prelude.{atom-only, decides-apart, decided, decided-true, decides-not, decides-equal, collects-iff, collects-has}
+use Rattle.propagating.proofs.Prelude.{collects-same, collects-union, MAX_TABLES, lent, inputs, AddsAt, NotedAt, ByOne, Marked, TellsParity, ToldAtom}
+use Rattle.propagating.proofs.Prelude.{adds-none, adds-iff, adds-trans, INDEX_WORDS, FOUNDED_PLACE, TABLES_PLACE, atomsOf, WakesList, WakesFounded}
+use Rattle.propagating.proofs.Prelude.{WakesTable, WakesTables, TablePlace, SUMS_PLACE, WakesSums, WakesTold, Indexed, by-rule, by-list, by-loop}
+use Rattle.propagating.proofs.Prelude.{by-table, by-sums, by-told, WakeIndex, Job}
 use Rattle.atoms.proofs.Singles.{single-if-has, single-if-at}
-use Rattle.atoms.proofs.Collected.{collects-iff, collects-has, collects-same, collects-union}
-use Rattle.plan.specs.Limits.{MAX_TABLES}
-use Rattle.answer_sets.specs.Lent.{lent, inputs}
-use Rattle.narrowing.specs.Marks.{Adds, NotedAt, ByOne, Marked}
 use Rattle.narrowing.specs.Woken.{WOKEN_WORDS, SomeWakes}
 use Rattle.parities.specs.Parity.{ParityTable, ParityAtom}
-use Rattle.parities.specs.Told.{Tells, ToldAtom}
-use Rattle.narrowing.proofs.MarkedTables.{adds-none, adds-iff, adds-trans}
-use Rattle.propagating.specs.Agenda.{INDEX_WORDS, FOUNDED_PLACE, TABLES_PLACE, atomsOf, WakesList, WakesFounded, WakesTable, WakesTables, TablePlace}
-use Rattle.propagating.specs.Agenda.{SUMS_PLACE, WakesSums, WakesTold, Indexed, by-rule, by-list, by-loop, by-table, by-sums, by-told, WakeIndex}
-use Rattle.propagating.specs.declared.unit.Unit.{Unit}
 
 -- one list
 pub list-added : (heads : List ℕ) (v : ℕ) {word : ℕ} {before after : List ℕ} → word ≡ atom v → Marked WOKEN_WORDS (getD heads v 0) word before after
-    → Adds (WakesList heads v) before after
+    → AddsAt (WakesList heads v) before after
 list-added heads v {before = before} {after} e m = subst (λ (w : ℕ). Marked WOKEN_WORDS (getD heads v 0) w before after) e m
 
 -- whether a rule has a looped head atom
@@ -42,7 +26,7 @@ module _ (rules : List ℕ) (r looped : ℕ) {head : ℕ} {b : Bool} (reads : he
 -- the founded step, for the atoms of one rule
 pub founded-added : (rules : List ℕ) (looped r : ℕ) {which word : ℕ} {before after : List ℕ}
     → ((Apart (lent rules .head r) looped → ⊥) → which ≡ atomsOf rules r) → (Apart (lent rules .head r) looped → which ≡ 0) → word ≡ atom FOUNDED_PLACE
-    → Marked WOKEN_WORDS which word before after → Adds (WakesFounded rules looped r) before after
+    → Marked WOKEN_WORDS which word before after → AddsAt (WakesFounded rules looped r) before after
 founded-added rules looped r {which} {word} f z e m = adds-iff into from m
   where
     into : (i q : ℕ) → NotedAt WOKEN_WORDS which word i q → WakesFounded rules looped r i q
@@ -60,21 +44,21 @@ founded-added rules looped r {which} {word} f z e m = adds-iff into from m
 -- one table that has a pilot
 pub table-added : (linked pilots : List ℕ) (t : ℕ) {which word : ℕ} {before after : List ℕ} → ¬ (getD pilots t 0 ≡ 0)
     → which ≡ inputs linked t ∪ getD pilots t 0 → word ≡ atom (TABLES_PLACE + t) → Marked WOKEN_WORDS which word before after
-    → Adds (WakesTable linked pilots t) before after
+    → AddsAt (WakesTable linked pilots t) before after
 table-added linked pilots t n e f m =
     adds-iff (λ i q k. record { has-pilot = n; noted = rw (e, f) at k }) (λ i q k. rw (e, f) (k .noted)) m
 
 -- one that has none
-pub table-left : {linked pilots : List ℕ} {t : ℕ} {table : List ℕ} → getD pilots t 0 ≡ 0 → Adds (WakesTable linked pilots t) table table
+pub table-left : {linked pilots : List ℕ} {t : ℕ} {table : List ℕ} → getD pilots t 0 ≡ 0 → AddsAt (WakesTable linked pilots t) table table
 table-left e = adds-none (λ i q k. k .has-pilot e)
 
 -- from one table to the next
 module _ {linked pilots : List ℕ} where
-  pub tables-start : {table : List ℕ} → Adds (WakesTables linked pilots 0) table table
+  pub tables-start : {table : List ℕ} → AddsAt (WakesTables linked pilots 0) table table
   tables-start = adds-none (λ i q k. let l = k .lower in omega (arith, l))
 
-  pub tables-next : {t : ℕ} {before table after : List ℕ} → Adds (WakesTables linked pilots t) before table → Adds (WakesTable linked pilots t) table after
-      → Adds (WakesTables linked pilots (t + 1)) before after
+  pub tables-next : {t : ℕ} {before table after : List ℕ} → AddsAt (WakesTables linked pilots t) before table → AddsAt (WakesTable linked pilots t) table after
+      → AddsAt (WakesTables linked pilots (t + 1)) before after
   tables-next {t} a b = adds-iff into from (adds-trans a b)
     where
       into : (i q : ℕ) → WakesTables linked pilots t i q ⊎ WakesTable linked pilots t i q → WakesTables linked pilots (t + 1) i q
@@ -88,9 +72,9 @@ module _ {linked pilots : List ℕ} where
           go (yes e) = inr (subst (λ (x : ℕ). WakesTable linked pilots x i q) e (k .wakes))
           go (no n) = inl (record { table = k .table; lower = let l = k .lower in omega (arith, l, n); wakes = k .wakes })
 
-  pub tables-end : {t : ℕ} {before after : List ℕ} → Adds (WakesTables linked pilots t) before after → t ≤ MAX_TABLES → MAX_TABLES ≤ t
-      → Adds (WakesTables linked pilots MAX_TABLES) before after
-  tables-end {t} {before} {after} a l m = subst (λ (n : ℕ). Adds (WakesTables linked pilots n) before after) (omega arith) a
+  pub tables-end : {t : ℕ} {before after : List ℕ} → AddsAt (WakesTables linked pilots t) before after → t ≤ MAX_TABLES → MAX_TABLES ≤ t
+      → AddsAt (WakesTables linked pilots MAX_TABLES) before after
+  tables-end {t} {before} {after} a l m = subst (λ (n : ℕ). AddsAt (WakesTables linked pilots n) before after) (omega arith) a
 
 -- the places of tables, from one to the next
 pub places-start : {pilots : List ℕ} → Collects (TablePlace pilots 0) 0
@@ -126,7 +110,7 @@ places-end {pilots} {t} {word} c l m = subst (λ (n : ℕ). Collects (TablePlace
 -- two parity tables or more
 pub sums-added : (linked pilots : List ℕ) {tables which word : ℕ} {one : Bool} {before after : List ℕ} → Collects (ParityTable linked pilots) tables
     → Decides (AtMostOne tables) one → one ≡ false → Collects (ParityAtom linked pilots) which → word ≡ atom SUMS_PLACE
-    → Marked WOKEN_WORDS which word before after → Adds (WakesSums linked pilots) before after
+    → Marked WOKEN_WORDS which word before after → AddsAt (WakesSums linked pilots) before after
 sums-added linked pilots {tables} {which} {word} c o f d e m = adds-iff into from m
   where
     into : (i q : ℕ) → NotedAt WOKEN_WORDS which word i q → WakesSums linked pilots i q
@@ -150,13 +134,13 @@ sums-added linked pilots {tables} {which} {word} c o f d e m = adds-iff into fro
 
 -- fewer
 pub sums-left : {linked pilots : List ℕ} {tables : ℕ} {one : Bool} {table : List ℕ} → Collects (ParityTable linked pilots) tables
-    → Decides (AtMostOne tables) one → one ≡ true → Adds (WakesSums linked pilots) table table
+    → Decides (AtMostOne tables) one → one ≡ true → AddsAt (WakesSums linked pilots) table table
 sums-left c o t = adds-none (λ i q k. k .several (subst AtMostOne (collects-same c (k .are-parities)) (o .yes t)))
 
 -- two constraints that tell or more
 pub told-added : (rules : List ℕ) (numbered : ℕ) {telling which word : ℕ} {one : Bool} {before after : List ℕ}
-    → Collects (λ r. Has numbered r × Tells rules r) telling → Decides (AtMostOne telling) one → one ≡ false → Collects (ToldAtom rules numbered) which
-    → word ≡ atom SUMS_PLACE → Marked WOKEN_WORDS which word before after → Adds (WakesTold rules numbered) before after
+    → Collects (λ r. Has numbered r × TellsParity rules r) telling → Decides (AtMostOne telling) one → one ≡ false → Collects (ToldAtom rules numbered) which
+    → word ≡ atom SUMS_PLACE → Marked WOKEN_WORDS which word before after → AddsAt (WakesTold rules numbered) before after
 told-added rules numbered {telling} {which} {word} c o f d e m = adds-iff into from m
   where
     into : (i q : ℕ) → NotedAt WOKEN_WORDS which word i q → WakesTold rules numbered i q
@@ -179,17 +163,17 @@ told-added rules numbered {telling} {which} {word} c o f d e m = adds-iff into f
     }
 
 -- fewer
-pub told-left : {rules : List ℕ} {numbered telling : ℕ} {one : Bool} {table : List ℕ} → Collects (λ r. Has numbered r × Tells rules r) telling
-    → Decides (AtMostOne telling) one → one ≡ true → Adds (WakesTold rules numbered) table table
+pub told-left : {rules : List ℕ} {numbered telling : ℕ} {one : Bool} {table : List ℕ} → Collects (λ r. Has numbered r × TellsParity rules r) telling
+    → Decides (AtMostOne telling) one → one ≡ true → AddsAt (WakesTold rules numbered) table table
 told-left c o t = adds-none (λ i q k. k .several (subst AtMostOne (collects-same c (k .are-telling)) (o .yes t)))
 
 -- ---- all of it
 
-pub index-of : {rules linked pilots heads : List ℕ} {unit : Unit} {looped : ℕ} {before first second third fourth fifth after : List ℕ}
-    → length before ≡ INDEX_WORDS → ((i : ℕ) → getD before i 0 ≡ 0) → Adds (SomeWakes linked (unit .rules)) before first
-    → Adds (ByOne (WakesList heads) (unit .nearest)) first second
-    → Adds (ByOne (WakesFounded rules looped) (unit .rules)) second third → Adds (WakesTables linked pilots MAX_TABLES) third fourth
-    → Adds (WakesSums linked pilots) fourth fifth → Adds (WakesTold rules (unit .rules)) fifth after
+pub index-of : {rules linked pilots heads : List ℕ} {unit : Job} {looped : ℕ} {before first second third fourth fifth after : List ℕ}
+    → length before ≡ INDEX_WORDS → ((i : ℕ) → getD before i 0 ≡ 0) → AddsAt (SomeWakes linked (unit .rules)) before first
+    → AddsAt (ByOne (WakesList heads) (unit .nearest)) first second
+    → AddsAt (ByOne (WakesFounded rules looped) (unit .rules)) second third → AddsAt (WakesTables linked pilots MAX_TABLES) third fourth
+    → AddsAt (WakesSums linked pilots) fourth fifth → AddsAt (WakesTold rules (unit .rules)) fifth after
     → WakeIndex rules linked pilots heads unit looped after
 index-of {rules} {linked} {pilots} {heads} {unit} {looped} {before} {after = after} l z a b c d f g = record {
   long = whole .same-length ∙ l;
@@ -217,7 +201,7 @@ index-of {rules} {linked} {pilots} {heads} {unit} {looped} {before} {after = aft
     from i q (by-sums k) = inl (inr k)
     from i q (by-told k) = inr k
 
-    whole : Adds (Indexed rules linked pilots heads unit looped) before after
+    whole : AddsAt (Indexed rules linked pilots heads unit looped) before after
     whole = adds-iff into from (adds-trans (adds-trans (adds-trans (adds-trans (adds-trans a b) c) d) f) g)
 
     go : (i q : ℕ) → Has (getD before i 0) q ⊎ Indexed rules linked pilots heads unit looped i q → Indexed rules linked pilots heads unit looped i q

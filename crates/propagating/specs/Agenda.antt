@@ -14,8 +14,8 @@ use Rattle.states.specs.declared.state.State.{State}
 use Rattle.narrowing.specs.Marks.{NotedAt, ByOne}
 use Rattle.narrowing.specs.Woken.{WOKEN_WORDS, SomeWakes}
 use Rattle.parities.specs.Parity.{ParityTable, ParityAtom}
-use Rattle.parities.specs.Told.{Tells, ToldAtom}
-use Rattle.propagating.specs.declared.unit.Unit.{Unit}
+use Rattle.parities.specs.Told.{TellsParity, ToldAtom}
+use Rattle.propagating.specs.declared.unit.Job.{Job}
 use Rattle.propagating.specs.declared.agenda.Agenda.{Agenda}
 use Rattle.propagating.specs.declared.agenda.Taken.{Taken}
 
@@ -90,7 +90,7 @@ pub record WakesSums (linked pilots : List ℕ) (i q : ℕ) : Type 0 where
 -- two numbered constraints or more have one use, of a parity table, and the sums are woken by their atoms
 pub record WakesTold (rules : List ℕ) (which i q : ℕ) : Type 0 where
   pub telling : ℕ
-  pub are-telling : Collects (λ r. Has which r × Tells rules r) telling
+  pub are-telling : Collects (λ r. Has which r × TellsParity rules r) telling
   pub several : ¬ AtMostOne telling
   pub atom : ℕ
   pub of-rule : ToldAtom rules which atom
@@ -105,7 +105,7 @@ pub record TablePlace (pilots : List ℕ) (n q : ℕ) : Type 0 where
   pub place : q ≡ TABLES_PLACE + table
 
 -- step q stands at place i of the index of a unit whose rules are linked
-pub data Indexed (rules linked pilots heads : List ℕ) (unit : Unit) (looped i q : ℕ) : Type 0 where
+pub data Indexed (rules linked pilots heads : List ℕ) (unit : Job) (looped i q : ℕ) : Type 0 where
   by-rule : SomeWakes linked (unit .rules) i q → Indexed rules linked pilots heads unit looped i q
   by-list : ByOne (WakesList heads) (unit .nearest) i q → Indexed rules linked pilots heads unit looped i q
   by-loop : ByOne (WakesFounded rules looped) (unit .rules) i q → Indexed rules linked pilots heads unit looped i q
@@ -114,6 +114,6 @@ pub data Indexed (rules linked pilots heads : List ℕ) (unit : Unit) (looped i 
   by-told : WakesTold rules (unit .rules) i q → Indexed rules linked pilots heads unit looped i q
 
 -- the whole index
-pub record WakeIndex (rules linked pilots heads : List ℕ) (unit : Unit) (looped : ℕ) (index : List ℕ) : Type 0 where
+pub record WakeIndex (rules linked pilots heads : List ℕ) (unit : Job) (looped : ℕ) (index : List ℕ) : Type 0 where
   pub long : length index ≡ INDEX_WORDS
   pub words : (i : ℕ) → Collects (Indexed rules linked pilots heads unit looped i) (getD index i 0)

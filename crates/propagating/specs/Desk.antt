@@ -10,7 +10,7 @@ use Rattle.pilots.specs.Pilots.{FollowAll}
 use Rattle.pilots.specs.Linked.{LINKED_WORDS, Linked, PilotsWithin}
 use Rattle.propagating.specs.Job.{Belongs, Searchable}
 use Rattle.propagating.specs.Agenda.{INDEX_WORDS}
-use Rattle.propagating.specs.declared.unit.Unit.{Unit}
+use Rattle.propagating.specs.declared.unit.Job.{Job}
 
 -- where the backers and the index begin, and how many words there are
 abbrev pub BACKERS_AT : ℕ
@@ -39,7 +39,7 @@ abbrev pub linkedOf : List ℕ → List ℕ
 linkedOf desk = take LINKED_WORDS (drop LINKED_AT desk)
 
 -- a desk with the head atoms of these lists, these pilots, the unit's rules linked by them, and the backers of these
-pub record LaidOut (rules heads pilots : List ℕ) (unit : Unit) (desk : List ℕ) : Type 0 where
+pub record LaidOut (rules heads pilots : List ℕ) (unit : Job) (desk : List ℕ) : Type 0 where
   pub long : length desk ≡ DESK_WORDS
   pub same-heads : (v : ℕ) → v < MAX_UNITS → getD desk v 0 ≡ getD heads v 0
   pub backed : Backers (linkedOf desk) (unit .rules) (backersOf desk)
@@ -47,7 +47,7 @@ pub record LaidOut (rules heads pilots : List ℕ) (unit : Unit) (desk : List �
   pub linked : Linked rules (pilotsOf desk) (unit .rules) (linkedOf desk)
 
 -- all that a search looks at is lent, the head atoms, the pilots, the linked rules and their backers on the desk; pilots are inputs
-pub record Prepared (rules table counts desk : List ℕ) (unit : Unit) : Type 0 where
+pub record Prepared (rules table counts desk : List ℕ) (unit : Job) : Type 0 where
   pub searchable : Searchable rules table counts desk unit
   pub backed : Backers (linkedOf desk) (unit .rules) (backersOf desk)
   pub linked : Linked rules (pilotsOf desk) (unit .rules) (linkedOf desk)
@@ -55,6 +55,6 @@ pub record Prepared (rules table counts desk : List ℕ) (unit : Unit) : Type 0 
   pub long : length desk ≡ DESK_WORDS
 
 -- what a search looks for: a position that belongs to the unit's list, in which each pilot follows its table
-pub record Wired (rules table counts desk : List ℕ) (unit : Unit) (M : ℕ) : Type 0 where
+pub record Wired (rules table counts desk : List ℕ) (unit : Job) (M : ℕ) : Type 0 where
   pub belongs : Belongs rules table counts desk unit M
   pub follow : FollowAll rules (pilotsOf desk) M

@@ -4,7 +4,7 @@ use crate::step::LISTS;
 use crate::step::SUM_STEP;
 use crate::step::SUPPORTS;
 use crate::step::TABLE_STEPS;
-use crate::unit::Unit;
+use crate::unit::Job;
 use answer_sets::rule::head;
 use answer_sets::rule::looks;
 use answer_sets::rule::positive_body;
@@ -34,7 +34,7 @@ ghost use Rattle.atoms.specs.Bounded.{Decides, singleIf};
 ghost use Rattle.atoms.specs.Collected.{Collects};
 ghost use Rattle.plan.specs.Limits.{MAX_TABLES, MAX_UNITS};
 ghost use Rattle.answer_sets.specs.Lent.{lent, IsLent, Lent};
-ghost use Rattle.narrowing.specs.Marks.{Adds, ByOne};
+ghost use Rattle.narrowing.specs.Marks.{AddsAt, ByOne};
 ghost use Rattle.pilots.specs.Linked.{LINKED_WORDS};
 ghost use Rattle.propagating.specs.Agenda.{Idle, TakenFrom, Woken, INDEX_WORDS, FOUNDED_PLACE, atomsOf, WakesList, WakesFounded};
 ghost use Rattle.propagating.specs.Agenda.{WakesTable, WakesTables, WakesSums, WakesTold, TablePlace, WakeIndex};
@@ -167,7 +167,7 @@ pub fn woken(index: &[u64], a: Agenda, before: State, after: State) -> Agenda
 // Notes for each atom the lists that look at it.
 fn note_lists(heads: &[u64], near: u64, index: &mut [u64])
     requires { ⌜ (MAX_UNITS ≤ length (now heads)) × (near < 2 ^ MAX_UNITS) × (INDEX_WORDS ≤ length (now index)) ⌝ }
-    ensures { λ _. ⌜ Adds (ByOne (WakesList (now (heads .entry))) near) (now (index .entry)) (now (index .exit)) ⌝ }
+    ensures { λ _. ⌜ AddsAt (ByOne (WakesList (now (heads .entry))) near) (now (index .entry)) (now (index .exit)) ⌝ }
 {
     let mut rest = near;
     while rest != 0 {
@@ -196,7 +196,7 @@ fn looped_rule(rules: &[u64], rule: usize, looped: u64) -> u64
 // Notes the founded step for the atoms of the rules that have a looped head atom.
 fn note_founded(rules: &[u64], which: u64, looped: u64, index: &mut [u64])
     requires { ⌜ Lent (now rules) which × (INDEX_WORDS ≤ length (now index)) ⌝ }
-    ensures { λ _. ⌜ Adds (ByOne (WakesFounded (now (rules .entry)) looped) which) (now (index .entry)) (now (index .exit)) ⌝ }
+    ensures { λ _. ⌜ AddsAt (ByOne (WakesFounded (now (rules .entry)) looped) which) (now (index .entry)) (now (index .exit)) ⌝ }
 {
     let founded = atoms::single(FOUNDED_PLACE);
     let mut rest = which;
@@ -210,7 +210,7 @@ fn note_founded(rules: &[u64], which: u64, looped: u64, index: &mut [u64])
 // Notes for the inputs of a table and its pilot, if it has one, its step.
 fn note_table(linked: &[u64], pilots: &[u64], t: usize, index: &mut [u64])
     requires { ⌜ (length (now linked) ≡ LINKED_WORDS) × (length (now pilots) ≡ MAX_TABLES) × (t < MAX_TABLES) × (INDEX_WORDS ≤ length (now index)) ⌝ }
-    ensures { λ _. ⌜ Adds (WakesTable (now (linked .entry)) (now (pilots .entry)) t) (now (index .entry)) (now (index .exit)) ⌝ }
+    ensures { λ _. ⌜ AddsAt (WakesTable (now (linked .entry)) (now (pilots .entry)) t) (now (index .entry)) (now (index .exit)) ⌝ }
 {
     let pilot = pilots[t];
     if pilot == 0 {
@@ -223,7 +223,7 @@ fn note_table(linked: &[u64], pilots: &[u64], t: usize, index: &mut [u64])
 // The same for all tables.
 fn note_tables(linked: &[u64], pilots: &[u64], index: &mut [u64])
     requires { ⌜ (length (now linked) ≡ LINKED_WORDS) × (length (now pilots) ≡ MAX_TABLES) × (INDEX_WORDS ≤ length (now index)) ⌝ }
-    ensures { λ _. ⌜ Adds (WakesTables (now (linked .entry)) (now (pilots .entry)) MAX_TABLES) (now (index .entry)) (now (index .exit)) ⌝ }
+    ensures { λ _. ⌜ AddsAt (WakesTables (now (linked .entry)) (now (pilots .entry)) MAX_TABLES) (now (index .entry)) (now (index .exit)) ⌝ }
 {
     let mut t = 0;
     while t < MAX_TABLES {
@@ -235,7 +235,7 @@ fn note_tables(linked: &[u64], pilots: &[u64], index: &mut [u64])
 // Notes the sums for the inputs and pilots of the parity tables, where there are two or more of these.
 fn note_sums(linked: &[u64], pilots: &[u64], index: &mut [u64])
     requires { ⌜ (length (now pilots) ≡ MAX_TABLES) × (INDEX_WORDS ≤ length (now index)) ⌝ }
-    ensures { λ _. ⌜ Adds (WakesSums (now (linked .entry)) (now (pilots .entry))) (now (index .entry)) (now (index .exit)) ⌝ }
+    ensures { λ _. ⌜ AddsAt (WakesSums (now (linked .entry)) (now (pilots .entry))) (now (index .entry)) (now (index .exit)) ⌝ }
 {
     if atoms::at_most_one(parity_tables(linked, pilots)) {
         return;
@@ -247,7 +247,7 @@ fn note_sums(linked: &[u64], pilots: &[u64], index: &mut [u64])
 // And for the atoms of the constraints that tell of parity tables, where there are two or more of these.
 fn note_told(rules: &[u64], which: u64, index: &mut [u64])
     requires { ⌜ Lent (now rules) which × (INDEX_WORDS ≤ length (now index)) ⌝ }
-    ensures { λ _. ⌜ Adds (WakesTold (now (rules .entry)) which) (now (index .entry)) (now (index .exit)) ⌝ }
+    ensures { λ _. ⌜ AddsAt (WakesTold (now (rules .entry)) which) (now (index .entry)) (now (index .exit)) ⌝ }
 {
     if atoms::at_most_one(telling_rules(rules, which)) {
         return;
@@ -262,7 +262,7 @@ pub fn wake_index(
     linked: &[u64],
     pilots: &[u64],
     heads: &[u64],
-    unit: Unit,
+    unit: Job,
     looped: u64,
 ) -> [u64; INDEX_WORDS]
     requires { ⌜ Lent (now rules) (unit .rules) × Lent (now linked) (unit .rules) × (length (now linked) ≡ LINKED_WORDS)
@@ -308,7 +308,7 @@ pub fn with_tables(pilots: &[u64], a: Agenda) -> Agenda
 
 // The agenda of all steps but those of tables; without looped atoms the founded step has nothing to say beyond the supports. The sums are on no first
 // agenda: the first of their atoms that is decided wakes them.
-pub fn every_step(unit: Unit, looped: u64) -> Agenda
+pub fn every_step(unit: Job, looped: u64) -> Agenda
     ensures rules { λ r. ⌜ (r .rules ≡ unit .rules) × (r .supports ≡ outside (unit .inputs)) ⌝ }
     ensures others { λ r. ⌜ r .others ≡ unit .nearest ∪ singleIf (not (eqb looped 0)) FOUNDED_PLACE ⌝ }
 {

@@ -2,7 +2,7 @@
 // the index of woken steps, the pilots of the tables, and the rules with pilots in place of uses.
 use crate::agenda::INDEX_WORDS;
 use crate::agenda::wake_index;
-use crate::unit::Unit;
+use crate::unit::Job;
 use atoms::ATOMS;
 use atoms::words::store;
 use narrowing::backers::backers;
@@ -33,7 +33,7 @@ pub fn lay_out(
     rules: &[u64],
     heads: &[u64],
     pilots: &[u64; MAX_TABLES],
-    unit: Unit,
+    unit: Job,
     looped: u64,
 ) -> [u64; DESK_WORDS]
     requires { ⌜ Lent (now rules) (unit .rules) × (MAX_UNITS ≤ length (now heads)) × (unit .nearest < 2 ^ MAX_UNITS) ⌝ }

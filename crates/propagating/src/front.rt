@@ -3,7 +3,7 @@ use crate::agenda::Agenda;
 use crate::agenda::woken;
 use crate::desk::INDEX;
 use crate::desk::PILOTS;
-use crate::unit::Unit;
+use crate::unit::Job;
 use states::State;
 use states::decide;
 ghost use mathlib.Core.Path.{_≡_};
@@ -40,7 +40,7 @@ pub fn moved(desk: &[u64], f: Front, after: State) -> Front
 }
 
 // The front with the atom in the phase: up, or dropped. It may be asked for only where no rule of the unit is at a stop: the search goes no further there.
-pub fn branched(rules: &[u64], unit: Unit, desk: &[u64], f: Front, i: usize, phase: bool) -> Front
+pub fn branched(rules: &[u64], unit: Job, desk: &[u64], f: Front, i: usize, phase: bool) -> Front
     requires { ⌜ NoStop (now rules) (unit .rules) (f .state) × (length (now desk) ≡ DESK_WORDS) × (i < ATOMS) ⌝ }
     ensures { λ r. ⌜ r .state ≡ branchOf (f .state) i phase ⌝ }
 {

@@ -6,4 +6,4 @@ pub mod propagate;
 pub mod step;
 mod unit;
 
-pub use unit::Unit;
+pub use unit::Job;

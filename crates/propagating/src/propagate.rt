@@ -11,7 +11,7 @@ use crate::front::Front;
 use crate::step::PAIR_STEPS;
 use crate::step::Step;
 use crate::step::decode;
-use crate::unit::Unit;
+use crate::unit::Job;
 use joining::filter::filter_step;
 use learning::nogood::refute;
 use learning::store::COPIES;
@@ -41,7 +41,7 @@ fn take_step(
     table: &[u64],
     counts: &[usize],
     desk: &[u64],
-    unit: Unit,
+    unit: Job,
     filter: &mut [u64],
     step: usize,
     s: State,
@@ -75,7 +75,7 @@ fn run_agenda(
     table: &[u64],
     counts: &[usize],
     desk: &[u64],
-    unit: Unit,
+    unit: Job,
     memory: &mut [u64],
     filter: &mut [u64],
     front: Front,
@@ -138,7 +138,7 @@ pub fn propagate(
     table: &[u64],
     counts: &[usize],
     desk: &[u64],
-    unit: Unit,
+    unit: Job,
     memory: &mut [u64],
     filter: &mut [u64],
     front: Front,

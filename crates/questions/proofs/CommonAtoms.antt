@@ -1,16 +1,8 @@
 -- The atoms up in all positions and in some, position after position.
-use mathlib.Core.Path.{_≡_, refl, sym, ap, _∙_, subst}
-use mathlib.Core.Logic.{_⊎_, inl, inr}
-use mathlib.Core.List.{List, [], _∷_, _++_}
-use Prim.Native.Nat.{ℕ, _+_, _≤_, _<_}
-use native.Mathlib.Omega.{arith}
-use native.Mathlib.Numerals.{add-one}
-use native.Mathlib.Decide.{decLt}
-use lib.ListN.{length, getD, take, length-append, List·getD-append}
-use lib.Seq.{take-suc, take-all, getD-append-seam}
-use Rattle.atoms.specs.Word.{ATOMS, Has, below, _∩_, _∪_}
+use Rattle.questions.proofs.Prelude.{_≡_, refl, sym, ap, _∙_, subst, _⊎_, inl, inr, List, [], _∷_, _++_, ℕ, _+_, _≤_, _<_, arith, add-one, decLt}
+use Rattle.questions.proofs.Prelude.{length, getD, take, length-append, List·getD-append, take-suc, take-all, getD-append-seam, ATOMS, Has, below, _∩_}
+use Rattle.questions.proofs.Prelude.{_∪_, has-none}
 use Rattle.atoms.specs.Collected.{Collects}
-use Rattle.atoms.proofs.Sets.{has-none}
 use Rattle.atoms.proofs.Collected.{collects-has, collects-below, collects-cut, collects-union, collects-iff}
 use Rattle.questions.specs.Common.{InAll, InSome, CommonAtoms}
 

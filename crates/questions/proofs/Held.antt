@@ -1,19 +1,9 @@
 -- Counts kept while the list is gone through: one position held against question after question, and position after position.
-use mathlib.Core.Path.{_≡_, sym, ap, ap₂, _∙_}
-use mathlib.Core.Bool.{Bool, true, false}
-use mathlib.Core.List.{List, []}
-use Prim.Native.Nat.{ℕ, _+_, _^_, _≤_, _<_}
-use native.Mathlib.Omega.{arith}
-use native.Mathlib.Numerals.{add-one}
-use native.Mathlib.Decide.{decLt}
-use lib.ListN.{length, getD, set, take, replicate, length-take}
-use lib.Seq.{take-all, ext-getD}
-use borrow.Author.Tests.{lt-ltb, le-ltb}
-use Rattle.atoms.specs.Lists.{tabulate}
-use Rattle.atoms.proofs.Lists.{tabulate-long, tabulate-same, tabulate-zero, getD-tabulate, set-tabulate}
-use Rattle.questions.specs.Counts.{MAX_QUESTIONS, fits, one, countOf, upTo, countsOf, held}
+use Rattle.questions.proofs.Prelude.{_≡_, sym, ap, ap₂, _∙_, Bool, true, false, List, [], ℕ, _+_, _^_, _≤_, _<_, arith, add-one, decLt, length, getD}
+use Rattle.questions.proofs.Prelude.{set, take, replicate, length-take, take-all, ext-getD, lt-ltb, le-ltb, tabulate, tabulate-long, tabulate-same}
+use Rattle.questions.proofs.Prelude.{tabulate-zero, getD-tabulate, set-tabulate, MAX_QUESTIONS, fits, one, fittingCount, upTo, countsOf, held}
 use Rattle.questions.specs.Counting.{Holdable}
-use Rattle.questions.proofs.Counts.{count-more, count-le, one-le}
+use Rattle.questions.proofs.QuestionCounts.{count-more, count-le, one-le}
 
 -- ---- numbers up to a bound
 
@@ -109,7 +99,7 @@ module _ (position : ℕ) (up dropped before : List ℕ) where
 
 -- the number of question i, from the words of the questions
 abbrev countAt : List ℕ → List ℕ → List ℕ → ℕ → ℕ
-countAt list up dropped i = countOf list (getD up i 0) (getD dropped i 0)
+countAt list up dropped i = fittingCount list (getD up i 0) (getD dropped i 0)
 
 module _ (list : List ℕ) (n : ℕ) (up dropped : List ℕ) where
   pub counts-long : length (countsOf list n up dropped) ≡ MAX_QUESTIONS
@@ -121,7 +111,7 @@ module _ (list : List ℕ) (n : ℕ) (up dropped : List ℕ) where
   counts-at i l = getD-tabulate MAX_QUESTIONS (upTo n (countAt list up dropped)) i l
 
   -- the count of one of the first n questions
-  pub count-is : (i : ℕ) → i < n → n ≤ MAX_QUESTIONS → getD (countsOf list n up dropped) i 0 ≡ countOf list (getD up i 0) (getD dropped i 0)
+  pub count-is : (i : ℕ) → i < n → n ≤ MAX_QUESTIONS → getD (countsOf list n up dropped) i 0 ≡ fittingCount list (getD up i 0) (getD dropped i 0)
   count-is i l k = counts-at i (omega arith) ∙ up-to-below n (countAt list up dropped) i l
 
   -- the counts of the first `at` positions
@@ -133,7 +123,7 @@ module _ (list : List ℕ) (n : ℕ) (up dropped : List ℕ) where
     pub so-far : counts ≡ countsOf (take at list) n up dropped
 
 counts-none : (n : ℕ) (up dropped : List ℕ) → replicate MAX_QUESTIONS 0 ≡ countsOf [] n up dropped
-unfolding countsOf countOf
+unfolding countsOf fittingCount
 counts-none n up dropped =
     sym (tabulate-zero MAX_QUESTIONS) ∙ tabulate-same MAX_QUESTIONS (λ i. 0) (upTo n (countAt [] up dropped)) (λ i l. go i (decLt i n))
   where

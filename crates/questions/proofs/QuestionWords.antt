@@ -1,42 +1,35 @@
 -- The laws of questions as words: what stands where, a count written, and the whole put together again.
-use mathlib.Core.Path.{_≡_, refl, sym, ap, ap₂, _∙_}
-use mathlib.Core.List.{List, [], _∷_, _++_}
-use Prim.Native.Nat.{ℕ, zero, suc, _+_, _*_, _/_, _≤_, _<_}
-use native.Mathlib.Omega.{arith}
-use lib.ListN.{length, getD, set, replicate, length-append}
-use Rattle.questions.specs.Counts.{MAX_QUESTIONS, countsOf}
-use Rattle.questions.specs.Questions.{withCount, withCounts, askedOf}
-use Rattle.questions.specs.Words.{questionsIn, behind, inWords, Whole, AnsweredWords}
-use Rattle.questions.specs.declared.counter.Asked.{Asked}
-use Rattle.questions.specs.declared.question.Question.{Question}
-use Rattle.questions.specs.declared.question.Counted.the-variants.{Filled, TooManyQuestions}
-use Rattle.questions.proofs.Questions.{blank, filling, filling-long, filling-more, filling-end, refused, filled}
-use Rattle.questions.proofs.Questions.{taking, taking-start, taking-long, taking-more, taking-end}
+use Rattle.questions.proofs.Prelude.{_≡_, refl, sym, ap, ap₂, _∙_, List, [], _∷_, _++_, ℕ, zero, suc, _+_, _*_, _/_, _≤_, _<_, arith, length, getD}
+use Rattle.questions.proofs.Prelude.{set, replicate, length-append, MAX_QUESTIONS, countsOf, withItsCount, withCounts, askedOf, Asked, Question}
+use Rattle.questions.proofs.Prelude.{Filled, TooManyQuestions}
+use Rattle.questions.specs.QuestionWords.{questionsIn, wordsBehind, inWords, Whole, AnsweredWords}
+use Rattle.questions.proofs.Questions.{blank, filling, filling-long, filling-more, filling-end, refused, filled, taking, taking-start, taking-long}
+use Rattle.questions.proofs.Questions.{taking-more, taking-end}
 
 pub in-words-long : (qs : List Question) → length (inWords qs) ≡ 3 * length qs
 unfolding inWords
 in-words-long [] = refl
 in-words-long (q ∷ qs) = let e = in-words-long qs in omega arith
 
-behind-long : (ws : List ℕ) → length (behind ws) < 3
-unfolding behind
+behind-long : (ws : List ℕ) → length (wordsBehind ws) < 3
+unfolding wordsBehind
 behind-long [] = omega arith
 behind-long (a ∷ []) = omega arith
 behind-long (a ∷ b ∷ []) = omega arith
 behind-long (a ∷ b ∷ c ∷ ws) = behind-long ws
 
 -- the words are those of their questions and what is behind them
-pub words-again : (ws : List ℕ) → ws ≡ inWords (questionsIn ws) ++ behind ws
-unfolding inWords questionsIn behind
+pub words-again : (ws : List ℕ) → ws ≡ inWords (questionsIn ws) ++ wordsBehind ws
+unfolding inWords questionsIn wordsBehind
 words-again [] = refl
 words-again (a ∷ []) = refl
 words-again (a ∷ b ∷ []) = refl
 words-again (a ∷ b ∷ c ∷ ws) = ap (λ (l : List ℕ). a ∷ b ∷ c ∷ l) (words-again ws)
 
-words-long : (ws : List ℕ) → length ws ≡ 3 * length (questionsIn ws) + length (behind ws)
+words-long : (ws : List ℕ) → length ws ≡ 3 * length (questionsIn ws) + length (wordsBehind ws)
 words-long ws =
-    ap length (words-again ws) ∙ length-append (inWords (questionsIn ws)) (behind ws)
-    ∙ ap (λ (k : ℕ). k + length (behind ws)) (in-words-long (questionsIn ws))
+    ap length (words-again ws) ∙ length-append (inWords (questionsIn ws)) (wordsBehind ws)
+    ∙ ap (λ (k : ℕ). k + length (wordsBehind ws)) (in-words-long (questionsIn ws))
 
 -- "the count of whole questions being a third of the length"
 pub third : (ws : List ℕ) → length (questionsIn ws) ≡ length ws / 3
@@ -63,7 +56,7 @@ module _ (rest : List ℕ) where
 
   -- a count is written
   count-set : (qs : List Question) (i c : ℕ) → i < length qs
-      → set (inWords qs ++ rest) (3 * i + 2) c ≡ inWords (set qs i (withCount (getD qs i blank) c)) ++ rest
+      → set (inWords qs ++ rest) (3 * i + 2) c ≡ inWords (set qs i (withItsCount (getD qs i blank) c)) ++ rest
   unfolding inWords
   count-set [] i c l = absurd (omega arith)
   count-set (q ∷ qs) zero c l = refl
@@ -77,7 +70,7 @@ module _ (rest : List ℕ) where
 at-number : (f : Question → ℕ) (at : ℕ → ℕ)
     → ((rest : List ℕ) (qs : List Question) (i : ℕ) → i < length qs → getD (inWords qs ++ rest) (at i) 0 ≡ f (getD qs i blank))
     → (ws : List ℕ) (i : ℕ) → i < length (questionsIn ws) → getD ws (at i) 0 ≡ f (getD (questionsIn ws) i blank)
-at-number f at law ws i l = ap (λ (l : List ℕ). getD l (at i) 0) (words-again ws) ∙ law (behind ws) (questionsIn ws) i l
+at-number f at law ws i l = ap (λ (l : List ℕ). getD l (at i) 0) (words-again ws) ∙ law (wordsBehind ws) (questionsIn ws) i l
 
 -- the words of the first i questions are taken out
 pub record Taken (words : List ℕ) (n : ℕ) (up dropped : List ℕ) (i : ℕ) : Type 0 where
@@ -141,7 +134,7 @@ pub record Putting (before : List ℕ) (n : ℕ) (counts after : List ℕ) (i : 
   pub whole : Whole before n
   pub all-counts : length counts ≡ MAX_QUESTIONS
   pub reached : i ≤ n
-  pub so-far : after ≡ inWords (filling (questionsIn before) counts i) ++ behind before
+  pub so-far : after ≡ inWords (filling (questionsIn before) counts i) ++ wordsBehind before
 
 module _ {before : List ℕ} {n : ℕ} {counts : List ℕ} where
   pub putting-start : Whole before n → length counts ≡ MAX_QUESTIONS → Putting before n counts before 0
@@ -156,7 +149,7 @@ module _ {before : List ℕ} {n : ℕ} {counts : List ℕ} where
 
     pub putting-long : length after ≡ length before
     putting-long =
-        ap length (p .so-far) ∙ length-append (inWords (filling (questionsIn before) counts i)) (behind before)
+        ap length (p .so-far) ∙ length-append (inWords (filling (questionsIn before) counts i)) (wordsBehind before)
         ∙ omega (arith, in-words-long (filling (questionsIn before) counts i), filled-long, words-long before)
 
     pub putting-more : i < n → Putting before n counts (set after (3 * i + 2) (getD counts i 0)) (i + 1)
@@ -168,14 +161,14 @@ module _ {before : List ℕ} {n : ℕ} {counts : List ℕ} where
           reached = omega arith;
           so-far =
               ap (λ (ws : List ℕ). set ws (3 * i + 2) (getD counts i 0)) (p .so-far)
-              ∙ count-set (behind before) (filling (questionsIn before) counts i) i (getD counts i 0) (omega (arith, filled-long))
-              ∙ ap (λ (qs : List Question). inWords qs ++ behind before) (filling-more (questionsIn before) counts enough i k);
+              ∙ count-set (wordsBehind before) (filling (questionsIn before) counts i) i (getD counts i 0) (omega (arith, filled-long))
+              ∙ ap (λ (qs : List Question). inWords qs ++ wordsBehind before) (filling-more (questionsIn before) counts enough i k);
         }
 
-    pub putting-end : n ≤ i → after ≡ inWords (withCounts (questionsIn before) counts) ++ behind before
+    pub putting-end : n ≤ i → after ≡ inWords (withCounts (questionsIn before) counts) ++ wordsBehind before
     putting-end l =
         p .so-far
-        ∙ ap (λ (qs : List Question). inWords qs ++ behind before)
+        ∙ ap (λ (qs : List Question). inWords qs ++ wordsBehind before)
         (filling-end (questionsIn before) counts enough i (omega (arith, p .whole .count-is)))
 
 -- ---- the answer
@@ -188,13 +181,13 @@ refused-words list ws l =
     let a = refused list (questionsIn ws) (omega (arith, third ws)) in
     record {
       outcome-is = a .outcome-is;
-      words-are = words-again ws ∙ ap (λ (qs : List Question). inWords qs ++ behind ws) (a .questions-are);
+      words-are = words-again ws ∙ ap (λ (qs : List Question). inWords qs ++ wordsBehind ws) (a .questions-are);
       meaning = a .meaning;
     }
 
 pub filled-words : (list ws zs : List ℕ) (asked : Asked) (cs : List ℕ) (n : ℕ) → Whole ws n → asked ≡ askedOf (questionsIn ws)
-    → cs ≡ countsOf list n (asked .up) (asked .dropped) → zs ≡ inWords (withCounts (questionsIn ws) cs) ++ behind ws → AnsweredWords list ws zs Filled
+    → cs ≡ countsOf list n (asked .up) (asked .dropped) → zs ≡ inWords (withCounts (questionsIn ws) cs) ++ wordsBehind ws → AnsweredWords list ws zs Filled
 filled-words list ws zs asked cs n w ea ec ez =
     let right = ec ∙ ap (λ (k : ℕ). countsOf list k (asked .up) (asked .dropped)) (w .count-is) in
     let a = filled list (questionsIn ws) (withCounts (questionsIn ws) cs) asked cs (few w) ea right refl in
-    record { outcome-is = a .outcome-is; words-are = ez ∙ ap (λ (qs : List Question). inWords qs ++ behind ws) (a .questions-are); meaning = a .meaning }
+    record { outcome-is = a .outcome-is; words-are = ez ∙ ap (λ (qs : List Question). inWords qs ++ wordsBehind ws) (a .questions-are); meaning = a .meaning }

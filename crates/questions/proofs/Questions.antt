@@ -1,21 +1,12 @@
 -- The laws of questions: counts filled in one by one, words taken out one by one, and the answer put together.
-use mathlib.Core.Path.{_≡_, refl, sym, ap, ap₂, _∙_}
-use mathlib.Core.Bool.{Bool, true, false}
-use mathlib.Core.List.{List, [], _∷_, _++_, map, append-nil}
-use Prim.Native.Nat.{ℕ, zero, suc, _+_, _≤_, _<_}
-use native.Mathlib.Omega.{arith}
-use native.Mathlib.Numerals.{add-one}
-use borrow.Author.Tests.{lt-ltb, le-ltb}
-use lib.ListN.{length, getD, take, drop, set, length-append, length-take, length-drop, length-map, drop-of-length-le, replicate}
-use lib.Seq.{take-suc, drop-cons, append-snoc, set-at, take-all, length-take-le, ext-getD, getD-at}
-use Rattle.atoms.specs.Lists.{padded}
-use Rattle.atoms.proofs.Lists.{padded-nil, padded-long, padded-at, padded-snoc}
-use Rattle.questions.specs.Counts.{MAX_QUESTIONS, countOf, countsOf}
-use Rattle.questions.specs.Questions.{withCount, counted, outcome, answered, Answered, askedOf, withCounts}
-use Rattle.questions.specs.declared.counter.Asked.{Asked}
-use Rattle.questions.specs.declared.question.Question.{Question}
-use Rattle.questions.specs.declared.question.Counted.the-variants.{Filled, TooManyQuestions}
-use Rattle.questions.proofs.Counts.{counts-mean}
+use Rattle.questions.proofs.Prelude.{_≡_, refl, sym, ap, ap₂, _∙_, Bool, true, false, List, [], _∷_, _++_, map, append-nil, ℕ, zero, suc, _+_, _≤_}
+use Rattle.questions.proofs.Prelude.{_<_, arith, add-one, lt-ltb, le-ltb, length, getD, take, set, length-append, length-take, length-drop, length-map}
+use Rattle.questions.proofs.Prelude.{drop-of-length-le, replicate, take-suc, drop-cons, append-snoc, set-at, take-all, length-take-le, ext-getD}
+use Rattle.questions.proofs.Prelude.{getD-at, padded, padded-nil, padded-long, padded-at, padded-snoc, MAX_QUESTIONS, fittingCount, countsOf}
+use Rattle.questions.proofs.Prelude.{withItsCount, counted, outcome, answered, QuestionsAnswered, askedOf, withCounts, Asked, Question, Filled}
+use Rattle.questions.proofs.Prelude.{TooManyQuestions}
+use lib.ListN.{drop}
+use Rattle.questions.proofs.QuestionCounts.{counts-mean}
 use Rattle.questions.proofs.Held.{counts-long, count-is}
 
 -- what stands in the place of a question that is not there
@@ -57,7 +48,7 @@ with-counts-long (q ∷ qs) [] = refl
 with-counts-long (q ∷ qs) (c ∷ cs) = ap suc (with-counts-long qs cs)
 
 pub with-counts-at : (qs : List Question) (cs : List ℕ) (i : ℕ) → i < length qs → i < length cs
-    → getD (withCounts qs cs) i blank ≡ withCount (getD qs i blank) (getD cs i 0)
+    → getD (withCounts qs cs) i blank ≡ withItsCount (getD qs i blank) (getD cs i 0)
 unfolding withCounts
 with-counts-at [] cs i k l = absurd (omega arith)
 with-counts-at (q ∷ qs) [] i k l = absurd (omega arith)
@@ -75,9 +66,9 @@ module _ (qs : List Question) (cs : List ℕ) (few : length qs ≤ length cs) wh
   pub filling-at : (i : ℕ) → i < length qs → getD (filling qs cs i) i blank ≡ getD qs i blank
   filling-at i l = over-at (withCounts qs cs) qs i blank (omega (arith, with-counts-long qs cs)) l
 
-  pub filling-more : (i : ℕ) → i < length qs → set (filling qs cs i) i (withCount (getD (filling qs cs i) i blank) (getD cs i 0)) ≡ filling qs cs (i + 1)
+  pub filling-more : (i : ℕ) → i < length qs → set (filling qs cs i) i (withItsCount (getD (filling qs cs i) i blank) (getD cs i 0)) ≡ filling qs cs (i + 1)
   filling-more i l =
-      ap (set (filling qs cs i) i) (ap (λ (q : Question). withCount q (getD cs i 0)) (filling-at i l) ∙ sym (with-counts-at qs cs i l (omega arith)))
+      ap (set (filling qs cs i) i) (ap (λ (q : Question). withItsCount q (getD cs i 0)) (filling-at i l) ∙ sym (with-counts-at qs cs i l (omega arith)))
       ∙ over-more (withCounts qs cs) qs i blank (omega (arith, with-counts-long qs cs)) l
 
   pub filling-end : (i : ℕ) → length qs ≤ i → filling qs cs i ≡ withCounts qs cs
@@ -114,7 +105,7 @@ module _ (f : Question → ℕ) (qs : List Question) (few : length qs ≤ MAX_QU
 
 -- ---- the answer
 
-pub refused : (list : List ℕ) (qs : List Question) → MAX_QUESTIONS < length qs → Answered list qs qs TooManyQuestions
+pub refused : (list : List ℕ) (qs : List Question) → MAX_QUESTIONS < length qs → QuestionsAnswered list qs qs TooManyQuestions
 unfolding outcome answered
 refused list qs l =
     record {
@@ -125,12 +116,12 @@ refused list qs l =
 
 -- counts that are right, filled in, are the answer
 counted-all : (list : List ℕ) (qs : List Question) (cs : List ℕ) → length qs ≤ length cs
-    → ((i : ℕ) → i < length qs → getD cs i 0 ≡ countOf list (getD qs i blank .up) (getD qs i blank .dropped)) → withCounts qs cs ≡ map (counted list) qs
+    → ((i : ℕ) → i < length qs → getD cs i 0 ≡ fittingCount list (getD qs i blank .up) (getD qs i blank .dropped)) → withCounts qs cs ≡ map (counted list) qs
 unfolding counted
 counted-all list qs cs l right =
     ext-getD blank (withCounts qs cs) (map (counted list) qs) (with-counts-long qs cs ∙ sym (length-map qs (counted list))) (λ i k.
     let j : i < length qs = omega (arith, with-counts-long qs cs) in
-    with-counts-at qs cs i j (omega arith) ∙ ap (withCount (getD qs i blank)) (right i j) ∙ sym (map-at (counted list) qs i j))
+    with-counts-at qs cs i j (omega arith) ∙ ap (withItsCount (getD qs i blank)) (right i j) ∙ sym (map-at (counted list) qs i j))
   where
     map-at : (f : Question → Question) (ys : List Question) (i : ℕ) → i < length ys → getD (map f ys) i blank ≡ f (getD ys i blank)
     map-at f [] i k = absurd (omega arith)
@@ -147,7 +138,7 @@ word-at f qs i l = padded-at MAX_QUESTIONS (map f qs) i (omega (arith, length-ma
     map-at (y ∷ ys) (suc i) k = map-at ys i (omega arith)
 
 pub filled : (list : List ℕ) (qs zs : List Question) (asked : Asked) (cs : List ℕ) → length qs ≤ MAX_QUESTIONS → asked ≡ askedOf qs
-    → cs ≡ countsOf list (length qs) (asked .up) (asked .dropped) → zs ≡ withCounts qs cs → Answered list qs zs Filled
+    → cs ≡ countsOf list (length qs) (asked .up) (asked .dropped) → zs ≡ withCounts qs cs → QuestionsAnswered list qs zs Filled
 unfolding outcome answered askedOf
 filled list qs zs asked cs l ea ec ez =
     record {
@@ -158,8 +149,8 @@ filled list qs zs asked cs l ea ec ez =
       meaning = counts-mean list;
     }
   where
-    right : (i : ℕ) → i < length qs → getD cs i 0 ≡ countOf list (getD qs i blank .up) (getD qs i blank .dropped)
+    right : (i : ℕ) → i < length qs → getD cs i 0 ≡ fittingCount list (getD qs i blank .up) (getD qs i blank .dropped)
     right i k =
         ap (λ (xs : List ℕ). getD xs i 0) ec ∙ count-is list (length qs) (asked .up) (asked .dropped) i k l
-        ∙ ap₂ (countOf list) (ap (λ (a : Asked). getD (a .up) i 0) ea ∙ word-at (λ q. q .up) qs i k)
+        ∙ ap₂ (fittingCount list) (ap (λ (a : Asked). getD (a .up) i 0) ea ∙ word-at (λ q. q .up) qs i k)
         (ap (λ (a : Asked). getD (a .dropped) i 0) ea ∙ word-at (λ q. q .dropped) qs i k)

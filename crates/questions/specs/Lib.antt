@@ -1,5 +1,5 @@
 pub mod Counts
 pub mod Questions
-pub mod Words
+pub mod QuestionWords
 pub mod Counting
 pub mod Common

@@ -7,32 +7,32 @@ use lib.ListN.{length}
 use lib.Dec.{ltb}
 use Rattle.atoms.specs.Lists.{padded}
 use Rattle.plan.specs.Faults.{CODE_STEP}
-use Rattle.questions.specs.Counts.{MAX_QUESTIONS, countOf, CountsMean}
+use Rattle.questions.specs.Counts.{MAX_QUESTIONS, fittingCount, CountsMean}
 use Rattle.questions.specs.declared.counter.Asked.{Asked}
 use Rattle.questions.specs.declared.question.Question.{Question}
 use Rattle.questions.specs.declared.question.Counted.{Counted}
 use Rattle.questions.specs.declared.question.Counted.the-variants.{Filled, TooManyQuestions}
 
 -- "only the count is filled in"
-abbrev pub withCount : Question → ℕ → Question
-withCount q count = record { up = q .up; dropped = q .dropped; count = count }
+abbrev pub withItsCount : Question → ℕ → Question
+withItsCount q count = record { up = q .up; dropped = q .dropped; count = count }
 
 -- "Each count equals the number of listed positions that have every up atom and no dropped one"
 unfoldable pub counted : List ℕ → Question → Question
-counted list q = withCount q (countOf list (q .up) (q .dropped))
+counted list q = withItsCount q (fittingCount list (q .up) (q .dropped))
 
 -- "Errors: 17, more than 64 questions, spot 0": the number and the spot of an answer; 0 is no refusal
-abbrev pub number : Counted → ℕ
-number Filled = 0
-number TooManyQuestions = 17
+abbrev pub countNumber : Counted → ℕ
+countNumber Filled = 0
+countNumber TooManyQuestions = 17
 
-abbrev pub spot : Counted → ℕ
-spot Filled = 0
-spot TooManyQuestions = 0
+abbrev pub countSpot : Counted → ℕ
+countSpot Filled = 0
+countSpot TooManyQuestions = 0
 
 -- the answer as one number, a refusal's as that of a plan
-abbrev pub code : Counted → ℕ
-code r = CODE_STEP * number r + spot r
+abbrev pub countCode : Counted → ℕ
+countCode r = CODE_STEP * countNumber r + countSpot r
 
 -- more than 64 questions are refused
 unfoldable pub outcome : List Question → Counted
@@ -43,7 +43,7 @@ unfoldable pub answered : List ℕ → List Question → List Question
 answered list questions = elim (ltb MAX_QUESTIONS (length questions)) [ true ↦ questions | false ↦ map (counted list) questions ]
 
 -- a call: what it answers, and the lent questions afterwards; the counts are numbers of places
-pub record Answered (list : List ℕ) (before after : List Question) (r : Counted) : Type 0 where
+pub record QuestionsAnswered (list : List ℕ) (before after : List Question) (r : Counted) : Type 0 where
   pub outcome-is : r ≡ outcome before
   pub questions-are : after ≡ answered list before
   pub meaning : CountsMean list
@@ -56,4 +56,4 @@ askedOf questions = record { up = padded MAX_QUESTIONS (map (λ q. q .up) questi
 unfoldable pub withCounts : List Question → List ℕ → List Question
 withCounts [] counts = []
 withCounts (q ∷ qs) [] = q ∷ qs
-withCounts (q ∷ qs) (c ∷ cs) = withCount q c ∷ withCounts qs cs
+withCounts (q ∷ qs) (c ∷ cs) = withItsCount q c ∷ withCounts qs cs

@@ -8,7 +8,7 @@ ghost use mathlib.Core.Path.{_≡_};
 ghost use Prim.Native.Nat.{_≤_};
 ghost use lib.ListN.{length};
 ghost use Rattle.questions.specs.Counts.{MAX_QUESTIONS as Counts·MAX_QUESTIONS};
-ghost use Rattle.questions.specs.Questions.{code, askedOf, withCounts, Answered};
+ghost use Rattle.questions.specs.Questions.{countCode, askedOf, withCounts, QuestionsAnswered};
 
 // Which positions are asked for: those with every up atom and no dropped one. The count is filled in.
 pub struct Question {
@@ -28,7 +28,7 @@ const TOO_MANY_QUESTIONS: u64 = 17;
 
 // 0 where the counts are filled in, else the code of the refusal.
 pub fn counted_code(counted: Counted) -> u64
-    ensures { λ r. ⌜ r ≡ code counted ⌝ }
+    ensures { λ r. ⌜ r ≡ countCode counted ⌝ }
 {
     match counted {
         Counted::Filled => 0,
@@ -67,7 +67,7 @@ fn fill_counts(questions: &mut [Question], counts: [u64; MAX_QUESTIONS])
 
 // How many listed positions fit each question, filled in; more than MAX_QUESTIONS questions are left as they are.
 pub fn count_questions(list: &[u64], questions: &mut [Question]) -> Counted
-    ensures { λ r. ⌜ Answered (now (list .entry)) (now (questions .entry)) (now (questions .exit)) r ⌝ }
+    ensures { λ r. ⌜ QuestionsAnswered (now (list .entry)) (now (questions .entry)) (now (questions .exit)) r ⌝ }
 {
     let n = questions.len();
     if MAX_QUESTIONS < n {

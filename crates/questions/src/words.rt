@@ -6,7 +6,7 @@ use crate::question::Counted;
 ghost use mathlib.Core.Path.{_≡_};
 ghost use mathlib.Core.List.{_++_};
 ghost use Rattle.questions.specs.Questions.{askedOf, withCounts};
-ghost use Rattle.questions.specs.Words.{questionsIn, inWords, behind, Whole, AnsweredWords};
+ghost use Rattle.questions.specs.QuestionWords.{questionsIn, inWords, wordsBehind, Whole, AnsweredWords};
 
 // How many words a question has.
 pub const QUESTION_WORDS: usize = 3;
@@ -30,7 +30,7 @@ fn take_words(words: &[u64], n: usize) -> Asked
 // Writes the counts of the n questions.
 fn put_counts(words: &mut [u64], n: usize, counts: [u64; MAX_QUESTIONS])
     requires { ⌜ Whole (now words) n ⌝ }
-    ensures { λ _. ⌜ now (words .exit) ≡ inWords (withCounts (questionsIn (now (words .entry))) counts) ++ behind (now (words .entry)) ⌝ }
+    ensures { λ _. ⌜ now (words .exit) ≡ inWords (withCounts (questionsIn (now (words .entry))) counts) ++ wordsBehind (now (words .entry)) ⌝ }
 {
     let mut i = 0;
     while i < n {

@@ -1,32 +1,19 @@
 -- Whenever reading accepts bytes they are the layout of lists within the limits, and the record is theirs.
 -- What each command keeps: the bytes read so far are the commands of lists within the limits, and the record is theirs.
-use mathlib.Core.Path.{_≡_, refl, ap, sym, _∙_, subst}
-use mathlib.Core.List.{List, [], _∷_, _++_, flatMap}
-use mathlib.Core.Bool.{Bool, true, false, true≢false}
-use Prim.Native.Nat.{ℕ, _+_, _*_, _^_, _≤_, _<_}
-use native.Mathlib.Omega.{arith}
-use lib.ListN.{length, drop, getD}
-use Rattle.atoms.specs.Word.{Has}
-use Rattle.atoms.proofs.Lists.{getD-tabulate}
-use Rattle.plan.specs.Limits.{MAX_UNITS}
-use Rattle.plan.specs.Record.{emptyPlan}
-use Rattle.reading.specs.Commands.{Single, Kind, single, table, rule, usage, unit, edge, end}
-use Rattle.reading.specs.Commands.{kind-discrete, byteOf, operandBytes, miscounted}
-use Rattle.reading.specs.Reading.{reading, commandBytes}
-use Rattle.reading.specs.Layout.{Contents, Element, endBytes, commands, predecessorsOf, recordOf, IsByte, All}
-use Rattle.reading.specs.Layout.{GoodOnce, GoodTable, GoodRule, WithinLimits, IsPlan}
+use Rattle.reading.proofs.Prelude.{_≡_, refl, ap, sym, _∙_, subst, List, [], _∷_, _++_, flatMap, Bool, true, false, true≢false, ℕ, _+_, _*_, _^_, _≤_}
+use Rattle.reading.proofs.Prelude.{_<_, arith, length, drop, getD, Has, getD-tabulate, MAX_UNITS, emptyPlan, Single, Kind, single, table, rule, usage}
+use Rattle.reading.proofs.Prelude.{unit, edge, end, kind-discrete, byteOf, operandBytes, miscounted, reading, commandBytes, Contents, Element}
+use Rattle.reading.proofs.Prelude.{endBytes, commands, predecessorsOf, recordOf, IsByte, All, GoodOnce, GoodTable, GoodRule, WithinLimits, IsPlan}
+use Rattle.reading.proofs.Prelude.{Plan, Outcome, Accepted, Refused}
 use Rattle.reading.proofs.Numbers.{all-drop}
 use Rattle.reading.proofs.Commands.{Leads}
 use Rattle.reading.proofs.Walk.{walk-keeps}
 use Rattle.reading.proofs.Limits.{record-fits}
 use Rattle.reading.proofs.Predecessors.{pair, has-member}
-use Rattle.reading.proofs.Elements.{nothing, with, elementAt, operandsOf, written-again, Sized, sized, Held, held-none, within-most}
-use Rattle.reading.proofs.Elements.{Fits, commands-with, commands-longer, record-none, more}
-use Rattle.reading.proofs.Lists.{all-snoc, all-member, empty}
+use Rattle.reading.proofs.Elements.{nothing, with, elementAt, operandsOf, written-again, Sized, sized, Held, held-none, within-most, Fits}
+use Rattle.reading.proofs.Elements.{commands-with, commands-longer, record-none, more}
+use Rattle.reading.proofs.ElementLists.{all-snoc, all-member, empty}
 use Rattle.reading.proofs.Sizes.{counted-right}
-use Rattle.plan.specs.declared.record.Plan.{Plan}
-use Rattle.plan.specs.declared.fault.Outcome.{Outcome}
-use Rattle.plan.specs.declared.fault.Outcome.the-variants.{Accepted, Refused}
 
 -- ---- the words, one element more
 

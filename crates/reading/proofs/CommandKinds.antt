@@ -1,18 +1,9 @@
 -- Kinds of commands: their bytes, and the order of their groups. Kinds are gone through as a list, so that no law speaks of pairs of kinds.
-use mathlib.Core.Path.{_≡_, refl, ap, sym, _∙_, subst}
-use mathlib.Core.List.{List, [], _∷_, List·Memᴰ, List·Memᴰ·head, List·Memᴰ·tail, List·Memᴰ·not-nil, List·Memᴰ·cases-cons}
-use mathlib.Core.Bool.{Bool, true, false, _&&_, _||_}
-use mathlib.Core.Logic.{_⊎_, inl, inr}
-use mathlib.Core.Option.{some, none}
-use Prim.Native.Nat.{ℕ, zero, suc, _+_, _≤_, _<_}
-use native.Mathlib.Omega.{arith}
-use native.Mathlib.Decide.{decLt}
-use lib.Dec.{eqb, ltb, leb}
-use borrow.Author.Tests.{leb-true, eqb-true, ne-eqb, ltb-true, ltb-false, lt-ltb, le-ltb}
-use Rattle.atoms.proofs.Tests.{bool-ext, and-true}
-use Rattle.reading.specs.Commands.{Kind, single, sizes, given, show, table, rule, usage, unit, edge, end, byteOf, kindAmong, kinds, kindOf, orderOf}
-use Rattle.reading.specs.Commands.{earliestBehind, count, someBehind, late}
-use Rattle.plan.specs.declared.record.Plan.{Plan}
+use Rattle.reading.proofs.Prelude.{_≡_, refl, ap, sym, _∙_, subst, List, [], _∷_, List·Memᴰ, List·Memᴰ·head, List·Memᴰ·tail, List·Memᴰ·not-nil}
+use Rattle.reading.proofs.Prelude.{List·Memᴰ·cases-cons, Bool, true, false, _&&_, _||_, _⊎_, inl, inr, some, none, ℕ, zero, suc, _+_, _≤_, _<_, arith}
+use Rattle.reading.proofs.Prelude.{decLt, eqb, ltb, leb, leb-true, eqb-true, ne-eqb, ltb-true, ltb-false, lt-ltb, le-ltb, bool-ext, and-true, Kind}
+use Rattle.reading.proofs.Prelude.{single, sizes, given, show, table, rule, usage, unit, edge, end, byteOf, kindAmong, kinds, kindOf, orderOf}
+use Rattle.reading.proofs.Prelude.{earliestBehind, count, someBehind, late, Plan}
 
 -- ---- bytes
 

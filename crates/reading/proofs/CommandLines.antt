@@ -1,15 +1,10 @@
 -- The command table in its two forms: the reader's, by kinds, and that of the fault rows, by bytes and lists.
-use mathlib.Core.Path.{_≡_, refl, sym}
-use mathlib.Core.Bool.{true, true≢false}
-use Prim.Native.Nat.{ℕ, _<_}
-use native.Mathlib.Omega.{arith}
-use borrow.Author.Tests.{leb-true, le-leb}
-use Rattle.reading.specs.Commands.{Kind, single, sizes, given, show, table, rule, usage, unit, edge, end, byteOf, operandBytes, orderOf, kinds, full}
+use Rattle.reading.proofs.Prelude.{_≡_, refl, sym, true, true≢false, ℕ, _<_, arith, leb-true, le-leb, Kind, single, sizes, given, show, table, rule}
+use Rattle.reading.proofs.Prelude.{usage, unit, edge, end, byteOf, operandBytes, orderOf, kinds, full, Contents, recordOf, Line, end-line, rule-line}
+use Rattle.reading.proofs.Prelude.{unit-line, edge-line, given-line, table-line, use-line, count-line, show-line, TooLate, late-count, late-given}
+use Rattle.reading.proofs.Prelude.{late-table, late-rule, late-use, late-unit, late-edge, second-show, NoRoom, seventeenth-table, sixty-fifth-rule}
+use Rattle.reading.proofs.Prelude.{two-hundred-fifty-seventh-use, seventeenth-unit}
 use Rattle.reading.proofs.CommandKinds.{countBehind}
-use Rattle.reading.specs.Layout.{Contents, recordOf}
-use Rattle.reading.specs.Refusals.{Line, end-line, rule-line, unit-line, edge-line, given-line, table-line, use-line, count-line, show-line}
-use Rattle.reading.specs.Refusals.{TooLate, late-count, late-given, late-table, late-rule, late-use, late-unit, late-edge, second-show}
-use Rattle.reading.specs.Refusals.{NoRoom, seventeenth-table, sixty-fifth-rule, two-hundred-fifty-seventh-use, seventeenth-unit}
 
 -- ---- bytes and operands
 

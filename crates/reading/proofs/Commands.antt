@@ -1,31 +1,13 @@
 -- A command that is no fault: its kind, that no row of the fault table fits it, and what it does to the record.
-use mathlib.Core.Path.{_≡_, refl, ap, sym, _∙_}
-use mathlib.Core.List.{List, [], _∷_}
-use mathlib.Core.Bool.{Bool, true, false, true≢false, not}
-use mathlib.Core.Logic.{_⊎_, inl, inr}
-use mathlib.Core.Option.{Option, some, none}
-use Prim.Native.Nat.{ℕ, suc, _+_, _-_, _≤_, _<_}
-use native.Mathlib.Omega.{arith}
-use native.Mathlib.Numerals.{add-one}
-use lib.ListN.{length, take, drop, getD, length-drop, drop-of-length-le}
-use lib.Seq.{take-all, drop-cons}
-use lib.Dec.{eqb}
-use borrow.Author.Tests.{eqb-true, ltb-false, leb-false, le-ltb, not-false}
-use Rattle.plan.specs.Record.{emptyPlan}
-use Rattle.reading.specs.Commands.{Kind, single, sizes, given, show, table, rule, usage, unit, edge, end}
-use Rattle.reading.specs.Commands.{byteOf, kinds, kindOf, operandBytes, orderOf, carrying}
-use Rattle.reading.specs.Commands.{Most, once, upTo, runsOutAt, mostOf, count, noRoom}
-use Rattle.reading.specs.Commands.{full, Row, kindRows, operandRows, rows, firstFit, ofKind, commandAt}
+use Rattle.reading.proofs.Prelude.{_≡_, refl, ap, sym, _∙_, List, [], _∷_, Bool, true, false, true≢false, not, _⊎_, inl, inr, Option, some, none, ℕ}
+use Rattle.reading.proofs.Prelude.{suc, _+_, _-_, _≤_, _<_, arith, add-one, length, take, drop, getD, length-drop, drop-of-length-le, take-all}
+use Rattle.reading.proofs.Prelude.{drop-cons, eqb, eqb-true, ltb-false, leb-false, le-ltb, not-false, emptyPlan, Kind, single, sizes, given, show}
+use Rattle.reading.proofs.Prelude.{table, rule, usage, unit, edge, end, byteOf, kinds, kindOf, operandBytes, orderOf, carrying, Most, once, upTo}
+use Rattle.reading.proofs.Prelude.{runsOutAt, mostOf, count, noRoom, full, Row, kindRows, operandRows, rows, firstFit, ofKind, commandAt, Step, onward}
+use Rattle.reading.proofs.Prelude.{ended, stepOf, accepted, refused, kindOfStep, Plan, Outcome, Accepted, Refused, Truncated, UnknownCommand, Command}
+use Rattle.reading.proofs.Prelude.{Fault as Faulty}
 use Rattle.reading.proofs.CommandKinds.{kind-of-byte, kind-byte, byte-own, no-kind, countBehind, late-counted}
-use Rattle.reading.specs.Reading.{Step, onward, ended, stepOf, accepted, refused}
-use Rattle.reading.specs.Progress.{kindOfStep}
-use Rattle.plan.specs.declared.record.Plan.{Plan}
 use Rattle.plan.specs.declared.fault.Fault.{Fault}
-use Rattle.plan.specs.declared.fault.Outcome.{Outcome}
-use Rattle.plan.specs.declared.fault.Outcome.the-variants.{Accepted, Refused}
-use Rattle.plan.specs.declared.fault.Fault.the-variants.{Truncated, UnknownCommand}
-use Rattle.reading.specs.declared.command.Command.{Command}
-use Rattle.reading.specs.declared.command.Command.the-variants.{Fault as Faulty}
 
 -- ---- a byte's command
 

@@ -1,32 +1,18 @@
 -- "every reading fault, a 241st EDGE .. included": behind MAX_EDGES edges, and nothing that comes behind EDGEs, none is new, so a further EDGE is 8, or 2
 -- where it is cut short.
-use mathlib.Core.Path.{_≡_, refl, ap, _∙_}
-use mathlib.Core.List.{List, [], _∷_, _++_}
-use mathlib.Core.Bool.{true, false}
-use Prim.Native.Nat.{ℕ, _≤_, _<_}
-use native.Mathlib.Omega.{arith}
-use native.Mathlib.Decide.{decLt}
-use lib.ListN.{length, getD}
-use borrow.Author.Tests.{lt-ltb, le-ltb}
-use Rattle.atoms.proofs.Tests.{decided, decided-true}
-use Rattle.plan.specs.Limits.{MAX_EDGES}
-use Rattle.plan.specs.Faults.{RefusedBy}
-use Rattle.reading.specs.Commands.{single, table, rule, usage, unit, edge, byteOf, kinds, operandBytes, orderOf, late, badEdge, ofKind, commandAt}
-use Rattle.reading.specs.Reading.{stepOf, reading, refused}
-use Rattle.reading.specs.Layout.{UnitPair, Contents, commands, recordOf, GoodEdge, WithinLimits}
-use Rattle.reading.specs.Refusals.{behindEdges, NoNewEdge, no-such-u, no-such-v, to-itself, repeated}
+use Rattle.reading.proofs.Prelude.{_≡_, refl, ap, _∙_, List, [], _∷_, _++_, true, false, ℕ, _≤_, _<_, arith, decLt, length, getD, lt-ltb, le-ltb}
+use Rattle.reading.proofs.Prelude.{decided, decided-true, MAX_EDGES, RefusedBy, single, table, rule, usage, unit, edge, byteOf, kinds, operandBytes}
+use Rattle.reading.proofs.Prelude.{orderOf, late, badEdge, ofKind, commandAt, stepOf, reading, refused, UnitPair, Contents, commands, recordOf}
+use Rattle.reading.proofs.Prelude.{GoodEdge, WithinLimits, behindEdges, NoNewEdge, no-such-u, no-such-v, to-itself, repeated, Truncated, BadEdge}
+use Rattle.reading.proofs.Prelude.{ReadPlan, Command, Fault as Faulty}
 use Rattle.reading.proofs.CommandKinds.{kind-of-byte, countBehind, late-counted}
 use Rattle.reading.proofs.Commands.{known-command}
 use Rattle.reading.proofs.Walk.{walk-ended}
 use Rattle.reading.proofs.Elements.{with, Few, few-so, few-within, Held, few-edges}
-use Rattle.reading.proofs.Lists.{length-snoc, all-snoc, distinct-snoc}
-use Rattle.reading.proofs.Rows.{decides-bad}
+use Rattle.reading.proofs.ElementLists.{length-snoc, all-snoc, distinct-snoc}
+use Rattle.reading.proofs.FaultRows.{decides-bad}
 use Rattle.reading.proofs.RoundTrip.{commands-read}
 use Rattle.plan.specs.declared.fault.Fault.{Fault}
-use Rattle.plan.specs.declared.fault.Fault.the-variants.{Truncated, BadEdge}
-use Rattle.reading.specs.declared.reader.Reading.{Reading}
-use Rattle.reading.specs.declared.command.Command.{Command}
-use Rattle.reading.specs.declared.command.Command.the-variants.{Fault as Faulty}
 
 module _ (c : Contents) (w : WithinLimits c) (all : length (c .edges) ≡ MAX_EDGES) (last : behindEdges c ≡ 0) where
   few : Few c
@@ -87,10 +73,10 @@ module _ (c : Contents) (w : WithinLimits c) (all : length (c .edges) ≡ MAX_ED
         let e : UnitPair = record { u = getD more 0 0; v = getD more 1 0 } in
         let bad : badEdge (recordOf c) (e .u) (e .v) ≡ true = decided-true (decides-bad c few e) (no-new-edge e) in
         let fault = edge-there (Faulty (BadEdge at)) (simp (in-time, le-ltb _ _ long, bad)) in
-        record { fault = BadEdge at; is = ap (λ (r : Reading). r .outcome) (refused-there (BadEdge at) fault); number-is = refl; spot-is = refl }
+        record { fault = BadEdge at; is = ap (λ (r : ReadPlan). r .outcome) (refused-there (BadEdge at) fault); number-is = refl; spot-is = refl }
 
     pub cut-edge-refused : length more < operandBytes edge → RefusedBy (reading (commands c ++ (byteOf edge ∷ more)) .outcome) 2 at
     unfolding ofKind
     cut-edge-refused short =
         let fault = edge-there (Faulty (Truncated at)) (simp (in-time, lt-ltb _ _ short)) in
-        record { fault = Truncated at; is = ap (λ (r : Reading). r .outcome) (refused-there (Truncated at) fault); number-is = refl; spot-is = refl }
+        record { fault = Truncated at; is = ap (λ (r : ReadPlan). r .outcome) (refused-there (Truncated at) fault); number-is = refl; spot-is = refl }

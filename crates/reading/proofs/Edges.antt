@@ -1,14 +1,6 @@
 -- EDGEs: the rows of predecessors as sets.
-use mathlib.Core.Path.{_≡_, refl, subst, ap, _∙_}
-use mathlib.Core.Bool.{Bool, true, false, _||_, true≢false}
-use Prim.Native.Nat.{ℕ, _<_}
-use lib.ListN.{getD}
-use borrow.Author.Tests.{leb-false, eqb-false}
-use Rattle.reading.specs.Commands.{badEdge}
-use Rattle.plan.specs.declared.record.Plan.{Plan}
-use Rattle.atoms.specs.Word.{Has, has, subset, atom}
-use Rattle.atoms.proofs.Sets.{decides-has, decides-subset, has-atom, atom-only}
-use Rattle.atoms.proofs.Tests.{decides-same}
+use Rattle.reading.proofs.Prelude.{_≡_, refl, subst, ap, _∙_, Bool, true, false, _||_, true≢false, ℕ, _<_, getD, leb-false, eqb-false, badEdge, Plan}
+use Rattle.reading.proofs.Prelude.{Has, has, subset, atom, decides-has, decides-subset, has-atom, atom-only, decides-same}
 
 -- a set with the one atom v lies within w exactly if w has v
 pub subset-atom : (v w : ℕ) → subset (atom v) w ≡ has w v

@@ -1,35 +1,17 @@
 -- One command more, of any kind: its operands as an element of the plan's lists, when it fits behind them, and what it adds to their bytes
 -- and to their record.
-use mathlib.Core.Path.{_≡_, refl, ap, sym, _∙_, subst}
-use mathlib.Core.List.{List, [], _∷_, _++_, append-assoc, append-nil, flatMap, List·Memᴰ}
-use mathlib.Core.Bool.{Bool, true, false, true≢false}
-use Prim.Native.Nat.{ℕ, suc, _+_, _*_, _^_, _≤_, _<_}
-use native.Mathlib.Omega.{arith}
-use native.Mathlib.Numerals.{add-one}
-use lib.Count.{ones}
-use lib.ListN.{length, take, drop, getD, length-append, take-append-drop}
-use lib.Seq.{drop-drop}
-use lib.Dec.{ltb}
-use borrow.Author.Tests.{leb-false, ltb-true, lt-leb, le-ltb, ne-eqb, not-false}
-use Rattle.atoms.specs.Lists.{padded, tabulate}
-use Rattle.atoms.specs.Bounded.{Decides}
-use Rattle.atoms.specs.Word.{Has, has, Apart}
-use Rattle.atoms.proofs.Lists.{padded-snoc, getD-tabulate}
-use Rattle.atoms.proofs.Sets.{decides-has, decides-apart}
-use Rattle.atoms.proofs.Tests.{decided-true, decided-false, not-both, decides-and, decides-not, decides-equal}
-use Rattle.plan.specs.Limits.{MAX_TABLES, MAX_RULES, MAX_USES, MAX_UNITS, MAX_EDGES, MAX_INPUTS}
-use Rattle.plan.specs.Record.{usesAt, emptyPlan, withCount, withGiven, withTable, withRule, withUse, withUnit, withEdge, withShow}
-use Rattle.reading.specs.Words.{WORD_BYTES, WORD_VALUES, wordAt}
-use Rattle.reading.specs.Commands.{Single, sizes, given, show, Kind, single, table, rule, usage, unit, edge, end}
-use Rattle.reading.specs.Commands.{byteOf, operandBytes, carrying, operandRows}
-use Rattle.reading.specs.Commands.{kind-discrete, Most, once, upTo, runsOutAt, mostOf, orderOf, earliestBehind, count}
-use Rattle.reading.specs.Commands.{emptyRule, contradictory, badUse, absentRule, badEdge}
-use Rattle.reading.specs.Layout.{TableWords, RuleWords, TableUse, UnitPair, Contents, Element, listOf, atMost}
-use Rattle.reading.specs.Layout.{wordBytes, countBytes, givenBytes, tableBytes, ruleBytes, useBytes}
-use Rattle.reading.specs.Layout.{unitBytes, edgeBytes, showBytes, commands, wordOf, usesOf, ruleWords, predecessorsOf, recordOf, IsByte, All, Distinct}
-use Rattle.reading.specs.Layout.{GoodOnce, GoodUse, GoodEdge, WithinLimits}
-use Rattle.reading.specs.Reading.{commandBytes}
-use Rattle.reading.specs.Layout.{countOf}
+use Rattle.reading.proofs.Prelude.{_≡_, refl, ap, sym, _∙_, subst, List, [], _∷_, _++_, append-assoc, append-nil, flatMap, List·Memᴰ, Bool, true}
+use Rattle.reading.proofs.Prelude.{false, true≢false, ℕ, suc, _+_, _*_, _^_, _≤_, _<_, arith, add-one, ones, length, take, drop, getD, length-append}
+use Rattle.reading.proofs.Prelude.{take-append-drop, drop-drop, ltb, leb-false, ltb-true, lt-leb, le-ltb, ne-eqb, not-false, padded, tabulate, Decides}
+use Rattle.reading.proofs.Prelude.{Has, has, Apart, padded-snoc, getD-tabulate, decides-has, decides-apart, decided-true, decided-false, not-both}
+use Rattle.reading.proofs.Prelude.{decides-and, decides-not, decides-equal, MAX_TABLES, MAX_RULES, MAX_USES, MAX_UNITS, MAX_EDGES, MAX_INPUTS, usesAt}
+use Rattle.reading.proofs.Prelude.{emptyPlan, withCount, withGiven, withTable, withRule, withUse, withUnit, withEdge, withShow, WORD_BYTES}
+use Rattle.reading.proofs.Prelude.{WORD_VALUES, wordAt, Single, sizes, given, show, Kind, single, table, rule, usage, unit, edge, end, byteOf}
+use Rattle.reading.proofs.Prelude.{operandBytes, carrying, operandRows, kind-discrete, Most, once, upTo, runsOutAt, mostOf, orderOf, earliestBehind}
+use Rattle.reading.proofs.Prelude.{count, emptyRule, contradictory, badUse, absentRule, badEdge, TableWords, RuleWords, TableUse, UnitPair, Contents}
+use Rattle.reading.proofs.Prelude.{Element, listOf, atMost, wordBytes, countBytes, givenBytes, tableBytes, ruleBytes, useBytes, unitBytes, edgeBytes}
+use Rattle.reading.proofs.Prelude.{showBytes, commands, wordOf, usesOf, ruleWords, predecessorsOf, recordOf, IsByte, All, AllDistinct, GoodOnce}
+use Rattle.reading.proofs.Prelude.{GoodUse, GoodEdge, WithinLimits, commandBytes, kindCount, Plan}
 use Rattle.reading.proofs.CommandKinds.{each-kind, none-behind}
 use Rattle.reading.proofs.Numbers.{length-bytes, word-behind, word-bytes, word-fits}
 use Rattle.reading.proofs.Edges.{not-bad-edge}
@@ -39,8 +21,7 @@ use Rattle.reading.proofs.Commands.{Passed, InPlace, Room, room-left, a
 use Rattle.reading.proofs.Pigeonhole.{edges-at-most}
 use Rattle.reading.proofs.Predecessors.{has-member, member-has, rows-snoc}
 use Rattle.reading.proofs.Program.{tableWords, table-words-long, tables-snoc, rules-snoc, bitOf, uses-word, use-has, has-use, uses-snoc}
-use Rattle.reading.proofs.Lists.{length-snoc, all-snoc, distinct-snoc, flat-snoc, empty}
-use Rattle.plan.specs.declared.record.Plan.{Plan}
+use Rattle.reading.proofs.ElementLists.{length-snoc, all-snoc, distinct-snoc, flat-snoc, empty}
 
 -- the contents with these lists
 abbrev contentsOf : ((k : Kind) → List (Element k)) → Contents
@@ -183,7 +164,7 @@ Under (runsOutAt m) n = Unit {0}
 
 -- what holds of the lists of every record that is read
 pub record Few (c : Contents) : Type 0 where
-  pub under : (k : Kind) → Under (mostOf k) (countOf c k)
+  pub under : (k : Kind) → Under (mostOf k) (kindCount c k)
   pub good-uses : All (GoodUse (length (c .rules)) (length (c .tables))) (c .uses)
 
 pub few-so : (c : Contents) → ((s : Single) → length (c .once s) ≤ 1) → length (c .tables) ≤ MAX_TABLES → length (c .rules) ≤ MAX_RULES
@@ -196,9 +177,9 @@ few-within {c} w = few-so c (λ s. w .under (single s)) (w .under table) (w .und
 
 pub record Held (c : Contents) : Type 0 where
   pub few : Few c
-  pub no-use-again : Distinct (c .uses)
+  pub no-use-again : AllDistinct (c .uses)
   pub good-edges : All (GoodEdge (length (c .units))) (c .edges)
-  pub no-repeat : Distinct (c .edges)
+  pub no-repeat : AllDistinct (c .edges)
 
 pub record Fits (c : Contents) (k : Kind) (x : Element k) : Type 0 where
   pub few : Few c
@@ -316,7 +297,7 @@ module _ (c : Contents) (at : ℕ) (s : List ℕ) (few : Few c) where
 
 -- ---- the lists, one element more
 
-pub count-of : (c : Contents) (k : Kind) → count (recordOf c) k ≡ countOf c k
+pub count-of : (c : Contents) (k : Kind) → count (recordOf c) k ≡ kindCount c k
 unfolding recordOf
 count-of c (single sizes) = refl
 count-of c (single given) = refl
@@ -329,7 +310,7 @@ count-of c (single show) = refl
 count-of c end = refl
 
 -- a list of the contents is no longer than the one it is made of
-lists-long : (lists : (k : Kind) → List (Element k)) (j : Kind) → countOf (contentsOf lists) j ≤ length (lists j)
+lists-long : (lists : (k : Kind) → List (Element k)) (j : Kind) → kindCount (contentsOf lists) j ≤ length (lists j)
 lists-long lists (single s) = omega arith
 lists-long lists table = omega arith
 lists-long lists rule = omega arith
@@ -348,27 +329,27 @@ abbrev closes : Kind → Bool
 closes k = elim (mostOf k) [ once ↦ ltb (orderOf k) (orderOf (earliestBehind k)) | upTo n ↦ true | runsOutAt n ↦ true ]
 
 -- where a command is in place there is room for one more
-one-more : (c : Contents) (k : Kind) → InPlace (recordOf c) k → Under (mostOf k) (suc (countOf c k))
+one-more : (c : Contents) (k : Kind) → InPlace (recordOf c) k → Under (mostOf k) (suc (kindCount c k))
 one-more c k i = go (mostOf k) refl (subst (Room (mostOf k)) (count-of c k) (room-left k i))
   where
-    none-there : mostOf k ≡ once → countOf c k ≤ 0
+    none-there : mostOf k ≡ once → kindCount c k ≤ 0
     none-there e =
         let closed : ltb (orderOf k) (orderOf (earliestBehind k)) ≡ true = rw (e, closes) at (each-kind closes refl k) in
         omega (arith, count-of c k, none-behind (recordOf c) (orderOf k) (i .on-time) k (ltb-true _ _ closed))
 
-    go : (m : Most) → mostOf k ≡ m → Room m (countOf c k) → Under m (suc (countOf c k))
+    go : (m : Most) → mostOf k ≡ m → Room m (kindCount c k) → Under m (suc (kindCount c k))
     go once e r = omega (arith, none-there e)
     go (upTo m) e r = omega arith
     go (runsOutAt m) e r = tt
 
-few-with : (c : Contents) (k : Kind) (x : Element k) → Few c → InPlace (recordOf c) k → (j : Kind) → Under (mostOf j) (countOf (with c k x) j)
+few-with : (c : Contents) (k : Kind) (x : Element k) → Few c → InPlace (recordOf c) k → (j : Kind) → Under (mostOf j) (kindCount (with c k x) j)
 few-with c k x few i j = under-less (mostOf j) (lists-long (λ h. added k x h (listOf c h)) j) (go (kind-discrete k j))
   where
     go : (d : Dec (k ≡ j))
         → Under (mostOf j) (length {A = Element j} (elim d [ yes e ↦ listOf c j ++ (subst Element e x ∷ []) | no n ↦ listOf c j ]))
     go (yes e) =
-        subst (Under (mostOf j)) (sym (length-snoc (listOf c j) (subst Element e x) ∙ add-one (countOf c j)))
-        (subst (λ (h : Kind). Under (mostOf h) (suc (countOf c h))) e (one-more c k i))
+        subst (Under (mostOf j)) (sym (length-snoc (listOf c j) (subst Element e x) ∙ add-one (kindCount c j)))
+        (subst (λ (h : Kind). Under (mostOf h) (suc (kindCount c h))) e (one-more c k i))
     go (no n) = few .under j
 
 held-with : (c : Contents) (k : Kind) (x : Element k) → Held c → Fits c k x → Held (with c k x)
@@ -449,7 +430,7 @@ few-edges c h = edges-at-most (c .edges) (below (c .edges) (h .good-edges)) (h .
         (record { from-there = omega (arith, g .from-there); to-there = omega (arith, g .to-there); apart = g .apart }, below edges (a .1))
 
 -- column "most"
-pub within-most : (c : Contents) → Held c → (k : Kind) → countOf c k ≤ atMost k
+pub within-most : (c : Contents) → Held c → (k : Kind) → kindCount c k ≤ atMost k
 within-most c h (single s) = h .few .under (single s)
 within-most c h table = h .few .under table
 within-most c h rule = h .few .under rule

@@ -1,35 +1,18 @@
 -- The reader's loops: what one command more does to the place that is reached.
-use mathlib.Core.Path.{_≡_, refl, ap, sym, _∙_, subst}
-use mathlib.Core.List.{List, [], _∷_}
-use mathlib.Core.Bool.{true, false, true≢false, not}
-use Prim.Native.Nat.{ℕ, suc, min, _+_, _-_, _≤_, _<_}
-use native.Mathlib.Omega.{arith}
-use native.Mathlib.Decide.{decLt}
-use lib.ListN.{length, drop, getD, length-drop}
-use lib.Seq.{drop-drop}
-use lib.Dec.{T, eqb}
-use mir.Val.{hasKey}
-use types.Run.{OneOf, miss}
-use denote.Enum.Declared.{tagOf}
+use Rattle.reading.proofs.Prelude.{_≡_, refl, ap, sym, _∙_, subst, List, [], _∷_, true, false, true≢false, not, ℕ, suc, min, _+_, _-_, _≤_, _<_, arith}
+use Rattle.reading.proofs.Prelude.{decLt, length, drop, getD, length-drop, drop-drop, T, eqb, hasKey, OneOf, miss, tagOf, Fitting, emptyPlan, Kind}
+use Rattle.reading.proofs.Prelude.{single, sizes, usage, edge, end, orderOf, earliestBehind, count, commandAt, carrying, onward, stepOf, walk, reading}
+use Rattle.reading.proofs.Prelude.{accepted, refused, commandBytes, placeAt, kindOfStep, Reached, Plan, Refused, ReadPlan, Command, Count, Given}
+use Rattle.reading.proofs.Prelude.{Table, Rule, Use, Unit as UnitOf, Edge, Show, End, Fault as Faulty}
 use Rattle.reading.proofs.command.Command.{the-type}
-use Rattle.plan.specs.Record.{Fitting, emptyPlan}
-use Rattle.reading.specs.Commands.{Kind, single, sizes, usage, edge, end, orderOf, earliestBehind, count, commandAt, carrying}
-use Rattle.reading.specs.Reading.{onward, stepOf, walk, reading, accepted, refused, commandBytes}
-use Rattle.reading.specs.Progress.{placeAt, kindOfStep, Reached}
-use Rattle.reading.proofs.Commands.{InPlace, Unstopped, Front, unstopped, stopped, front}
-use Rattle.reading.proofs.Commands.{planOf, adds, goesOn, step-kind, step-adds, Leads}
+use Rattle.reading.proofs.Commands.{InPlace, Unstopped, Front, unstopped, stopped, front, planOf, adds, goesOn, step-kind, step-adds, Leads}
 use Rattle.reading.proofs.CommandKinds.{each-kind, order-end, none-behind}
 use Rattle.reading.proofs.Edges.{NewEdge, not-bad-edge}
 use Rattle.reading.proofs.Uses.{NewUse, not-bad-use}
 use Rattle.reading.proofs.Limits.{empty-fits, leads-grown}
 use Rattle.reading.proofs.Walk.{walk-on, walk-ended}
-use Rattle.plan.specs.declared.record.Plan.{Plan}
 use Rattle.plan.specs.declared.fault.Fault.{Fault}
-use Rattle.plan.specs.declared.fault.Outcome.the-variants.{Refused}
 use Rattle.reading.specs.declared.reader.Progress.{Progress}
-use Rattle.reading.specs.declared.reader.Reading.{Reading}
-use Rattle.reading.specs.declared.command.Command.{Command}
-use Rattle.reading.specs.declared.command.Command.the-variants.{Count, Given, Table, Rule, Use, Unit as UnitOf, Edge, Show, End, Fault as Faulty}
 
 -- ---- the order of kinds
 
@@ -222,7 +205,7 @@ module _ (bytes : List ℕ) (r : Progress) (R : Reached end bytes r) where
   accepted-here o = sym (walk-ended (r .plan) (r .at) _ (accepted (r .plan)) (there End (at-end (r .command) o (R .past)))) ∙ R .same
 
   pub refused-here : (f : Fault) (q : Plan) → r .command ≡ Faulty f → q ≡ emptyPlan
-      → _≡_ {A = Reading} (record { outcome = Refused f; plan = q }) (reading bytes)
+      → _≡_ {A = ReadPlan} (record { outcome = Refused f; plan = q }) (reading bytes)
   refused-here f q e z =
       ap (λ (x : Plan). record { outcome = Refused f; plan = x }) z
       ∙ sym (walk-ended (r .plan) (r .at) _ (refused f) (there (Faulty f) e)) ∙ R .same

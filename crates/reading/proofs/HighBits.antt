@@ -1,12 +1,6 @@
 -- Words from two to the power of n on: those of UNITs that name a rule that is not there, and of TABLEs with a bit behind the last row.
-use mathlib.Core.Path.{_≡_, ap, _∙_, subst}
-use Prim.Native.Nat.{ℕ, suc, _^_, _≤_, _<_}
-use native.Mathlib.Omega.{arith}
-use native.Mathlib.Decide.{decLt}
-use lib.Dec.{ltb, leb}
-use lib.Pow.{suc-ones}
-use Rattle.atoms.specs.Word.{Has, _∖_, below}
-use Rattle.atoms.proofs.Sets.{has-without, has-below, has-none, without-left, without-right, below-lt, lt-of-has, some-atom}
+use Rattle.reading.proofs.Prelude.{_≡_, ap, _∙_, subst, ℕ, suc, _^_, _≤_, _<_, arith, decLt, ltb, leb, suc-ones, Has, _∖_, below, has-without}
+use Rattle.reading.proofs.Prelude.{has-below, has-none, without-left, without-right, below-lt, lt-of-has, some-atom}
 
 -- a word above all those with atoms below n is one from 2 ^ n on
 pub absent-above-below : (n m word : ℕ) → m ≡ below n → ltb m word ≡ leb (2 ^ n) word

@@ -1,15 +1,8 @@
 -- Words that a list of entries fills: bit j is in the word of key k exactly if an entry has this key and this bit.
-use mathlib.Core.Path.{_≡_, refl, sym, ap, _∙_, subst}
-use mathlib.Core.List.{List, [], _∷_, _++_, List·Memᴰ, List·Memᴰ·head, List·Memᴰ·tail, List·Memᴰ·cases-cons, List·Memᴰ·append-cases}
-use mathlib.Core.List.{List·Memᴰ·not-nil, List·Memᴰ·eq-of-singleton, Memᴰ·append-left, Memᴰ·append-right}
-use mathlib.Core.Bool.{Bool, true, false}
-use mathlib.Core.Logic.{_⊎_, inl, inr}
-use Prim.Native.Nat.{ℕ}
-use lib.Dec.{eqb}
-use borrow.Author.Tests.{eqb-true, eqb-false}
-use Rattle.atoms.specs.Word.{Has, _∪_, atom}
-use Rattle.atoms.proofs.Sets.{ext, has-atom, atom-only, has-left, has-right, union-cases, has-none}
-use Rattle.reading.specs.Layout.{wordOf}
+use Rattle.reading.proofs.Prelude.{_≡_, refl, sym, ap, _∙_, subst, List, [], _∷_, _++_, List·Memᴰ, List·Memᴰ·head, List·Memᴰ·tail}
+use Rattle.reading.proofs.Prelude.{List·Memᴰ·cases-cons, List·Memᴰ·append-cases, List·Memᴰ·not-nil, List·Memᴰ·eq-of-singleton, Memᴰ·append-left}
+use Rattle.reading.proofs.Prelude.{Memᴰ·append-right, Bool, true, false, _⊎_, inl, inr, ℕ, eqb, eqb-true, eqb-false, Has, _∪_, atom, ext, has-atom}
+use Rattle.reading.proofs.Prelude.{atom-only, has-left, has-right, union-cases, has-none, wordOf}
 
 module _ {A : Type 0} (key bit : A → ℕ) where
   -- an entry of the list with this key and this bit

@@ -1,18 +1,9 @@
 -- What holds of the record of every reading, accepted or not.
-use mathlib.Core.Path.{_≡_, refl, sym, subst}
-use mathlib.Core.Bool.{true, true≢false}
-use mathlib.Core.List.{List, [], _∷_}
-use Prim.Native.Nat.{ℕ, suc, _≤_, _<_}
-use native.Mathlib.Omega.{arith}
-use lib.ListN.{getD}
-use Rattle.plan.specs.Record.{Fitting, emptyPlan, withCount, withGiven, withTable, withRule, withUse, withUnit, withEdge, withShow}
-use Rattle.reading.specs.Words.{BYTE_VALUES}
-use Rattle.reading.specs.Commands.{Kind, single, sizes, given, show, table, rule, usage, unit, edge, end, carrying, count}
-use Rattle.reading.specs.Reading.{reading}
-use Rattle.reading.specs.Layout.{IsByte, All}
+use Rattle.reading.proofs.Prelude.{_≡_, refl, sym, subst, true, true≢false, List, [], _∷_, ℕ, suc, _≤_, _<_, arith, getD, Fitting, emptyPlan}
+use Rattle.reading.proofs.Prelude.{withCount, withGiven, withTable, withRule, withUse, withUnit, withEdge, withShow, BYTE_VALUES, Kind, single, sizes}
+use Rattle.reading.proofs.Prelude.{given, show, table, rule, usage, unit, edge, end, carrying, count, reading, IsByte, All, Plan}
 use Rattle.reading.proofs.Commands.{room-left, Unstopped, adds, grown, Leads}
 use Rattle.reading.proofs.Walk.{walk-keeps}
-use Rattle.plan.specs.declared.record.Plan.{Plan}
 
 pub empty-fits : Fitting emptyPlan
 unfolding emptyPlan

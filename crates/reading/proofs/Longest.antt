@@ -1,21 +1,12 @@
 -- "The longest plan has 2,465 bytes", 9 more with a GIVEN, 1,296 more with all TABLEs and USEs, 9 more with a SHOW, and 4 more with a COUNT: no layout
 -- within the limits is longer, and one has as many.
-use mathlib.Core.Path.{_≡_, refl, ap, _∙_}
-use mathlib.Core.List.{List, [], _∷_, flatMap}
-use Prim.Native.Nat.{ℕ, zero, suc, _+_, _*_, _/_, _%_, _^_, _≤_, _<_}
-use native.Mathlib.Omega.{arith}
-use native.Mathlib.Nat.{mul-suc}
-use lib.Count.{ones-le}
-use lib.ListN.{length, replicate, length-append}
-use Rattle.atoms.proofs.Sets.{has-none}
-use Rattle.plan.specs.Limits.{MAX_TABLES, MAX_RULES, MAX_USES, MAX_UNITS, MAX_EDGES}
-use Rattle.reading.specs.Commands.{Single, sizes, given, show, single, table, rule, usage, unit, edge, end}
-use Rattle.reading.specs.Reading.{commandBytes, LONGEST_PLAN}
-use Rattle.reading.specs.Layout.{countBytes, givenBytes, tableBytes, ruleBytes, useBytes, unitBytes, edgeBytes, showBytes}
-use Rattle.reading.specs.Layout.{TableUse, OnceElement, Contents, commands, layout, All}
-use Rattle.reading.specs.Layout.{GoodTable, GoodRule, GoodUse, WithinLimits, Counted}
+use Rattle.reading.proofs.Prelude.{_≡_, refl, ap, _∙_, List, [], _∷_, flatMap, ℕ, zero, suc, _+_, _*_, _/_, _%_, _^_, _≤_, _<_, arith, mul-suc}
+use Rattle.reading.proofs.Prelude.{ones-le, length, replicate, length-append, has-none, MAX_TABLES, MAX_RULES, MAX_USES, MAX_UNITS, MAX_EDGES, Single}
+use Rattle.reading.proofs.Prelude.{sizes, given, show, single, table, rule, usage, unit, edge, end, commandBytes, LONGEST_PLAN, countBytes, givenBytes}
+use Rattle.reading.proofs.Prelude.{tableBytes, ruleBytes, useBytes, unitBytes, edgeBytes, showBytes, TableUse, OnceElement, Contents, commands, layout}
+use Rattle.reading.proofs.Prelude.{All, GoodTable, GoodRule, GoodUse, WithinLimits, CountRight}
 use Rattle.reading.proofs.Elements.{operands-long}
-use Rattle.reading.proofs.Lists.{listBelow, below-long, below-all, below-distinct}
+use Rattle.reading.proofs.ElementLists.{listBelow, below-long, below-all, below-distinct}
 use Rattle.reading.proofs.Pigeonhole.{edgesBelow, edges-long, edges-good, edges-distinct}
 
 -- elements of k bytes each
@@ -140,11 +131,11 @@ longest-within =
       no-repeat = edges-distinct MAX_EDGES;
     }
 
-longest-counted : Counted longest
+longest-counted : CountRight longest
 unfolding longest oneEach
 longest-counted = (record { rules-are = omega arith; units-are = omega arith; edges-are = omega (arith, edges-long MAX_EDGES) }, tt)
 
-pub longest-there : (c : Contents) × WithinLimits c × Counted c × (length (layout c) ≡ LONGEST_PLAN)
+pub longest-there : (c : Contents) × WithinLimits c × CountRight c × (length (layout c) ≡ LONGEST_PLAN)
 unfolding longest oneEach
 longest-there =
     (longest, longest-within, longest-counted, simp length-append (omega (arith, commands-long longest, below-long useAt MAX_USES, edges-long MAX_EDGES)))

@@ -1,13 +1,7 @@
 -- Numbers and their bytes, lowest first.
-use mathlib.Core.Path.{_≡_, refl, ap, sym, _∙_, subst}
-use mathlib.Core.List.{List, [], _∷_, _++_}
-use Prim.Native.Nat.{ℕ, zero, suc, _+_, _-_, _*_, _/_, _%_, _^_, _≤_, _<_}
-use native.Mathlib.Omega.{arith}
-use native.Mathlib.Nat.{pow-le-pow-right, pow-succ', pow-zero}
-use lib.ListN.{length, take, drop, getD, length-drop}
-use lib.Seq.{drop-cons, take-at, drop-at, length-take-le}
-use Rattle.reading.specs.Words.{WORD_BYTES, BYTE_VALUES, WORD_VALUES, spelled, wordAt}
-use Rattle.reading.specs.Layout.{bytesOf, wordBytes, IsByte, All}
+use Rattle.reading.proofs.Prelude.{_≡_, refl, ap, sym, _∙_, subst, List, [], _∷_, _++_, ℕ, zero, suc, _+_, _-_, _*_, _/_, _%_, _^_, _≤_, _<_, arith}
+use Rattle.reading.proofs.Prelude.{pow-le-pow-right, pow-succ', pow-zero, length, take, drop, getD, length-drop, drop-cons, take-at, drop-at}
+use Rattle.reading.proofs.Prelude.{length-take-le, WORD_BYTES, BYTE_VALUES, WORD_VALUES, spelled, wordAt, bytesOf, wordBytes, IsByte, All}
 
 -- one byte more in front
 pub number-step : (s : List ℕ) (at k : ℕ) → at < length s

@@ -1,19 +1,10 @@
 -- At most MAX_EDGES edges join MAX_UNITS units: each takes a number below MAX_EDGES of its own. And so many do: each number has its edge.
-use mathlib.Core.Path.{_≡_, ap, sym, _∙_, subst}
-use mathlib.Core.List.{List, [], _∷_, List·Memᴰ, List·Memᴰ·head, List·Memᴰ·tail}
-use mathlib.Core.Logic.{_⊎_, inl, inr}
-use Prim.Native.Nat.{ℕ, min, _+_, _*_, _-_, _/_, _%_, _≤_, _<_}
-use native.Mathlib.Omega.{arith}
-use native.Mathlib.Decide.{decLt}
-use lib.Count.{ones, ones-le}
-use lib.ListN.{length}
-use Rattle.atoms.specs.Word.{Has, _∪_, atom}
-use Rattle.atoms.proofs.Sets.{has-none, has-left, has-right, has-atom, atom-only, union-cases, lt-of-has}
+use Rattle.reading.proofs.Prelude.{_≡_, ap, sym, _∙_, subst, List, [], _∷_, List·Memᴰ, List·Memᴰ·head, List·Memᴰ·tail, _⊎_, inl, inr, ℕ, min, _+_, _*_}
+use Rattle.reading.proofs.Prelude.{_-_, _/_, _%_, _≤_, _<_, arith, decLt, ones, ones-le, length, Has, _∪_, atom, has-none, has-left, has-right}
+use Rattle.reading.proofs.Prelude.{has-atom, atom-only, union-cases, lt-of-has, MAX_UNITS, MAX_EDGES, UnitPair, All, AllDistinct, GoodEdge}
 use Rattle.atoms.proofs.Counts.{count-lt}
-use Rattle.plan.specs.Limits.{MAX_UNITS, MAX_EDGES}
-use Rattle.reading.specs.Layout.{UnitPair, All, Distinct, GoodEdge}
 use Rattle.reading.proofs.Predecessors.{pair-is}
-use Rattle.reading.proofs.Lists.{listBelow, below-long, below-all, below-distinct}
+use Rattle.reading.proofs.ElementLists.{listBelow, below-long, below-all, below-distinct}
 
 -- a number for each other unit of u: the v below it, then those above
 abbrev OTHERS : ℕ
@@ -75,7 +66,7 @@ slot-taken (x ∷ edges) e a g h = go (slot-taken edges e (a .1) g) (union-cases
     go rec (inl k) = List·Memᴰ·tail (rec k)
     go rec (inr k) = List·Memᴰ·head (slot-own e x g (a .0) (sym (atom-only (slot x) k)))
 
-count-slots : (edges : List UnitPair) → All (GoodEdge MAX_UNITS) edges → Distinct edges → length edges ≤ ones (slots edges)
+count-slots : (edges : List UnitPair) → All (GoodEdge MAX_UNITS) edges → AllDistinct edges → length edges ≤ ones (slots edges)
 unfolding slots
 count-slots [] a d = omega arith
 count-slots (e ∷ edges) a d =
@@ -93,7 +84,7 @@ slots-below (e ∷ edges) a i h = go (slots-below edges (a .1) i) (union-cases (
     go rec (inl k) = rec k
     go rec (inr k) = subst (λ (j : ℕ). j < MAX_EDGES) (atom-only (slot e) k) (slot-below e (a .0))
 
-pub edges-at-most : (edges : List UnitPair) → All (GoodEdge MAX_UNITS) edges → Distinct edges → length edges ≤ MAX_EDGES
+pub edges-at-most : (edges : List UnitPair) → All (GoodEdge MAX_UNITS) edges → AllDistinct edges → length edges ≤ MAX_EDGES
 edges-at-most edges a d = omega (arith, count-slots edges a d, ones-le MAX_EDGES (slots edges) (lt-of-has (slots edges) MAX_EDGES (slots-below edges a)))
 
 -- ---- all edges there are
@@ -118,6 +109,6 @@ pub edges-good : (n : ℕ) → n ≤ MAX_EDGES → All (GoodEdge MAX_UNITS) (edg
 unfolding edgesBelow
 edges-good n l = below-all edgeAt (GoodEdge MAX_UNITS) n (λ i k. edge-good i (omega arith))
 
-pub edges-distinct : (n : ℕ) → Distinct (edgesBelow n)
+pub edges-distinct : (n : ℕ) → AllDistinct (edgesBelow n)
 unfolding edgesBelow
 edges-distinct n = below-distinct edgeAt edge-own n

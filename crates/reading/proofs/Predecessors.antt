@@ -1,13 +1,6 @@
 -- The rows of predecessors, from the list of edges: v is in the row of u exactly if the edge (u,v) is in the list.
-use mathlib.Core.Path.{_≡_, ap, _∙_, subst}
-use mathlib.Core.List.{List, _∷_, [], _++_, List·Memᴰ}
-use Prim.Native.Nat.{ℕ, _<_}
-use lib.ListN.{getD, set}
-use Rattle.atoms.specs.Lists.{tabulate}
-use Rattle.atoms.specs.Word.{Has, _∪_, atom}
-use Rattle.atoms.proofs.Lists.{getD-tabulate, set-tabulate}
-use Rattle.plan.specs.Limits.{MAX_UNITS}
-use Rattle.reading.specs.Layout.{UnitPair, predecessorsOf}
+use Rattle.reading.proofs.Prelude.{_≡_, ap, _∙_, subst, List, _∷_, [], _++_, List·Memᴰ, ℕ, _<_, getD, set, tabulate, Has, _∪_, atom, getD-tabulate}
+use Rattle.reading.proofs.Prelude.{set-tabulate, MAX_UNITS, UnitPair, predecessorsOf}
 use Rattle.reading.proofs.KeyedWords.{has-entry, entry-has, word-same, word-other}
 
 abbrev pub pair : ℕ → ℕ → UnitPair

@@ -1,34 +1,17 @@
 -- The first DECIDING_BYTES bytes decide what reading gives. The place of a command follows from how many commands of each kind the record
 -- has, so every command that is read ends in time; and a command shows its fault within three bytes more, behind a SHOW within two. So each command
 -- is the same with what lies behind cut off.
-use mathlib.Core.Path.{_≡_, refl, ap, sym, _∙_, subst}
-use mathlib.Core.List.{List, [], _∷_, _++_, flatMap}
-use mathlib.Core.Bool.{Bool, true, false}
-use mathlib.Core.Option.{Option, some, none}
-use Prim.Native.Nat.{ℕ, max, zero, suc, _+_, _*_, _-_, _≤_, _<_}
-use native.Mathlib.Omega.{arith}
-use native.Mathlib.Decide.{decLt}
-use lib.Dec.{ltb}
-use lib.ListN.{length, take, drop, length-take}
-use lib.Seq.{take-nil, take-take, getD-take}
-use borrow.Author.Tests.{lt-ltb, le-ltb}
-use Rattle.plan.specs.Record.{emptyPlan}
-use Rattle.reading.specs.Words.{WORD_BYTES, spelled, wordAt}
-use Rattle.plan.specs.Limits.{MAX_TABLES, MAX_RULES, MAX_USES, MAX_UNITS, MAX_EDGES}
-use Rattle.reading.specs.Commands.{Kind, single, sizes, given, show, table, rule, usage, unit, edge, end, kindOf, operandBytes, carrying, Row, kindRows}
-use Rattle.reading.specs.Commands.{operandRows, firstFit, ofKind, commandAt}
-use Rattle.reading.specs.Reading.{ended, stepOf, walk, reading, accepted, refused, commandBytes, DECIDING_BYTES}
-use Rattle.reading.specs.Layout.{Contents, commands, recordOf}
-use Rattle.reading.proofs.Commands.{Passed, InPlace, room-left, passed-in-place, known-command}
-use Rattle.reading.proofs.Commands.{unknown-command, Leads, leads-step}
+use Rattle.reading.proofs.Prelude.{_≡_, refl, ap, sym, _∙_, subst, List, [], _∷_, _++_, flatMap, Bool, true, false, Option, some, none, ℕ, max, zero}
+use Rattle.reading.proofs.Prelude.{suc, _+_, _*_, _-_, _≤_, _<_, arith, decLt, ltb, length, take, drop, length-take, take-nil, take-take, getD-take}
+use Rattle.reading.proofs.Prelude.{lt-ltb, le-ltb, emptyPlan, WORD_BYTES, spelled, wordAt, MAX_TABLES, MAX_RULES, MAX_USES, MAX_UNITS, MAX_EDGES, Kind}
+use Rattle.reading.proofs.Prelude.{single, sizes, given, show, table, rule, usage, unit, edge, end, kindOf, operandBytes, carrying, Row, kindRows}
+use Rattle.reading.proofs.Prelude.{operandRows, firstFit, ofKind, commandAt, ended, stepOf, walk, reading, accepted, refused, commandBytes}
+use Rattle.reading.proofs.Prelude.{DECIDING_BYTES, Contents, commands, recordOf, Plan, Truncated, ReadPlan, Command}
+use Rattle.reading.proofs.Commands.{Passed, InPlace, room-left, passed-in-place, known-command, unknown-command, Leads, leads-step}
 use Rattle.reading.proofs.Elements.{nothing, with, commands-longer, Held, held-none, within-most, record-none, more}
 use Rattle.reading.proofs.Longest.{commands-long}
 use Rattle.reading.proofs.RoundTrip.{end-step}
 use Rattle.reading.proofs.Walk.{walk-on, walk-ended, walk-keeps}
-use Rattle.plan.specs.declared.record.Plan.{Plan}
-use Rattle.plan.specs.declared.fault.Fault.the-variants.{Truncated}
-use Rattle.reading.specs.declared.reader.Reading.{Reading}
-use Rattle.reading.specs.declared.command.Command.{Command}
 
 -- ---- what a command looks at
 
@@ -103,7 +86,7 @@ module _ (p : Plan) (at m : ℕ) (s : List ℕ) where
 -- ---- how far reading has come
 
 -- what lies behind the first n bytes is cut off; reading on from here gives what reading the cut bytes from the start gives
-record Cut (n : ℕ) (result : Reading) (p : Plan) (at : ℕ) (s : List ℕ) : Type 0 where
+record Cut (n : ℕ) (result : ReadPlan) (p : Plan) (at : ℕ) (s : List ℕ) : Type 0 where
   contents : Contents
   held : Held contents
   record-is : p ≡ recordOf contents
@@ -149,7 +132,7 @@ module _ (n : ℕ) (long : DECIDING_BYTES ≤ n) where
   near c h (single show) i = omega (arith, commands-long c, i .on-time, counts c h)
   near c h end i = omega (arith, commands-long c, counts c h)
 
-  module _ (result : Reading) (p : Plan) (at : ℕ) (s : List ℕ) (cut : Cut n result p at s) where
+  module _ (result : ReadPlan) (p : Plan) (at : ℕ) (s : List ℕ) (cut : Cut n result p at s) where
     near-by : (k : Kind) → InPlace p k → at + suc (looksAt k) ≤ n
     near-by k i = rw (cut .placed) (near (cut .contents) (cut .held) k (rw (cut .record-is) at i))
 
@@ -185,14 +168,14 @@ module _ (n : ℕ) (long : DECIDING_BYTES ≤ n) where
           same = ap (walk q (at + size) 0) (sym rest) ∙ sym (walk-on p at (take (n - at) s) k q step) ∙ cut .same;
         }
 
-    ended-so : (x : Reading) → stepOf p (commandAt p at s) ≡ ended x → result ≡ x
+    ended-so : (x : ReadPlan) → stepOf p (commandAt p at s) ≡ ended x → result ≡ x
     ended-so x e = sym (cut .same) ∙ walk-ended p at (take (n - at) s) x (ap (stepOf p) kept ∙ e)
 
 -- reading keeps its whole result, outcome and record, where only the first n bytes are kept
 pub reading-prefix : (n : ℕ) (bytes : List ℕ) → DECIDING_BYTES ≤ n → reading (take n bytes) ≡ reading bytes
 unfolding reading commands flatMap
 reading-prefix n bytes long =
-    let result : Reading = reading (take n bytes) in
+    let result : ReadPlan = reading (take n bytes) in
     let none : n - 0 ≡ n = omega arith in
     walk-keeps (Cut n result) (λ x. result ≡ x) (λ p q at s k c l. on n long result p at s c q k l)
     (λ p at s c e right. ended-so n long result p at s c (accepted p) (rw e (end-step p at right)))

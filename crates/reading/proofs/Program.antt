@@ -1,18 +1,10 @@
 -- The words of contact tables and rules in the record, and what one TABLE, RULE or USE more does to them.
-use mathlib.Core.Path.{_≡_, refl, ap, ap₂, sym, _∙_, subst}
-use mathlib.Core.List.{List, [], _∷_, _++_, append-assoc, flatMap, List·Memᴰ}
-use Prim.Native.Nat.{ℕ, zero, suc, _+_, _*_, _-_, _≤_, _<_}
-use native.Mathlib.Omega.{arith}
-use lib.ListN.{length, getD, set, replicate, length-append}
-use lib.Seq.{set-append-left, getD-append-add}
-use Rattle.atoms.specs.Lists.{padded}
-use Rattle.atoms.specs.Word.{Has, _∪_, atom}
-use Rattle.atoms.proofs.Lists.{padded-long, padded-at, padded-snoc}
-use Rattle.plan.specs.Limits.{MAX_TABLES, MAX_RULES, CONTACT_WORDS, FIRST_RULE, RULE_WORDS, USES}
-use Rattle.plan.specs.Record.{wantedBit, usesAt}
-use Rattle.reading.specs.Layout.{TableWords, RuleWords, TableUse, twoWords, wordOf, usesOf, ruleWords, All}
+use Rattle.reading.proofs.Prelude.{_≡_, refl, ap, ap₂, sym, _∙_, subst, List, [], _∷_, _++_, append-assoc, flatMap, List·Memᴰ, ℕ, zero, suc, _+_, _*_}
+use Rattle.reading.proofs.Prelude.{_-_, _≤_, _<_, arith, length, getD, set, replicate, length-append, set-append-left, getD-append-add, padded, Has}
+use Rattle.reading.proofs.Prelude.{_∪_, atom, padded-long, padded-at, padded-snoc, MAX_TABLES, MAX_RULES, CONTACT_WORDS, FIRST_RULE, RULE_WORDS, USES}
+use Rattle.reading.proofs.Prelude.{wantedBit, usesAt, TableWords, RuleWords, TableUse, twoWords, wordOf, usesOf, ruleWords, All}
 use Rattle.reading.proofs.KeyedWords.{has-entry, entry-has, word-same, word-other}
-use Rattle.reading.proofs.Lists.{length-snoc, all-member, flat-snoc}
+use Rattle.reading.proofs.ElementLists.{length-snoc, all-member, flat-snoc}
 
 -- ---- a list in two parts
 

@@ -1,34 +1,21 @@
 -- Reading the layout of lists within the limits accepts and gives their record: command by command, reading takes the record of the lists
 -- before it to that of the lists with it.
-use mathlib.Core.Path.{_≡_, refl, ap, sym, _∙_, subst}
-use mathlib.Core.List.{List, [], _∷_, _++_, append-assoc, append-nil, flatMap, List·Memᴰ, List·Memᴰ·head, List·Memᴰ·tail}
-use mathlib.Core.List.{List·Memᴰ·append-cases, List·Memᴰ·eq-of-singleton, List·Memᴰ·not-nil}
-use mathlib.Core.Bool.{true, false}
-use mathlib.Core.Logic.{_⊎_, inl, inr}
-use Prim.Native.Nat.{ℕ, suc, _+_, _^_, _≤_, _<_}
-use native.Mathlib.Omega.{arith}
-use lib.ListN.{length, length-append}
-use lib.Pow.{pow-mono}
-use lib.Seq.{drop-at}
-use borrow.Author.Tests.{le-ltb, lt-leb}
-use Rattle.atoms.proofs.Tests.{decided-false}
-use Rattle.plan.specs.Limits.{MAX_TABLES, MAX_RULES, MAX_USES, MAX_UNITS, MAX_EDGES}
-use Rattle.reading.specs.Words.{WORD_VALUES}
-use Rattle.reading.specs.Commands.{Single, sizes, given, show, Kind, single, table, rule, usage, unit, edge, end, byteOf, operandBytes}
-use Rattle.reading.specs.Commands.{carrying, miscounted, rows, ofKind, commandAt}
-use Rattle.reading.specs.Reading.{onward, ended, stepOf, walk, reading, accepted, commandBytes}
-use Rattle.reading.specs.Layout.{Sizes, TableWords, RuleWords, TableUse, UnitPair, OnceElement, Contents, Element}
-use Rattle.reading.specs.Layout.{countBytes, givenBytes, tableBytes, ruleBytes, useBytes, unitBytes, edgeBytes}
-use Rattle.reading.specs.Layout.{showBytes, endBytes, commands, layout, recordOf, All, Distinct}
-use Rattle.reading.specs.Layout.{GoodTable, GoodRule, GoodUse, GoodEdge, WithinLimits, Counted}
+use Rattle.reading.proofs.Prelude.{_≡_, refl, ap, sym, _∙_, subst, List, [], _∷_, _++_, append-assoc, append-nil, flatMap, List·Memᴰ, List·Memᴰ·head}
+use Rattle.reading.proofs.Prelude.{List·Memᴰ·tail, List·Memᴰ·append-cases, List·Memᴰ·eq-of-singleton, List·Memᴰ·not-nil, true, false, _⊎_, inl, inr, ℕ}
+use Rattle.reading.proofs.Prelude.{suc, _+_, _^_, _≤_, _<_, arith, length, length-append, pow-mono, drop-at, le-ltb, lt-leb, decided-false, MAX_TABLES}
+use Rattle.reading.proofs.Prelude.{MAX_RULES, MAX_USES, MAX_UNITS, MAX_EDGES, WORD_VALUES, Single, sizes, given, show, Kind, single, table, rule}
+use Rattle.reading.proofs.Prelude.{usage, unit, edge, end, byteOf, operandBytes, carrying, miscounted, rows, ofKind, commandAt, onward, ended, stepOf}
+use Rattle.reading.proofs.Prelude.{walk, reading, accepted, commandBytes, Sizes, TableWords, RuleWords, TableUse, UnitPair, OnceElement, Contents}
+use Rattle.reading.proofs.Prelude.{Element, countBytes, givenBytes, tableBytes, ruleBytes, useBytes, unitBytes, edgeBytes, showBytes, endBytes}
+use Rattle.reading.proofs.Prelude.{commands, layout, recordOf, All, AllDistinct, GoodTable, GoodRule, GoodUse, GoodEdge, WithinLimits, CountRight}
+use Rattle.reading.proofs.Prelude.{Plan}
 use Rattle.reading.proofs.Commands.{Passed, none-fits, known-command, in-place-passed, adds, step-when}
 use Rattle.reading.proofs.CommandKinds.{kind-of-byte, end-in-time}
 use Rattle.reading.proofs.Walk.{walk-on, walk-ended}
 use Rattle.reading.proofs.Elements.{nothing, with, operandsOf, operands-long, elementAt, read-again, Sized, few-so, few-within, Fits, right-passed}
 use Rattle.reading.proofs.Elements.{record-none, record-with}
-use Rattle.reading.proofs.Lists.{length-snoc, all-snoc}
+use Rattle.reading.proofs.ElementLists.{length-snoc, all-snoc}
 use Rattle.reading.proofs.Sizes.{decides-miscounted}
-use Rattle.plan.specs.declared.record.Plan.{Plan}
 
 -- a command that no row stops is what it carries
 read-as : (p : Plan) (at : ℕ) (k : Kind) (operands : List ℕ) → Passed (rows p at k operands)
@@ -120,7 +107,7 @@ record New {A : Type 0} (most : ℕ) (P : A → Type 0) (d : List A) (x : A) : T
   new : ¬ List·Memᴰ x d
 
 new-follow : {A : Type 0} (most : ℕ) (P : A → Type 0) (xs done : List A) → length done + length xs ≤ most → All P done
-    → ((e : A) → List·Memᴰ e xs → ¬ List·Memᴰ e done) → Distinct xs → All P xs → Follows (New most P) done xs
+    → ((e : A) → List·Memᴰ e xs → ¬ List·Memᴰ e done) → AllDistinct xs → All P xs → Follows (New most P) done xs
 new-follow most P [] done l b h d a = tt
 new-follow most P (x ∷ xs) done l b h d a = (
   record { room = omega arith; all-good = b; good = a .0; new = h x (List·Memᴰ·head refl) },
@@ -298,7 +285,7 @@ module _ (c : Contents) (w : WithinLimits c) where
       ∙ ap (λ (n : ℕ). walk (recordOf c) n 0 rest) at
 
 -- "reading their layout accepts and gives the record of these lists"
-pub layout-is-read : (c : Contents) → WithinLimits c → Counted c → reading (layout c) ≡ accepted (recordOf c)
+pub layout-is-read : (c : Contents) → WithinLimits c → CountRight c → reading (layout c) ≡ accepted (recordOf c)
 layout-is-read c w right =
     let at : ℕ = length (commands c) in
     let counted : miscounted (recordOf c) ≡ false = decided-false (decides-miscounted c (few-within w)) (λ n. n right) in

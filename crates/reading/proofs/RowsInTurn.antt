@@ -1,17 +1,8 @@
 -- The rows of the fault table as the code tries them: the first that fits refuses the command, and one that does not leads to the next.
-use mathlib.Core.Path.{_≡_, sym, ap, _∙_}
-use mathlib.Core.Bool.{Bool, true, false, not}
-use mathlib.Core.List.{List}
-use Prim.Native.Nat.{ℕ, _*_, _≤_, _<_}
-use lib.ListN.{length, getD}
-use borrow.Author.Tests.{lt-ltb, le-ltb}
-use Rattle.atoms.specs.Word.{apart}
-use Rattle.plan.specs.declared.record.Plan.{Plan}
-use Rattle.plan.specs.declared.fault.Fault.the-variants.{Truncated, OutOfOrder, TooMany, EmptyRule, ContradictoryBody, BadTable, BadUse, AbsentRule, BadEdge}
-use Rattle.reading.specs.declared.command.Command.the-variants.{Table, Use, Unit as UnitOf, Edge, Fault as Faulty}
-use Rattle.reading.specs.Words.{WORD_BYTES, wordAt}
-use Rattle.reading.specs.Commands.{Kind, table, rule, usage, unit, edge, ofKind, carrying, late, full, orderOf, operandBytes}
-use Rattle.reading.specs.Commands.{emptyRule, contradictory, badTable, badUse, absentRule, badEdge}
+use Rattle.reading.proofs.Prelude.{_≡_, sym, ap, _∙_, Bool, true, false, not, List, ℕ, _*_, _≤_, _<_, length, getD, lt-ltb, le-ltb, apart, Plan}
+use Rattle.reading.proofs.Prelude.{Truncated, OutOfOrder, TooMany, EmptyRule, ContradictoryBody, BadTable, BadUse, AbsentRule, BadEdge, Table, Use}
+use Rattle.reading.proofs.Prelude.{Unit as UnitOf, Edge, Fault as Faulty, WORD_BYTES, wordAt, Kind, table, rule, usage, unit, edge, ofKind, carrying}
+use Rattle.reading.proofs.Prelude.{late, full, orderOf, operandBytes, emptyRule, contradictory, badTable, badUse, absentRule, badEdge}
 
 -- ---- the rows of every kind: 4, 5 and 2
 

@@ -1,21 +1,8 @@
 -- TABLE words: how many rows a table has, and which tables are bad.
-use mathlib.Core.Path.{_≡_, refl, ap, _∙_}
-use mathlib.Core.Bool.{Bool, true, false, true≢false}
-use Prim.Native.Nat.{ℕ, _*_, _%_, _^_, _≤_, _<_}
-use native.Mathlib.Omega.{arith}
-use native.Mathlib.Decide.{decLt}
-use lib.Count.{ones}
-use lib.Dec.{ltb, leb}
-use lib.Pow.{pow-mono}
-use borrow.Author.Tests.{lt-ltb, le-ltb, ltb-true, ltb-false, leb-true, leb-false}
-use Rattle.atoms.specs.Bounded.{Decides}
-use Rattle.atoms.specs.Word.{ATOMS, Has, below}
+use Rattle.reading.proofs.Prelude.{_≡_, refl, ap, _∙_, Bool, true, false, true≢false, ℕ, _*_, _%_, _^_, _≤_, _<_, arith, decLt, ones, ltb, leb}
+use Rattle.reading.proofs.Prelude.{pow-mono, lt-ltb, le-ltb, ltb-true, ltb-false, leb-true, leb-false, Decides, ATOMS, Has, below, has-lt, MAX_INPUTS}
+use Rattle.reading.proofs.Prelude.{badTable, TableWords, NoTable, seven-inputs, no-such-row}
 use Rattle.atoms.proofs.Digits.{shifted-one}
-use Rattle.atoms.proofs.Sets.{has-lt}
-use Rattle.plan.specs.Limits.{MAX_INPUTS}
-use Rattle.reading.specs.Commands.{badTable}
-use Rattle.reading.specs.Layout.{TableWords}
-use Rattle.reading.specs.Refusals.{NoTable, seven-inputs, no-such-row}
 use Rattle.reading.proofs.HighBits.{absent-above-below, atom-from}
 
 -- n inputs, as the code counts them

@@ -1,14 +1,6 @@
 -- USEs on the record: what a use that is not bad has.
-use mathlib.Core.Path.{_≡_}
-use mathlib.Core.Bool.{false}
-use Prim.Native.Nat.{ℕ, _≤_, _<_}
-use lib.ListN.{getD}
-use borrow.Author.Tests.{leb-false, ltb-false}
-use Rattle.atoms.specs.Word.{has}
-use Rattle.plan.specs.Record.{wantedBit, usesAt}
-use Rattle.reading.specs.Commands.{badUse}
+use Rattle.reading.proofs.Prelude.{_≡_, false, ℕ, _≤_, _<_, getD, leb-false, ltb-false, has, wantedBit, usesAt, badUse, Plan}
 use Rattle.reading.proofs.Edges.{or-false}
-use Rattle.plan.specs.declared.record.Plan.{Plan}
 
 -- a use that is not bad names a rule and a table that are there, has sign 0 or 1, and is new
 pub record NewUse (p : Plan) (r t sign : ℕ) : Type 0 where

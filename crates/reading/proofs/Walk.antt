@@ -1,19 +1,9 @@
--- Reading on, command by command. `walk-keeps` is the one induction over what is left to read.
-use mathlib.Core.Path.{_≡_, refl, ap, sym, _∙_, subst}
-use mathlib.Core.List.{List, [], _∷_}
-use mathlib.Core.Bool.{Bool, true, false, true≢false}
-use Prim.Native.Nat.{ℕ, zero, suc, _+_, _≤_, _<_}
-use native.Mathlib.Omega.{arith}
-use lib.ListN.{length, drop, length-drop}
-use borrow.Author.Tests.{ltb-false}
-use Rattle.reading.specs.Commands.{Kind, end, operandBytes, miscounted, commandAt}
-use Rattle.reading.specs.Reading.{Step, onward, ended, stepOf, walk, accepted, refused, commandBytes}
-use Rattle.reading.specs.Layout.{endBytes}
+-- ReadPlan on, command by command. `walk-keeps` is the one induction over what is left to read.
+use Rattle.reading.proofs.Prelude.{_≡_, refl, ap, sym, _∙_, subst, List, [], _∷_, Bool, true, false, true≢false, ℕ, zero, suc, _+_, _≤_, _<_, arith}
+use Rattle.reading.proofs.Prelude.{length, drop, length-drop, ltb-false, Kind, end, operandBytes, miscounted, commandAt, Step, onward, ended, stepOf}
+use Rattle.reading.proofs.Prelude.{walk, accepted, refused, commandBytes, endBytes, Plan, ReadPlan, Fault as Faulty}
 use Rattle.reading.proofs.Commands.{Unstopped, Front, unstopped, stopped, front, goesOn, adds, only-end, step-when, Leads, leads-step}
-use Rattle.plan.specs.declared.record.Plan.{Plan}
 use Rattle.plan.specs.declared.fault.Fault.{Fault}
-use Rattle.reading.specs.declared.reader.Reading.{Reading}
-use Rattle.reading.specs.declared.command.Command.the-variants.{Fault as Faulty}
 
 -- operands that are read already are stepped over
 walk-skip : (p : Plan) (at k : ℕ) (s : List ℕ) → walk p at k s ≡ walk p at 0 (drop k s)
@@ -22,7 +12,7 @@ walk-skip p at zero s = refl
 walk-skip p at (suc k) [] = refl
 walk-skip p at (suc k) (b ∷ s) = walk-skip p at k s
 
-abbrev readingOf : Reading → Step → Reading
+abbrev readingOf : ReadPlan → Step → ReadPlan
 readingOf otherwise (onward k q) = otherwise
 readingOf otherwise (ended r) = r
 
@@ -33,7 +23,7 @@ module _ (p : Plan) (at : ℕ) where
   walk-on [] k q e = absurd (true≢false (sym (ap goesOn e)))
   walk-on (b ∷ s) k q e = rw (e, walk) (walk-skip q (at + commandBytes k) (operandBytes k) s)
 
-  pub walk-ended : (s : List ℕ) (r : Reading) → stepOf p (commandAt p at s) ≡ ended r → walk p at 0 s ≡ r
+  pub walk-ended : (s : List ℕ) (r : ReadPlan) → stepOf p (commandAt p at s) ≡ ended r → walk p at 0 s ≡ r
   unfolding walk commandAt
   walk-ended [] r e = ap (readingOf r) e
   walk-ended (b ∷ s) r e = rw (e, walk)
@@ -50,7 +40,7 @@ end-alone p at s u = u .bytes ∙ ap (λ (t : List ℕ). 0x00 ∷ t) (empty (u .
     empty (x ∷ l) h = absurd (omega arith)
 
 -- what each command keeps holds to the end: I of the record, the place and the bytes from there on; P of what reading gives
-module _ (I : Plan → ℕ → List ℕ → Type 0) (P : Reading → Type 0)
+module _ (I : Plan → ℕ → List ℕ → Type 0) (P : ReadPlan → Type 0)
     (on : (p q : Plan) (at : ℕ) (s : List ℕ) (k : Kind) → I p at s → Leads k p at s q → I q (at + commandBytes k) (drop (commandBytes k) s))
     (well : (p : Plan) (at : ℕ) (s : List ℕ) → I p at s → s ≡ endBytes → miscounted p ≡ false → P (accepted p))
     (ill : (p : Plan) (at : ℕ) (s : List ℕ) (f : Fault) → I p at s → commandAt p at s ≡ Faulty f → P (refused f)) where

@@ -120,8 +120,8 @@ listOf c edge = c .edges
 listOf c end = []
 
 -- how many commands of the kind there are
-abbrev pub countOf : Contents → Kind → ℕ
-countOf c kind = length (listOf c kind)
+abbrev pub kindCount : Contents → Kind → ℕ
+kindCount c kind = length (listOf c kind)
 
 -- COUNT "may be the first command", GIVEN "before all RULEs", TABLEs "before RULEs, after GIVEN", USE "after RULEs, before UNITs", "All RULEs come first,
 -- then UNITs, then EDGEs", SHOW "just before END": every command but END
@@ -200,9 +200,9 @@ abbrev pub All : {A : Type 0} → (A → Type 0) → List A → Type 0
 All P [] = Unit {0}
 All P (x ∷ xs) = P x × All P xs
 
-abbrev pub Distinct : {A : Type 0} → List A → Type 0
-Distinct [] = Unit {0}
-Distinct (x ∷ xs) = ¬ List·Memᴰ x xs × Distinct xs
+abbrev pub AllDistinct : {A : Type 0} → List A → Type 0
+AllDistinct [] = Unit {0}
+AllDistinct (x ∷ xs) = ¬ List·Memᴰ x xs × AllDistinct xs
 
 -- two words, at most six inputs, and no set truth bit numbered two to the power of their count or more
 pub record GoodTable (t : TableWords) : Type 0 where
@@ -249,30 +249,30 @@ GoodOnce show word = word < WORD_VALUES
 
 -- what the commands before END may hold: column "most", and rows 6, 21, 18, 19, 7 and 8 of the fault table
 pub record WithinLimits (c : Contents) : Type 0 where
-  pub under : (k : Kind) → countOf c k ≤ atMost k
+  pub under : (k : Kind) → kindCount c k ≤ atMost k
   pub good-once : (s : Single) → All (GoodOnce s) (c .once s)
   pub good-tables : All GoodTable (c .tables)
   pub good-rules : All GoodRule (c .rules)
   pub good-uses : All (GoodUse (length (c .rules)) (length (c .tables))) (c .uses)
-  pub no-use-again : Distinct (c .uses)
+  pub no-use-again : AllDistinct (c .uses)
   pub good-units : All (λ word. word < 2 ^ length (c .rules)) (c .units)
   pub good-edges : All (GoodEdge (length (c .units))) (c .edges)
-  pub no-repeat : Distinct (c .edges)
+  pub no-repeat : AllDistinct (c .edges)
 
 -- S-10: the declared numbers are those of the lists
-pub record Agrees (c : Contents) (s : Sizes) : Type 0 where
+pub record SizesAgree (c : Contents) (s : Sizes) : Type 0 where
   pub rules-are : s .rules ≡ length (c .rules)
   pub units-are : s .units ≡ length (c .units)
   pub edges-are : s .edges ≡ length (c .edges)
 
 -- a whole plan's COUNT, if there is one, is right
-abbrev pub Counted : Contents → Type 0
-Counted c = All (Agrees c) (c .once sizes)
+abbrev pub CountRight : Contents → Type 0
+CountRight c = All (SizesAgree c) (c .once sizes)
 
 -- the bytes are the layout of these lists, which keep the limits; S-10: the declared sizes are theirs
 pub record Lays (bytes : List ℕ) (c : Contents) : Type 0 where
   pub within : WithinLimits c
-  pub counted : Counted c
+  pub counted : CountRight c
   pub bytes-are : bytes ≡ layout c
 
 -- where the bytes are the layout of lists, this is their record
@@ -283,6 +283,6 @@ pub record Records (bytes : List ℕ) (plan : Plan) : Type 0 where
 pub record IsPlan (bytes : List ℕ) (plan : Plan) : Type 0 where
   pub contents : Contents
   pub within : WithinLimits contents
-  pub counted : Counted contents
+  pub counted : CountRight contents
   pub bytes-are : bytes ≡ layout contents
   pub record-is : plan ≡ recordOf contents

@@ -1,4 +1,4 @@
--- Reading a whole plan: its record, or the first fault from the left.
+-- ReadPlan a whole plan: its record, or the first fault from the left.
 use mathlib.Core.List.{List, [], _∷_}
 use Prim.Native.Nat.{ℕ, zero, suc, _+_, _*_}
 use Rattle.plan.specs.Record.{emptyPlan, withCount, withGiven, withTable, withRule, withUse, withUnit, withEdge, withShow}
@@ -9,13 +9,13 @@ use Rattle.reading.specs.declared.command.Command.{Command}
 use Rattle.reading.specs.declared.command.Command.the-variants.{Count, Given, Table, Rule, Use, Unit as UnitOf, Edge, Show, End, Fault as Faulty}
 use Rattle.plan.specs.declared.fault.Fault.{Fault}
 use Rattle.plan.specs.declared.fault.Outcome.the-variants.{Accepted, Refused}
-use Rattle.reading.specs.declared.reader.Reading.{Reading}
+use Rattle.reading.specs.declared.reader.ReadPlan.{ReadPlan}
 
-abbrev pub accepted : Plan → Reading
+abbrev pub accepted : Plan → ReadPlan
 accepted p = record { outcome = Accepted; plan = p }
 
 -- a refusal has no record but the empty one
-abbrev pub refused : Fault → Reading
+abbrev pub refused : Fault → ReadPlan
 refused f = record { outcome = Refused f; plan = emptyPlan }
 
 -- a command of this kind, in bytes
@@ -25,7 +25,7 @@ commandBytes kind = suc (operandBytes kind)
 -- what a command does to the record p: reading goes on behind its operands with the record that has it too, or reading ends
 pub data Step : Type 0 where
   onward : Kind → Plan → Step
-  ended : Reading → Step
+  ended : ReadPlan → Step
 
 abbrev pub stepOf : Plan → Command → Step
 stepOf p (Count rules units edges) = onward (single sizes) (withCount p rules units edges)
@@ -40,7 +40,7 @@ stepOf p End = ended (accepted p)
 stepOf p (Faulty f) = ended (refused f)
 
 -- reading on, once p is read: the next command stands at `at`, behind `skip` bytes of operands that are read already
-unfoldable pub walk : Plan → ℕ → ℕ → List ℕ → Reading
+unfoldable pub walk : Plan → ℕ → ℕ → List ℕ → ReadPlan
 walk p at skip [] = refused (Fault.Truncated at)
 walk p at (suc skip) (b ∷ rest) = walk p at skip rest
 walk p at zero (b ∷ rest) =
@@ -50,7 +50,7 @@ walk p at zero (b ∷ rest) =
     ]
 
 -- "reading, from the left"
-unfoldable pub reading : List ℕ → Reading
+unfoldable pub reading : List ℕ → ReadPlan
 reading bytes = walk emptyPlan 0 0 bytes
 
 -- the number in column "most"

@@ -12,7 +12,7 @@ use Rattle.plan.specs.Faults.{RefusedBy, FaultRow, FirstFit}
 use Rattle.reading.specs.Kinds.{sizes, given, show}
 use Rattle.reading.specs.Words.{WORD_VALUES}
 use Rattle.reading.specs.Layout.{Sizes, TableWords, RuleWords, TableUse, UnitPair, Contents, tableBytes, ruleBytes, useBytes, unitBytes, edgeBytes}
-use Rattle.reading.specs.Layout.{endBytes, commands, layout, WithinLimits, Counted}
+use Rattle.reading.specs.Layout.{endBytes, commands, layout, WithinLimits, CountRight}
 use Rattle.plan.specs.declared.fault.Outcome.{Outcome}
 use Rattle.plan.specs.declared.fault.Outcome.the-variants.{Accepted}
 
@@ -217,5 +217,5 @@ pub record Stopped (bytes : List ℕ) (n s : ℕ) : Type 0 where
 -- what reading answers: accepted exactly if the bytes are the layout of lists within the limits, rightly counted; refused exactly by the row that stops
 -- them
 pub record ReadingJudged (bytes : List ℕ) (outcome : Outcome) : Type 0 where
-  pub accepted : (outcome ≡ Accepted) ↔ ((c : Contents) × WithinLimits c × Counted c × (bytes ≡ layout c))
+  pub accepted : (outcome ≡ Accepted) ↔ ((c : Contents) × WithinLimits c × CountRight c × (bytes ≡ layout c))
   pub refused : (n s : ℕ) → RefusedBy outcome n s ↔ Stopped bytes n s

@@ -17,7 +17,7 @@ mod usage;
 mod words;
 
 pub use command::Command;
-pub use reader::Reading;
+pub use reader::ReadPlan;
 pub use reader::read_plan;
 pub use words::WORD_BYTES;
 pub use words::read_word;

@@ -29,7 +29,7 @@ use plan::with_unit;
 use plan::with_use;
 
 // What reading gives: the outcome and the record, which is empty on a refusal.
-pub struct Reading {
+pub struct ReadPlan {
     pub outcome: Outcome,
     pub plan: Plan,
 }
@@ -192,7 +192,7 @@ fn read_shows(bytes: &[u8], from: Progress) -> Progress
 }
 
 // The record of the plan, or its first fault from the left.
-pub fn read_plan(plan: &[u8]) -> Reading
+pub fn read_plan(plan: &[u8]) -> ReadPlan
     ensures read { λ r. ⌜ r ≡ reading (now (plan .entry)) ⌝ }
     ensures judged { λ r. ⌜ ReadingJudged (now (plan .entry)) (r .outcome) ⌝ }
     ensures records { λ r. ⌜ Records (now (plan .entry)) (r .plan) ⌝ }
@@ -208,12 +208,12 @@ pub fn read_plan(plan: &[u8]) -> Reading
     let command = shows.command;
     let Command::Fault(fault) = command else {
         let read = shows.plan;
-        return Reading {
+        return ReadPlan {
             outcome: Outcome::Accepted,
             plan: read,
         };
     };
-    Reading {
+    ReadPlan {
         outcome: Outcome::Refused(fault),
         plan: empty_plan(),
     }

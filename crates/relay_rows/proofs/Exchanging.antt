@@ -1,25 +1,13 @@
 -- Half blocks exchanged: one law for every size, and what all six rounds come to.
-use mathlib.Core.Path.{_≡_, refl, sym, ap, _∙_, subst}
-use mathlib.Core.Bool.{Bool, true, false, not}
-use mathlib.Core.Logic.{_↔_, _⊎_, inl, inr}
-use mathlib.Core.List.{List}
-use Prim.Native.Nat.{ℕ, suc, _+_, _-_, _*_, _/_, _%_, _^_, _≤_, _<_}
-use native.Mathlib.Omega.{arith}
-use native.Mathlib.Decide.{decLt, ℕ-discrete}
-use lib.ListN.{getD}
-use lib.Bits.{and-shifted}
-use lib.Pow.{shl-exact, shl-shr, pow-mono, pow-pos}
-use native.Mathlib.Nat.{pow-suc}
-use Rattle.atoms.specs.Word.{ATOMS, Has, has, apart, _∩_, _∪_, _∖_, _⊆_, atom, below}
-use Rattle.atoms.specs.Bounded.{allBelow}
-use Rattle.atoms.proofs.Tests.{decided-true, decided-false, not-both}
+use Rattle.relay_rows.proofs.Prelude.{_≡_, refl, sym, ap, _∙_, subst, Bool, true, false, not, _↔_, _⊎_, inl, inr, List, ℕ, suc, _+_, _-_, _*_, _/_}
+use Rattle.relay_rows.proofs.Prelude.{_%_, _^_, _≤_, _<_, arith, decLt, ℕ-discrete, getD, and-shifted, shl-exact, shl-shr, pow-mono, pow-pos, pow-suc}
+use Rattle.relay_rows.proofs.Prelude.{ATOMS, Has, has, apart, _∩_, _∪_, _∖_, _⊆_, atom, below, allBelow, decided-true, decided-false, not-both, ext}
+use Rattle.relay_rows.proofs.Prelude.{has-lt, lt-of-has, decides-has, has-dec, has-cut, cut-left, cut-right, has-left, has-right, union-cases}
+use Rattle.relay_rows.proofs.Prelude.{has-without, without-left, without-right, has-atom, atom-only, has-below, below-lt, apart-of-cut, subset-le}
+use Rattle.relay_rows.proofs.Prelude.{word-has, word-at, all-at, FilledColumns, swapped, mixed, exchangedWord, Halved, Alternates, Exchangeable}
+use Rattle.relay_rows.proofs.Prelude.{Crossed}
 use Rattle.atoms.proofs.Singles.{lacks-of-test, has-of-test}
 use Rattle.atoms.proofs.Digits.{shifted-digit}
-use Rattle.atoms.proofs.Sets.{ext, has-lt, lt-of-has, decides-has, has-dec, has-cut, cut-left, cut-right, has-left, has-right}
-use Rattle.atoms.proofs.Sets.{union-cases, has-without, without-left, without-right, has-atom, atom-only, has-below, below-lt, apart-of-cut, subset-le}
-use Rattle.atoms.proofs.Bounded.{word-has, word-at, all-at}
-use Rattle.relay_rows.specs.Columns.{Filled}
-use Rattle.relay_rows.specs.Exchange.{swapped, mixed, exchangedWord, Halved, Alternates, Exchangeable, Crossed}
 
 both : {A B C : Type 0} → A ↔ B → B ↔ C → A ↔ C
 both f g = (λ a. g .0 (f .0 a), λ c. f .1 (g .1 c))
@@ -445,7 +433,7 @@ mask-0 = alternates 0 0x5555555555555555 (omega arith) (omega arith) refl
 -- ---- the whole turn
 
 -- a round after the rounds before it
-pub halved-round : (e : ℕ) {block mid before after : List ℕ} → e < 6 → Halved (suc e) block mid → Filled (exchangedWord e mid) before after ATOMS
+pub halved-round : (e : ℕ) {block mid before after : List ℕ} → e < 6 → Halved (suc e) block mid → FilledColumns (exchangedWord e mid) before after ATOMS
     → Halved e block after
 halved-round e l h f = halved-step e l h (f .filled)
 
@@ -453,7 +441,7 @@ exchanged-fits : (e : ℕ) (block : List ℕ) (k : ℕ) → exchangedWord e bloc
 exchanged-fits e block k = lt-of-has (exchangedWord e block k) ATOMS (λ c h. exchanged-lt e block k c h)
 
 -- the last round
-pub crossed : {block mid before after : List ℕ} → Halved 1 block mid → Filled (exchangedWord 0 mid) before after ATOMS → Crossed block after
+pub crossed : {block mid before after : List ℕ} → Halved 1 block mid → FilledColumns (exchangedWord 0 mid) before after ATOMS → Crossed block after
 crossed {block} {mid} h f =
     record {
       bits = halved-end (halved-round 0 (omega arith) h f);

@@ -1,23 +1,17 @@
 -- An area that is filled word by word, from its first word on.
-use mathlib.Core.Path.{_≡_, refl, sym, ap, _∙_, subst}
-use mathlib.Core.List.{List, _++_}
-use Prim.Native.Nat.{ℕ, zero, suc, _+_, _-_, _*_, _≤_, _<_}
-use native.Mathlib.Omega.{arith}
-use native.Mathlib.Decide.{decLt, ℕ-discrete}
-use lib.ListN.{length, getD, set, drop, length-set, length-append, length-drop, replicate, length-replicate}
-use lib.Seq.{ext-getD, getD-set-same, getD-set-other, getD-append-add, getD-drop}
-use Rattle.atoms.specs.Word.{ATOMS, _∩_}
+use Rattle.relay_rows.proofs.Prelude.{_≡_, refl, sym, ap, _∙_, subst, List, _++_, ℕ, zero, suc, _+_, _-_, _*_, _≤_, _<_, arith, decLt, ℕ-discrete}
+use Rattle.relay_rows.proofs.Prelude.{length, getD, set, drop, length-set, length-append, length-drop, replicate, length-replicate, ext-getD}
+use Rattle.relay_rows.proofs.Prelude.{getD-set-same, getD-set-other, getD-append-add, getD-drop, ATOMS, _∩_, FilledColumns, BlockRead}
 use Rattle.atoms.specs.Lists.{tabulate}
 use Rattle.atoms.proofs.Lists.{tabulate-long, tabulate-at}
-use Rattle.relay_rows.specs.Columns.{Filled, BlockRead}
 
 -- nothing is written yet
-pub filled-none : (f : ℕ → ℕ) (before : List ℕ) → Filled f before before 0
+pub filled-none : (f : ℕ → ℕ) (before : List ℕ) → FilledColumns f before before 0
 filled-none f before = record { long = refl; filled = λ w l. absurd (omega arith); untouched = λ w l. refl }
 
 -- one word more
-pub filled-more : {f : ℕ → ℕ} {before after : List ℕ} {n v : ℕ} → Filled f before after n → n < length before → v ≡ f n
-    → Filled f before (set after n v) (n + 1)
+pub filled-more : {f : ℕ → ℕ} {before after : List ℕ} {n v : ℕ} → FilledColumns f before after n → n < length before → v ≡ f n
+    → FilledColumns f before (set after n v) (n + 1)
 filled-more {f} {before} {after} {n} {v} h l e =
     record {
       long = length-set after n v ∙ h .long;
@@ -32,7 +26,7 @@ filled-more {f} {before} {after} {n} {v} h l e =
     here w k (no q) = getD-set-other after n w v 0 q ∙ h .filled w (omega arith)
 
 -- all words are written: the area as a list
-pub filled-list : {f : ℕ → ℕ} {before after : List ℕ} {n : ℕ} → Filled f before after n → n ≤ length before
+pub filled-list : {f : ℕ → ℕ} {before after : List ℕ} {n : ℕ} → FilledColumns f before after n → n ≤ length before
     → after ≡ tabulate n f ++ drop n before
 filled-list {f} {before} {after} {n} h l = ext-getD 0 after (tabulate n f ++ drop n before) same-length (λ w k. here w k (decLt w n))
   where
@@ -57,7 +51,7 @@ filled-list {f} {before} {after} {n} h l = ext-getD 0 after (tabulate n f ++ dro
 pub record Filling (size : ℕ) (f : ℕ → ℕ) (before after : List ℕ) (at : ℕ) : Type 0 where
   pub reached : at ≤ size
   pub room : size ≤ length before
-  pub so-far : Filled f before after at
+  pub so-far : FilledColumns f before after at
 
 pub filling-start : {size : ℕ} (f : ℕ → ℕ) {before : List ℕ} → size ≤ length before → Filling size f before before 0
 filling-start f {before} l = record { reached = omega arith; room = l; so-far = filled-none f before }
@@ -70,10 +64,10 @@ pub filling-more : {size at v : ℕ} {f : ℕ → ℕ} {before after : List ℕ}
 filling-more h l e =
     record { reached = omega arith; room = h .room; so-far = filled-more (h .so-far) (omega (arith, h .room)) e }
 
-pub filling-end : {size at : ℕ} {f : ℕ → ℕ} {before after : List ℕ} → Filling size f before after at → size ≤ at → Filled f before after size
+pub filling-end : {size at : ℕ} {f : ℕ → ℕ} {before after : List ℕ} → Filling size f before after at → size ≤ at → FilledColumns f before after size
 filling-end {f = f} {before} {after} h l =
     let r = h .reached in
-    subst (Filled f before after) (omega arith) (h .so-far)
+    subst (FilledColumns f before after) (omega arith) (h .so-far)
 
 -- ---- a block that is read
 
@@ -85,7 +79,7 @@ getD-replicate (suc n) (suc i) = getD-replicate n i
 -- the first k words are read
 pub record Reading (area : List ℕ) (at stride mask n : ℕ) (block : List ℕ) (k : ℕ) : Type 0 where
   pub reached : k ≤ n
-  pub so-far : Filled (λ j. getD area (at + stride * j) 0 ∩ mask) (replicate ATOMS 0) block k
+  pub so-far : FilledColumns (λ j. getD area (at + stride * j) 0 ∩ mask) (replicate ATOMS 0) block k
 
 pub reading-start : (area : List ℕ) (at stride mask n : ℕ) → Reading area at stride mask n (replicate ATOMS 0) 0
 reading-start area at stride mask n = record { reached = omega arith; so-far = filled-none _ (replicate ATOMS 0) }

@@ -1,3 +1,7 @@
+-- What the proofs of this crate name of the kit, of the crates below and of its own definitions, each with its home.
+pub mod Prelude
+-- The laws of this crate that the proofs of its functions name, each with its home.
+pub mod Face
 -- Rows for columns over any number of rows and columns
 pub mod Turning
 -- An area that is filled word by word, from its first word on

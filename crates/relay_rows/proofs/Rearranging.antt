@@ -1,21 +1,8 @@
 -- The two ways at 64 atoms and 256 positions: what is written has the bits that document 02, S-9 says, and the way there and back.
-use mathlib.Core.Path.{_≡_, refl, sym, _∙_, subst}
-use mathlib.Core.Logic.{_↔_, inl, inr}
-use mathlib.Core.List.{List}
-use Prim.Native.Nat.{ℕ, _+_, _*_, _/_, _%_, _^_, _≤_, _<_}
-use native.Mathlib.Omega.{arith}
-use native.Mathlib.Decide.{decLt}
-use lib.Dec.{ltb}
-use lib.ListN.{length, getD}
-use borrow.Author.Tests.{ltb-true, lt-ltb}
-use Rattle.atoms.specs.Word.{ATOMS, Has}
-use Rattle.atoms.specs.Bounded.{Decides}
-use Rattle.atoms.proofs.Tests.{decides}
-use Rattle.atoms.proofs.Sets.{has-none}
-use Rattle.relay_rows.specs.Turned.{Turned, turnedArea}
-use Rattle.relay_rows.specs.Sheet.{AREA_WORDS, positionShape, rowShape, rowWord, positionWord}
-use Rattle.relay_rows.specs.Columns.{Filled}
-use Rattle.relay_rows.specs.Answers.{Refusable, Suits, RowBit, Untouched, RowsWritten, PositionsWritten, Answered}
+use Rattle.relay_rows.proofs.Prelude.{_≡_, refl, sym, _∙_, subst, _↔_, inl, inr, List, ℕ, _+_, _*_, _/_, _%_, _^_, _≤_, _<_, arith, decLt, ltb, length}
+use Rattle.relay_rows.proofs.Prelude.{getD, ltb-true, lt-ltb, ATOMS, Has, Decides, decides, has-none, Turned, turnedArea, AREA_WORDS, positionShape}
+use Rattle.relay_rows.proofs.Prelude.{rowShape, rowWord, positionWord, FilledColumns, Refusable, Suits, RowBit, Untouched, RowsWritten}
+use Rattle.relay_rows.proofs.Prelude.{PositionsWritten, Rearranges}
 use Rattle.relay_rows.specs.declared.area.Rearranged.the-variants.{Written, Refused}
 use Rattle.relay_rows.proofs.Turning.{turned-is, bit-back, word-back}
 use Rattle.relay_rows.proofs.Filling.{filled-list}
@@ -29,16 +16,16 @@ suits-or-not s (inr (inl h)) = omega (arith, s .written-long)
 suits-or-not s (inr (inr h)) = omega (arith, s .count-le)
 
 pub answer-refused : {read before : List ℕ} {count : ℕ} {Right : Type 0} → ¬ Suits (length read) (length before) count
-    → Answered read before before count Right Refused
+    → Rearranges read before before count Right Refused
 answer-refused amiss = record { refused = λ h. (refl, refl); written = λ s. absurd (amiss s) }
 
 pub answer-written : {read before after : List ℕ} {count : ℕ} {Right : Type 0} → Suits (length read) (length before) count → Right
-    → Answered read before after count Right Written
+    → Rearranges read before after count Right Written
 answer-written s right = record { refused = λ h. absurd (suits-or-not s h); written = λ t. (refl, right) }
 
 -- ---- what is written
 
-untouched-is : {f : ℕ → ℕ} {before after : List ℕ} → Filled f before after AREA_WORDS → Untouched before after
+untouched-is : {f : ℕ → ℕ} {before after : List ℕ} → FilledColumns f before after AREA_WORDS → Untouched before after
 untouched-is h = record { long = h .long; past = h .untouched }
 
 decides-below : (count j : ℕ) → Decides (j < count) (ltb j count)
@@ -46,11 +33,11 @@ decides-below count j = decides (ltb j count) (ltb-true j count) (lt-ltb j count
 
 module _ (count : ℕ) {read before after : List ℕ} where
   -- the bits of the rows, and of the list, by the definition over any number of rows and columns
-  rows-turned : Filled (rowWord count read) before after AREA_WORDS → Turned positionShape rowShape (λ i j. j < count) read after
+  rows-turned : FilledColumns (rowWord count read) before after AREA_WORDS → Turned positionShape rowShape (λ i j. j < count) read after
   rows-turned h =
       turned-is positionShape rowShape read (λ i j. j < count) (λ i j. ltb j count) (λ i j. decides-below count j) after (λ w l. h .filled w l)
 
-  positions-turned : Filled (positionWord count read) before after AREA_WORDS → Turned rowShape positionShape (λ j i. j < count) read after
+  positions-turned : FilledColumns (positionWord count read) before after AREA_WORDS → Turned rowShape positionShape (λ j i. j < count) read after
   positions-turned h =
       turned-is rowShape positionShape read (λ j i. j < count) (λ j i. ltb j count) (λ j i. decides-below count j) after (λ w l. h .filled w l)
 
@@ -68,7 +55,7 @@ module _ (list : List ℕ) (j i : ℕ) (l : i < ATOMS) where
       let d : i % 64 ≡ i = omega arith in
       subst (λ (x : ℕ). Has (getD list x 0) (i % 64)) (sym e) (subst (λ (b : ℕ). Has (getD list j 0) b) (sym d) h)
 
-pub rows-written : {list before after : List ℕ} (count : ℕ) → AREA_WORDS ≤ length before → Filled (rowWord count list) before after AREA_WORDS
+pub rows-written : {list before after : List ℕ} (count : ℕ) → AREA_WORDS ≤ length before → FilledColumns (rowWord count list) before after AREA_WORDS
     → RowsWritten list count before after
 unfolding turnedArea
 rows-written {list} {before} {after} count l h =
@@ -83,7 +70,7 @@ rows-written {list} {before} {after} count l h =
     }
 
 pub positions-written : {rows before after : List ℕ} (count : ℕ) → count ≤ AREA_WORDS → AREA_WORDS ≤ length before
-    → Filled (positionWord count rows) before after AREA_WORDS → PositionsWritten rows count before after
+    → FilledColumns (positionWord count rows) before after AREA_WORDS → PositionsWritten rows count before after
 unfolding turnedArea
 positions-written {rows} {before} {after} count few l h =
     record {

@@ -1,15 +1,7 @@
 -- Words that stand apart, written one by one.
-use mathlib.Core.Path.{_≡_, refl, sym, ap, _∙_, subst}
-use mathlib.Core.List.{List}
-use Prim.Native.Nat.{ℕ, _+_, _-_, _*_, _/_, _%_, _≤_, _<_}
-use native.Mathlib.Omega.{arith}
-use native.Mathlib.Nat.{mul-lt-mul-of-pos-left}
-use native.Mathlib.Decide.{decLt, ℕ-discrete}
-use lib.ListN.{length, getD, set, length-set}
-use lib.Seq.{getD-set-same, getD-set-other}
-use Rattle.atoms.specs.Word.{ATOMS}
-use Rattle.relay_rows.specs.Sheet.{AREA_WORDS, ROW_WORDS}
-use Rattle.relay_rows.specs.Columns.{Writable, Scattered, Filled}
+use Rattle.relay_rows.proofs.Prelude.{_≡_, refl, sym, ap, _∙_, subst, List, ℕ, _+_, _-_, _*_, _/_, _%_, _≤_, _<_, arith, mul-lt-mul-of-pos-left, decLt}
+use Rattle.relay_rows.proofs.Prelude.{ℕ-discrete, length, getD, set, length-set, getD-set-same, getD-set-other, ATOMS, AREA_WORDS, ROW_WORDS, Writable}
+use Rattle.relay_rows.proofs.Prelude.{Scattered, FilledColumns}
 
 -- the first k of 64 words are written
 pub record Scattering (f : ℕ → ℕ) (at stride : ℕ) (before after : List ℕ) (k : ℕ) : Type 0 where
@@ -94,7 +86,7 @@ row-parts-more {f} {before} {mid} {after} {q} h l s =
         ap (λ (x : ℕ). getD after x 0) p ∙ s .each (w / 4) (omega arith) ∙ ap f (sym p)
     here w k d (no e) = s .others w (λ i m p. omega arith) ∙ h .parts .done w k (omega arith)
 
-pub row-parts-end : {f : ℕ → ℕ} {before after : List ℕ} {q : ℕ} → RowParts f before after q → ROW_WORDS ≤ q → Filled f before after AREA_WORDS
+pub row-parts-end : {f : ℕ → ℕ} {before after : List ℕ} {q : ℕ} → RowParts f before after q → ROW_WORDS ≤ q → FilledColumns f before after AREA_WORDS
 row-parts-end h l =
     record {
       long = h .parts .long;
@@ -106,7 +98,7 @@ row-parts-end h l =
 pub record ListParts (f : ℕ → ℕ) (before after : List ℕ) (q : ℕ) : Type 0 where
   pub reached : q ≤ ROW_WORDS
   pub room : AREA_WORDS ≤ length before
-  pub parts : Filled f before after (q * ATOMS)
+  pub parts : FilledColumns f before after (q * ATOMS)
 
 pub list-parts-start : (f : ℕ → ℕ) {before : List ℕ} → AREA_WORDS ≤ length before → ListParts f before before 0
 list-parts-start f l =
@@ -132,7 +124,7 @@ list-parts-more {f} {before} {mid} {after} {q} h l s =
         let r : q * 64 + (w - q * 64) ≡ w = omega arith in
         ap (λ (x : ℕ). getD after x 0) p ∙ s .each (w - q * 64) (omega arith) ∙ ap f r
 
-pub list-parts-end : {f : ℕ → ℕ} {before after : List ℕ} {q : ℕ} → ListParts f before after q → ROW_WORDS ≤ q → Filled f before after AREA_WORDS
+pub list-parts-end : {f : ℕ → ℕ} {before after : List ℕ} {q : ℕ} → ListParts f before after q → ROW_WORDS ≤ q → FilledColumns f before after AREA_WORDS
 list-parts-end {f} {before} {after} {q} h l =
     let r = h .reached in
-    subst (Filled f before after) (omega arith) (h .parts)
+    subst (FilledColumns f before after) (omega arith) (h .parts)

@@ -1,22 +1,9 @@
 -- A column of bits is a word of the sheet by relay or of the list, and a block that is read and turned has columns for words.
-use mathlib.Core.Path.{_≡_, refl, sym, ap, ap₂, _∙_, subst}
-use mathlib.Core.Bool.{Bool, true, false, _&&_}
-use mathlib.Core.List.{List}
-use Prim.Native.Nat.{ℕ, _+_, _*_, _/_, _%_, _≤_, _<_}
-use native.Mathlib.Omega.{arith}
-use native.Mathlib.Decide.{decLt}
-use lib.Dec.{ltb}
-use lib.ListN.{getD}
-use borrow.Author.Tests.{lt-ltb, le-ltb}
-use Rattle.atoms.specs.Word.{ATOMS, EVERY_ATOM, Has, has, below}
-use Rattle.atoms.specs.Bounded.{wordBelow}
-use Rattle.atoms.proofs.Tests.{not-both, decided-true}
-use Rattle.atoms.proofs.Sets.{ext, empty, has-lt, has-none, has-cut, cut-left, cut-right, decides-has, has-below, below-lt}
-use Rattle.atoms.proofs.Bounded.{word-has, word-at}
-use Rattle.relay_rows.specs.Turned.{bit, turnedWord}
-use Rattle.relay_rows.specs.Sheet.{AREA_WORDS, ROW_WORDS, positionShape, rowShape, rowWord, positionWord}
-use Rattle.relay_rows.specs.Exchange.{Crossed}
-use Rattle.relay_rows.specs.Columns.{column, BlockRead, kept}
+use Rattle.relay_rows.proofs.Prelude.{_≡_, refl, sym, ap, ap₂, _∙_, subst, Bool, true, false, _&&_, List, ℕ, _+_, _*_, _/_, _%_, _≤_, _<_, arith}
+use Rattle.relay_rows.proofs.Prelude.{decLt, ltb, getD, lt-ltb, le-ltb, ATOMS, EVERY_ATOM, Has, has, below, wordBelow, not-both, decided-true, ext}
+use Rattle.relay_rows.proofs.Prelude.{empty, has-lt, has-none, has-cut, cut-left, cut-right, decides-has, has-below, below-lt, word-has, word-at, bit}
+use Rattle.relay_rows.proofs.Prelude.{turnedWord, AREA_WORDS, ROW_WORDS, positionShape, rowShape, rowWord, positionWord, Crossed, column, BlockRead}
+use Rattle.relay_rows.proofs.Prelude.{keptFrom}
 
 -- ---- words of bits
 
@@ -40,10 +27,10 @@ and-lost t b e = ap (λ (x : Bool). x && b) e
 
 -- a word of the rows: of the 64 positions from there on, those below the count
 row-word-is : (list : List ℕ) (count at : ℕ) → at < AREA_WORDS
-    → wordBelow (kept count (at % ROW_WORDS * ATOMS)) (column list (at % ROW_WORDS * ATOMS) 1 (at / ROW_WORDS)) ≡ rowWord count list at
+    → wordBelow (keptFrom count (at % ROW_WORDS * ATOMS)) (column list (at % ROW_WORDS * ATOMS) 1 (at / ROW_WORDS)) ≡ rowWord count list at
 unfolding turnedWord bit column
 row-word-is list count at l =
-    word-cut (kept count from) ATOMS (column list from 1 (at / ROW_WORDS))
+    word-cut (keptFrom count from) ATOMS (column list from 1 (at / ROW_WORDS))
     (λ k. ltb (from + k) count && bit positionShape list (from + k) (at / ROW_WORDS)) (omega arith)
     (λ k b. same k ∙ and-kept _ _ (lt-ltb (from + k) count (omega arith)))
     (λ k b m. and-lost _ _ (le-ltb (from + k) count (omega arith)))
@@ -58,7 +45,7 @@ row-word-is list count at l =
         ap₂ (λ (x b : ℕ). has (getD list x 0) b) e d
 
 pub row-word : (list : List ℕ) (count at : ℕ) {n word : ℕ} → at < AREA_WORDS
-    → word ≡ wordBelow n (column list (at % ROW_WORDS * ATOMS) 1 (at / ROW_WORDS)) → n ≡ kept count (at % ROW_WORDS * ATOMS) → word ≡ rowWord count list at
+    → word ≡ wordBelow n (column list (at % ROW_WORDS * ATOMS) 1 (at / ROW_WORDS)) → n ≡ keptFrom count (at % ROW_WORDS * ATOMS) → word ≡ rowWord count list at
 row-word list count at l e d =
     e ∙ ap (λ (m : ℕ). wordBelow m (column list (at % ROW_WORDS * ATOMS) 1 (at / ROW_WORDS))) d ∙ row-word-is list count at l
 
@@ -118,7 +105,7 @@ module _ {area block turned : List ℕ} {at stride mask n : ℕ} (few : n ≤ AT
       no-bit k b (no l) = has-none (subst (λ (x : ℕ). Has x i) (read .behind k (omega arith)) b)
 
 -- word q of each row, from the block of the positions from 64 * q on
-pub row-part : (list : List ℕ) (count q : ℕ) {n : ℕ} {block turned : List ℕ} → q < ROW_WORDS → n ≡ kept count (q * ATOMS)
+pub row-part : (list : List ℕ) (count q : ℕ) {n : ℕ} {block turned : List ℕ} → q < ROW_WORDS → n ≡ keptFrom count (q * ATOMS)
     → BlockRead list (q * ATOMS) 1 EVERY_ATOM n block → Crossed block turned → (i : ℕ) → i < ATOMS
     → getD turned i 0 ≡ rowWord count list (q + ROW_WORDS * i)
 unfolding below
@@ -127,10 +114,10 @@ row-part list count q {n} l en read cross i li =
     let d : i ≡ (q + 4 * i) / 4 = omega arith in
     row-word list count (q + 4 * i) (omega arith)
     (crossed-column (omega arith) read cross i li (has-below ATOMS i li) ∙ ap₂ (λ (a b : ℕ). wordBelow n (column list a 1 b)) e d)
-    (en ∙ ap (kept count) e)
+    (en ∙ ap (keptFrom count) e)
 
 -- the positions from 64 * q on, from the block of word q of each row
-pub position-part : (rows : List ℕ) (count q : ℕ) {n mask : ℕ} {block turned : List ℕ} → n ≡ kept count (q * ATOMS) → mask ≡ below n
+pub position-part : (rows : List ℕ) (count q : ℕ) {n mask : ℕ} {block turned : List ℕ} → n ≡ keptFrom count (q * ATOMS) → mask ≡ below n
     → BlockRead rows q ROW_WORDS mask ATOMS block → Crossed block turned → (j : ℕ) → j < ATOMS
     → getD turned j 0 ≡ positionWord count rows (q * ATOMS + j)
 position-part rows count q {n} {mask} {block} {turned} en em read cross j lj = go (decLt (q * ATOMS + j) count)

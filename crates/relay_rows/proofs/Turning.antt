@@ -1,19 +1,8 @@
 -- Rows for columns over any number of rows and columns: where a bit stands, what the computing twin has there, and the way there and back.
-use mathlib.Core.Path.{_≡_, sym, ap, ap₂, _∙_, subst}
-use mathlib.Core.Bool.{Bool, true, _&&_}
-use mathlib.Core.Logic.{_↔_}
-use mathlib.Core.List.{List}
-use Prim.Native.Nat.{ℕ, zero, suc, _+_, _*_, _/_, _%_, _^_, _≤_, _<_}
-use native.Mathlib.Omega.{arith}
-use native.Mathlib.Nat.{mod-lt, mod-eq-of-lt, div-eq-of-lt, div-lt-iff-lt-mul, mul-add-div}
-use native.Mathlib.Nat.{mul-add-div-right, mul-add-mod-self-left, mul-add-mod-self-right, div-add-mod, div-add-mod'}
-use lib.ListN.{getD}
-use Rattle.atoms.specs.Word.{Has}
-use Rattle.atoms.specs.Bounded.{Decides}
-use Rattle.atoms.proofs.Tests.{decides-and, decided-true}
-use Rattle.atoms.proofs.Sets.{ext, has-lt, decides-has}
-use Rattle.atoms.proofs.Bounded.{word-has, word-at}
-use Rattle.relay_rows.specs.Turned.{Shape, columns, Bit, bit, Turned, turnedWord}
+use Rattle.relay_rows.proofs.Prelude.{_≡_, sym, ap, ap₂, _∙_, subst, Bool, true, _&&_, _↔_, List, ℕ, zero, suc, _+_, _*_, _/_, _%_, _^_, _≤_, _<_}
+use Rattle.relay_rows.proofs.Prelude.{arith, mod-lt, mod-eq-of-lt, div-eq-of-lt, div-lt-iff-lt-mul, mul-add-div, mul-add-div-right}
+use Rattle.relay_rows.proofs.Prelude.{mul-add-mod-self-left, mul-add-mod-self-right, div-add-mod, div-add-mod', getD, Has, Decides, decides-and}
+use Rattle.relay_rows.proofs.Prelude.{decided-true, ext, has-lt, decides-has, word-has, word-at, Shape, columns, Bit, bit, Turned, turnedWord}
 
 -- ---- where a bit stands
 

@@ -32,11 +32,11 @@ pub record Scattered (f : ℕ → ℕ) (at stride : ℕ) (before after : List �
   pub others : (w : ℕ) → ((k : ℕ) → k < n → ¬ (w ≡ at + stride * k)) → getD after w 0 ≡ getD before w 0
 
 -- how many of the 64 positions from `from` on are below the count
-abbrev pub kept : ℕ → ℕ → ℕ
-kept count from = min (count - from) ATOMS
+abbrev pub keptFrom : ℕ → ℕ → ℕ
+keptFrom count from = min (count - from) ATOMS
 
 -- the first n words are those of f, and the others are as before
-pub record Filled (f : ℕ → ℕ) (before after : List ℕ) (n : ℕ) : Type 0 where
+pub record FilledColumns (f : ℕ → ℕ) (before after : List ℕ) (n : ℕ) : Type 0 where
   pub long : length after ≡ length before
   pub filled : (w : ℕ) → w < n → getD after w 0 ≡ f w
   pub untouched : (w : ℕ) → n ≤ w → getD after w 0 ≡ getD before w 0

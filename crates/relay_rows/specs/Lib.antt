@@ -1,5 +1,5 @@
 pub mod Turned
-pub mod Sheet
+pub mod RelaySheet
 pub mod Columns
 pub mod Exchange
-pub mod Answers
+pub mod RowAnswers

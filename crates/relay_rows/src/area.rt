@@ -3,8 +3,8 @@ use atoms::ATOMS;
 use plan::CODE_STEP;
 ghost use mathlib.Core.Path.{_≡_};
 ghost use Rattle.atoms.specs.Bounded.{Decides};
-ghost use Rattle.relay_rows.specs.Columns.{kept as keptOf};
-ghost use Rattle.relay_rows.specs.Answers.{code, Suits};
+ghost use Rattle.relay_rows.specs.Columns.{keptFrom as keptOf};
+ghost use Rattle.relay_rows.specs.RowAnswers.{rowsCode, Suits};
 
 // How many words an area has, and how many positions: either way 64 times 256 bits.
 pub const AREA_WORDS: usize = 256;
@@ -25,7 +25,7 @@ const NO_SHEET: u64 = 22;
 
 // 0 where the area is written, else the code of the refusal.
 pub fn rearranged_code(rearranged: Rearranged) -> u64
-    ensures { λ r. ⌜ r ≡ code rearranged ⌝ }
+    ensures { λ r. ⌜ r ≡ rowsCode rearranged ⌝ }
 {
     match rearranged {
         Rearranged::Written => 0,

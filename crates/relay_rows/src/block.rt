@@ -8,7 +8,7 @@ use atoms::without;
 ghost use mathlib.Core.Path.{_≡_};
 ghost use Prim.Native.Nat.{_*_, _/_, _%_, _^_, _<_};
 ghost use Rattle.atoms.specs.Word.{ATOMS as Word·ATOMS, _∩_, _∪_, _∖_};
-ghost use Rattle.relay_rows.specs.Columns.{Filled};
+ghost use Rattle.relay_rows.specs.Columns.{FilledColumns};
 ghost use Rattle.relay_rows.specs.Exchange.{exchangedWord, Exchangeable, RoundTakes, Crossed};
 
 // Bit c of word k becomes bit k of word c.
@@ -29,7 +29,7 @@ pub fn turn(block: [u64; ATOMS]) -> [u64; ATOMS]
 // One round: half blocks of 2^e words and bits, whose places the mask tells apart.
 fn exchange(block: &[u64], e: usize, mask: u64, exchanged: &mut [u64])
     requires { ⌜ RoundTakes (now block) (now exchanged) e mask ⌝ }
-    ensures { λ _. ⌜ Filled (exchangedWord e (now (block .entry))) (now (exchanged .entry)) (now (exchanged .exit)) Word·ATOMS ⌝ }
+    ensures { λ _. ⌜ FilledColumns (exchangedWord e (now (block .entry))) (now (exchanged .entry)) (now (exchanged .exit)) Word·ATOMS ⌝ }
 {
     let mut k = 0;
     while k < ATOMS {

@@ -10,9 +10,9 @@ use atoms::ATOMS;
 use atoms::first;
 ghost use Prim.Native.Nat.{_≤_};
 ghost use lib.ListN.{length};
-ghost use Rattle.relay_rows.specs.Sheet.{AREA_WORDS as Sheet·AREA_WORDS, positionWord};
-ghost use Rattle.relay_rows.specs.Columns.{Filled};
-ghost use Rattle.relay_rows.specs.Answers.{PositionsAnswered, PartTakes, PositionPart};
+ghost use Rattle.relay_rows.specs.RelaySheet.{AREA_WORDS as Sheet·AREA_WORDS, positionWord};
+ghost use Rattle.relay_rows.specs.Columns.{FilledColumns};
+ghost use Rattle.relay_rows.specs.RowAnswers.{PositionsAnswered, PartTakes, PositionPart};
 
 // Rearranges 64 rows into the list of their first `count` positions, zeros behind.
 pub fn to_positions(rows: &[u64], count: u64, list: &mut [u64]) -> Rearranged
@@ -28,7 +28,7 @@ pub fn to_positions(rows: &[u64], count: u64, list: &mut [u64]) -> Rearranged
 // Writes the list, 64 positions at a time.
 fn write_positions(rows: &[u64], count: usize, list: &mut [u64])
     requires { ⌜ (Sheet·AREA_WORDS ≤ length (now rows)) × (Sheet·AREA_WORDS ≤ length (now list)) ⌝ }
-    ensures { λ _. ⌜ Filled (positionWord count (now (rows .entry))) (now (list .entry)) (now (list .exit)) Sheet·AREA_WORDS ⌝ }
+    ensures { λ _. ⌜ FilledColumns (positionWord count (now (rows .entry))) (now (list .entry)) (now (list .exit)) Sheet·AREA_WORDS ⌝ }
 {
     let mut q = 0;
     while q < ROW_WORDS {

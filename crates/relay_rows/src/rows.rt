@@ -10,9 +10,9 @@ use atoms::ATOMS;
 use atoms::EVERY_ATOM;
 ghost use Prim.Native.Nat.{_≤_};
 ghost use lib.ListN.{length};
-ghost use Rattle.relay_rows.specs.Sheet.{AREA_WORDS as Sheet·AREA_WORDS, rowWord};
-ghost use Rattle.relay_rows.specs.Columns.{Filled};
-ghost use Rattle.relay_rows.specs.Answers.{RowsAnswered, PartTakes, RowPart};
+ghost use Rattle.relay_rows.specs.RelaySheet.{AREA_WORDS as Sheet·AREA_WORDS, rowWord};
+ghost use Rattle.relay_rows.specs.Columns.{FilledColumns};
+ghost use Rattle.relay_rows.specs.RowAnswers.{RowsAnswered, PartTakes, RowPart};
 
 // Rearranges the first `count` positions of the list into 64 rows of 256 bits.
 pub fn to_rows(list: &[u64], count: u64, rows: &mut [u64]) -> Rearranged
@@ -28,7 +28,7 @@ pub fn to_rows(list: &[u64], count: u64, rows: &mut [u64]) -> Rearranged
 // Writes the rows, 64 positions at a time.
 fn write_rows(list: &[u64], count: usize, rows: &mut [u64])
     requires { ⌜ (Sheet·AREA_WORDS ≤ length (now list)) × (Sheet·AREA_WORDS ≤ length (now rows)) ⌝ }
-    ensures { λ _. ⌜ Filled (rowWord count (now (list .entry))) (now (rows .entry)) (now (rows .exit)) Sheet·AREA_WORDS ⌝ }
+    ensures { λ _. ⌜ FilledColumns (rowWord count (now (list .entry))) (now (rows .entry)) (now (rows .exit)) Sheet·AREA_WORDS ⌝ }
 {
     let mut q = 0;
     while q < ROW_WORDS {

@@ -1,24 +1,10 @@
 -- The theorem of the search: what was met is wanted, and where the search was whole, what shows of it is all that shows of what is wanted.
-use mathlib.Core.Path.{_≡_, refl, sym, ap, _∙_, subst}
-use mathlib.Core.Bool.{Bool, true, false, not, false≢true}
-use mathlib.Core.Logic.{_⊎_, inl, inr}
-use mathlib.Core.List.{List, [], _∷_, _++_, List·Memᴰ, List·Memᴰ·head, List·Memᴰ·not-nil}
-use mathlib.Core.List.{List·Memᴰ·append-cases, List·Memᴰ·eq-of-singleton, Memᴰ·append-left, Memᴰ·append-right}
-use Prim.Native.Nat.{ℕ, _<_, _^_}
-use Rattle.atoms.specs.Word.{ATOMS, Has, Apart, _∩_}
-use Rattle.atoms.specs.Cuts.{CutOf}
-use Rattle.atoms.proofs.Sets.{has-lt, has-none, subset-antisym}
-use Rattle.atoms.proofs.Cuts.{cut-for}
-use Rattle.states.specs.State.{Completes, undecided}
-use Rattle.states.specs.Narrowing.{Wanted, branchOf}
-use Rattle.states.specs.declared.state.State.{State}
-use Rattle.states.proofs.HalfDecided.{decided-cases}
-use Rattle.states.proofs.Narrows.{wanted-back, wanted-after}
-use Rattle.states.proofs.Branches.{without-branch, some-branch}
-use Rattle.learning.proofs.Nogoods.{nogood-stops}
-use Rattle.searching.specs.Calculus.{Searched, narrowed, stop, leaf, done, full, skip, both}
-use Rattle.searching.specs.Witness.{Witnessed, met, none, Shows, one, nobody}
-use Rattle.searching.specs.declared.witness.Witness.{Witness}
+use Rattle.searching.proofs.Prelude.{_≡_, refl, sym, ap, _∙_, subst, Bool, true, false, not, false≢true, _⊎_, inl, inr, List, [], _∷_, _++_, List·Memᴰ}
+use Rattle.searching.proofs.Prelude.{List·Memᴰ·head, List·Memᴰ·not-nil, List·Memᴰ·append-cases, List·Memᴰ·eq-of-singleton, Memᴰ·append-left}
+use Rattle.searching.proofs.Prelude.{Memᴰ·append-right, ℕ, _<_, _^_, ATOMS, Has, Apart, _∩_, CutOf, has-lt, has-none, subset-antisym, cut-for}
+use Rattle.searching.proofs.Prelude.{Completes, undecided, Wanted, branchOf, State, decided-cases, wanted-back, wanted-after, without-branch}
+use Rattle.searching.proofs.Prelude.{some-branch, nogood-stops, Searched, narrowed, stop, leaf, done, full, skip, both, Witnessed, met, none, Shows}
+use Rattle.searching.proofs.Prelude.{one, nobody, Witness}
 use Rattle.searching.proofs.Witnesses.{same-cut}
 
 -- ---- a state that leaves one position

@@ -1,46 +1,19 @@
 -- The cases of the calculus with all that is said of a node: its pair, its memory, and the list. `explore` and `seek` go by these cases.
-use mathlib.Core.Path.{_≡_, refl, sym, _∙_, subst}
-use mathlib.Core.Bool.{Bool, true, false, not, false≢true}
-use mathlib.Core.Logic.{_⊎_, inl, inr}
-use mathlib.Core.List.{List, [], _∷_, _++_, List·Memᴰ, List·Memᴰ·head, List·Memᴰ·not-nil, List·Memᴰ·append-cases, List·Memᴰ·eq-of-singleton}
-use mathlib.Core.List.{Memᴰ·append-left, Memᴰ·append-right}
-use Prim.Native.Nat.{ℕ, _<_, _≤_, _^_}
-use native.Mathlib.Omega.{arith}
-use Rattle.atoms.specs.Word.{ATOMS, Has, Apart, _∩_}
-use Rattle.atoms.specs.Cuts.{CutOf}
-use Rattle.atoms.proofs.Sets.{empty, cut-right, has-none}
-use Rattle.atoms.proofs.Cuts.{cut-for}
-use Rattle.plan.specs.Limits.{LIST_WORDS}
+use Rattle.searching.proofs.Prelude.{_≡_, refl, sym, _∙_, subst, Bool, true, false, not, false≢true, _⊎_, inl, inr, List, [], _∷_, _++_, List·Memᴰ}
+use Rattle.searching.proofs.Prelude.{List·Memᴰ·head, List·Memᴰ·not-nil, List·Memᴰ·append-cases, List·Memᴰ·eq-of-singleton, Memᴰ·append-left}
+use Rattle.searching.proofs.Prelude.{Memᴰ·append-right, ℕ, _<_, _≤_, _^_, arith, ATOMS, Has, Apart, _∩_, CutOf, empty, cut-right, has-none, cut-for}
+use Rattle.searching.proofs.Prelude.{LIST_WORDS, undecided, Overlaps, Narrows, Within, Wanted, branchOf, State, overlap-none, AnswersInputs, NoStop}
+use Rattle.searching.proofs.Prelude.{stop-answers-none, Nogood, Resolves, Remembers, nogood-resolved, lifted-nogood, lifted-remembers, Filtered}
+use Rattle.searching.proofs.Prelude.{Prepared, Wired, Job, Ordered, Gathered, fits, over, Grown, Offered, Witnessed, met, none, Met, eitherOf, Shows}
+use Rattle.searching.proofs.Prelude.{one, nobody, Searched, narrowed, stop, leaf, done, full, skip, both, Done, too-many, enough, HandedUp, SoughtOf}
+use Rattle.searching.proofs.Prelude.{Explored, Entered, ModelJob, Found, Witness, Member, Nothing}
 use Rattle.answer_sets.specs.Memo.{Memo}
-use Rattle.states.specs.State.{undecided}
-use Rattle.states.specs.Narrowing.{Overlaps, Narrows, Within, Wanted, branchOf}
-use Rattle.states.specs.declared.state.State.{State}
-use Rattle.states.proofs.Narrows.{overlap-none}
-use Rattle.narrowing.specs.Inputs.{AnswersInputs}
-use Rattle.narrowing.specs.Stops.{NoStop}
-use Rattle.narrowing.proofs.StoppedRules.{stop-answers-none}
-use Rattle.learning.specs.Nogood.{Nogood, Resolves}
-use Rattle.learning.specs.Reason.{Remembers}
-use Rattle.learning.proofs.Nogoods.{nogood-resolved}
-use Rattle.learning.proofs.Reasons.{lifted-nogood, lifted-remembers}
-use Rattle.joining.specs.Filter.{Filtered}
-use Rattle.propagating.specs.Desk.{Prepared, Wired}
 use Rattle.propagating.specs.declared.front.Front.{Front}
-use Rattle.propagating.specs.declared.unit.Unit.{Unit}
-use Rattle.searching.specs.Listing.{Ordered, Gathered, fits, over, Grown, Offered}
-use Rattle.searching.specs.Witness.{Witnessed, met, none, Met, eitherOf, Shows, one, nobody}
-use Rattle.searching.specs.Calculus.{Searched, narrowed, stop, leaf, done, full, skip, both}
 use Rattle.searching.specs.Outlook.{SomeStop, Leaves}
-use Rattle.searching.specs.Node.{Done, too-many, enough, HandedUp, Sought, Explored}
-use Rattle.searching.specs.Entered.{Entered}
-use Rattle.searching.specs.Models.{ModelJob}
 use Rattle.searching.specs.declared.node.Branch.{Branch}
-use Rattle.searching.specs.declared.node.Found.{Found}
 use Rattle.searching.specs.declared.node.Node.{Node}
 use Rattle.searching.specs.declared.outlook.Outlook.{Outlook}
 use Rattle.searching.specs.declared.outlook.Outlook.the-variants.{Stop, Leaf, Open}
-use Rattle.searching.specs.declared.witness.Witness.{Witness}
-use Rattle.searching.specs.declared.witness.Witness.the-variants.{Member, Nothing}
 use Rattle.searching.proofs.Gathered.{gathered-iff, gathered-over, gathered-same, gathered-then}
 use Rattle.searching.proofs.Witnesses.{grown-for}
 use Rattle.searching.proofs.Calculus.{only-up, met-wanted, gathers, witnesses}
@@ -69,13 +42,13 @@ module _ {K : ℕ → Type 0} where
       stop-answers-none rules which inputs (k .rule) (k .in-word) (k .at-stop) M (w .completes) (f M (w .belongs))
 
   module _ {shown : ℕ} {s : State} {whole : Bool} {memory : List ℕ} {r : Found} where
-    pub sought-narrowed : {t : State} → Narrows K s t → Sought K shown t whole memory r → Sought K shown s whole memory r
+    pub sought-narrowed : {t : State} → Narrows K s t → SoughtOf K shown t whole memory r → SoughtOf K shown s whole memory r
     sought-narrowed n x =
         record { met = x .met; searched = narrowed n (x .searched); shows = x .shows; remembers = x .remembers; nogood = x .nogood }
 
     -- the pair is lifted, and the rest is as it was found
-    pub sought-handed : {before : List ℕ} {found : Found} → HandedUp K found before memory r → Sought K shown s whole before found
-        → Sought K shown s whole memory r
+    pub sought-handed : {before : List ℕ} {found : Found} → HandedUp K found before memory r → SoughtOf K shown s whole before found
+        → SoughtOf K shown s whole memory r
     sought-handed h x = record {
       met = x .met;
       searched = x .searched;
@@ -85,7 +58,7 @@ module _ {K : ℕ → Type 0} where
     }
 
   pub sought-stop : {shown count : ℕ} {t n : State} {memory : List ℕ} {r : Found} → ((M : ℕ) → ¬ Wanted K t M)
-      → r ≡ record { count = count; nogood = n; witness = Nothing } → Remembers K memory → Nogood K n → Sought K shown t true memory r
+      → r ≡ record { count = count; nogood = n; witness = Nothing } → Remembers K memory → Nogood K n → SoughtOf K shown t true memory r
   sought-stop f e m n = rw e (record { met = []; searched = stop f; shows = nobody refl; remembers = m; nogood = n })
 
   -- at a leaf the one position was met, if it has K
@@ -114,17 +87,17 @@ module _ {K : ℕ → Type 0} where
     }
 
     pub sought-leaf : {memory : List ℕ} {r : Found} → Witnessed (Offered K (t .up)) (r .witness) → Remembers K memory → Nogood K (r .nogood)
-        → Sought K shown t true memory r
+        → SoughtOf K shown t true memory r
     sought-leaf w m n = let k = leaf-met w in record { met = k .ms; searched = k .searched; shows = k .shows; remembers = m; nogood = n }
 
-  branched : {shown : ℕ} {s t : State} {whole : Bool} {memory : List ℕ} {r : Found} (x : Sought K shown s whole memory r) → s ≡ t
+  branched : {shown : ℕ} {s t : State} {whole : Bool} {memory : List ℕ} {r : Found} (x : SoughtOf K shown s whole memory r) → s ≡ t
       → Searched K shown t whole (x .met)
   branched {shown} {whole = whole} x e = subst (λ (u : State). Searched K shown u whole (x .met)) e (x .searched)
 
   -- an atom is decided in its phase, and what that finds may be enough
   module _ (i : ℕ) (phase : Bool) {shown : ℕ} {t one : State} {whole : Bool} {memory₁ : List ℕ} {first : Found} (e : one ≡ branchOf t i phase)
-      (x : Sought K shown one whole memory₁ first) where
-    pub sought-done : undecided (t .up) (t .dropped) ∩ shown ≡ 0 → Met (first .witness) → Sought K shown t true memory₁ first
+      (x : SoughtOf K shown one whole memory₁ first) where
+    pub sought-done : undecided (t .up) (t .dropped) ∩ shown ≡ 0 → Met (first .witness) → SoughtOf K shown t true memory₁ first
     sought-done z m = record {
       met = x .met;
       searched = done i phase z (shows-met m (x .shows)) (branched x e);
@@ -134,14 +107,14 @@ module _ {K : ℕ → Type 0} where
     }
 
     -- where nothing shows, one that was met is enough
-    pub sought-met : shown ≡ 0 → Met (first .witness) → Sought K shown t true memory₁ first
+    pub sought-met : shown ≡ 0 → Met (first .witness) → SoughtOf K shown t true memory₁ first
     sought-met z m =
         sought-done (rw z (empty (undecided (t .up) (t .dropped) ∩ 0) (λ j h. has-none (cut-right (undecided (t .up) (t .dropped)) 0 h)))) m
 
-    pub sought-full : Sought K shown t false memory₁ first
+    pub sought-full : SoughtOf K shown t false memory₁ first
     sought-full = record { met = x .met; searched = full i phase (branched x e); shows = x .shows; remembers = x .remembers; nogood = x .nogood }
 
-    pub sought-skip : Within (first .nogood) t → Sought K shown t whole memory₁ first
+    pub sought-skip : Within (first .nogood) t → SoughtOf K shown t whole memory₁ first
     sought-skip k = record {
       met = x .met;
       searched = skip i phase (x .nogood) k (branched x e);
@@ -152,10 +125,10 @@ module _ {K : ℕ → Type 0} where
 
   -- else it is decided the other way too
   pub sought-both : (i : ℕ) (phase : Bool) {shown : ℕ} {t one other : State} {part whole : Bool} {memory₁ memory₂ : List ℕ} {first second found : Found}
-      → one ≡ branchOf t i phase → Sought K shown one part memory₁ first → part ≡ true → other ≡ branchOf t i (not phase)
-      → Sought K shown other whole memory₂ second
+      → one ≡ branchOf t i phase → SoughtOf K shown one part memory₁ first → part ≡ true → other ≡ branchOf t i (not phase)
+      → SoughtOf K shown other whole memory₂ second
       → found ≡ record { count = second .count; nogood = found .nogood; witness = eitherOf (first .witness) (second .witness) }
-      → Resolves (second .nogood) (first .nogood) (found .nogood) → Sought K shown t whole memory₂ found
+      → Resolves (second .nogood) (first .nogood) (found .nogood) → SoughtOf K shown t whole memory₂ found
   sought-both i phase {shown} {t} e x z f y is n = record {
     met = x .met ++ y .met;
     searched = both i phase (subst (λ (b : Bool). Searched K shown (branchOf t i phase) b (x .met)) z (branched x e)) (branched y f);
@@ -273,7 +246,7 @@ module _ (rules : List ℕ) (which : ℕ) {s : State} {next : Outlook} where
   pub is-open : {i : ℕ} → next ≡ Open i → Leaves rules which s next → Has (undecided (s .up) (s .dropped)) i × (i < ATOMS) × NoStop rules which s
   is-open e l = rw e at l
 
-module _ {rules table counts desk : List ℕ} {unit : Unit} {shown count : ℕ} {front : Front} {base : State} {branch : Branch}
+module _ {rules table counts desk : List ℕ} {unit : Job} {shown count : ℕ} {front : Front} {base : State} {branch : Branch}
     {memory filter : List ℕ} {node : Node}
     (b : branch ≡ record { unit = unit; shown = shown; count = count; front = front; base = base })
     (e : Entered rules table counts desk branch memory filter node) where
@@ -296,8 +269,8 @@ module _ {rules table counts desk : List ℕ} {unit : Unit} {shown count : ℕ} 
   entered-job p j = rw (e .same) (rw b (p, rw b at (e .remembers), rw b at (e .leaves), j))
 
   pub sought-branch : {show : ℕ} {whole : Bool} {later : List ℕ} {r : Found}
-      → Sought (Wired rules table counts desk (node .unit)) show (node .front .state) whole later r
-      → Sought (Wired rules table counts desk unit) show (front .state) whole later r
+      → SoughtOf (Wired rules table counts desk (node .unit)) show (node .front .state) whole later r
+      → SoughtOf (Wired rules table counts desk unit) show (front .state) whole later r
   sought-branch x = rw b at (sought-narrowed (e .narrows) (rw (e .same) at x))
 
   -- what is said of it is said of the branch

@@ -1,16 +1,9 @@
 -- What an insertion adds to a rising list, and how the answers of two searches go together.
-use mathlib.Core.Path.{_≡_, refl, sym, ap, _∙_, subst}
-use mathlib.Core.List.{List, [], _∷_, _++_}
-use mathlib.Core.List.{List·Memᴰ, List·Memᴰ·head, List·Memᴰ·tail, List·Memᴰ·not-nil, List·Memᴰ·cases-cons}
-use mathlib.Core.Logic.{_⊎_, inl, inr}
-use Prim.Native.Nat.{ℕ, zero, suc, min, _+_, _-_, _≤_, _<_}
-use native.Mathlib.Omega.{arith}
-use lib.ListN.{length, take, drop, replicate, length-append, length-take, length-drop, length-replicate}
-use lib.Seq.{drop-drop, take-at, drop-at, length-take-le}
-use Rattle.atoms.specs.Rising.{Rising, rising-nil, insertInto}
-use Rattle.atoms.proofs.Insertion.{insert-at, insert-has, insert-rising, insert-longer}
-use Rattle.plan.specs.Limits.{LIST_WORDS}
-use Rattle.searching.specs.Listing.{Inserted, room, no-room, Ordered, Overfull, LeftOver, Gathered, fits, over, Grown}
+use Rattle.searching.proofs.Prelude.{_≡_, refl, sym, ap, _∙_, subst, List, [], _∷_, _++_, List·Memᴰ, List·Memᴰ·head, List·Memᴰ·tail, List·Memᴰ·not-nil}
+use Rattle.searching.proofs.Prelude.{List·Memᴰ·cases-cons, _⊎_, inl, inr, ℕ, zero, suc, min, _+_, _-_, _≤_, _<_, arith, length, take, drop, replicate}
+use Rattle.searching.proofs.Prelude.{length-append, length-take, length-drop, length-replicate, drop-drop, take-at, drop-at, length-take-le, Rising}
+use Rattle.searching.proofs.Prelude.{rising-nil, insertInto, insert-at, insert-has, insert-rising, insert-longer, LIST_WORDS, Inserted, room, no-room}
+use Rattle.searching.proofs.Prelude.{Ordered, Overfull, LeftOver, Gathered, fits, over, Grown}
 
 -- ---- gathered lists
 

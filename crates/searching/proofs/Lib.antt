@@ -1,5 +1,9 @@
+-- What the proofs of this crate name of the kit, of the crates below and of its own definitions, each with its home.
+pub mod Prelude
+-- The laws of this crate that the proofs of its functions name, each with its home.
+pub mod Face
 -- Insertion: the code's loop follows `insertInto`, which keeps a rising list rising and adds one member
-pub mod Insertion
+pub mod ListInsertion
 -- What an insertion adds to a rising list, and how the answers of two searches go together
 pub mod Gathered
 -- Cuts of wanted positions, and members that were met

@@ -1,49 +1,20 @@
 -- The job of the subset test: with every atom an input all of a position are facts, so that who is wired is who satisfies the rules; and what one question
 -- after the other says of the proper subsets of a position.
-use mathlib.Core.Path.{_≡_, refl, sym, _∙_, subst}
-use mathlib.Core.Bool.{Bool, true, false, true≢false, false≢true}
-use mathlib.Core.Logic.{_⊎_, inl, inr}
-use mathlib.Core.List.{List, []}
-use Prim.Native.Nat.{ℕ, zero, suc, _<_, _≤_, _^_}
-use native.Mathlib.Nat.{lt-of-le-of-lt}
-use native.Mathlib.Omega.{arith}
-use lib.Count.{ones}
-use lib.ListN.{length, getD, replicate}
-use Rattle.atoms.specs.Word.{ATOMS, EVERY_ATOM, Has, _⊆_, _∩_, _∖_, atom}
-use Rattle.atoms.proofs.Counts.{count-lt}
-use Rattle.atoms.proofs.Cuts.{cut-all}
-use Rattle.atoms.proofs.Sets.{has-dec, has-lt, has-none, has-left, has-right, has-atom, has-without, without-left, without-right, subset-refl, subset-trans, subset-le}
-use Rattle.atoms.proofs.Tests.{decided-true}
-use Rattle.plan.specs.Limits.{MAX_UNITS, MAX_TABLES}
-use Rattle.answer_sets.specs.AnswerSet.{AnswerSet}
-use Rattle.answer_sets.specs.Lent.{lent, Lent}
-use Rattle.answer_sets.specs.Program.{SatisfiesAll}
-use Rattle.answer_sets.specs.SubsetTest.{Between, Confines, Finds}
-use Rattle.answer_sets.proofs.Between.{finds-none}
-use Rattle.answer_sets.specs.Test.{satisfiesAll}
-use Rattle.answer_sets.proofs.Judged.{decides-answer-set, decides-all-satisfied}
+use Rattle.searching.proofs.Prelude.{_≡_, refl, sym, _∙_, subst, Bool, true, false, true≢false, false≢true, _⊎_, inl, inr, List, [], ℕ, zero, suc, _<_}
+use Rattle.searching.proofs.Prelude.{_≤_, _^_, lt-of-le-of-lt, arith, ones, length, getD, replicate, ATOMS, EVERY_ATOM, Has, _⊆_, _∩_, _∖_, atom}
+use Rattle.searching.proofs.Prelude.{count-lt, cut-all, has-dec, has-lt, has-none, has-left, has-right, has-atom, has-without, without-left}
+use Rattle.searching.proofs.Prelude.{without-right, subset-refl, subset-trans, subset-le, decided-true, MAX_UNITS, MAX_TABLES, AnswerSet, lent, Lent}
+use Rattle.searching.proofs.Prelude.{SatisfiesAll, Between, Confines, Finds, finds-none, satisfiesAll, decides-answer-set, decides-all-satisfied}
+use Rattle.searching.proofs.Prelude.{Narrows, Wanted, branchOf, Completes, State, completes-back, narrows-trans, with-up, with-dropped}
+use Rattle.searching.proofs.Prelude.{without-dropped, FILTER_WORDS, Filtered, joins-none, NoPilots, LaidOut, Prepared, Wired, pilotsOf, Searchable}
+use Rattle.searching.proofs.Prelude.{Job, prepared, Offered, ModelJob, modelsOf, Asks, Witnessed, met, none, Member, Nothing}
 use Rattle.answer_sets.proofs.Support.{satisfied}
-use Rattle.states.specs.Narrowing.{Narrows, Wanted, branchOf}
-use Rattle.states.specs.State.{Completes}
-use Rattle.states.specs.declared.state.State.{State}
-use Rattle.states.proofs.Narrows.{completes-back, narrows-trans, with-up, with-dropped, without-dropped}
-use Rattle.joining.specs.Filter.{FILTER_WORDS, Filtered}
-use Rattle.joining.proofs.JoinedLists.{joins-none}
-use Rattle.pilots.specs.Linked.{NoPilots}
-use Rattle.propagating.specs.Desk.{LaidOut, Prepared, Wired, pilotsOf}
-use Rattle.propagating.specs.Job.{Searchable}
-use Rattle.propagating.specs.declared.unit.Unit.{Unit}
-use Rattle.propagating.proofs.Desks.{prepared}
-use Rattle.searching.specs.Listing.{Offered}
-use Rattle.searching.specs.Models.{ModelJob, modelsOf, Asks}
-use Rattle.searching.specs.Witness.{Witnessed, met, none}
-use Rattle.searching.specs.declared.subsets.Asked.{Asked}
-use Rattle.searching.specs.declared.witness.Witness.the-variants.{Member, Nothing}
+use Rattle.searching.specs.declared.subsets.WithoutAtom.{WithoutAtom}
 use Rattle.searching.proofs.SearchSteps.{belongs-answers}
 
 -- ---- who is wired
 
-module _ {rules table counts desk : List ℕ} {unit : Unit} (job : ModelJob desk unit) (fits : unit .rules < 2 ^ ATOMS) where
+module _ {rules table counts desk : List ℕ} {unit : Job} (job : ModelJob desk unit) (fits : unit .rules < 2 ^ ATOMS) where
   pub model-wired : {M : ℕ} → M < 2 ^ ATOMS → SatisfiesAll (lent rules) (unit .rules) M → Wired rules table counts desk unit M
   model-wired {M} word all = record {
     belongs = record {
@@ -85,7 +56,7 @@ module _ {rules table counts desk : List ℕ} {unit : Unit} (job : ModelJob desk
 -- ---- what is lent
 
 -- there is no list, so that every filter has each entry
-pub unfiltered : {table counts desk filter : List ℕ} {unit : Unit} {s : State} → ModelJob desk unit → length filter ≡ FILTER_WORDS
+pub unfiltered : {table counts desk filter : List ℕ} {unit : Job} {s : State} → ModelJob desk unit → length filter ≡ FILTER_WORDS
     → Filtered table counts desk (unit .nearest) s filter
 unfiltered job l = record { long = l; each = λ M j c v h. absurd (has-none (rw (job .no-list) at h)) }
 
@@ -94,11 +65,11 @@ zero-at zero v = refl
 zero-at (suc n) zero = refl
 zero-at (suc n) (suc v) = zero-at n v
 
-pub models-lent : {rules : List ℕ} {which : ℕ} {unit : Unit} → unit ≡ modelsOf which → Lent rules which
+pub models-lent : {rules : List ℕ} {which : ℕ} {unit : Job} → unit ≡ modelsOf which → Lent rules which
     → Lent rules (unit .rules) × (MAX_UNITS ≤ length (replicate {A = ℕ} MAX_UNITS 0)) × (unit .nearest < 2 ^ MAX_UNITS)
 models-lent e k = rw e (k, omega arith, omega arith)
 
-module _ {rules desk : List ℕ} {which : ℕ} {unit : Unit} (e : unit ≡ modelsOf which)
+module _ {rules desk : List ℕ} {which : ℕ} {unit : Job} (e : unit ≡ modelsOf which)
     (l : LaidOut rules (replicate MAX_UNITS 0) (replicate MAX_TABLES 0) unit desk) where
   pub models-prepared : Lent rules which → Prepared rules [] (replicate MAX_UNITS 0) desk unit
   models-prepared k = prepared l (record { each = λ t m. rw (zero-at MAX_TABLES t) (record { each = λ i h. absurd (has-none h) }) }) (rw e (record {
@@ -149,10 +120,10 @@ module _ {K : ℕ → Type 0} {t : State} (i : ℕ) where
 
 -- ---- one after the other
 
-module _ {rules table counts desk : List ℕ} {which M : ℕ} {unit : Unit} {s t : State} (e : unit ≡ modelsOf which) (job : ModelJob desk unit)
+module _ {rules table counts desk : List ℕ} {which M : ℕ} {unit : Job} {s t : State} (e : unit ≡ modelsOf which) (job : ModelJob desk unit)
     (fits : which < 2 ^ ATOMS) (n : Narrows (Wired rules table counts desk unit) s t) where
   -- a set without an atom of M is a smaller one
-  pub asked-found : {i rest : ℕ} {a : Asked} → Confines M (s .dropped) → rest ≡ M ∖ t .up → Has rest i → Asks (Wired rules table counts desk unit) t i a
+  pub asked-found : {i rest : ℕ} {a : WithoutAtom} → Confines M (s .dropped) → rest ≡ M ∖ t .up → Has rest i → Asks (Wired rules table counts desk unit) t i a
       → a .found ≡ true → Finds (lent rules) which M s true (a .set)
   asked-found {i} {rest} {a} conf r h k f = record {
     exactly = record { yes = λ g. found; no = λ g. absurd (true≢false g) };

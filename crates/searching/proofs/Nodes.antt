@@ -1,15 +1,8 @@
 -- Nodes: what they hand back.
-use mathlib.Core.Path.{_≡_, refl, sym, _∙_}
-use mathlib.Core.Bool.{Bool, true, true≢false}
-use mathlib.Core.List.{List}
-use Prim.Native.Nat.{ℕ, _<_, _≤_}
-use Rattle.plan.specs.Limits.{LIST_WORDS}
-use Rattle.states.specs.declared.state.State.{State}
-use Rattle.learning.specs.Reason.{Lifted}
+use Rattle.searching.proofs.Prelude.{_≡_, refl, sym, _∙_, Bool, true, true≢false, List, ℕ, _<_, _≤_, LIST_WORDS, State, Lifted, too-many}
+use Rattle.searching.proofs.Prelude.{enough as enough-done, Finishes, HandedUp, Found}
 use Rattle.searching.specs.Witness.{enough}
-use Rattle.searching.specs.Node.{too-many, enough as enough-done, Finishes, HandedUp}
 use Rattle.searching.proofs.Witnesses.{enough-met}
-use Rattle.searching.specs.declared.node.Found.{Found}
 
 -- the same count and witness, and the pair that was lifted
 pub handed-up : {K : ℕ → Type 0} {found r : Found} {before after : List ℕ} {n : State}

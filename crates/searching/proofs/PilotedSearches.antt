@@ -1,31 +1,9 @@
 -- Searches with pilots: the cuts of what is wired are those of what belongs to the list.
-use mathlib.Core.Path.{_≡_, sym, subst, _∙_}
-use mathlib.Core.Bool.{true}
-use mathlib.Core.List.{List}
-use Prim.Native.Nat.{ℕ, _*_, _^_, _<_}
-use native.Mathlib.Omega.{arith}
-use native.Mathlib.Nat.{lt-of-le-of-lt}
-use lib.ListN.{getD}
-use Rattle.atoms.specs.Word.{ATOMS, Has, _⊆_, Apart, _∩_, _∪_, _∖_}
-use Rattle.atoms.specs.Cuts.{CutOf}
-use Rattle.atoms.proofs.Sets.{ext, has-cut, cut-left, cut-right, has-lt, subset-le, union-fits, without-fits}
-use Rattle.atoms.proofs.Tests.{decided-true}
-use Rattle.plan.specs.Limits.{MAX_UNITS, LIST_WORDS}
-use Rattle.answer_sets.specs.Lent.{lent}
-use Rattle.answer_sets.proofs.Judged.{decides-answer-set}
-use Rattle.states.specs.Narrowing.{Wanted}
-use Rattle.states.specs.declared.state.State.{State}
-use Rattle.narrowing.specs.Inputs.{AnswersInputs}
-use Rattle.joining.specs.Joins.{isListed, joins}
-use Rattle.joining.proofs.JoinedLists.{joins-each, joins-one}
-use Rattle.propagating.specs.Job.{Belongs, Searchable}
-use Rattle.propagating.specs.Desk.{LaidOut, Prepared, Wired}
-use Rattle.propagating.specs.declared.unit.Unit.{Unit}
-use Rattle.propagating.proofs.Desks.{prepared, belongs-desk, desk-belongs}
-use Rattle.pilots.specs.Pilots.{FollowAll}
-use Rattle.pilots.specs.Linked.{PilotsWithin}
-use Rattle.searching.specs.Listing.{Gathered, Grown}
-use Rattle.searching.specs.Spare.{Alike, Piloted, AllDown, allPilots, withInputs}
+use Rattle.searching.proofs.Prelude.{_≡_, sym, subst, _∙_, true, List, ℕ, _*_, _^_, _<_, arith, lt-of-le-of-lt, getD, ATOMS, Has, _⊆_, Apart, _∩_, _∪_}
+use Rattle.searching.proofs.Prelude.{_∖_, CutOf, ext, has-cut, cut-left, cut-right, has-lt, subset-le, union-fits, without-fits, decided-true}
+use Rattle.searching.proofs.Prelude.{MAX_UNITS, LIST_WORDS, lent, decides-answer-set, Wanted, State, AnswersInputs, isListed, joins, joins-each}
+use Rattle.searching.proofs.Prelude.{joins-one, Belongs, Searchable, LaidOut, Prepared, Wired, Job, prepared, belongs-desk, desk-belongs, FollowAll}
+use Rattle.searching.proofs.Prelude.{PilotsWithin, Gathered, Grown, AlikeBut, Piloted, AllDown, allPilots, withInputs}
 use Rattle.searching.proofs.Gathered.{gathered-iff}
 use Rattle.searching.proofs.Witnesses.{grown-for}
 use Rattle.searching.proofs.TestedPilots.{pilots-within}
@@ -33,7 +11,7 @@ use Rattle.searching.proofs.SpareAtoms.{alike-with, alike-without, answ
 use Rattle.searching.proofs.PilotedUnits.{litAt, lit-within, lit-follow, opened, opened-with, opened-without, pilots-off, cut-with, cut-without}
 
 -- the same lists are joined
-joins-alike : (table counts heads : List ℕ) (w X : ℕ) {M N : ℕ} → w < 2 ^ MAX_UNITS → ((v : ℕ) → Has w v → Apart (getD heads v 0) X) → Alike X M N
+joins-alike : (table counts heads : List ℕ) (w X : ℕ) {M N : ℕ} → w < 2 ^ MAX_UNITS → ((v : ℕ) → Has w v → Apart (getD heads v 0) X) → AlikeBut X M N
     → joins table counts heads w M ≡ true → joins table counts heads w N ≡ true
 joins-alike table counts heads w X {M} {N} few off a j =
     joins-each table counts heads w N
@@ -48,7 +26,7 @@ joins-alike table counts heads w X {M} {N} few off a j =
         (λ i p. let q = cut-right N (getD heads v 0) p in
         has-cut M (getD heads v 0) (a .elsewhere i (off v h .none i q) .1 (cut-left N (getD heads v 0) p)) q)
 
-module _ {rules table counts heads pilots desk : List ℕ} {unit : Unit} {X : ℕ} (p : Piloted rules heads pilots unit X)
+module _ {rules table counts heads pilots desk : List ℕ} {unit : Job} {X : ℕ} (p : Piloted rules heads pilots unit X)
     (ready : Searchable rules table counts heads unit) (fits : unit .rules < 2 ^ ATOMS) (small : X < 2 ^ ATOMS)
     (laid : LaidOut rules heads pilots (withInputs unit X) desk) where
   -- what belongs, with the pilots that are lit
@@ -109,7 +87,7 @@ module _ {rules table counts heads pilots desk : List ℕ} {unit : Unit} {X : �
 
 -- ---- where a search begins
 
-pub piloted-ready : {rules table counts heads pilots desk : List ℕ} {unit u : Unit} {x : ℕ} → u ≡ withInputs unit x → x ≡ allPilots pilots
+pub piloted-ready : {rules table counts heads pilots desk : List ℕ} {unit u : Job} {x : ℕ} → u ≡ withInputs unit x → x ≡ allPilots pilots
     → Searchable rules table counts heads unit → LaidOut rules heads pilots u desk → Prepared rules table counts desk u
 piloted-ready {rules} {table} {counts} {heads} {pilots} {unit = unit} {u} e f ready l = prepared l within more
   where
@@ -120,17 +98,17 @@ piloted-ready {rules} {table} {counts} {heads} {pilots} {unit = unit} {u} e f re
 
     within : PilotsWithin pilots (u .inputs)
     within =
-        subst (λ (v : Unit). PilotsWithin pilots (v .inputs)) (sym e)
+        subst (λ (v : Job). PilotsWithin pilots (v .inputs)) (sym e)
         (subst (λ (y : ℕ). PilotsWithin pilots (unit .inputs ∪ y)) (sym f) (pilots-within pilots (unit .inputs)))
 
-pub piloted-search : {rules table counts heads pilots desk : List ℕ} {unit u : Unit} {x : ℕ} {s o : State} {d shown sh : ℕ} → u ≡ withInputs unit x
+pub piloted-search : {rules table counts heads pilots desk : List ℕ} {unit u : Job} {x : ℕ} {s o : State} {d shown sh : ℕ} → u ≡ withInputs unit x
     → x ≡ allPilots pilots → Searchable rules table counts heads unit → Piloted rules heads pilots unit (allPilots pilots) → AllDown (allPilots pilots) s
     → LaidOut rules heads pilots u desk → unit .rules < 2 ^ ATOMS → x < 2 ^ ATOMS → d ≡ s .dropped ∖ x → o ≡ record { up = s .up; dropped = d }
     → sh ≡ shown ∖ x
     → (list : List ℕ) (count : ℕ) {after : List ℕ} {r : ℕ} → Gathered (Grown list count (CutOf sh (Wanted (Wired rules table counts desk u) o))) after r
     → Gathered (Grown list count (CutOf shown (Wanted (Belongs rules table counts heads unit) s))) after r
 piloted-search {rules} {heads = heads} {pilots} {desk} {unit} {x = x} {s} {shown = shown} e f ready p w l fits small g h k list count a =
-    piloted-gathered q ready fits small (subst (λ (v : Unit). LaidOut rules heads pilots v desk) e l)
+    piloted-gathered q ready fits small (subst (λ (v : Job). LaidOut rules heads pilots v desk) e l)
     (subst (λ (y : ℕ). AllDown y s) (sym f) w) list count shown (rw (k, h, g, e) at a)
   where
     q : Piloted rules heads pilots unit x

@@ -1,26 +1,10 @@
 -- A unit with pilots: what is wanted of it, apart from its pilots, is what is wanted of the unit.
-use mathlib.Core.Path.{_≡_, refl, sym, ap, subst, _∙_}
-use mathlib.Core.Bool.{Bool, true, false, true≢false}
-use mathlib.Core.Logic.{_↔_, _⊎_, inl, inr}
-use mathlib.Core.List.{List}
-use Prim.Native.Nat.{ℕ, _^_, _<_}
-use native.Mathlib.Omega.{arith}
-use lib.ListN.{getD}
-use Rattle.atoms.specs.Word.{ATOMS, Has, _⊆_, Apart, _∩_, _∪_, _∖_}
-use Rattle.atoms.specs.Bounded.{unionIn, wordBelow}
-use Rattle.atoms.specs.Cuts.{CutOf}
-use Rattle.atoms.proofs.Sets.{ext, has-cut, cut-left, cut-right, has-left, has-right, has-without, without-left, without-right, union-cases}
-use Rattle.atoms.proofs.Sets.{union-fits, without-fits}
-use Rattle.atoms.proofs.Bounded.{union-has, union-at, word-has, word-at}
-use Rattle.plan.specs.Limits.{MAX_TABLES}
-use Rattle.contact_tables.specs.Table.{tableAnswer}
+use Rattle.searching.proofs.Prelude.{_≡_, refl, sym, ap, subst, _∙_, Bool, true, false, true≢false, _↔_, _⊎_, inl, inr, List, ℕ, _^_, _<_, arith, getD}
+use Rattle.searching.proofs.Prelude.{ATOMS, Has, _⊆_, Apart, _∩_, _∪_, _∖_, unionIn, wordBelow, CutOf, ext, has-cut, cut-left, cut-right, has-left}
+use Rattle.searching.proofs.Prelude.{has-right, has-without, without-left, without-right, union-cases, union-fits, without-fits, union-has, union-at}
+use Rattle.searching.proofs.Prelude.{word-has, word-at, MAX_TABLES, lent, inputs, truth, Completes, State, FollowAll, Job, AlikeBut, Piloted, AllDown}
+use Rattle.contact_tables.specs.ContactTable.{tableAnswer}
 use Rattle.contact_tables.proofs.RowBits.{answer-same}
-use Rattle.answer_sets.specs.Lent.{lent, inputs, truth}
-use Rattle.states.specs.State.{Completes}
-use Rattle.states.specs.declared.state.State.{State}
-use Rattle.pilots.specs.Pilots.{FollowAll}
-use Rattle.propagating.specs.declared.unit.Unit.{Unit}
-use Rattle.searching.specs.Spare.{Alike, Piloted, AllDown}
 use Rattle.searching.proofs.SpareAtoms.{alike-sym, alike-with, alike-without}
 
 -- the pilots of the tables that are true at N
@@ -28,9 +12,9 @@ unfoldable pub litAt : List ℕ → List ℕ → ℕ → ℕ
 litAt rules pilots N =
     unionIn MAX_TABLES (wordBelow MAX_TABLES (λ t. tableAnswer (inputs rules t) (truth rules t) N)) (λ t. getD pilots t 0)
 
-module _ {rules heads pilots : List ℕ} {unit : Unit} {X : ℕ} (p : Piloted rules heads pilots unit X) where
+module _ {rules heads pilots : List ℕ} {unit : Job} {X : ℕ} (p : Piloted rules heads pilots unit X) where
   -- what a table says does not hang on pilots
-  says-alike : (t : ℕ) → t < MAX_TABLES → {M N : ℕ} → Alike X M N
+  says-alike : (t : ℕ) → t < MAX_TABLES → {M N : ℕ} → AlikeBut X M N
       → tableAnswer (inputs rules t) (truth rules t) M ≡ tableAnswer (inputs rules t) (truth rules t) N
   says-alike t l {M} {N} a =
       answer-same (inputs rules t) (truth rules t) M N

@@ -1,32 +1,13 @@
 -- One position: whether it belongs to the list, and what it adds there if it is offered.
-use mathlib.Core.Path.{_≡_, refl, sym, ap, _∙_, subst}
-use mathlib.Core.Bool.{Bool, true, false, true≢false, false≢true}
-use mathlib.Core.List.{List}
-use Prim.Native.Nat.{ℕ, _<_, _^_}
-use Rattle.atoms.specs.Word.{ATOMS, _∩_}
-use Rattle.atoms.specs.Bounded.{Decides}
-use Rattle.atoms.specs.Cuts.{CutOf}
-use Rattle.atoms.proofs.Tests.{decides}
-use Rattle.answer_sets.specs.Lent.{lent}
-use Rattle.answer_sets.specs.Test.{answerSet}
-use Rattle.answer_sets.proofs.Judged.{decides-answer-set}
-use Rattle.states.specs.declared.state.State.{State}
-use Rattle.narrowing.specs.Inputs.{AnswersInputs}
-use Rattle.learning.specs.Nogood.{Nogood}
-use Rattle.learning.specs.Reason.{Remembers}
-use Rattle.joining.specs.Joins.{joins}
-use Rattle.propagating.specs.Job.{Belongs}
-use Rattle.propagating.specs.declared.unit.Unit.{Unit}
-use Rattle.searching.specs.Listing.{Ordered, Inserted, Gathered, Grown, Offered}
-use Rattle.searching.specs.Witness.{Witnessed, met, none}
-use Rattle.searching.specs.declared.node.Found.{Found}
-use Rattle.searching.specs.declared.witness.Witness.the-variants.{Member, Nothing}
+use Rattle.searching.proofs.Prelude.{_≡_, refl, sym, ap, _∙_, subst, Bool, true, false, true≢false, false≢true, List, ℕ, _<_, _^_, ATOMS, _∩_, Decides}
+use Rattle.searching.proofs.Prelude.{CutOf, decides, lent, answerSet, decides-answer-set, State, AnswersInputs, Nogood, Remembers, joins, Belongs, Job}
+use Rattle.searching.proofs.Prelude.{Ordered, Inserted, Gathered, Grown, Offered, Witnessed, met, none, Found, Member, Nothing}
 use Rattle.searching.proofs.Gathered.{gathered-insert, gathered-same, gathered-iff}
 use Rattle.searching.proofs.Witnesses.{grown-for}
 
 -- ---- belonging
 
-module _ (rules table counts heads : List ℕ) (unit : Unit) where
+module _ (rules table counts heads : List ℕ) (unit : Job) where
   pub not-joined : (M : ℕ) → joins table counts heads (unit .predecessors) M ≡ false
       → Decides (Belongs rules table counts heads unit M) false
   not-joined M e =

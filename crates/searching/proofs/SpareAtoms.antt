@@ -1,31 +1,19 @@
 -- Spare atoms: bodies and answer sets do not look at them.
-use mathlib.Core.Path.{_≡_, refl, sym, ap, subst, _∙_}
-use mathlib.Core.Bool.{Bool, true, false, true≢false}
-use mathlib.Core.Logic.{_↔_, _⊎_, inl, inr}
-use mathlib.Core.List.{List}
-use Prim.Native.Nat.{ℕ, _<_}
-use lib.ListN.{getD}
-use Rattle.atoms.specs.Word.{Has, _⊆_, _⊂_, Apart, _∩_, _∪_, _∖_}
-use Rattle.atoms.specs.Bounded.{unionIn, wordBelow}
-use Rattle.atoms.proofs.Sets.{ext, has-dec, has-cut, cut-left, cut-right, has-left, has-right, has-without, without-left, without-right, union-cases}
-use Rattle.atoms.proofs.Bounded.{union-has, union-at}
-use Rattle.plan.specs.Limits.{MAX_TABLES}
-use Rattle.answer_sets.specs.Program.{Body, Satisfies}
-use Rattle.answer_sets.specs.AnswerSet.{AnswerSet, ReductModel, Kept}
-use Rattle.answer_sets.specs.Lent.{lent, inputs, truth}
-use Rattle.answer_sets.specs.SubsetTest.{InRule, in-head, in-positive, in-looks}
+use Rattle.searching.proofs.Prelude.{_≡_, refl, sym, ap, subst, _∙_, Bool, true, false, true≢false, _↔_, _⊎_, inl, inr, List, ℕ, _<_, getD, Has, _⊆_}
+use Rattle.searching.proofs.Prelude.{_⊂_, Apart, _∩_, _∪_, _∖_, unionIn, wordBelow, ext, has-dec, has-cut, cut-left, cut-right, has-left, has-right}
+use Rattle.searching.proofs.Prelude.{has-without, without-left, without-right, union-cases, union-has, union-at, MAX_TABLES, Body, Satisfies}
+use Rattle.searching.proofs.Prelude.{AnswerSet, ReductModel, Kept, lent, inputs, truth, InRule, in-head, in-positive, in-looks, AnswersInputs}
+use Rattle.searching.proofs.Prelude.{AlikeBut, Spare}
 use Rattle.answer_sets.proofs.Bodies.{rest-same}
-use Rattle.narrowing.specs.Inputs.{AnswersInputs}
-use Rattle.searching.specs.Spare.{Alike, Spare}
 
-pub alike-sym : {X M N : ℕ} → Alike X M N → Alike X N M
+pub alike-sym : {X M N : ℕ} → AlikeBut X M N → AlikeBut X N M
 alike-sym a = record { elsewhere = λ i n. (a .elsewhere i n .1, a .elsewhere i n .0) }
 
 -- without the atoms, and with some of them
-pub alike-without : (X M : ℕ) → Alike X M (M ∖ X)
+pub alike-without : (X M : ℕ) → AlikeBut X M (M ∖ X)
 alike-without X M = record { elsewhere = λ i n. (λ h. has-without M X h n, λ h. without-left M X h) }
 
-pub alike-with : (X N : ℕ) {W : ℕ} → W ⊆ X → Alike X N (N ∪ W)
+pub alike-with : (X N : ℕ) {W : ℕ} → W ⊆ X → AlikeBut X N (N ∪ W)
 alike-with X N {W} f = record { elsewhere = λ i n. (λ h. has-left N W h, λ h. go i n (union-cases N W h)) }
   where
     go : (i : ℕ) → ¬ Has X i → Has N i ⊎ Has W i → Has N i
@@ -33,25 +21,25 @@ alike-with X N {W} f = record { elsewhere = λ i n. (λ h. has-left N W h, λ h.
     go i n (inr h) = absurd (n (f .each i h))
 
 module _ {rules : List ℕ} {which X : ℕ} (sp : Spare rules which X) where
-  body-alike : (r : ℕ) → Has which r → {M N : ℕ} → Alike X M N → Body (lent rules) r M → Body (lent rules) r N
+  body-alike : (r : ℕ) → Has which r → {M N : ℕ} → AlikeBut X M N → Body (lent rules) r M → Body (lent rules) r N
   body-alike r p {M} {N} a b = record {
     positive-up = record { each = λ i h. a .elsewhere i (sp .in-no-rule r i p (in-positive h)) .0 (b .positive-up .each i h) };
     rest-holds = sym (rest-same rules r M N (λ i h. a .elsewhere i (sp .in-no-rule r i p (in-looks h)))) ∙ b .rest-holds;
   }
 
-  head-alike : (r a : ℕ) → Has which r → Has (lent rules .head r) a → {M N : ℕ} → Alike X M N → Has M a → Has N a
+  head-alike : (r a : ℕ) → Has which r → Has (lent rules .head r) a → {M N : ℕ} → AlikeBut X M N → Has M a → Has N a
   head-alike r a p h k = k .elsewhere a (sp .in-no-rule r a p (in-head h)) .0
 
-  satisfied-alike : (r : ℕ) → Has which r → {M N : ℕ} → Alike X M N → Satisfies (lent rules) r M → Satisfies (lent rules) r N
+  satisfied-alike : (r : ℕ) → Has which r → {M N : ℕ} → AlikeBut X M N → Satisfies (lent rules) r M → Satisfies (lent rules) r N
   satisfied-alike r p a s = record {
     head-up = λ b. let h = s .head-up (body-alike r p (alike-sym a) b) in (h .0, h .1, head-alike r (h .0) p (h .1) a (h .2));
   }
 
-  kept-alike : {M N : ℕ} → Alike X M N → (r : ℕ) → Kept (lent rules) which M r → Kept (lent rules) which N r
+  kept-alike : {M N : ℕ} → AlikeBut X M N → (r : ℕ) → Kept (lent rules) which M r → Kept (lent rules) which N r
   kept-alike a r k = record { numbered = k .numbered; holds = body-alike r (k .numbered) a (k .holds) }
 
   -- models of the reducts, cut and filled up
-  model-alike : {f g M N K L : ℕ} → Alike X M N → Alike X K L → g ⊆ L → ReductModel (lent rules) which f M K → ReductModel (lent rules) which g N L
+  model-alike : {f g M N K L : ℕ} → AlikeBut X M N → AlikeBut X K L → g ⊆ L → ReductModel (lent rules) which f M K → ReductModel (lent rules) which g N L
   model-alike a b facts m = record {
     facts-up = facts;
     each = λ r k. satisfied-alike r (k .numbered) b (m .each r (kept-alike (alike-sym a) r k));

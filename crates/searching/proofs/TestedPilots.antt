@@ -1,25 +1,10 @@
 -- Pilots that were tested: spare atoms, each of one table.
-use mathlib.Core.Path.{_≡_, refl, sym, ap, subst, _∙_}
-use mathlib.Core.Bool.{Bool, true, false, not}
-use mathlib.Core.Logic.{_⊎_, inl, inr}
-use mathlib.Core.List.{List}
-use Prim.Native.Nat.{ℕ, _+_, _^_, _≤_, _<_}
-use native.Mathlib.Omega.{arith}
-use native.Mathlib.Decide.{ℕ-discrete, decLt}
-use borrow.Author.Tests.{not-false}
-use lib.ListN.{getD, replicate, getD-replicate}
-use Rattle.atoms.specs.Word.{Has, Lowest, _⊆_, subset, Apart, apart, _∪_, _∖_, atom, below}
-use Rattle.atoms.specs.Bounded.{unionIn}
-use Rattle.atoms.proofs.Sets.{has-none, has-left, has-right, has-lt, has-below, union-cases, decides-apart, decides-subset}
-use Rattle.atoms.proofs.Bounded.{union-has, union-at}
-use Rattle.atoms.proofs.TakenNumbers.{Taking, taking-next, taking-end}
-use Rattle.plan.specs.Limits.{MAX_TABLES, MAX_UNITS}
-use Rattle.answer_sets.specs.Lent.{lent, looks, inputs}
-use Rattle.answer_sets.specs.SubsetTest.{InRule, in-head, in-positive, in-looks}
-use Rattle.states.specs.declared.state.State.{State}
-use Rattle.pilots.specs.Linked.{PilotsWithin}
-use Rattle.propagating.specs.declared.unit.Unit.{Unit}
-use Rattle.searching.specs.Spare.{Spare, NoInputs, Distinct, Piloted, AllDown, allPilots, withInputs}
+use Rattle.searching.proofs.Prelude.{_≡_, refl, sym, ap, subst, _∙_, Bool, true, false, not, _⊎_, inl, inr, List, ℕ, _+_, _^_, _≤_, _<_, arith}
+use Rattle.searching.proofs.Prelude.{ℕ-discrete, decLt, not-false, getD, replicate, getD-replicate, Has, Lowest, _⊆_, subset, Apart, apart, _∪_, _∖_}
+use Rattle.searching.proofs.Prelude.{atom, below, unionIn, has-none, has-left, has-right, has-lt, has-below, union-cases, decides-apart}
+use Rattle.searching.proofs.Prelude.{decides-subset, union-has, union-at, Taking, taking-next, taking-end, MAX_TABLES, MAX_UNITS, lent, looks, inputs}
+use Rattle.searching.proofs.Prelude.{InRule, in-head, in-positive, in-looks, State, PilotsWithin, Job, Spare, NoInputs, DistinctPilots, Piloted}
+use Rattle.searching.proofs.Prelude.{AllDown, allPilots, withInputs}
 
 -- ---- rules
 
@@ -87,14 +72,14 @@ distinct-next {pilots} {all} {all′} {t} {b} k f g e = record {
         absurd (off .none a (k .in-all u (omega (arith, l, q)) .each a h) (subst (λ (w : ℕ). Has (getD pilots w 0) a) (sym r) i))
     go u v a l m h i (no q) (no r) = k .same u v a (omega (arith, l, q)) (omega (arith, m, r)) h i
 
-pub distinct-end : {pilots : List ℕ} {all t : ℕ} → DistinctBelow pilots all t → MAX_TABLES ≤ t → Distinct pilots
+pub distinct-end : {pilots : List ℕ} {all t : ℕ} → DistinctBelow pilots all t → MAX_TABLES ≤ t → DistinctPilots pilots
 distinct-end k l = record { same = λ u v a m n. k .same u v a (omega (arith, l, m)) (omega (arith, l, n)) }
 
 -- ---- all together
 
-pub tested-pilots : {rules heads pilots : List ℕ} {unit : Unit} {s : State} {x w : ℕ} {a b c : Bool} → unit .predecessors < 2 ^ MAX_UNITS
+pub tested-pilots : {rules heads pilots : List ℕ} {unit : Job} {s : State} {x w : ℕ} {a b c : Bool} → unit .predecessors < 2 ^ MAX_UNITS
     → x ≡ allPilots pilots → a ≡ subset x (s .dropped) → not a ≡ false → b ≡ apart (s .up) x → not b ≡ false
-    → w ≡ unionIn MAX_UNITS (unit .predecessors) (λ v. getD heads v 0) → c ≡ apart w x → not c ≡ false → Distinct pilots → NoInputs rules x MAX_TABLES
+    → w ≡ unionIn MAX_UNITS (unit .predecessors) (λ v. getD heads v 0) → c ≡ apart w x → not c ≡ false → DistinctPilots pilots → NoInputs rules x MAX_TABLES
     → Spare rules (unit .rules) x → Piloted rules heads pilots unit x × AllDown x s
 tested-pilots {rules} {heads} {pilots} {unit} {s} {x} {w} {a} {b} {c} few e ea fa eb fb ew ec fc d n sp = (
   record {
@@ -123,7 +108,7 @@ all-nothing : (i : ℕ) → ¬ Has (allPilots (replicate MAX_TABLES 0)) i
 all-nothing i h =
     let u = union-at MAX_TABLES (below MAX_TABLES) (λ t. getD (replicate {A = ℕ} MAX_TABLES 0) t 0) i h in has-none (rw (nothing (u .0) (u .1)) at (u .3))
 
-pub no-pilots : {rules heads : List ℕ} {unit : Unit} → Piloted rules heads (replicate MAX_TABLES 0) unit (allPilots (replicate MAX_TABLES 0))
+pub no-pilots : {rules heads : List ℕ} {unit : Job} → Piloted rules heads (replicate MAX_TABLES 0) unit (allPilots (replicate MAX_TABLES 0))
 no-pilots = record {
   spare = record { in-no-rule = λ r i h k. all-nothing i };
   no-inputs = record { each = λ t l. record { none = λ i h. all-nothing i } };
@@ -137,8 +122,8 @@ none-down = record { dropped = record { each = λ i h. absurd (all-nothing i h) 
 
 -- ---- more inputs
 
-pub more-inputs : (unit : Unit) (X : ℕ) {w : ℕ} → w ≡ unit .inputs ∪ X
-    → _≡_ {A = Unit} (record { rules = unit .rules; inputs = w; predecessors = unit .predecessors; nearest = unit .nearest }) (withInputs unit X)
+pub more-inputs : (unit : Job) (X : ℕ) {w : ℕ} → w ≡ unit .inputs ∪ X
+    → _≡_ {A = Job} (record { rules = unit .rules; inputs = w; predecessors = unit .predecessors; nearest = unit .nearest }) (withInputs unit X)
 more-inputs unit X e = rw e refl
 
 pub pilots-within : (pilots : List ℕ) (inputs : ℕ) → PilotsWithin pilots (inputs ∪ allPilots pilots)

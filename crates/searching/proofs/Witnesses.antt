@@ -1,25 +1,10 @@
 -- Cuts of wanted positions, and members that were met.
-use mathlib.Core.Path.{_≡_, refl, sym, _∙_, subst}
-use mathlib.Core.Bool.{true, false, false≢true}
-use mathlib.Core.Logic.{_⊎_, inl, inr}
-use mathlib.Core.List.{List, [], _∷_, List·Memᴰ, List·Memᴰ·head, List·Memᴰ·tail, List·Memᴰ·not-nil}
-use Prim.Native.Nat.{ℕ, _≤_, _<_, _^_}
-use native.Mathlib.Omega.{arith}
-use lib.Dec.{eqb}
-use lib.ListN.{length, replicate}
-use borrow.Author.Tests.{eqb-true}
-use Rattle.atoms.specs.Word.{ATOMS, Has, _∩_}
-use Rattle.atoms.proofs.Sets.{ext, empty, has-cut, cut-left, cut-right, has-lt, has-none}
-use Rattle.atoms.specs.Rising.{above-cons, Rising, rising-cons}
-use Rattle.atoms.specs.Cuts.{CutOf}
-use Rattle.plan.specs.Limits.{LIST_WORDS, OVERFULL}
-use Rattle.states.specs.State.{Completes, undecided}
-use Rattle.states.specs.declared.state.State.{State}
-use Rattle.states.proofs.HalfDecided.{decided-cases}
-use Rattle.searching.specs.Listing.{Gathered, fits, over, Grown}
-use Rattle.searching.specs.Witness.{Witnessed, met, none, Met, enough}
-use Rattle.searching.specs.declared.witness.Witness.{Witness}
-use Rattle.searching.specs.declared.witness.Witness.the-variants.{Member, Nothing}
+use Rattle.searching.proofs.Prelude.{_≡_, refl, sym, _∙_, subst, true, false, false≢true, _⊎_, inl, inr, List, [], _∷_, List·Memᴰ, List·Memᴰ·head}
+use Rattle.searching.proofs.Prelude.{List·Memᴰ·tail, List·Memᴰ·not-nil, ℕ, _≤_, _<_, _^_, arith, eqb, length, replicate, eqb-true, ATOMS, Has, _∩_}
+use Rattle.searching.proofs.Prelude.{ext, empty, has-cut, cut-left, cut-right, has-lt, has-none, above-cons, Rising, rising-cons, CutOf, LIST_WORDS}
+use Rattle.searching.proofs.Prelude.{OVERFULL, Completes, undecided, State, decided-cases, Gathered, fits, over, Grown, Witnessed, met, none, Met}
+use Rattle.searching.proofs.Prelude.{Witness, Member, Nothing}
+use Rattle.searching.specs.Witness.{enough}
 
 -- ---- cuts
 

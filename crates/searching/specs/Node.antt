@@ -31,7 +31,7 @@ pub record HandedUp (K : ℕ → Type 0) (found : Found) (before after : List �
 
 -- what is said of a searched state, in the words of the calculus: what was met, of which the witness is one; what is remembered holds of every member;
 -- and no member completes the pair
-pub record Sought (K : ℕ → Type 0) (shown : ℕ) (s : State) (whole : Bool) (memory : List ℕ) (r : Found) : Type 0 where
+pub record SoughtOf (K : ℕ → Type 0) (shown : ℕ) (s : State) (whole : Bool) (memory : List ℕ) (r : Found) : Type 0 where
   pub met : List ℕ
   pub searched : Searched K shown s whole met
   pub shows : Shows met (r .witness)
@@ -41,6 +41,6 @@ pub record Sought (K : ℕ → Type 0) (shown : ℕ) (s : State) (whole : Bool) 
 -- and that the cuts of what was met are in the list; all was searched unless that is too long
 pub record Explored (K : ℕ → Type 0) (shown : ℕ) (s : State) (list : List ℕ) (count : ℕ) (after memory : List ℕ) (r : Found) : Type 0 where
   pub whole : Bool
-  pub sought : Sought K shown s whole memory r
+  pub sought : SoughtOf K shown s whole memory r
   pub room : r .count ≤ LIST_WORDS → whole ≡ true
   pub gathered : Gathered (Grown list count (CutOf shown (λ M. List·Memᴰ M (sought .met)))) after (r .count)

@@ -1,6 +1,6 @@
 // Where a search begins.
 use crate::dive::dive_ahead;
-use propagating::Unit;
+use propagating::Job;
 use propagating::front::Front;
 use propagating::propagate::propagate;
 ghost use Rattle.states.specs.Narrowing.{Narrows};
@@ -14,7 +14,7 @@ pub fn begin(
     table: &[u64],
     counts: &[usize],
     desk: &[u64],
-    unit: Unit,
+    unit: Job,
     memory: &mut [u64],
     filter: &mut [u64],
     front: Front,

@@ -6,7 +6,7 @@ use crate::outlook::phase_of;
 use crate::stop::stop;
 use explaining::lift::span;
 use joining::filter::copied;
-use propagating::Unit;
+use propagating::Job;
 use propagating::front::Front;
 use propagating::front::branched;
 use propagating::propagate::propagate;
@@ -59,7 +59,7 @@ fn descend(
     table: &[u64],
     counts: &[usize],
     desk: &[u64],
-    unit: Unit,
+    unit: Job,
     memory: &mut [u64],
     filter: &mut [u64],
     f: Front,
@@ -90,7 +90,7 @@ fn learn_stop(
     table: &[u64],
     counts: &[usize],
     desk: &[u64],
-    unit: Unit,
+    unit: Job,
     memory: &mut [u64],
     above: Front,
     f: Front,
@@ -115,7 +115,7 @@ fn dive(
     table: &[u64],
     counts: &[usize],
     desk: &[u64],
-    unit: Unit,
+    unit: Job,
     memory: &mut [u64],
     filter: &[u64],
     front: Front,
@@ -141,7 +141,7 @@ pub fn dive_ahead(
     table: &[u64],
     counts: &[usize],
     desk: &[u64],
-    unit: Unit,
+    unit: Job,
     memory: &mut [u64],
     filter: &[u64],
     front: Front,

@@ -6,7 +6,7 @@ use crate::witness::Witness;
 use answer_sets::memo::blank_memo;
 use joining::filter::full_filter;
 use plan::LIST_WORDS;
-use propagating::Unit;
+use propagating::Job;
 use propagating::front::Front;
 use propagating::front::moved;
 use states::State;
@@ -23,7 +23,7 @@ pub fn find(
     counts: &[usize],
     desk: &[u64],
     memory: &mut [u64],
-    unit: Unit,
+    unit: Job,
     start: Front,
     s: State,
 ) -> Witness

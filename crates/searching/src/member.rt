@@ -2,14 +2,14 @@
 use crate::listing::insert;
 use crate::node::Found;
 use crate::node::Node;
-use crate::node::handed;
+use crate::node::found_of;
 use crate::stop::reject;
-use crate::subsets::judge_set;
+use crate::subsets::judge_leaf;
 use crate::witness::Witness;
 use answer_sets::Judged;
 use joining::join::joins;
 use pilots::follow::follow_all;
-use propagating::Unit;
+use propagating::Job;
 use propagating::desk::LINKED;
 use propagating::desk::PILOTS;
 use states::everything;
@@ -30,7 +30,7 @@ fn belongs(
     counts: &[usize],
     heads: &[u64],
     memo: &mut [u64],
-    unit: Unit,
+    unit: Job,
     position: u64,
 ) -> Judged
     requires { ⌜ Searchable (now rules) (now table) (now counts) (now heads) unit × Memo (now rules) (now memo) ⌝ }
@@ -44,7 +44,7 @@ fn belongs(
             smaller: position,
         };
     }
-    judge_set(
+    judge_leaf(
         rules,
         unit.rules,
         atoms::cut(position, unit.inputs),
@@ -60,7 +60,7 @@ fn is_wired(
     counts: &[usize],
     desk: &[u64],
     memo: &mut [u64],
-    unit: Unit,
+    unit: Job,
     position: u64,
 ) -> Judged
     requires { ⌜ Prepared (now rules) (now table) (now counts) (now desk) unit × Memo (now rules) (now memo) ⌝ }
@@ -109,8 +109,8 @@ pub fn offer(
     if !judged.answers {
         let x = atoms::without(s.up, judged.smaller);
         let nogood = reject(rules, table, counts, desk, memory, node, x);
-        return handed(node.count, nogood, Witness::Nothing);
+        return found_of(node.count, nogood, Witness::Nothing);
     }
     let after = insert(list, node.count, atoms::cut(s.up, node.shown));
-    handed(after, everything(), Witness::Member(s.up))
+    found_of(after, everything(), Witness::Member(s.up))
 }

@@ -6,7 +6,7 @@ use crate::witness::is_enough;
 use explaining::lift::Stretch;
 use learning::nogood::merge;
 use plan::LIST_WORDS;
-use propagating::Unit;
+use propagating::Job;
 use propagating::front::Front;
 use propagating::front::branched;
 use states::State;
@@ -24,7 +24,7 @@ ghost use Rattle.searching.specs.Node.{Finishes};
 // A way into the search: its unit, the atoms that show, how many positions are listed so far, where propagation stands, and the state in which the
 // atom was decided.
 pub struct Branch {
-    pub unit: Unit,
+    pub unit: Job,
     pub shown: u64,
     pub count: usize,
     pub front: Front,
@@ -33,7 +33,7 @@ pub struct Branch {
 
 // A node of the search: a branch with its steps taken, the way that they went, and what the state then leaves to search.
 pub struct Node {
-    pub unit: Unit,
+    pub unit: Job,
     pub shown: u64,
     pub count: usize,
     pub way: Stretch,
@@ -49,7 +49,7 @@ pub struct Found {
 }
 
 // Where a search begins: nothing is listed yet.
-pub fn root(unit: Unit, shown: u64, front: Front, base: State) -> Branch
+pub fn root(unit: Job, shown: u64, front: Front, base: State) -> Branch
     ensures { λ r. ⌜ r ≡ record { unit = unit; shown = shown; count = 0; front = front; base = base } ⌝ }
 {
     Branch {
@@ -80,7 +80,7 @@ pub fn below(rules: &[u64], desk: &[u64], node: Node, count: usize, i: usize, ph
 }
 
 // What was found, put together.
-pub fn handed(count: usize, nogood: State, witness: Witness) -> Found
+pub fn found_of(count: usize, nogood: State, witness: Witness) -> Found
     ensures { λ r. ⌜ r ≡ record { count = count; nogood = nogood; witness = witness } ⌝ }
 {
     Found {
@@ -113,5 +113,5 @@ pub fn joined(first: Found, second: Found, s: State, atom: usize, phase: bool) -
     let nogood = merge(n, m, s, atom, phase);
     let met = first.witness;
     let also = second.witness;
-    handed(second.count, nogood, either(met, also))
+    found_of(second.count, nogood, either(met, also))
 }

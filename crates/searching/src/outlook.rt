@@ -6,7 +6,7 @@ use learning::trail::leaders;
 use narrowing::choice::Choice;
 use narrowing::choice::choose;
 use narrowing::choice::some_wide;
-use propagating::Unit;
+use propagating::Job;
 use propagating::desk::DESK_WORDS;
 use propagating::desk::LINKED;
 use propagating::desk::backing;
@@ -77,7 +77,7 @@ pub fn phase_of(rules: &[u64], desk: &[u64], which: u64, memory: &[u64], s: Stat
 pub fn outlook_of(
     rules: &[u64],
     desk: &[u64],
-    unit: Unit,
+    unit: Job,
     memory: &[u64],
     s: State,
     shown: u64,

@@ -20,7 +20,7 @@ use joining::filter::copied;
 use joining::filter::full_filter;
 use learning::store::empty_store;
 use narrowing::loops::looped_atoms;
-use propagating::Unit;
+use propagating::Job;
 use propagating::agenda::every_step;
 use propagating::agenda::with_tables;
 use propagating::desk::lay_out;
@@ -97,7 +97,7 @@ pub fn search(
     table: &[u64],
     counts: &[usize],
     heads: &[u64],
-    unit: Unit,
+    unit: Job,
     shown: u64,
     list: &mut [u64],
     s: State,

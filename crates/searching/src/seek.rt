@@ -4,7 +4,7 @@ use crate::enter::enter;
 use crate::node::Found;
 use crate::node::Node;
 use crate::node::below;
-use crate::node::handed;
+use crate::node::found_of;
 use crate::node::joined;
 use crate::outlook::Outlook;
 use crate::outlook::phase_of;
@@ -23,7 +23,7 @@ ghost use Rattle.learning.specs.Reason.{Remembers};
 ghost use Rattle.propagating.specs.Desk.{Prepared, Wired};
 ghost use Rattle.searching.specs.Listing.{Offered};
 ghost use Rattle.searching.specs.Models.{ModelJob};
-ghost use Rattle.searching.specs.Node.{Sought};
+ghost use Rattle.searching.specs.Node.{SoughtOf};
 ghost use Rattle.searching.specs.Outlook.{Leaves};
 ghost use Rattle.searching.specs.Witness.{Witnessed};
 
@@ -39,9 +39,9 @@ fn settle(rules: &[u64], table: &[u64], counts: &[usize], desk: &[u64], node: No
     let f = node.front;
     let s = f.state;
     if all_satisfied(rules, unit.rules, s.up) {
-        return handed(node.count, everything(), Witness::Member(s.up));
+        return found_of(node.count, everything(), Witness::Member(s.up));
     }
-    handed(node.count, everything(), Witness::Nothing)
+    found_of(node.count, everything(), Witness::Nothing)
 }
 
 // A position that satisfies the rules and completes the node's state, or that there is none. What is learnt on the way is kept, and the pair that is
@@ -57,7 +57,7 @@ pub fn seek(
     requires { ⌜ Prepared (now rules) (now table) (now counts) (now desk) (node .unit)
         × Remembers (Wired (now rules) (now table) (now counts) (now desk) (node .unit)) (now memory)
         × Leaves (now rules) (node .unit .rules) (node .front .state) (node .next) × ModelJob (now desk) (node .unit) ⌝ }
-    ensures { λ r. ⌜ Sought (Wired (now (rules .entry)) (now (table .entry)) (now (counts .entry)) (now (desk .entry)) (node .unit)) 0
+    ensures { λ r. ⌜ SoughtOf (Wired (now (rules .entry)) (now (table .entry)) (now (counts .entry)) (now (desk .entry)) (node .unit)) 0
         (node .front .state) true (now (memory .exit)) r ⌝ }
 {
     let next = node.next;

@@ -8,7 +8,7 @@ use pilots::follow::word_at;
 use plan::CONTACT_WORDS;
 use plan::MAX_TABLES;
 use plan::MAX_UNITS;
-use propagating::Unit;
+use propagating::Job;
 use states::State;
 ghost use mathlib.Core.Path.{_≡_};
 ghost use mathlib.Core.Bool.{true};
@@ -16,7 +16,7 @@ ghost use Prim.Native.Nat.{_^_, _≤_, _<_};
 ghost use lib.ListN.{length};
 ghost use Rattle.plan.specs.Limits.{MAX_TABLES, MAX_UNITS};
 ghost use Rattle.answer_sets.specs.Lent.{IsLent, Lent};
-ghost use Rattle.searching.specs.Spare.{Spare, NoInputs, Distinct, Piloted, AllDown, allPilots, withInputs};
+ghost use Rattle.searching.specs.Spare.{Spare, NoInputs, DistinctPilots, Piloted, AllDown, allPilots, withInputs};
 
 // All atoms of the rules of the word.
 fn all_atoms(rules: &[u64], which: u64) -> u64
@@ -76,7 +76,7 @@ fn in_no_table(rules: &[u64], x: u64) -> bool
 // Whether no atom is the pilot of two tables.
 fn are_distinct(pilots: &[u64]) -> bool
     requires { ⌜ MAX_TABLES ≤ length (now pilots) ⌝ }
-    ensures { λ r. ⌜ (r ≡ true → Distinct (now (pilots .entry))) ⌝ }
+    ensures { λ r. ⌜ (r ≡ true → DistinctPilots (now (pilots .entry))) ⌝ }
 {
     let mut all = 0;
     let mut t = 0;
@@ -178,7 +178,7 @@ pub fn all_of(pilots: &[u64]) -> u64
 }
 
 // Whether the pilots may serve: spare atoms that are dropped, each of one table.
-fn may_serve(rules: &[u64], heads: &[u64], pilots: &[u64], unit: Unit, s: State) -> bool
+fn may_serve(rules: &[u64], heads: &[u64], pilots: &[u64], unit: Job, s: State) -> bool
     requires { ⌜ Lent (now rules) (unit .rules) × (MAX_UNITS ≤ length (now heads)) × (MAX_TABLES ≤ length (now pilots))
         × (unit .predecessors < 2 ^ MAX_UNITS) ⌝ }
     ensures { λ r. ⌜ (r ≡ true → Piloted (now (rules .entry)) (now (heads .entry)) (now (pilots .entry)) unit (allPilots (now (pilots .entry)))
@@ -204,7 +204,7 @@ fn may_serve(rules: &[u64], heads: &[u64], pilots: &[u64], unit: Unit, s: State)
 }
 
 // The atoms that are dropped in the state and stand in no rule of the unit, no table and no list.
-fn spare_atoms(rules: &[u64], heads: &[u64], unit: Unit, s: State) -> u64
+fn spare_atoms(rules: &[u64], heads: &[u64], unit: Job, s: State) -> u64
     requires { ⌜ Lent (now rules) (unit .rules) × (MAX_UNITS ≤ length (now heads)) ⌝ }
 {
     let known = atoms::union(
@@ -215,7 +215,7 @@ fn spare_atoms(rules: &[u64], heads: &[u64], unit: Unit, s: State) -> u64
 }
 
 // The pilots of the unit's tables: atoms that are dropped in the state.
-pub fn take_pilots(rules: &[u64], heads: &[u64], unit: Unit, s: State) -> [u64; MAX_TABLES]
+pub fn take_pilots(rules: &[u64], heads: &[u64], unit: Job, s: State) -> [u64; MAX_TABLES]
     requires { ⌜ Lent (now rules) (unit .rules) × (MAX_UNITS ≤ length (now heads)) × (unit .predecessors < 2 ^ MAX_UNITS) ⌝ }
     ensures piloted { λ r. ⌜ Piloted (now (rules .entry)) (now (heads .entry)) r unit (allPilots r) ⌝ }
     ensures down { λ r. ⌜ AllDown (allPilots r) s ⌝ }
@@ -232,10 +232,10 @@ pub fn take_pilots(rules: &[u64], heads: &[u64], unit: Unit, s: State) -> [u64; 
 }
 
 // The unit with these inputs more.
-pub fn with_inputs(unit: Unit, more: u64) -> Unit
+pub fn with_inputs(unit: Job, more: u64) -> Job
     ensures { λ r. ⌜ r ≡ withInputs unit more ⌝ }
 {
-    Unit {
+    Job {
         rules: unit.rules,
         inputs: atoms::union(unit.inputs, more),
         predecessors: unit.predecessors,

@@ -2,10 +2,10 @@
 // up from node to node.
 use crate::node::Found;
 use crate::node::Node;
-use crate::node::handed;
+use crate::node::found_of;
 use crate::witness::Witness;
 use explaining::lift::Stretch;
-use explaining::lift::blame;
+use explaining::lift::lift_unless_clash;
 use explaining::lift::span;
 use explaining::reasons::Claim;
 use explaining::reasons::explain;
@@ -14,7 +14,7 @@ use learning::trail::note_step;
 use learning::trail::note_unfounded;
 use learning::trail::read_step;
 use narrowing::unfounded::drop_unfounded;
-use propagating::Unit;
+use propagating::Job;
 use propagating::step::UNFOUNDED_STEP;
 use states::State;
 use states::everything;
@@ -42,7 +42,7 @@ fn stop_reason(
     table: &[u64],
     counts: &[usize],
     desk: &[u64],
-    unit: Unit,
+    unit: Job,
     memory: &[u64],
     at: usize,
 ) -> State
@@ -71,7 +71,7 @@ pub fn stop(
     table: &[u64],
     counts: &[usize],
     desk: &[u64],
-    unit: Unit,
+    unit: Job,
     memory: &mut [u64],
     way: Stretch,
 ) -> State
@@ -85,7 +85,7 @@ pub fn stop(
     let n = stop_reason(rules, table, counts, desk, unit, memory, at);
     let base = way.base;
     let rest = span(base, way.from, at);
-    blame(rules, table, counts, desk, unit, memory, rest, n)
+    lift_unless_clash(rules, table, counts, desk, unit, memory, rest, n)
 }
 
 // What is found at a node whose steps came to a stop: nothing, and the pair that is left of it.
@@ -107,7 +107,7 @@ pub fn halt(
     let unit = node.unit;
     let way = node.way;
     let nogood = stop(rules, table, counts, desk, unit, memory, way);
-    handed(node.count, nogood, Witness::Nothing)
+    found_of(node.count, nogood, Witness::Nothing)
 }
 
 // The pair that is left at a node whose state is a full position and no member, where it may lose the atoms of x: their step is a stop.
@@ -158,7 +158,7 @@ pub fn hand_up(
     let unit = node.unit;
     let way = node.way;
     let n = found.nogood;
-    let nogood = blame(rules, table, counts, desk, unit, memory, way, n);
+    let nogood = lift_unless_clash(rules, table, counts, desk, unit, memory, way, n);
     let witness = found.witness;
-    handed(found.count, nogood, witness)
+    found_of(found.count, nogood, witness)
 }

@@ -19,7 +19,7 @@ use joining::filter::FILTER_WORDS;
 use learning::store::empty_store;
 use plan::MAX_TABLES;
 use plan::MAX_UNITS;
-use propagating::Unit;
+use propagating::Job;
 use propagating::agenda::every_step;
 use propagating::desk::lay_out;
 use propagating::front::Front;
@@ -43,17 +43,17 @@ ghost use Rattle.searching.specs.Witness.{Witnessed};
 const FEW: u64 = 16;
 
 // What is answered to a question for an atom: a set without it, or what is known of all sets where there is none.
-pub struct Asked {
+pub struct WithoutAtom {
     pub found: bool,
     pub set: u64,
     pub state: State,
 }
 
 // The job: to satisfy these rules.
-fn models_of(which: u64) -> Unit
+fn models_of(which: u64) -> Job
     ensures { λ r. ⌜ r ≡ modelsOf which ⌝ }
 {
-    Unit {
+    Job {
         rules: which,
         inputs: EVERY_ATOM,
         predecessors: 0,
@@ -62,7 +62,7 @@ fn models_of(which: u64) -> Unit
 }
 
 // Every step is to be taken from this state.
-fn front_of(job: Unit, s: State) -> Front
+fn front_of(job: Job, s: State) -> Front
     ensures { λ r. ⌜ r .state ≡ s ⌝ }
 {
     let agenda = every_step(job, 0);
@@ -80,7 +80,7 @@ fn find_model(
     counts: &[usize],
     desk: &[u64],
     memory: &mut [u64],
-    job: Unit,
+    job: Job,
     s: State,
 ) -> Witness
     requires { ⌜ Prepared (now rules) (now table) (now counts) (now desk) job × ModelJob (now desk) job
@@ -104,7 +104,7 @@ fn settled(
     counts: &[usize],
     desk: &[u64],
     memory: &mut [u64],
-    job: Unit,
+    job: Job,
     s: State,
 ) -> State
     requires { ⌜ Prepared (now rules) (now table) (now counts) (now desk) job × ModelJob (now desk) job
@@ -126,10 +126,10 @@ fn ask_without(
     counts: &[usize],
     desk: &[u64],
     memory: &mut [u64],
-    job: Unit,
+    job: Job,
     t: State,
     i: usize,
-) -> Asked
+) -> WithoutAtom
     requires { ⌜ Prepared (now rules) (now table) (now counts) (now desk) job × ModelJob (now desk) job
         × Remembers (Wired (now rules) (now table) (now counts) (now desk) job) (now memory) × (i < ATOMS) ⌝ }
     ensures asks { λ r. ⌜ Asks (Wired (now (rules .entry)) (now (table .entry)) (now (counts .entry)) (now (desk .entry)) job) t i r ⌝ }
@@ -139,7 +139,7 @@ fn ask_without(
     let lowered = decide(t, i, false);
     let met = find_model(rules, table, counts, desk, memory, job, lowered);
     match met {
-        Witness::Member(m) => Asked {
+        Witness::Member(m) => WithoutAtom {
             found: true,
             set: m,
             state: t,
@@ -147,7 +147,7 @@ fn ask_without(
         Witness::Nothing => {
             let raised = decide(t, i, true);
             let state = settled(rules, table, counts, desk, memory, job, raised);
-            Asked {
+            WithoutAtom {
                 found: false,
                 set: 0,
                 state,
@@ -220,7 +220,7 @@ fn some_smaller(rules: &[u64], which: u64, facts: u64, position: u64, memo: &mut
 
 // Whether the position is an answer set of the rules numbered in `which` with the facts added, and what shows that it is none: as `answer_sets` has it,
 // by the subset test that learns.
-pub fn judge_set(rules: &[u64], which: u64, facts: u64, position: u64, memo: &mut [u64]) -> Judged
+pub fn judge_leaf(rules: &[u64], which: u64, facts: u64, position: u64, memo: &mut [u64]) -> Judged
     requires { ⌜ Lent (now rules) which × Memo (now rules) (now memo) ⌝ }
     ensures answers { λ r. ⌜ r .answers ≡ answerSet (lent (now (rules .entry))) which facts position ⌝ }
     ensures refuted { λ r. ⌜ RefutedBy (lent (now (rules .entry))) which facts position (r .answers) (r .smaller) ⌝ }

@@ -1,8 +1,6 @@
 -- The sheets that document 01 shows, computed from the definitions.
-use mathlib.Core.Path.{_≡_, refl}
-use mathlib.Core.List.{[], _∷_}
-use Rattle.sheet.specs.Sheet.{lineEnd, positionsWord, refusedWord, atWord, placesWithin, places, decimal, hexadecimal}
-use Rattle.sheet.specs.Sheet.{positionLine, positionLines, positionsSheet, refusalSheet}
+use Rattle.sheet.proofs.Prelude.{_≡_, refl, [], _∷_, lineEnd, positionsWord, refusedWord, atWord, placesWithin, places, decimal, hexadecimal}
+use Rattle.sheet.proofs.Prelude.{positionLine, positionLines, positionsSheet, refusalSheet}
 
 -- 0 has one digit
 pub decimal-of-0 : decimal 0 ≡ 48 ∷ []

@@ -1,17 +1,8 @@
 -- A sheet is put together from its pieces, one behind the other, and its length is theirs.
-use Prim.Native.Nat.{ℕ, _+_, _*_, _^_, _≤_, _<_}
-use mathlib.Core.Path.{_≡_, refl, _∙_}
-use mathlib.Core.List.{List, [], _∷_, _++_, append-assoc, append-nil}
-use native.Mathlib.Nat.{lt-trans, lt-of-le-of-lt}
-use native.Mathlib.Numerals.{add-one}
-use native.Mathlib.Omega.{arith}
-use lib.Dec.{lit<}
-use lib.ListN.{length, take, getD, length-append}
-use lib.Seq.{take-suc}
-use Rattle.sheet.specs.Sheet.{lineEnd, positionsWord, refusedWord, atWord, decimal, hexadecimal, lineLength}
-use Rattle.sheet.specs.Sheet.{positionLine, positionLines, positionsSheet, refusalSheet}
-use Rattle.sheet.specs.Lent.{Put}
-use Rattle.sheet.proofs.Digits.{decimal-at-most, length-hexadecimal}
+use Rattle.sheet.proofs.Prelude.{ℕ, _+_, _*_, _^_, _≤_, _<_, _≡_, refl, _∙_, List, [], _∷_, _++_, append-assoc, append-nil, lt-trans, lt-of-le-of-lt}
+use Rattle.sheet.proofs.Prelude.{add-one, arith, lit<, length, take, getD, length-append, take-suc, lineEnd, positionsWord, refusedWord, atWord}
+use Rattle.sheet.proofs.Prelude.{decimal, hexadecimal, lineLength, positionLine, positionLines, positionsSheet, refusalSheet, Put}
+use Rattle.sheet.proofs.DecimalDigits.{decimal-at-most, length-hexadecimal}
 use Rattle.sheet.proofs.WrittenBytes.{put-append, put-nothing}
 
 pub length-positionLine : (w : ℕ) → length (positionLine w) ≡ lineLength

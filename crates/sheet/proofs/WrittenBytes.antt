@@ -1,14 +1,7 @@
 -- Writing bytes into a sheet from a place on: one writing behind another is the writing of both, and a writing from 0 on that has room fills the sheet.
-use Prim.Native.Nat.{ℕ, suc, _+_, _≤_, _<_}
-use mathlib.Core.Path.{_≡_, refl, sym, _∙_}
-use mathlib.Core.List.{List, [], _∷_, _++_}
-use native.Mathlib.Nat.{add-assoc, add-zero, zero-add, add-suc, suc-add}
-use native.Mathlib.Numerals.{add-one}
-use native.Mathlib.Omega.{arith}
-use borrow.Author.Tests.{le-leb, lt-leb}
-use lib.ListN.{length, take, getD, set, length-append}
-use lib.Seq.{sets, sets-eq, take-suc}
-use Rattle.sheet.specs.Lent.{Put, bytesWritten, filled}
+use Rattle.sheet.proofs.Prelude.{ℕ, suc, _+_, _≤_, _<_, _≡_, refl, sym, _∙_, List, [], _∷_, _++_, add-assoc, add-zero, zero-add, add-suc, suc-add}
+use Rattle.sheet.proofs.Prelude.{add-one, arith, le-leb, lt-leb, length, take, getD, set, length-append, sets, sets-eq, take-suc, Put, bytesWritten}
+use Rattle.sheet.proofs.Prelude.{filled}
 use Rattle.sheet.specs.declared.Written.the-variants.{Bytes, TooShort}
 
 sets-append : (a b s : List ℕ) (at : ℕ) → sets s at (a ++ b) ≡ sets (sets s at a) (at + length a) b

@@ -3,7 +3,7 @@ ghost use Prim.Native.Nat.{_+_, _*_, _≤_};
 ghost use mathlib.Core.Path.{_≡_};
 ghost use lib.ListN.{length, take};
 ghost use Rattle.sheet.specs.Sheet.{decimal, hexadecimal, lineLength, positionLine, positionLines, positionsSheet, refusalSheet};
-ghost use Rattle.sheet.specs.Lent.{Put, bytesWritten, filled};
+ghost use Rattle.sheet.specs.LentSheet.{Put, bytesWritten, filled};
 
 // How many bytes were written; or that the buffer is too short for the sheet, which leaves it as it was.
 pub enum Written {

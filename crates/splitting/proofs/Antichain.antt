@@ -1,19 +1,8 @@
 -- No member of a list lies within another: along the edges the two have the same input, and then they are answer sets of the
 -- same rules and facts.
-use mathlib.Core.Path.{_≡_, subst}
-use mathlib.Core.Logic.{_⊎_, inl, inr}
-use Prim.Native.Nat.{ℕ, _<_}
-use Rattle.atoms.specs.Word.{Has, _⊆_, _∩_}
-use Rattle.atoms.proofs.Sets.{has-cut, cut-left, cut-right, subset-refl, subset-antisym}
-use Rattle.answer_sets.specs.AnswerSet.{AnswerSet}
-use Rattle.answer_sets.proofs.Support.{antichain}
-use Rattle.dependency_graph.specs.Units.{Units, Edge, GivenFree}
-use Rattle.dependency_graph.specs.Graph.{Passes}
-use Rattle.dependency_graph.specs.Heads.{heads, inputHeads}
-use Rattle.dependency_graph.proofs.Heads.{input-cases}
-use Rattle.dependency_graph.proofs.Along.{along-edges}
-use Rattle.splitting.specs.UnitList.{Listed}
-use Rattle.splitting.proofs.Cuts.{numbers, cut-mono}
+use Rattle.splitting.proofs.Prelude.{_≡_, subst, _⊎_, inl, inr, ℕ, _<_, Has, _⊆_, _∩_, has-cut, cut-left, cut-right, subset-refl, subset-antisym}
+use Rattle.splitting.proofs.Prelude.{AnswerSet, antichain, Units, Edge, GivenFree, Passes, heads, inputHeads, input-cases, along-edges, Listed}
+use Rattle.splitting.proofs.UnitCuts.{numbers, cut-mono}
 use Rattle.splitting.proofs.Form.{Member, listed-member}
 
 -- no member of the list of u lies within another

@@ -1,19 +1,9 @@
 -- A unit's list in the form that a search asks: no input has to be guessed, for the input of a member is what it has of the heads of
 -- the direct predecessors. Own head atoms are apart from those, and an answer set has only own head atoms and facts.
-use mathlib.Core.Path.{_≡_, sym, ap, _∙_, subst}
-use mathlib.Core.Logic.{_↔_, _⊎_, inl, inr}
-use Prim.Native.Nat.{ℕ, _<_}
-use Rattle.atoms.specs.Word.{Has, _⊆_, _∩_, below}
-use Rattle.atoms.proofs.Sets.{ext, has-cut, cut-left, cut-right, subset-trans}
-use Rattle.answer_sets.specs.AnswerSet.{AnswerSet}
-use Rattle.answer_sets.proofs.Support.{supported, Supported}
-use Rattle.dependency_graph.specs.Units.{Units, Edge, GivenFree}
-use Rattle.dependency_graph.specs.Graph.{Passes}
-use Rattle.dependency_graph.specs.Heads.{own, heads, inputHeads}
-use Rattle.dependency_graph.proofs.Heads.{own-has, heads-own, heads-input, input-given, input-edge}
-use Rattle.dependency_graph.proofs.Seen.{own-apart}
-use Rattle.splitting.specs.UnitList.{Listed}
-use Rattle.splitting.proofs.Cuts.{numbers, number-held, cut-inner, cut-within}
+use Rattle.splitting.proofs.Prelude.{_≡_, sym, ap, _∙_, subst, _↔_, _⊎_, inl, inr, ℕ, _<_, Has, _⊆_, _∩_, below, ext, has-cut, cut-left, cut-right}
+use Rattle.splitting.proofs.Prelude.{subset-trans, AnswerSet, supported, Supported, Units, Edge, GivenFree, Passes, own, heads, inputHeads, own-has}
+use Rattle.splitting.proofs.Prelude.{heads-own, heads-input, input-given, input-edge, own-apart, Listed}
+use Rattle.splitting.proofs.UnitCuts.{numbers, number-held, cut-inner, cut-within}
 use Rattle.splitting.proofs.Words.{Input, listed-words, words-listed}
 
 -- M is in the list of u, asked of M alone

@@ -1,26 +1,12 @@
 -- The last list is exactly the set of answer sets of the whole program. The one more unit holds no rule and has an edge to every
 -- other and none to it, so the graph passes with it too, and it has every unit under it.
-use mathlib.Core.Path.{_≡_, refl, sym, ap, _∙_, subst}
-use mathlib.Core.Bool.{Bool, true, false}
-use mathlib.Core.Logic.{_↔_, inl, inr}
-use Prim.Native.Nat.{ℕ, _<_}
-use native.Mathlib.Omega.{arith}
-use native.Mathlib.Decide.{ℕ-discrete}
-use lib.Dec.{eqb}
-use borrow.Author.Tests.{eq-eqb, ne-eqb}
-use Rattle.atoms.specs.Word.{Has, _∩_, below}
-use Rattle.atoms.proofs.Sets.{has-none, cut-left, has-below, below-lt, subset-refl, subset-antisym}
-use Rattle.answer_sets.specs.AnswerSet.{AnswerSet}
-use Rattle.answer_sets.proofs.Support.{Supported, supported, of-least}
-use Rattle.dependency_graph.specs.Units.{Units, Holds, Edge, Path, one, more, LooksOnly, GivenFree}
-use Rattle.dependency_graph.specs.Graph.{Sees, Passes}
-use Rattle.dependency_graph.specs.Heads.{heads, inputHeads}
-use Rattle.dependency_graph.proofs.Heads.{path-end}
-use Rattle.dependency_graph.proofs.Under.{Under, here, down}
-use Rattle.splitting.specs.UnitList.{Listed, withLast, Clean, SameRule, SameUnit, Agree}
+use Rattle.splitting.proofs.Prelude.{_≡_, refl, sym, ap, _∙_, subst, Bool, true, false, _↔_, inl, inr, ℕ, _<_, arith, ℕ-discrete, eqb, eq-eqb, ne-eqb}
+use Rattle.splitting.proofs.Prelude.{Has, _∩_, below, has-none, cut-left, has-below, below-lt, subset-refl, subset-antisym, AnswerSet, Supported}
+use Rattle.splitting.proofs.Prelude.{supported, of-least, Units, Holds, Edge, Path, one, more, LooksOnly, GivenFree, Sees, Passes, heads, inputHeads}
+use Rattle.splitting.proofs.Prelude.{path-end, Under, here, down, Listed, withLast, Clean, SameRule, SameUnit, Agree}
 use Rattle.splitting.proofs.Words.{first-list}
 use Rattle.splitting.proofs.Top.{top-list}
-use Rattle.splitting.proofs.Agreement.{agreement, agree-heads, agree-input}
+use Rattle.splitting.proofs.UnitAgreement.{agreement, agree-heads, agree-input}
 
 -- ---- the words of the units
 

@@ -1,19 +1,9 @@
 -- Lists by what holds unit by unit: a position is in the list of u exactly if it is an answer set locally in u and in every unit that u
 -- reaches. Going down a path cuts the position; going up is the induction along the edges.
-use mathlib.Core.Path.{sym, subst}
-use Prim.Native.Nat.{ℕ, _<_}
-use Rattle.atoms.specs.Word.{_⊆_, _∩_, below}
-use Rattle.atoms.proofs.Sets.{has-cut}
-use Rattle.answer_sets.specs.AnswerSet.{AnswerSet}
-use Rattle.dependency_graph.specs.Units.{Units, Edge, Path, one, more, GivenFree}
-use Rattle.dependency_graph.specs.Graph.{Passes}
-use Rattle.dependency_graph.specs.Heads.{heads, inputHeads}
-use Rattle.dependency_graph.proofs.Heads.{heads-given, heads-input, heads-edge, path-end}
-use Rattle.dependency_graph.proofs.Along.{along-edges}
-use Rattle.dependency_graph.proofs.Under.{Under, here, down, under-edge}
-use Rattle.dependency_graph.proofs.Seen.{AllHeaded}
-use Rattle.splitting.specs.UnitList.{Listed}
-use Rattle.splitting.proofs.Cuts.{numbers, cut-inner, cut-within}
+use Rattle.splitting.proofs.Prelude.{sym, subst, ℕ, _<_, _⊆_, _∩_, below, has-cut, AnswerSet, Units, Edge, Path, one, more, GivenFree, Passes, heads}
+use Rattle.splitting.proofs.Prelude.{inputHeads, heads-given, heads-input, heads-edge, path-end, along-edges, Under, here, down, under-edge, AllHeaded}
+use Rattle.splitting.proofs.Prelude.{Listed}
+use Rattle.splitting.proofs.UnitCuts.{numbers, cut-inner, cut-within}
 use Rattle.splitting.proofs.Form.{Member, listed-member}
 
 -- what M has of the heads of w is an answer set of w's rules, with what M has of the heads below as facts

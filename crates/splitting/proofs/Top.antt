@@ -1,18 +1,8 @@
 -- The list of a unit that has every unit under it is the set of answer sets of the whole program: both say that a position is
 -- an answer set in every unit.
-use mathlib.Core.Path.{sym, subst}
-use mathlib.Core.Logic.{_↔_, _⊎_, inl, inr}
-use Prim.Native.Nat.{ℕ, _<_}
-use Rattle.atoms.specs.Word.{Has, _⊆_, _∩_, below}
-use Rattle.answer_sets.specs.AnswerSet.{AnswerSet}
-use Rattle.dependency_graph.specs.Units.{Units, LooksOnly, GivenFree}
-use Rattle.dependency_graph.specs.Graph.{Passes}
-use Rattle.dependency_graph.specs.Heads.{own, heads}
-use Rattle.dependency_graph.proofs.Heads.{own-has, own-at, heads-given}
-use Rattle.dependency_graph.proofs.Under.{Under, under-unit, heads-under, heads-source}
-use Rattle.dependency_graph.proofs.Seen.{Headed, AllHeaded}
-use Rattle.splitting.specs.UnitList.{Listed}
-use Rattle.splitting.proofs.Cuts.{cut-whole}
+use Rattle.splitting.proofs.Prelude.{sym, subst, _↔_, _⊎_, inl, inr, ℕ, _<_, Has, _⊆_, _∩_, below, AnswerSet, Units, LooksOnly, GivenFree, Passes, own}
+use Rattle.splitting.proofs.Prelude.{heads, own-has, own-at, heads-given, Under, under-unit, heads-under, heads-source, Headed, AllHeaded, Listed}
+use Rattle.splitting.proofs.UnitCuts.{cut-whole}
 use Rattle.splitting.proofs.Form.{listed-member}
 use Rattle.splitting.proofs.Local.{AnswersUnits, listed-locals, locals-listed}
 use Rattle.splitting.proofs.Whole.{whole}

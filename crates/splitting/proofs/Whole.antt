@@ -1,21 +1,12 @@
 -- The whole program unit by unit: M is an answer set exactly if it is an answer set in every unit. A rule is satisfied through a unit that
 -- covers it; a smaller model of the whole is cut to each unit in turn, along the edges, and has all that M has there.
-use mathlib.Core.Logic.{_↔_, _⊎_, inl, inr}
-use Prim.Native.Nat.{ℕ, _<_}
-use Rattle.atoms.specs.Word.{Has, _⊆_, _∩_, below}
-use Rattle.atoms.proofs.Sets.{has-cut, cut-left, cut-right, has-below, below-lt, subset-refl, subset-trans}
-use Rattle.answer_sets.specs.Program.{Body}
-use Rattle.answer_sets.specs.AnswerSet.{Kept, ReductModel, AnswerSet}
-use Rattle.answer_sets.proofs.Support.{satisfied, least, of-least}
-use Rattle.dependency_graph.specs.Units.{Units, Holds, Edge, LooksOnly}
-use Rattle.dependency_graph.specs.Graph.{Passes}
-use Rattle.dependency_graph.specs.Heads.{heads, inputHeads}
-use Rattle.dependency_graph.proofs.Heads.{heads-input, input-cases}
-use Rattle.dependency_graph.proofs.Along.{along-edges}
-use Rattle.dependency_graph.proofs.Seen.{Headed, headed-subset, Covers, held-heads, covered, body-up, body-down}
-use Rattle.splitting.proofs.Cuts.{numbers, has-number, number-held, cut-below, cut-mono}
+use Rattle.splitting.proofs.Prelude.{_↔_, _⊎_, inl, inr, ℕ, _<_, Has, _⊆_, _∩_, below, has-cut, cut-left, cut-right, has-below, below-lt, subset-refl}
+use Rattle.splitting.proofs.Prelude.{subset-trans, Body, Kept, ReductModel, AnswerSet, satisfied, least, of-least, Units, Holds, Edge, LooksOnly}
+use Rattle.splitting.proofs.Prelude.{Passes, heads, inputHeads, heads-input, input-cases, along-edges, Headed, headed-subset, Covers, held-heads}
+use Rattle.splitting.proofs.Prelude.{covered, body-up, body-down}
+use Rattle.splitting.proofs.UnitCuts.{numbers, has-number, number-held, cut-below, cut-mono}
 use Rattle.splitting.proofs.Local.{AnswersUnits}
-use Rattle.splitting.proofs.Filled.{whole-answers}
+use Rattle.splitting.proofs.FilledUnits.{whole-answers}
 
 module _ (S : Units) (pass : Passes S) (looks : LooksOnly S) (M : ℕ) (s : AnswersUnits S M) where
   -- each rule is satisfied through a unit that covers it

@@ -1,15 +1,7 @@
 -- Lists through the words of head atoms: an input is what the word `inputHeads` has at most, and its cut to H(v) is the cut of the words.
-use mathlib.Core.Path.{subst}
-use mathlib.Core.Logic.{_↔_}
-use Prim.Native.Nat.{ℕ, _<_}
-use Rattle.atoms.specs.Word.{Has, _⊆_, _∩_, below}
-use Rattle.atoms.proofs.Sets.{subset-refl, subset-trans, subset-antisym}
-use Rattle.atoms.proofs.Collected.{collects-same}
-use Rattle.answer_sets.specs.AnswerSet.{AnswerSet}
-use Rattle.dependency_graph.specs.Units.{Units, Edge}
-use Rattle.dependency_graph.specs.Heads.{InputAtom, given-input, head-input, heads, inputHeads}
-use Rattle.dependency_graph.proofs.Under.{collects-input-atoms, cut-heads}
-use Rattle.splitting.specs.UnitList.{Listed, listed}
+use Rattle.splitting.proofs.Prelude.{subst, _↔_, ℕ, _<_, Has, _⊆_, _∩_, below, subset-refl, subset-trans, subset-antisym, collects-same, AnswerSet}
+use Rattle.splitting.proofs.Prelude.{Units, Edge, InputAtom, given-input, head-input, heads, inputHeads, collects-input-atoms, cut-heads, Listed}
+use Rattle.splitting.proofs.Prelude.{listed}
 
 -- J is an input of u
 pub record Input (S : Units) (u J : ℕ) : Type 0 where

@@ -1,17 +1,8 @@
 -- One more atom decided: the two branches of a state, and how many atoms are left undecided.
-use mathlib.Core.Path.{_≡_, refl, sym, _∙_}
-use mathlib.Core.Bool.{Bool, true, false, not}
-use mathlib.Core.Logic.{_⊎_, inl, inr}
-use Prim.Native.Nat.{ℕ, _≤_, _<_}
-use native.Mathlib.Nat.{lt-of-lt-of-le}
-use native.Mathlib.Omega.{arith}
-use lib.Count.{ones}
-use Rattle.atoms.specs.Word.{ATOMS, EVERY_ATOM, Has, _∪_, atom, below}
-use Rattle.atoms.proofs.Sets.{has-dec, has-none, has-below, has-atom, has-left, has-right, subset-refl, ext}
+use Rattle.states.proofs.Prelude.{_≡_, refl, sym, _∙_, Bool, true, false, not, _⊎_, inl, inr, ℕ, _≤_, _<_, lt-of-lt-of-le, arith, ones, ATOMS}
+use Rattle.states.proofs.Prelude.{EVERY_ATOM, Has, _∪_, atom, below, has-dec, has-none, has-below, has-atom, has-left, has-right, subset-refl, ext}
+use Rattle.states.proofs.Prelude.{Completes, undecided, Narrows, withDropped, withUp, branchOf, State}
 use Rattle.atoms.proofs.Counts.{count-le, count-lt, count-proper}
-use Rattle.states.specs.State.{Completes, undecided}
-use Rattle.states.specs.Narrowing.{Narrows, withDropped, withUp, branchOf}
-use Rattle.states.specs.declared.state.State.{State}
 use Rattle.states.proofs.HalfDecided.{undecided-shrinks, undecided-up, undecided-dropped, undecided-lt}
 use Rattle.states.proofs.Narrows.{with-up, with-dropped, without-up, without-dropped}
 

@@ -1,10 +1,6 @@
 -- The undecided atoms of a half-decided position.
-use mathlib.Core.Logic.{_⊎_, inl, inr}
-use Prim.Native.Nat.{ℕ, _<_}
-use Rattle.atoms.specs.Word.{ATOMS, Has, _⊆_, outside}
-use Rattle.atoms.proofs.Sets.{without-left, without-right, has-without, has-outside, outside-lt}
-use Rattle.atoms.proofs.Sets.{outside-lacks, has-dec}
-use Rattle.states.specs.State.{undecided}
+use Rattle.states.proofs.Prelude.{_⊎_, inl, inr, ℕ, _<_, ATOMS, Has, _⊆_, outside, without-left, without-right, has-without, has-outside, outside-lt}
+use Rattle.states.proofs.Prelude.{outside-lacks, has-dec, undecided}
 
 -- an atom that is not undecided is up or dropped
 pub decided-cases : (up dropped i : ℕ) → i < ATOMS → ¬ Has (undecided up dropped) i → Has up i ⊎ Has dropped i

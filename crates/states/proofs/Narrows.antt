@@ -1,11 +1,6 @@
 -- Narrowing passes: they compose, and what keeps every position of interest.
-use mathlib.Core.Logic.{_⊎_, inl, inr}
-use Prim.Native.Nat.{ℕ}
-use Rattle.atoms.specs.Word.{Has, _⊆_, Apart, _∪_, atom}
-use Rattle.atoms.proofs.Sets.{subset-refl, subset-trans, has-left, has-right, has-atom, union-cases, atom-only}
-use Rattle.states.specs.State.{Completes}
-use Rattle.states.specs.Narrowing.{Overlaps, Wanted, Narrows, clashed}
-use Rattle.states.specs.declared.state.State.{State}
+use Rattle.states.proofs.Prelude.{_⊎_, inl, inr, ℕ, Has, _⊆_, Apart, _∪_, atom, subset-refl, subset-trans, has-left, has-right, has-atom, union-cases}
+use Rattle.states.proofs.Prelude.{atom-only, Completes, Overlaps, Wanted, Narrows, clashed, State}
 
 pub narrows-refl : {K : ℕ → Type 0} {s : State} → Narrows K s s
 narrows-refl = record { up-grows = subset-refl; dropped-grows = subset-refl; keeps = λ N k p. p }

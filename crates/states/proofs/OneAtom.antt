@@ -1,11 +1,6 @@
 -- A word of which one atom has to go one way: none left, one, or several.
-use mathlib.Core.Path.{_≡_}
-use Prim.Native.Nat.{ℕ}
-use Rattle.atoms.specs.Word.{_⊆_, _∪_, _∖_, AtMostOne}
-use Rattle.atoms.proofs.Sets.{has-none, has-without, empty, without-left, without-right}
-use Rattle.states.specs.State.{Completes}
-use Rattle.states.specs.Narrowing.{SomeUp, SomeDown, Narrows, OneGoes, clashed}
-use Rattle.states.specs.declared.state.State.{State}
+use Rattle.states.proofs.Prelude.{_≡_, ℕ, _⊆_, _∪_, _∖_, AtMostOne, has-none, has-without, empty, without-left, without-right, Completes, SomeUp}
+use Rattle.states.proofs.Prelude.{SomeDown, Narrows, OneGoes, clashed, State}
 use Rattle.states.proofs.Narrows.{narrows-refl, narrows-when, clash-overlaps, clash-narrows, up-narrows, down-narrows}
 
 -- with no atom nothing completes the state

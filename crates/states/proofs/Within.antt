@@ -1,13 +1,7 @@
 -- States within others, and what completes them.
-use mathlib.Core.Path.{_≡_, sym, _∙_}
-use mathlib.Core.Bool.{Bool, true, false, false≢true}
-use Prim.Native.Nat.{ℕ}
-use Rattle.atoms.specs.Word.{subset, _∩_}
+use Rattle.states.proofs.Prelude.{_≡_, sym, _∙_, Bool, true, false, false≢true, ℕ, subset, _∩_, subset-trans, cut-left, decides-subset, Completes}
+use Rattle.states.proofs.Prelude.{Within, State}
 use Rattle.atoms.specs.Bounded.{Decides}
-use Rattle.atoms.proofs.Sets.{subset-trans, cut-left, decides-subset}
-use Rattle.states.specs.State.{Completes}
-use Rattle.states.specs.Narrowing.{Within}
-use Rattle.states.specs.declared.state.State.{State}
 
 -- a completion of the larger completes the smaller
 pub completes-within : {n s : State} {N : ℕ} → Within n s → Completes s N → Completes n N

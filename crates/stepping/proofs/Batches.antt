@@ -1,42 +1,17 @@
 -- Several positions in one call: what is written is what single calls would find, and calls one after the other walk on.
-use mathlib.Core.Path.{_≡_, refl, sym, ap, _∙_, subst}
-use mathlib.Core.Bool.{Bool, true, false, true≢false}
-use mathlib.Core.Logic.{_⊎_, inl, inr}
-use mathlib.Core.List.{List, [], _∷_, _++_, List·Memᴰ, List·Memᴰ·head, List·Memᴰ·tail, List·Memᴰ·not-nil, List·Memᴰ·cases-cons}
-use Prim.Native.Nat.{ℕ, zero, suc, _+_, _≤_, _<_}
-use native.Mathlib.Omega.{arith}
-use lib.ListN.{length, take, drop}
-use Rattle.atoms.specs.Word.{below}
-use Rattle.atoms.specs.Rising.{Rising, rising-cons}
-use Rattle.atoms.specs.Cuts.{cutList}
-use Rattle.atoms.proofs.Rising.{above-at}
-use Rattle.answer_sets.specs.AnswerSet.{AnswerSet}
-use Rattle.answer_sets.specs.Lent.{lent}
-use Rattle.plan.specs.declared.record.Plan.{Plan}
-use Rattle.plan.specs.declared.fault.Fault.{Fault}
-use Rattle.plan.specs.declared.fault.Outcome.the-variants.{Accepted, Refused as RefusedWith}
-use Rattle.reading.specs.Reading.{reading}
-use Rattle.reading.specs.declared.reader.Reading.{Reading}
-use Rattle.plan_meaning.specs.Settled.{Settles}
-use Rattle.plan_meaning.proofs.AskedPlans.{not-accepted, outcome-is, refused-answered, accepted-answered}
-use Rattle.demands.specs.Demands.{lastIn}
-use Rattle.demands.specs.Promised.{Promised}
-use Rattle.demands.specs.declared.listing.Listing.{Listing}
-use Rattle.demands.proofs.Demand1.{lays-accepted}
-use Rattle.finding.specs.Least.{Behind, Leasts, above}
+use Rattle.stepping.proofs.Prelude.{_≡_, refl, sym, ap, _∙_, subst, Bool, true, false, true≢false, _⊎_, inl, inr, List, [], _∷_, _++_, List·Memᴰ}
+use Rattle.stepping.proofs.Prelude.{List·Memᴰ·head, List·Memᴰ·tail, List·Memᴰ·not-nil, List·Memᴰ·cases-cons, ℕ, zero, suc, _+_, _≤_, _<_, arith}
+use Rattle.stepping.proofs.Prelude.{length, take, drop, below, Rising, rising-cons, cutList, above-at, AnswerSet, lent, Plan, Fault, Accepted}
+use Rattle.stepping.proofs.Prelude.{Refused as RefusedWith, reading, ReadPlan, Settles, not-accepted, outcome-is, refused-answered, accepted-answered}
+use Rattle.stepping.proofs.Prelude.{lastIn, Promised, Listing, lays-accepted, Behind, Leasts, above, From, Start, Above, behind-more, above-of}
+use Rattle.stepping.proofs.Prelude.{Follows, position, none-left, followed, Walked, ends, goes, Next, Position, NoneLeft}
 use Rattle.finding.specs.Gather.{Added, Sought}
-use Rattle.finding.specs.declared.least.From.{From}
-use Rattle.finding.specs.declared.least.From.the-variants.{Start, Above}
 use Rattle.finding.proofs.AddedWords.{added-behind, written-long, written-leasts, written-rest}
-use Rattle.finding.proofs.Walks.{behind-more, above-of}
-use Rattle.stepping.specs.Followed.{Follows, position, none-left, followed}
-use Rattle.stepping.specs.Walk.{Walked, ends, goes}
-use Rattle.stepping.specs.Batch.{steps, placeAfter, filled, Stepped}
-use Rattle.stepping.specs.declared.Next.{Next}
-use Rattle.stepping.specs.declared.Next.the-variants.{Position, NoneLeft, Refused}
+use Rattle.stepping.specs.Batch.{steps, placeAfter, batchFilled, Stepped}
+use Rattle.stepping.specs.declared.Next.the-variants.{Refused}
 use Rattle.stepping.specs.declared.Batch.the-variants.{Written, Refused as BatchRefused}
 use Rattle.stepping.proofs.Nexts.{follows-only, followed-follows, followed-refused}
-use Rattle.stepping.proofs.Agreement.{walk-is-last}
+use Rattle.stepping.proofs.WalkAgreement.{walk-is-last}
 
 -- ---- all rules of the record
 
@@ -177,7 +152,7 @@ module _ (bytes : List ℕ) (accepted : reading bytes .outcome ≡ Accepted) whe
           (follows-only (followed-follows bytes from accepted)
           (position (here .0) (here .1) (λ N s b. low N (rising-cons a r) (k .all N (s, b))))))
 
-module _ (bytes : List ℕ) (from : From) {r : Reading} (read : r ≡ reading bytes) (words : List ℕ) where
+module _ (bytes : List ℕ) (from : From) {r : ReadPlan} (read : r ≡ reading bytes) (words : List ℕ) where
   pub refused-stepped : {f : Fault} → r .outcome ≡ RefusedWith f → Stepped bytes from words words (BatchRefused f)
   refused-stepped e = record {
     answered = refused-answered bytes read e refl;
@@ -191,7 +166,7 @@ module _ (bytes : List ℕ) (from : From) {r : Reading} (read : r ≡ reading by
     answered = accepted-answered bytes read e (ap Written (sym (written-long told) ∙ ap length same))
         (subst (Leasts (λ M. Settles (r .plan) M × Behind from M) (length words)) same (written-leasts told));
     words-are = written-rest told ∙ ap (λ (n : ℕ). take count words′ ++ drop n words) (sym (written-long told))
-        ∙ ap (λ (l : List ℕ). filled l words) same;
+        ∙ ap (λ (l : List ℕ). batchFilled l words) same;
     untouched = λ f k. absurd (not-accepted f (sym (outcome-is bytes read e) ∙ k));
   }
     where
@@ -201,4 +176,4 @@ module _ (bytes : List ℕ) (from : From) {r : Reading} (read : r ≡ reading by
       same : take count words′ ≡ steps bytes from (length words)
       same =
           leasts-steps bytes (outcome-is bytes read e) (length words) from (take count words′)
-          (subst (λ (y : Reading). Leasts (λ M. Settles (y .plan) M × Behind from M) (length words) (take count words′)) read (written-leasts told))
+          (subst (λ (y : ReadPlan). Leasts (λ M. Settles (y .plan) M × Behind from M) (length words) (take count words′)) read (written-leasts told))

@@ -1,38 +1,16 @@
 -- The next answer set: there is just one result that follows, the definition computes it, and so does what was found.
-use mathlib.Core.Path.{_≡_, refl, ap}
-use mathlib.Core.Bool.{Bool, true, false}
-use mathlib.Core.Logic.{inl, inr}
-use mathlib.Core.List.{List}
-use Prim.Native.Nat.{ℕ, suc, _≤_, _<_}
-use native.Mathlib.Omega.{arith}
-use lib.Dec.{ltb}
-use borrow.Author.Tests.{ltb-true, ltb-false, lt-ltb}
-use Rattle.atoms.specs.Word.{Has, _⊆_, below}
+use Rattle.stepping.proofs.Prelude.{_≡_, refl, ap, Bool, true, false, inl, inr, List, ℕ, suc, _≤_, _<_, arith, ltb, ltb-true, ltb-false, lt-ltb, Has}
+use Rattle.stepping.proofs.Prelude.{_⊆_, below, decides, decided-true, not-both, has-left, has-right, has-below, subset-le, lent, Fitting, Plan, Fault}
+use Rattle.stepping.proofs.Prelude.{Accepted, Refused as RefusedWith, reading, ReadPlan, record-fits, Settles, settled, Headed, settled-headed}
+use Rattle.stepping.proofs.Prelude.{decides-settled, asked-refused, asked-accepted, accepted-answered, read-fits, Member, Nothing, LeastOf, least}
+use Rattle.stepping.proofs.Prelude.{none, Behind, from-start, above, From, Start, Above, Follows, position, none-left, mayBeUp, behind, settledBehind}
+use Rattle.stepping.proofs.Prelude.{nextIn, followed, Followed, Next, Position, NoneLeft}
 use Rattle.atoms.specs.Bounded.{Decides, unionIn}
 use Rattle.atoms.specs.Collected.{lowest}
-use Rattle.atoms.proofs.Tests.{decides, decided-true, not-both}
-use Rattle.atoms.proofs.Sets.{has-left, has-right, has-below, subset-le}
 use Rattle.atoms.proofs.Bounded.{union-has}
-use Rattle.answer_sets.specs.Lent.{lent}
-use Rattle.plan.specs.Record.{Fitting}
-use Rattle.plan.specs.declared.record.Plan.{Plan}
-use Rattle.plan.specs.declared.fault.Fault.{Fault}
-use Rattle.plan.specs.declared.fault.Outcome.the-variants.{Accepted, Refused as RefusedWith}
-use Rattle.reading.specs.Reading.{reading}
-use Rattle.reading.specs.declared.reader.Reading.{Reading}
-use Rattle.reading.proofs.Limits.{record-fits}
-use Rattle.plan_meaning.specs.Settled.{Settles, settled}
-use Rattle.judge.proofs.Settled.{Headed, settled-headed, decides-settled}
-use Rattle.plan_meaning.proofs.AskedPlans.{asked-refused, asked-accepted, accepted-answered, read-fits}
 use Rattle.searching.specs.declared.witness.Witness.{Witness}
-use Rattle.searching.specs.declared.witness.Witness.the-variants.{Member, Nothing}
-use Rattle.finding.specs.Least.{LeastOf, least, none, Behind, from-start, above}
-use Rattle.finding.specs.declared.least.From.{From}
-use Rattle.finding.specs.declared.least.From.the-variants.{Start, Above}
 use Rattle.finding.proofs.Leasts.{lowest-met, lowest-missed}
-use Rattle.stepping.specs.Followed.{Follows, position, none-left, mayBeUp, behind, settledBehind, nextIn, followed, Followed}
-use Rattle.stepping.specs.declared.Next.{Next}
-use Rattle.stepping.specs.declared.Next.the-variants.{Position, NoneLeft, Refused}
+use Rattle.stepping.specs.declared.Next.the-variants.{Refused}
 
 -- ---- one result follows
 
@@ -111,7 +89,7 @@ followed-follows bytes from e =
 
 -- ---- the results of the code, from what reading gave
 
-module _ (bytes : List ℕ) (from : From) {r : Reading} {w : Witness} (read : r ≡ reading bytes) (o : r .outcome ≡ Accepted)
+module _ (bytes : List ℕ) (from : From) {r : ReadPlan} {w : Witness} (read : r ≡ reading bytes) (o : r .outcome ≡ Accepted)
     (found : LeastOf (λ N. Settles (r .plan) N × Behind from N) w) where
   accepted-followed : {x : Next} → Follows (r .plan) from x → Followed bytes from x
   accepted-followed k = accepted-answered bytes read o (follows-only k (next-in-follows (r .plan) (read-fits bytes read) from)) k

@@ -32,8 +32,8 @@ abbrev pub batch : List ℕ → From → ℕ → Batch
 batch bytes from n = asked BatchRefused (λ _. Written (length (steps bytes from n))) bytes
 
 -- the lent words afterwards: the positions, and behind them what was there
-abbrev pub filled : List ℕ → List ℕ → List ℕ
-filled xs words = xs ++ drop (length xs) words
+abbrev pub batchFilled : List ℕ → List ℕ → List ℕ
+batchFilled xs words = xs ++ drop (length xs) words
 
 -- so many single calls find the least answer sets of the whole program behind the place
 abbrev pub LeastSteps : Plan → List ℕ → From → ℕ → Type 0
@@ -43,5 +43,5 @@ LeastSteps p bytes from n = Leasts (λ M. Settles p M × Behind from M) n (steps
 -- the whole program behind the place, whose rules and facts are those of the plan's lists, rising, and all of them where fewer than there are words
 pub record Stepped (bytes : List ℕ) (from : From) (words words′ : List ℕ) (r : Batch) : Type 0 where
   pub answered : Answered BatchRefused (λ _. Written (length (steps bytes from (length words)))) (λ p _. LeastSteps p bytes from (length words)) bytes r
-  pub words-are : words′ ≡ filled (steps bytes from (length words)) words
+  pub words-are : words′ ≡ batchFilled (steps bytes from (length words)) words
   pub untouched : (f : Fault) → reading bytes .outcome ≡ RefusedWith f → words′ ≡ words

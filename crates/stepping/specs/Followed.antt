@@ -50,7 +50,7 @@ abbrev pub Followed : List ℕ → From → Next → Type 0
 Followed bytes from r = Answered Refused (λ p. nextIn p from) (λ p. Follows p from) bytes r
 
 -- the result as one number, beside the position
-abbrev pub code : Next → ℕ
-code (Position M) = 1
-code NoneLeft = 0
-code (Refused f) = refusalCode f
+abbrev pub nextCode : Next → ℕ
+nextCode (Position M) = 1
+nextCode NoneLeft = 0
+nextCode (Refused f) = refusalCode f

@@ -1,3 +1,3 @@
 pub mod Followed
-pub mod Walk
+pub mod PlanWalk
 pub mod Batch

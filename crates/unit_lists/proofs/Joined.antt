@@ -1,37 +1,20 @@
 -- What the search looks for in the table is what document 01 lists: form A of the splitting theory, told from the stored lists.
-use mathlib.Core.Path.{_≡_, sym, _∙_, subst}
-use mathlib.Core.Bool.{Bool, true}
-use mathlib.Core.List.{List, List·Memᴰ}
-use Prim.Native.Nat.{ℕ, _+_, _*_, _^_, _≤_, _<_}
-use native.Mathlib.Omega.{arith}
-use lib.Dec.{eqb}
-use lib.ListN.{length, getD}
-use borrow.Author.Tests.{eqb-true, eq-eqb}
-use Rattle.atoms.specs.Word.{ATOMS, EVERY_ATOM, Has, _⊆_, _∩_, below}
+use Rattle.unit_lists.proofs.Prelude.{_≡_, sym, _∙_, subst, Bool, true, List, List·Memᴰ, ℕ, _+_, _*_, _^_, _≤_, _<_, arith, eqb, length, getD}
+use Rattle.unit_lists.proofs.Prelude.{eqb-true, eq-eqb, ATOMS, EVERY_ATOM, Has, _⊆_, _∩_, below, decided-true, has-dec, has-lt, lt-of-has, has-outside}
+use Rattle.unit_lists.proofs.Prelude.{outside-lacks, subset-le, cut-right, below-lt, some-at, some-intro, all-in-at, all-in-intro, lent, ruleAt, State}
+use Rattle.unit_lists.proofs.Prelude.{MAX_RULES, MAX_UNITS, LIST_WORDS, Units, Edge, Passes, heads, inputHeads, Listed, unitList, numbers-fit}
+use Rattle.unit_lists.proofs.Prelude.{unit-list-at, unit-list-has, UnitTold, startWithin, ListStored, MembersStored, Stored, ListsThere}
 use Rattle.atoms.specs.Cuts.{CutOf, cutList}
-use Rattle.atoms.proofs.Tests.{decided-true}
-use Rattle.atoms.proofs.Sets.{has-dec, has-lt, lt-of-has, has-outside, outside-lacks, subset-le, cut-right, below-lt}
-use Rattle.atoms.proofs.Bounded.{some-at, some-intro, all-in-at, all-in-intro}
 use Rattle.atoms.proofs.Lists.{member-getD, index-of}
 use Rattle.atoms.proofs.Cuts.{cut-rising, cut-at, cut-has, cut-whole}
-use Rattle.answer_sets.specs.Lent.{lent, ruleAt}
 use Rattle.states.specs.State.{Completes}
-use Rattle.states.specs.declared.state.State.{State}
 use Rattle.answer_sets.proofs.Judged.{decides-answer-set}
-use Rattle.plan.specs.Limits.{MAX_RULES, MAX_UNITS, LIST_WORDS}
-use Rattle.dependency_graph.specs.Units.{Units, Edge}
-use Rattle.dependency_graph.specs.Graph.{Passes}
-use Rattle.dependency_graph.specs.Heads.{heads, inputHeads}
-use Rattle.splitting.specs.UnitList.{Listed}
 use Rattle.splitting.proofs.Form.{listed-member}
 use Rattle.propagating.specs.Job.{Belongs, Searchable}
 use Rattle.joining.specs.Joins.{isListed, joins}
 use Rattle.states.specs.Narrowing.{Wanted}
-use Rattle.propagating.specs.declared.unit.Unit.{Unit}
-use Rattle.demands.specs.Lists.{unitList}
-use Rattle.demands.proofs.Decided.{numbers-fit, unit-list-at, unit-list-has}
+use Rattle.propagating.specs.declared.unit.Job.{Job}
 use Rattle.demands.proofs.Enumerations.{unit-list-rising}
-use Rattle.unit_lists.specs.Work.{UnitTold, startWithin, ListStored, MembersStored, Stored, ListsThere}
 use Rattle.unit_lists.proofs.RisingLists.{members-stored}
 
 -- ---- a stored list is searched word by word
@@ -67,7 +50,7 @@ pub record ReadyToList (T : Units) (u : ℕ) (rules heads′ table counts : List
   pub heads-are : (v : ℕ) → Edge T u v → getD heads′ v 0 ≡ heads T v
   pub lists : ListsThere T (Edge T u) table counts
 
-module _ {T : Units} {u : ℕ} {rules heads′ table counts : List ℕ} {unit : Unit} (a : ReadyToList T u rules heads′ table counts) (t : UnitTold T u unit) where
+module _ {T : Units} {u : ℕ} {rules heads′ table counts : List ℕ} {unit : Job} (a : ReadyToList T u rules heads′ table counts) (t : UnitTold T u unit) where
   pub searchable : Searchable rules table counts heads′ unit
   searchable = record {
     rules-lent = rw (t .rules-are) (record {

@@ -1,31 +1,14 @@
 -- The one more unit, with no rules and an edge to every unit: what the search is told of it, and that it can be listed.
-use mathlib.Core.Path.{_≡_, refl, sym, ap, _∙_, subst}
-use mathlib.Core.Logic.{_⊎_, inl, inr}
-use mathlib.Core.List.{List}
-use Prim.Native.Nat.{ℕ, suc, _≤_, _<_}
-use native.Mathlib.Omega.{arith}
-use lib.ListN.{length, getD}
-use Rattle.atoms.specs.Word.{Has, _⊆_, _∩_, _∪_, below}
+use Rattle.unit_lists.proofs.Prelude.{_≡_, refl, sym, ap, _∙_, subst, _⊎_, inl, inr, List, ℕ, suc, _≤_, _<_, arith, length, getD, Has, _⊆_, _∩_, _∪_}
+use Rattle.unit_lists.proofs.Prelude.{below, members, decides-same, ext, empty, has-none, has-left, has-right, union-cases, has-below, below-lt}
+use Rattle.unit_lists.proofs.Prelude.{cut-left, union-has, union-at, members-same, ruleAt, MAX_RULES, MAX_UNITS, Units, Edge, GivenFree, Passes, reach}
+use Rattle.unit_lists.proofs.Prelude.{own, heads, inputHeads, unitsOf, Clean, withLast, inList, unitList, UnitTold, ListsThere, Setting}
+use Rattle.unit_lists.proofs.Prelude.{decides-listed}
 use Rattle.atoms.specs.Bounded.{unionIn}
-use Rattle.atoms.specs.Rising.{members}
-use Rattle.atoms.proofs.Tests.{decides-same}
-use Rattle.atoms.proofs.Sets.{ext, empty, has-none, has-left, has-right, union-cases, has-below, below-lt, cut-left}
-use Rattle.atoms.proofs.Bounded.{union-has, union-at}
-use Rattle.atoms.proofs.Rising.{members-same}
-use Rattle.answer_sets.specs.Lent.{ruleAt}
-use Rattle.plan.specs.Limits.{MAX_RULES, MAX_UNITS}
 use Rattle.plan.specs.declared.record.Plan.{Plan}
-use Rattle.dependency_graph.specs.Units.{Units, Edge, GivenFree}
-use Rattle.dependency_graph.specs.Graph.{Passes}
-use Rattle.dependency_graph.specs.Heads.{reach, own, heads, inputHeads}
-use Rattle.dependency_graph.specs.PlanUnits.{unitsOf}
 use Rattle.dependency_graph.specs.declared.head_atoms.HeadAtoms.{HeadAtoms}
 use Rattle.dependency_graph.proofs.Heads.{own-at, heads-cases, heads-input, input-given, input-cases, input-edge}
-use Rattle.splitting.specs.UnitList.{Clean, withLast}
 use Rattle.splitting.proofs.Last.{last-unit, last-predecessors, holds-old, edge-from-last, old-heads, old-list, last-passes, last-free}
-use Rattle.demands.specs.Lists.{inList, unitList}
-use Rattle.unit_lists.specs.Work.{UnitTold, ListsThere, Setting}
-use Rattle.demands.proofs.Decided.{decides-listed}
 use Rattle.unit_lists.proofs.Joined.{ReadyToList}
 
 -- a unit's list is the same where the one more unit is added

@@ -1,3 +1,7 @@
+-- What the proofs of this crate name of the kit, of the crates below and of its own definitions, each with its home.
+pub mod Prelude
+-- The laws of this crate that the proofs of its functions name, each with its home.
+pub mod Face
 -- The table and the counts while units are worked: what one unit more changes, and what stands there in the end
 pub mod WorkedUnits
 -- Rising lists: lists within one another, and what a search has gathered where its members are known

@@ -1,19 +1,10 @@
 -- Rising lists: lists within one another, and what a search has gathered where its members are known.
-use mathlib.Core.Path.{_≡_, refl, sym, ap, _∙_}
-use mathlib.Core.Bool.{Bool}
-use mathlib.Core.Logic.{_⊎_, inl, inr}
-use mathlib.Core.List.{List, [], _∷_, _++_}
-use mathlib.Core.List.{List·Memᴰ, List·Memᴰ·head, List·Memᴰ·tail, List·Memᴰ·not-nil, List·Memᴰ·cases-cons}
-use Prim.Native.Nat.{ℕ, _*_, _≤_, _<_}
-use native.Mathlib.Omega.{arith}
-use lib.ListN.{length, take, set, replicate, take-append-drop, length-take, length-replicate}
-use lib.Seq.{paste}
+use Rattle.unit_lists.proofs.Prelude.{_≡_, refl, sym, ap, _∙_, Bool, _⊎_, inl, inr, List, [], _∷_, _++_, List·Memᴰ, List·Memᴰ·head, List·Memᴰ·tail}
+use Rattle.unit_lists.proofs.Prelude.{List·Memᴰ·not-nil, List·Memᴰ·cases-cons, ℕ, _*_, _≤_, _<_, arith, length, take, set, replicate, take-append-drop}
+use Rattle.unit_lists.proofs.Prelude.{length-take, length-replicate, paste, Rising, rising-nil, rising-cons, above-at, rising-ext, LIST_WORDS}
+use Rattle.unit_lists.proofs.Prelude.{FoundFromNone, ListStored, MembersStored}
 use Rattle.atoms.specs.Lists.{padded}
-use Rattle.atoms.specs.Rising.{Rising, rising-nil, rising-cons}
-use Rattle.atoms.proofs.Rising.{above-at, rising-ext}
-use Rattle.plan.specs.Limits.{LIST_WORDS}
 use Rattle.searching.specs.Listing.{Ordered, Gathered, fits, over}
-use Rattle.unit_lists.specs.Work.{FoundFromNone, ListStored, MembersStored}
 
 -- ---- rising lists of which one is within the other
 

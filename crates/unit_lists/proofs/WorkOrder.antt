@@ -1,21 +1,10 @@
 -- The units in their order: what is worked is in the table, and what is left of the work stays the same.
-use mathlib.Core.Path.{_≡_, refl, sym, _∙_, subst}
-use mathlib.Core.Bool.{Bool, true, false}
-use mathlib.Core.List.{List, [], _∷_}
-use Prim.Native.Nat.{ℕ, zero, suc, _-_, _≤_, _<_}
-use native.Mathlib.Omega.{arith}
-use borrow.Author.Tests.{lt-ltb, le-ltb}
-use Rattle.atoms.specs.Word.{Has, _∪_, atom}
-use Rattle.dependency_graph.specs.Units.{Units, Edge}
-use Rattle.dependency_graph.specs.Graph.{Acyclic}
-use Rattle.dependency_graph.specs.Order.{nextUnit, orderFrom, workingOrder, Ready, InOrder, all-done, next}
+use Rattle.unit_lists.proofs.Prelude.{_≡_, refl, sym, _∙_, subst, Bool, true, false, List, [], _∷_, ℕ, zero, suc, _-_, _≤_, _<_, arith, lt-ltb, le-ltb}
+use Rattle.unit_lists.proofs.Prelude.{Has, _∪_, atom, Units, Edge, Acyclic, nextUnit, orderFrom, workingOrder, Ready, InOrder, all-done, next}
+use Rattle.unit_lists.proofs.Prelude.{unitList, workFrom, unitWork, MembersStored, ListsThere, Working, UnitsWorked, work-fits, work-long}
 use Rattle.dependency_graph.proofs.Order.{next-ready, order-right}
-use Rattle.demands.specs.Lists.{unitList}
-use Rattle.demands.specs.Answer.{workFrom, unitWork}
-use Rattle.unit_lists.specs.Work.{MembersStored, ListsThere, Working, UnitsWorked}
 use Rattle.unit_lists.specs.declared.work.Work.the-variants.{Fits, Long}
 use Rattle.unit_lists.proofs.WorkedUnits.{working-there, working-next}
-use Rattle.demands.proofs.Answers.{work-fits, work-long}
 
 -- ---- the order from what is done
 

@@ -1,22 +1,10 @@
 -- The table and the counts while units are worked: what one unit more changes, and what stands there in the end.
-use mathlib.Core.Path.{_≡_, sym, ap, _∙_, subst}
-use mathlib.Core.Bool.{Bool, true}
-use mathlib.Core.Logic.{_⊎_, inl, inr}
-use mathlib.Core.List.{List, []}
-use Prim.Native.Nat.{ℕ, _≤_, _<_}
-use native.Mathlib.Omega.{arith}
-use native.Mathlib.Decide.{decLt}
-use lib.ListN.{length}
-use Rattle.atoms.specs.Word.{Has, _∪_, atom}
-use Rattle.atoms.proofs.Tests.{decided-true, decided-false}
-use Rattle.atoms.proofs.Sets.{decides-has, has-dec, has-none, has-left, has-right, union-cases, has-atom, atom-only}
-use Rattle.plan.specs.Limits.{MAX_UNITS, TABLE_WORDS, LAST_COUNT}
-use Rattle.dependency_graph.specs.Units.{Units}
-use Rattle.demands.specs.Lists.{unitList, lastList}
-use Rattle.demands.specs.Table.{listAt, cleared, noCounts}
+use Rattle.unit_lists.proofs.Prelude.{_≡_, sym, ap, _∙_, subst, Bool, true, _⊎_, inl, inr, List, [], ℕ, _≤_, _<_, arith, decLt, length, Has, _∪_, atom}
+use Rattle.unit_lists.proofs.Prelude.{decided-true, decided-false, decides-has, has-dec, has-none, has-left, has-right, union-cases, has-atom}
+use Rattle.unit_lists.proofs.Prelude.{atom-only, MAX_UNITS, TABLE_WORDS, LAST_COUNT, Units, unitList, lastList, listAt, cleared, noCounts, list-there}
+use Rattle.unit_lists.proofs.Prelude.{list-absent, list-last, holding-none, held-count, held-word, held-counts-long, held-long, holding-next}
+use Rattle.unit_lists.proofs.Prelude.{MembersStored, ListsThere, listSoFar, Working}
 use Rattle.demands.specs.Held.{Holding}
-use Rattle.demands.proofs.HeldLists.{list-there, list-absent, list-last, holding-none, held-count, held-word, held-counts-long, held-long, holding-next}
-use Rattle.unit_lists.specs.Work.{MembersStored, ListsThere, listSoFar, Working}
 
 -- ---- the lists so far
 

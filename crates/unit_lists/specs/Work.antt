@@ -19,9 +19,9 @@ use Rattle.dependency_graph.specs.PlanUnits.{unitsOf, HeadsOf}
 use Rattle.dependency_graph.specs.declared.head_atoms.HeadAtoms.{HeadAtoms}
 use Rattle.splitting.specs.UnitList.{Clean}
 use Rattle.searching.specs.Listing.{Gathered, Grown}
-use Rattle.propagating.specs.declared.unit.Unit.{Unit}
-use Rattle.demands.specs.Lists.{unitList}
-use Rattle.demands.specs.Table.{cleared}
+use Rattle.propagating.specs.declared.unit.Job.{Job}
+use Rattle.demands.specs.UnitLists.{unitList}
+use Rattle.demands.specs.LentTable.{cleared}
 use Rattle.demands.specs.Held.{Holding}
 use Rattle.demands.specs.Answer.{Answer, refuse, workFrom, unitWork}
 use Rattle.unit_lists.specs.declared.work.Work.{Work}
@@ -30,7 +30,7 @@ use Rattle.unit_lists.specs.declared.work.Work.the-variants.{Fits, Long}
 -- ---- one list
 
 -- unit u as the search gets it
-pub record UnitTold (T : Units) (u : ℕ) (unit : Unit) : Type 0 where
+pub record UnitTold (T : Units) (u : ℕ) (unit : Job) : Type 0 where
   pub rules-are : unit .rules ≡ T .unit u ∩ below (T .rules)
   pub inputs-are : unit .inputs ≡ inputHeads T u
   pub predecessors-are : unit .predecessors ≡ T .predecessors u

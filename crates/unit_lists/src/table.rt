@@ -4,7 +4,7 @@ ghost use mathlib.Core.Path.{_≡_};
 ghost use Prim.Native.Nat.{_≤_};
 ghost use lib.ListN.{length};
 ghost use Rattle.plan.specs.Limits.{TABLE_WORDS};
-ghost use Rattle.demands.specs.Table.{cleared};
+ghost use Rattle.demands.specs.LentTable.{cleared};
 
 // Makes words 0 to 4,351 zero.
 pub fn clear(table: &mut [u64])

@@ -13,7 +13,7 @@ use plan::LAST_COUNT;
 use plan::LIST_WORDS;
 use plan::Outcome;
 use plan::Plan;
-use propagating::Unit;
+use propagating::Job;
 use searching::search::search;
 use states::State;
 ghost use mathlib.Core.Path.{_≡_};
@@ -28,8 +28,8 @@ ghost use Rattle.dependency_graph.specs.PlanUnits.{unitsOf};
 ghost use Rattle.splitting.specs.UnitList.{withLast};
 ghost use Rattle.propagating.specs.Job.{Belongs, Searchable};
 ghost use Rattle.states.specs.Narrowing.{Wanted};
-ghost use Rattle.demands.specs.Lists.{unitList, lastList};
-ghost use Rattle.demands.specs.Table.{cleared};
+ghost use Rattle.demands.specs.UnitLists.{unitList, lastList};
+ghost use Rattle.demands.specs.LentTable.{cleared};
 ghost use Rattle.demands.specs.Answer.{unitWork};
 ghost use Rattle.demands.specs.Handed.{refusal, Handed};
 ghost use Rattle.unit_lists.specs.Work.{UnitTold, startWithin, ListStored, MembersStored, ListsThere, Workable, Setting, Working, UnitsWorked};
@@ -54,7 +54,7 @@ fn start_within(given: u64, within: u64) -> State
 fn list_one(
     rules: &[u64],
     heads: &[u64],
-    unit: Unit,
+    unit: Job,
     start: State,
     shown: u64,
     place: usize,
@@ -78,11 +78,11 @@ fn list_one(
 }
 
 // Unit u as the search gets it.
-fn unit_at(plan: Plan, head_atoms: HeadAtoms, u: usize) -> Unit
+fn unit_at(plan: Plan, head_atoms: HeadAtoms, u: usize) -> Job
     requires { ⌜ Setting plan «head_atoms» × (u < plan .«unit_count») ⌝ }
     ensures { λ r. ⌜ UnitTold (unitsOf plan) u r ⌝ }
 {
-    Unit {
+    Job {
         rules: atoms::cut(plan.units[u], atoms::first(plan.rule_count)),
         inputs: head_atoms.inputs[u],
         predecessors: plan.predecessors[u],
@@ -140,13 +140,13 @@ fn list_units(plan: Plan, head_atoms: HeadAtoms, table: &mut [u64], counts: &mut
 }
 
 // The one more unit as the search gets it: no rules, and an edge to every unit.
-fn last_unit(plan: Plan, head_atoms: HeadAtoms) -> Unit
+fn last_unit(plan: Plan, head_atoms: HeadAtoms) -> Job
     requires { ⌜ Setting plan «head_atoms» ⌝ }
     ensures { λ r. ⌜ UnitTold (withLast (unitsOf plan)) (plan .«unit_count») r ⌝ }
 {
     let heads = head_atoms.heads;
     let every = atoms::first(plan.unit_count);
-    Unit {
+    Job {
         rules: 0,
         inputs: atoms::union(
             plan.once.given.word,

@@ -1,9 +1,5 @@
 -- The cut is empty.
-use mathlib.Core.Path.{ap}
-use Prim.Native.Nat.{ℕ}
-use lib.Dec.{eqb}
-use borrow.Author.Needs.{needs}
-use Rattle.atoms.specs.Word.{_∩_, apart}
+use Rattle.atoms.proofs.Prelude.{ap, ℕ, eqb, needs, _∩_, apart}
 use Rattle.atoms.proofs.are_apart.Statement.{statement}
 use Rattle.atoms.proofs.are_apart.Tie as tie
 

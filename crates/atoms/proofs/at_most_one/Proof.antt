@@ -1,7 +1,7 @@
 -- An empty word, or one that is empty without its lowest atom.
+use Rattle.atoms.proofs.Prelude.{needs}
+use Rattle.atoms.proofs.Face.{at-most-none, decides-at-most-one}
 use Rattle.atoms.proofs.Tests.{decides}
-use Rattle.atoms.proofs.Singles.{at-most-none, decides-at-most-one}
-use borrow.Author.Needs.{needs}
 use Rattle.atoms.proofs.at_most_one.Statement.{statement}
 use Rattle.atoms.proofs.at_most_one.Tie as tie
 

@@ -1,6 +1,5 @@
-use Rattle.atoms.proofs.Counts.{counts-small}
-use native.Mathlib.Omega.{arith}
-use borrow.Author.Needs.{needs}
+use Rattle.atoms.proofs.Prelude.{arith, needs}
+use Rattle.atoms.proofs.Face.{counts-small}
 use Rattle.atoms.proofs.count.Statement.{statement}
 use Rattle.atoms.proofs.count.Tie as tie
 

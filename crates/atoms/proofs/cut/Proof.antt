@@ -1,6 +1,5 @@
 -- `a & b` is the cut by definition.
-use borrow.Author.Needs.{needs}
-use Rattle.atoms.specs.Word.{_∩_}
+use Rattle.atoms.proofs.Prelude.{needs, _∩_}
 use Rattle.atoms.proofs.cut.Statement.{statement}
 use Rattle.atoms.proofs.cut.Tie as tie
 

@@ -1,8 +1,5 @@
 -- The difference with the set of the one atom.
-use mathlib.Core.Path.{ap, _∙_}
-use Prim.Native.Nat.{ℕ}
-use borrow.Author.Needs.{needs}
-use Rattle.atoms.specs.Word.{_∖_}
+use Rattle.atoms.proofs.Prelude.{ap, _∙_, ℕ, needs, _∖_}
 use Rattle.atoms.proofs.drop.Statement.{statement}
 use Rattle.atoms.proofs.drop.Tie as tie
 

@@ -1,10 +1,5 @@
-use native.Mathlib.Omega.{arith}
-use mathlib.Core.Path.{ap, sym}
-use Prim.Native.Nat.{ℕ, _-_, _^_, _<_}
-use lib.Pow.{pow-pos}
-use Rattle.atoms.specs.Word.{below}
-use Rattle.atoms.proofs.Digits.{shifted-one}
-use borrow.Author.Needs.{needs}
+use Rattle.atoms.proofs.Prelude.{arith, ap, sym, ℕ, _-_, _^_, _<_, pow-pos, below, needs}
+use Rattle.atoms.proofs.Face.{shifted-one}
 use Rattle.atoms.proofs.first.Statement.{statement}
 use Rattle.atoms.proofs.first.Tie as tie
 

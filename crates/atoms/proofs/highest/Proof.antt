@@ -1,6 +1,6 @@
 -- Above it stand the leading zeros.
-use native.Mathlib.Omega.{arith}
-use Rattle.atoms.proofs.Counts.{leading-highest}
+use Rattle.atoms.proofs.Prelude.{arith}
+use Rattle.atoms.proofs.Face.{leading-highest}
 use Rattle.atoms.proofs.highest.Statement.{statement}
 use Rattle.atoms.proofs.highest.Tie as tie
 

@@ -1,9 +1,5 @@
 -- Every atom of a is in the cut.
-use mathlib.Core.Path.{ap}
-use Prim.Native.Nat.{ℕ}
-use lib.Dec.{eqb}
-use borrow.Author.Needs.{needs}
-use Rattle.atoms.specs.Word.{_∩_, subset}
+use Rattle.atoms.proofs.Prelude.{ap, ℕ, eqb, needs, _∩_, subset}
 use Rattle.atoms.proofs.is_subset.Statement.{statement}
 use Rattle.atoms.proofs.is_subset.Tie as tie
 

@@ -1,6 +1,5 @@
-use native.Mathlib.Omega.{arith}
-use Rattle.atoms.proofs.Counts.{counts-small, trailing-lowest}
-use Rattle.atoms.proofs.Sets.{has-lt}
+use Rattle.atoms.proofs.Prelude.{arith}
+use Rattle.atoms.proofs.Face.{counts-small, trailing-lowest, has-lt}
 use Rattle.atoms.proofs.lowest.Statement.{statement}
 use Rattle.atoms.proofs.lowest.Tie as tie
 

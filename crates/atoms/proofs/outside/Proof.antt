@@ -1,8 +1,5 @@
 -- The difference of all atoms and the word.
-use mathlib.Core.Path.{ap, _∙_}
-use Prim.Native.Nat.{ℕ}
-use borrow.Author.Needs.{needs}
-use Rattle.atoms.specs.Word.{_∖_, outside}
+use Rattle.atoms.proofs.Prelude.{ap, _∙_, ℕ, needs, _∖_, outside}
 use Rattle.atoms.proofs.outside.Statement.{statement}
 use Rattle.atoms.proofs.outside.Tie as tie
 

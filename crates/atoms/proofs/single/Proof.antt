@@ -1,6 +1,5 @@
-use Rattle.atoms.specs.Word.{atom}
-use Rattle.atoms.proofs.Digits.{shifted-one}
-use borrow.Author.Needs.{needs}
+use Rattle.atoms.proofs.Prelude.{atom, needs}
+use Rattle.atoms.proofs.Face.{shifted-one}
 use Rattle.atoms.proofs.single.Statement.{statement}
 use Rattle.atoms.proofs.single.Tie as tie
 

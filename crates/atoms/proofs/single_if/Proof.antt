@@ -1,7 +1,6 @@
 -- By the two cases of the test.
-use mathlib.Core.Path.{_∙_}
-use borrow.Author.Needs.{needs}
-use Rattle.atoms.proofs.Singles.{single-if-true, single-if-false}
+use Rattle.atoms.proofs.Prelude.{_∙_, needs}
+use Rattle.atoms.proofs.Face.{single-if-true, single-if-false}
 use Rattle.atoms.proofs.single_if.Statement.{statement}
 use Rattle.atoms.proofs.single_if.Tie as tie
 

@@ -1,5 +1,4 @@
-use borrow.Author.Needs.{needs}
-use Rattle.atoms.specs.Word.{_∪_}
+use Rattle.atoms.proofs.Prelude.{needs, _∪_}
 use Rattle.atoms.proofs.union.Statement.{statement}
 use Rattle.atoms.proofs.union.Tie as tie
 

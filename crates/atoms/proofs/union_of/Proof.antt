@@ -1,9 +1,6 @@
 -- Words gathered number by number: what is gathered and what the rest would add make the whole.
-use native.Mathlib.Omega.{arith}
-use lib.ListN.{getD}
-use lib.Count.{ones}
-use borrow.Author.Needs.{needs}
-use Rattle.atoms.proofs.Counts.{taken-less}
+use Rattle.atoms.proofs.Prelude.{arith, getD, ones, needs}
+use Rattle.atoms.proofs.Face.{taken-less}
 use Rattle.atoms.proofs.GatheredWords.{Gathers, gathers-start, gathers-lt, gathers-next, gathers-end}
 use Rattle.atoms.proofs.union_of.Statement.{statement}
 use Rattle.atoms.proofs.union_of.Tie as tie

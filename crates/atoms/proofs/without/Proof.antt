@@ -1,6 +1,4 @@
-use borrow.Author.Needs.{needs}
-use Rattle.atoms.specs.Word.{_∖_}
-use lib.Bits.{and-le-l}
+use Rattle.atoms.proofs.Prelude.{needs, _∖_, and-le-l}
 use Rattle.atoms.proofs.without.Statement.{statement}
 use Rattle.atoms.proofs.without.Tie as tie
 

@@ -1,10 +1,7 @@
 -- What was read, whether the bytes are a sheet, and what was found.
-use denote.Ref.{now}
-use Rattle.reading.specs.Layout.{IsByte, All}
+use Rattle.auditing.proofs.Prelude.{now, IsByte, All, read-fits, needs}
+use Rattle.auditing.proofs.Face.{sheet-few, refused-audited, bad-audited, missing-audited, full-audited}
 use Rattle.reading.proofs.Limits.{all-bytes}
-use Rattle.plan_meaning.proofs.AskedPlans.{read-fits}
-use Rattle.auditing.proofs.Audits.{sheet-few, refused-audited, bad-audited, missing-audited, full-audited}
-use borrow.Author.Needs.{needs}
 use Rattle.auditing.proofs.first_missing.Statement.{statement}
 use Rattle.auditing.proofs.first_missing.Tie as tie
 

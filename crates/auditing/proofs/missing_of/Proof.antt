@@ -1,8 +1,6 @@
 -- One word is gathered, and what is on the sheet is passed over.
-use mathlib.Core.Path.{refl}
-use Rattle.finding.proofs.AddedWords.{one-none, one-least}
-use Rattle.auditing.proofs.Audits.{added-missing}
-use borrow.Author.Needs.{needs}
+use Rattle.auditing.proofs.Prelude.{refl, one-none, one-least, needs}
+use Rattle.auditing.proofs.Face.{added-missing}
 use Rattle.auditing.proofs.missing_of.Statement.{statement}
 use Rattle.auditing.proofs.missing_of.Tie as tie
 

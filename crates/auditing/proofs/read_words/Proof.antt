@@ -1,11 +1,6 @@
 -- The words before this place are read (WordsBefore).
-use mathlib.Core.Path.{_≡_, refl}
-use Prim.Native.Nat.{_-_}
-use native.Mathlib.Omega.{arith}
-use lib.ListN.{length, length-set}
-use denote.Ref.{now}
-use Rattle.auditing.proofs.Audits.{WordsBefore, words-more}
-use borrow.Author.Needs.{needs}
+use Rattle.auditing.proofs.Prelude.{_≡_, refl, _-_, arith, length, length-set, now, needs}
+use Rattle.auditing.proofs.Face.{WordsBefore, words-more}
 use Rattle.auditing.proofs.read_words.Statement.{statement}
 use Rattle.auditing.proofs.read_words.Tie as tie
 

@@ -1,7 +1,6 @@
 -- What was read, the next position from the start, and what is held where there is none.
-use Rattle.plan_meaning.proofs.AskedPlans.{read-fits}
+use Rattle.blaming.proofs.Prelude.{read-fits, needs}
 use Rattle.blaming.proofs.Results.{nobody-settles, refused-blamed, position-blamed, held-blamed}
-use borrow.Author.Needs.{needs}
 use Rattle.blaming.proofs.blame_plan.Statement.{statement}
 use Rattle.blaming.proofs.blame_plan.Tie as tie
 

@@ -1,13 +1,9 @@
 -- The loop drops from the word the rules with a head. The measure is how many are left.
-use borrow.Author.Needs.{needs}
-use lib.Count.{ones}
+use Rattle.blaming.proofs.Prelude.{needs, ones, Sifts, sifts-start, sifts-end, taken-lent, lent, _≡_}
+use Rattle.blaming.proofs.Face.{sifts-unless}
 use Rattle.atoms.proofs.Counts.{taken-less}
-use Rattle.atoms.proofs.TakenNumbers.{Sifts, sifts-start, sifts-end, taken-lent}
-use Rattle.answer_sets.specs.Lent.{lent}
-use Rattle.blaming.proofs.Sifting.{sifts-unless}
 use Rattle.blaming.proofs.constraints_of.Statement.{statement}
 use Rattle.blaming.proofs.constraints_of.Tie as tie
-use mathlib.Core.Path.{_≡_}
 
 abbrev Inv-loop : tie.InvT-loop
 Inv-loop rules which rest₀ word₀ rest word = Sifts (λ r. lent rules .head r ≡ 0) which word rest

@@ -1,8 +1,8 @@
 -- All rules of the record, whose words are lent where they stand: the constraints among them, and the pass.
+use Rattle.blaming.proofs.Prelude.{needs}
 use Rattle.judge.proofs.Settled.{whole-lent}
 use Rattle.blaming.proofs.Programs.{few-asked}
 use Rattle.blaming.proofs.Blames.{few-found}
-use borrow.Author.Needs.{needs}
 use Rattle.blaming.proofs.held_of.Statement.{statement}
 use Rattle.blaming.proofs.held_of.Tie as tie
 

@@ -1,7 +1,6 @@
 -- The test of the head picks the case of the definition.
-use mathlib.Core.Path.{sym, _∙_}
-use Rattle.blaming.proofs.Sifting.{headless-stays, headed-goes}
-use borrow.Author.Needs.{needs}
+use Rattle.blaming.proofs.Prelude.{sym, _∙_, needs}
+use Rattle.blaming.proofs.Face.{headless-stays, headed-goes}
 use Rattle.blaming.proofs.unless_headed.Statement.{statement}
 use Rattle.blaming.proofs.unless_headed.Tie as tie
 

@@ -1,8 +1,8 @@
 -- Each comparison holds: the buffer is the sheet that the contract promises, and that computes to the bytes shown.
 use borrow.Author.Needs.{needs}
-use Rattle.sheet.specs.Sheet.{lineEnd, positionsWord, refusedWord, atWord, placesWithin, places, decimal, hexadecimal}
-use Rattle.sheet.specs.Sheet.{positionLine, positionLines, positionsSheet, refusalSheet}
-use Rattle.sheet.specs.Lent.{filled}
+use Rattle.sheet.specs.Sheet.{lineEnd, positionsWord, refusedWord, atWord, placesWithin, places, decimal, hexadecimal, positionLine, positionLines}
+use Rattle.sheet.specs.Sheet.{positionsSheet, refusalSheet}
+use Rattle.sheet.specs.LentSheet.{filled}
 use Rattle.check_sheet.proofs.main.Statement.{statement}
 use Rattle.check_sheet.proofs.main.Tie as tie
 

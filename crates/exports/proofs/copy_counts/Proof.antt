@@ -1,7 +1,5 @@
 -- The counts passed so far are copied (Copying).
-use Prim.Native.Nat.{_-_}
-use borrow.Author.Needs.{needs}
-use Rattle.plan.specs.Limits.{COUNTS}
+use Rattle.exports.proofs.Prelude.{_-_, needs, COUNTS}
 use Rattle.exports.proofs.CopiedCounts.{Copying, copying-start, copying-more, copying-all, copying-full}
 use Rattle.exports.proofs.copy_counts.Statement.{statement}
 use Rattle.exports.proofs.copy_counts.Tie as tie

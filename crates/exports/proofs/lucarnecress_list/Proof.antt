@@ -1,10 +1,6 @@
 -- Outcome, counts and table are those that `list_positions` promises.
-use mathlib.Core.Path.{ap, _∙_}
-use denote.Ref.{now}
-use Rattle.reading.proofs.Limits.{all-bytes}
-use Rattle.exports.specs.Handed.{outcomeCode}
-use Rattle.exports.proofs.HostCodes.{listed-code, refused-code}
-use borrow.Author.Needs.{needs}
+use Rattle.exports.proofs.Prelude.{ap, _∙_, now, all-bytes, outcomeCode, needs}
+use Rattle.exports.proofs.Face.{listed-code, refused-code}
 use Rattle.exports.proofs.lucarnecress_list.Statement.{statement}
 use Rattle.exports.proofs.lucarnecress_list.Tie as tie
 

@@ -1,7 +1,6 @@
 -- The sheet is the one that `write_plan_sheet` promises for a table of zeros.
-use mathlib.Core.Path.{ap, _∙_}
-use borrow.Author.Needs.{needs}
-use Rattle.plan_sheet.specs.Sheets.{writtenBytes, planSheet}
+use Rattle.exports.proofs.Prelude.{ap, _∙_, needs}
+use Rattle.plan_sheet.specs.PlanSheets.{writtenBytes, planSheet}
 use Rattle.exports.proofs.lucarnecress_sheet.Statement.{statement}
 use Rattle.exports.proofs.lucarnecress_sheet.Tie as tie
 

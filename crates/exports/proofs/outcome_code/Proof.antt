@@ -1,7 +1,5 @@
 -- By the two cases of the outcome.
-use mathlib.Core.Path.{ap, sym, _∙_}
-use borrow.Author.Needs.{needs}
-use Rattle.exports.specs.Handed.{outcomeCode}
+use Rattle.exports.proofs.Prelude.{ap, sym, _∙_, needs, outcomeCode}
 use Rattle.exports.proofs.outcome_code.Statement.{statement}
 use Rattle.exports.proofs.outcome_code.Tie as tie
 

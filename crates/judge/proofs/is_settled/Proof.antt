@@ -1,10 +1,6 @@
 -- The test over all rules of the record, whose words are all there and are lent where they stand.
-use mathlib.Core.Path.{ap, _∙_}
-use Prim.Native.Nat.{ℕ}
-use Rattle.answer_sets.specs.Lent.{lent}
-use Rattle.answer_sets.specs.Test.{answerSet}
-use Rattle.judge.proofs.Settled.{whole-lent}
-use borrow.Author.Needs.{needs}
+use Rattle.judge.proofs.Prelude.{ap, _∙_, ℕ, lent, answerSet, needs}
+use Rattle.judge.proofs.Face.{whole-lent}
 use Rattle.judge.proofs.is_settled.Statement.{statement}
 use Rattle.judge.proofs.is_settled.Tie as tie
 

@@ -1,7 +1,6 @@
 -- The answer at each return, from what was read.
-use Rattle.plan_meaning.proofs.AskedPlans.{refused-answered, read-fits}
-use Rattle.judge.proofs.Settled.{yes-judged, no-judged}
-use borrow.Author.Needs.{needs}
+use Rattle.judge.proofs.Prelude.{refused-answered, read-fits, needs}
+use Rattle.judge.proofs.Face.{yes-judged, no-judged}
 use Rattle.judge.proofs.judge.Statement.{statement}
 use Rattle.judge.proofs.judge.Tie as tie
 

@@ -1,5 +1,5 @@
 -- The part of the area that was read is kept, and the buffer has room for every sheet.
-use borrow.Author.Needs.{needs}
+use Rattle.plan_sheet.proofs.Prelude.{needs}
 use Rattle.plan_sheet.proofs.Kept.{sheet-kept}
 use Rattle.plan_sheet.proofs.kept_sheet.Statement.{statement}
 use Rattle.plan_sheet.proofs.kept_sheet.Tie as tie

@@ -1,18 +1,9 @@
 -- The outcome picks the sheet.
-use mathlib.Core.Path.{_≡_, ap₂, sym, _∙_}
-use Prim.Native.Nat.{_≤_}
-use native.Mathlib.Omega.{arith}
-use denote.Ref.{now}
-use lib.ListN.{length}
-use Rattle.sheet.specs.Sheet.{refusalSheet}
-use Rattle.plan.specs.Limits.{TABLE_WORDS}
-use Rattle.plan.specs.declared.fault.Outcome.the-variants.{Accepted}
-use Rattle.demands.specs.Answer.{Answer, answer}
+use Rattle.plan_sheet.proofs.Prelude.{_≡_, ap₂, sym, _∙_, _≤_, arith, now, length, refusalSheet, TABLE_WORDS, Accepted, Answer, answer, sheetOf}
+use Rattle.plan_sheet.proofs.Prelude.{SheetSays, needs}
 use Rattle.reading.proofs.Limits.{all-bytes}
-use Rattle.plan_sheet.specs.Sheets.{sheetOf, SheetSays}
 use Rattle.plan_sheet.proofs.Said.{sheet-says}
-use Rattle.plan_sheet.proofs.Sheets.{sheet-refused, sheet-of-part, accepted-long, refused-at-most, listed-at-most}
-use borrow.Author.Needs.{needs}
+use Rattle.plan_sheet.proofs.PlanSheets.{sheet-refused, sheet-of-part, accepted-long, refused-at-most, listed-at-most}
 use Rattle.plan_sheet.proofs.write_plan_sheet.Statement.{statement}
 use Rattle.plan_sheet.proofs.write_plan_sheet.Tie as tie
 

@@ -1,6 +1,6 @@
 -- `decimal_length` meets its contract: the kit's digits are those of the definition.
-use borrow.Author.Needs.{needs}
-use Rattle.sheet.proofs.Digits.{decimal-places}
+use Rattle.sheet.proofs.Prelude.{needs}
+use Rattle.sheet.proofs.Face.{decimal-places}
 use Rattle.sheet.proofs.decimal_length.Statement.{statement}
 use Rattle.sheet.proofs.decimal_length.Tie as tie
 

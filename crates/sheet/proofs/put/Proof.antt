@@ -1,13 +1,6 @@
 -- `put` meets its contract: after i turns the first i bytes are written.
-use Prim.Native.Nat.{ℕ, _+_, _-_, _≤_}
-use mathlib.Core.Path.{_≡_}
-use mathlib.Core.List.{List}
-use native.Mathlib.Omega.{arith}
-use borrow.Author.Needs.{needs}
-use lib.ListN.{length, take}
-use lib.Seq.{take-all}
-use Rattle.sheet.specs.Lent.{Put}
-use Rattle.sheet.proofs.WrittenBytes.{put-nothing, put-next}
+use Rattle.sheet.proofs.Prelude.{ℕ, _+_, _-_, _≤_, _≡_, List, arith, needs, length, take, take-all, Put}
+use Rattle.sheet.proofs.Face.{put-nothing, put-next}
 use Rattle.sheet.proofs.put.Statement.{statement}
 use Rattle.sheet.proofs.put.Tie as tie
 

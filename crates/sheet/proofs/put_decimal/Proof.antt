@@ -1,9 +1,6 @@
 -- `put_decimal` meets its contract: the kit's digits are those of the definition.
-use mathlib.Core.Path.{ap}
-use native.Mathlib.Omega.{arith}
-use borrow.Author.Needs.{needs}
-use lib.ListN.{length}
-use Rattle.sheet.proofs.Digits.{decimal-made}
+use Rattle.sheet.proofs.Prelude.{ap, arith, needs, length}
+use Rattle.sheet.proofs.Face.{decimal-made}
 use Rattle.sheet.proofs.put_decimal.Statement.{statement}
 use Rattle.sheet.proofs.put_decimal.Tie as tie
 

@@ -1,9 +1,6 @@
 -- `put_line` meets its contract: the line end stands behind the sixteen digits.
-use native.Mathlib.Omega.{arith}
-use borrow.Author.Needs.{needs}
-use Rattle.sheet.specs.Sheet.{lineEnd}
-use Rattle.sheet.proofs.Digits.{length-hexadecimal}
-use Rattle.sheet.proofs.Sheets.{put-positionLine}
+use Rattle.sheet.proofs.Prelude.{arith, needs, lineEnd}
+use Rattle.sheet.proofs.Face.{length-hexadecimal, put-positionLine}
 use Rattle.sheet.proofs.put_line.Statement.{statement}
 use Rattle.sheet.proofs.put_line.Tie as tie
 

@@ -1,14 +1,6 @@
 -- `put_lines` meets its contract: after i turns the lines of the first i words are written.
-use Prim.Native.Nat.{ℕ, _+_, _-_, _*_, _≤_}
-use mathlib.Core.Path.{_≡_}
-use mathlib.Core.List.{List}
-use native.Mathlib.Omega.{arith}
-use borrow.Author.Needs.{needs}
-use lib.ListN.{length, take, getD}
-use lib.Seq.{take-all}
-use Rattle.sheet.specs.Sheet.{lineLength, positionLines}
-use Rattle.sheet.specs.Lent.{Put}
-use Rattle.sheet.proofs.Sheets.{put-no-line, put-next-line, length-positionLine}
+use Rattle.sheet.proofs.Prelude.{ℕ, _+_, _-_, _*_, _≤_, _≡_, List, arith, needs, length, take, getD, take-all, lineLength, positionLines, Put}
+use Rattle.sheet.proofs.Face.{put-no-line, put-next-line, length-positionLine}
 use Rattle.sheet.proofs.put_lines.Statement.{statement}
 use Rattle.sheet.proofs.put_lines.Tie as tie
 

@@ -1,7 +1,5 @@
 -- `write_positions` meets its contract: the part that it hands on is the first `count` words.
-use native.Mathlib.Nat.{le-of-lt}
-use borrow.Author.Needs.{needs}
-use lib.Seq.{take-all, length-take-le}
+use Rattle.sheet.proofs.Prelude.{le-of-lt, needs, take-all, length-take-le}
 use Rattle.sheet.proofs.write_positions.Statement.{statement}
 use Rattle.sheet.proofs.write_positions.Tie as tie
 

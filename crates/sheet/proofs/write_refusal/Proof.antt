@@ -1,9 +1,6 @@
 -- `write_refusal` meets its contract: the five pieces are written one behind the other, if they have room.
-use native.Mathlib.Omega.{arith}
-use borrow.Author.Needs.{needs}
-use Rattle.sheet.specs.Sheet.{refusedWord, atWord, lineEnd}
-use Rattle.sheet.proofs.WrittenBytes.{put-fills, too-short-keeps}
-use Rattle.sheet.proofs.Sheets.{length-refusalSheet, put-refusalSheet}
+use Rattle.sheet.proofs.Prelude.{arith, needs, refusedWord, atWord, lineEnd}
+use Rattle.sheet.proofs.Face.{put-fills, too-short-keeps, length-refusalSheet, put-refusalSheet}
 use Rattle.sheet.proofs.write_refusal.Statement.{statement}
 use Rattle.sheet.proofs.write_refusal.Tie as tie
 

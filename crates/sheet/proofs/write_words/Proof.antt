@@ -1,9 +1,6 @@
 -- `write_words` meets its contract: the four pieces are written one behind the other, if they have room.
-use native.Mathlib.Omega.{arith}
-use borrow.Author.Needs.{needs}
-use Rattle.sheet.specs.Sheet.{positionsWord, lineEnd}
-use Rattle.sheet.proofs.WrittenBytes.{put-fills, too-short-keeps}
-use Rattle.sheet.proofs.Sheets.{length-positionsSheet, put-positionsSheet}
+use Rattle.sheet.proofs.Prelude.{arith, needs, positionsWord, lineEnd}
+use Rattle.sheet.proofs.Face.{put-fills, too-short-keeps, length-positionsSheet, put-positionsSheet}
 use Rattle.sheet.proofs.write_words.Statement.{statement}
 use Rattle.sheet.proofs.write_words.Tie as tie
 

@@ -1,7 +1,6 @@
 -- All rules of the record, whose words are lent where they stand.
-use Rattle.judge.proofs.Settled.{whole-lent}
-use Rattle.stepping.proofs.Batches.{gathered-of}
-use borrow.Author.Needs.{needs}
+use Rattle.stepping.proofs.Prelude.{whole-lent, needs}
+use Rattle.stepping.proofs.Face.{gathered-of}
 use Rattle.stepping.proofs.gather_of.Statement.{statement}
 use Rattle.stepping.proofs.gather_of.Tie as tie
 

@@ -1,7 +1,6 @@
 -- What was read, and what was found in it.
-use Rattle.plan_meaning.proofs.AskedPlans.{refused-answered, read-fits}
+use Rattle.stepping.proofs.Prelude.{refused-answered, read-fits, needs}
 use Rattle.stepping.proofs.Nexts.{position-followed, none-followed}
-use borrow.Author.Needs.{needs}
 use Rattle.stepping.proofs.next_position.Statement.{statement}
 use Rattle.stepping.proofs.next_position.Tie as tie
 

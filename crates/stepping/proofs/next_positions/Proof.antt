@@ -1,7 +1,6 @@
 -- What was read, and what was gathered in it.
-use Rattle.plan_meaning.proofs.AskedPlans.{read-fits}
-use Rattle.stepping.proofs.Batches.{refused-stepped, written-stepped}
-use borrow.Author.Needs.{needs}
+use Rattle.stepping.proofs.Prelude.{read-fits, needs}
+use Rattle.stepping.proofs.Face.{refused-stepped, written-stepped}
 use Rattle.stepping.proofs.next_positions.Statement.{statement}
 use Rattle.stepping.proofs.next_positions.Tie as tie
 

@@ -1,8 +1,6 @@
 -- What is not up is dropped, so that the answer is the exact one.
-use denote.Ref.{now}
-use Rattle.atoms.proofs.Sets.{has-outside}
+use Rattle.answer_sets.proofs.Prelude.{now, has-outside, needs}
 use Rattle.answer_sets.proofs.HalfKnown.{decided-exactly, success-exactly}
-use borrow.Author.Needs.{needs}
 use Rattle.answer_sets.proofs.known.body_holds.Statement.{statement}
 use Rattle.answer_sets.proofs.known.body_holds.Tie as tie
 

@@ -1,6 +1,6 @@
 -- The words alone where there are no uses, else the words and the uses.
-use Rattle.answer_sets.proofs.Parts.{up-apart, words-told, body-of-words}
-use borrow.Author.Needs.{needs}
+use Rattle.answer_sets.proofs.Prelude.{needs}
+use Rattle.answer_sets.proofs.Face.{up-apart, words-told, body-of-words}
 use Rattle.answer_sets.proofs.known.body_known.Statement.{statement}
 use Rattle.answer_sets.proofs.known.body_known.Tie as tie
 

@@ -1,6 +1,6 @@
 -- The two words, put together.
-use Rattle.answer_sets.proofs.Parts.{apart-sym, words-say}
-use borrow.Author.Needs.{needs}
+use Rattle.answer_sets.proofs.Prelude.{needs}
+use Rattle.answer_sets.proofs.Face.{apart-sym, words-say}
 use Rattle.answer_sets.proofs.known.words_known.Statement.{statement}
 use Rattle.answer_sets.proofs.known.words_known.Tie as tie
 

@@ -1,15 +1,6 @@
 -- The loop takes the rules of the word: each that is done has none of the atoms. The measure is how many are left.
-use mathlib.Core.Bool.{false≢true}
-use lib.Count.{ones}
-use Prim.Native.Nat.{ℕ}
-use borrow.Author.Tests.{not-false}
-use Rattle.atoms.specs.Word.{Has}
-use Rattle.atoms.proofs.Counts.{taken-less}
-use Rattle.atoms.proofs.TakenNumbers.{Taking, taking-start, taking-next, taking-end}
-use Rattle.answer_sets.specs.SubsetTest.{InRule}
-use Rattle.answer_sets.proofs.Memos.{untouched-rule}
-use borrow.Author.Needs.{needs}
-use Rattle.answer_sets.proofs.Lent.{lent-taken}
+use Rattle.answer_sets.proofs.Prelude.{false≢true, ones, ℕ, not-false, Has, taken-less, Taking, taking-start, taking-next, taking-end, InRule, needs}
+use Rattle.answer_sets.proofs.Face.{untouched-rule, lent-taken}
 use Rattle.answer_sets.proofs.memo.are_untouched.Statement.{statement}
 use Rattle.answer_sets.proofs.memo.are_untouched.Tie as tie
 

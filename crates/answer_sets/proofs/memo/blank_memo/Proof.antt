@@ -1,5 +1,5 @@
 -- Every bit is set.
-use Rattle.answer_sets.proofs.Memos.{blank-memo}
+use Rattle.answer_sets.proofs.Face.{blank-memo}
 use Rattle.answer_sets.proofs.memo.blank_memo.Statement.{statement}
 use Rattle.answer_sets.proofs.memo.blank_memo.Tie as tie
 

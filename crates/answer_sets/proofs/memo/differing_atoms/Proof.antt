@@ -1,6 +1,6 @@
 -- Four differences and their union.
-use Rattle.answer_sets.proofs.Memos.{differing-is}
-use borrow.Author.Needs.{needs}
+use Rattle.answer_sets.proofs.Prelude.{needs}
+use Rattle.answer_sets.proofs.Face.{differing-is}
 use Rattle.answer_sets.proofs.memo.differing_atoms.Statement.{statement}
 use Rattle.answer_sets.proofs.memo.differing_atoms.Tie as tie
 

@@ -1,12 +1,6 @@
 -- Each test gives its part of what the memo and the rounds have in common.
-use mathlib.Core.Path.{sym, _∙_}
-use mathlib.Core.Bool.{false≢true}
-use borrow.Author.Needs.{needs}
-use borrow.Author.Tests.{not-false}
-use Rattle.atoms.specs.Word.{_⊆_}
-use Rattle.atoms.proofs.Sets.{decides-subset}
-use Rattle.answer_sets.proofs.Between.{lent-part}
-use Rattle.answer_sets.proofs.Memos.{alike-memo}
+use Rattle.answer_sets.proofs.Prelude.{sym, _∙_, false≢true, needs, not-false, _⊆_, decides-subset}
+use Rattle.answer_sets.proofs.Face.{lent-part, alike-memo}
 use Rattle.answer_sets.proofs.memo.memo_tells.Statement.{statement}
 use Rattle.answer_sets.proofs.memo.memo_tells.Tie as tie
 

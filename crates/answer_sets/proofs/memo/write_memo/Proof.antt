@@ -1,6 +1,6 @@
 -- Three writes beside each other.
-use Rattle.answer_sets.proofs.Memos.{words-written}
-use borrow.Author.Needs.{needs}
+use Rattle.answer_sets.proofs.Prelude.{needs}
+use Rattle.answer_sets.proofs.Face.{words-written}
 use Rattle.answer_sets.proofs.memo.write_memo.Statement.{statement}
 use Rattle.answer_sets.proofs.memo.write_memo.Tie as tie
 

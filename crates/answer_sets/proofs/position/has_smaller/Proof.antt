@@ -1,5 +1,5 @@
 -- The test at the numbers of the rules that are there, from a memo that says nothing.
-use borrow.Author.Needs.{needs}
+use Rattle.answer_sets.proofs.Prelude.{needs}
 use Rattle.answer_sets.proofs.position.has_smaller.Statement.{statement}
 use Rattle.answer_sets.proofs.position.has_smaller.Tie as tie
 

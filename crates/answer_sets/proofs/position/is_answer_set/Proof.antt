@@ -1,5 +1,5 @@
 -- The same, from a memo that says nothing.
-use borrow.Author.Needs.{needs}
+use Rattle.answer_sets.proofs.Prelude.{needs}
 use Rattle.answer_sets.proofs.position.is_answer_set.Statement.{statement}
 use Rattle.answer_sets.proofs.position.is_answer_set.Tie as tie
 

@@ -1,6 +1,5 @@
 -- The test at the numbers of the rules that are there.
-use mathlib.Core.Path.{_∙_}
-use borrow.Author.Needs.{needs}
+use Rattle.answer_sets.proofs.Prelude.{_∙_, needs}
 use Rattle.answer_sets.proofs.position.judge_position.Statement.{statement}
 use Rattle.answer_sets.proofs.position.judge_position.Tie as tie
 

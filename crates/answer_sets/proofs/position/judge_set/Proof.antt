@@ -1,9 +1,6 @@
 -- The facts, the kept rules, and no smaller model of them: the three parts of the definition.
-use denote.Ref.{now}
-use Rattle.answer_sets.specs.Lent.{Lent}
-use Rattle.answer_sets.proofs.Cases.{no-facts, no-model, model-judged, refuted-facts, refuted-model, refuted-smaller}
-use Rattle.answer_sets.proofs.Lent.{lent-kept}
-use borrow.Author.Needs.{needs}
+use Rattle.answer_sets.proofs.Prelude.{now, Lent, needs}
+use Rattle.answer_sets.proofs.Face.{no-facts, no-model, model-judged, refuted-facts, refuted-model, refuted-smaller, lent-kept}
 use Rattle.answer_sets.proofs.position.judge_set.Statement.{statement}
 use Rattle.answer_sets.proofs.position.judge_set.Tie as tie
 

@@ -1,7 +1,6 @@
 -- The word is cut to the numbers below the number of rules.
-use denote.Ref.{now}
-use Rattle.answer_sets.proofs.Lent.{numbered-cut}
-use borrow.Author.Needs.{needs}
+use Rattle.answer_sets.proofs.Prelude.{now, needs}
+use Rattle.answer_sets.proofs.Face.{numbered-cut}
 use Rattle.answer_sets.proofs.position.lent_numbers.Statement.{statement}
 use Rattle.answer_sets.proofs.position.lent_numbers.Tie as tie
 

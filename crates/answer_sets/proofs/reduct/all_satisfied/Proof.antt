@@ -1,8 +1,6 @@
 -- What the search found, or that it found nothing.
-use mathlib.Core.Path.{sym}
-use Rattle.atoms.proofs.Tests.{decided-true, decided-false}
-use Rattle.answer_sets.proofs.Judged.{decides-all-satisfied}
-use borrow.Author.Needs.{needs}
+use Rattle.answer_sets.proofs.Prelude.{sym, decided-true, decided-false, needs}
+use Rattle.answer_sets.proofs.Face.{decides-all-satisfied}
 use Rattle.answer_sets.proofs.reduct.all_satisfied.Statement.{statement}
 use Rattle.answer_sets.proofs.reduct.all_satisfied.Tie as tie
 

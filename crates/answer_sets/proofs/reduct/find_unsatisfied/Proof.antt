@@ -1,12 +1,6 @@
 -- The loop takes the rules of the word: each that is done is satisfied. The measure is how many are left.
-use lib.Count.{ones}
-use Rattle.atoms.proofs.Counts.{taken-less}
-use Rattle.atoms.proofs.TakenNumbers.{Taking, taking-start, taking-end, taken-lent, taking-more}
-use Rattle.answer_sets.specs.Program.{Satisfies}
-use Rattle.answer_sets.specs.Lent.{lent}
-use Rattle.answer_sets.proofs.Judged.{satisfies-said, satisfies-denied}
-use borrow.Author.Needs.{needs}
-use Rattle.answer_sets.proofs.Lent.{lent-taken}
+use Rattle.answer_sets.proofs.Prelude.{ones, taken-less, Taking, taking-start, taking-end, taken-lent, taking-more, Satisfies, lent, needs}
+use Rattle.answer_sets.proofs.Face.{satisfies-said, satisfies-denied, lent-taken}
 use Rattle.answer_sets.proofs.reduct.find_unsatisfied.Statement.{statement}
 use Rattle.answer_sets.proofs.reduct.find_unsatisfied.Tie as tie
 

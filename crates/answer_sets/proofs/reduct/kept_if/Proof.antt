@@ -1,7 +1,6 @@
 -- The body test picks the case of the definition.
-use mathlib.Core.Path.{_∙_}
-use Rattle.answer_sets.proofs.Cases.{kept-if-holds, kept-if-fails}
-use borrow.Author.Needs.{needs}
+use Rattle.answer_sets.proofs.Prelude.{_∙_, needs}
+use Rattle.answer_sets.proofs.Face.{kept-if-holds, kept-if-fails}
 use Rattle.answer_sets.proofs.reduct.kept_if.Statement.{statement}
 use Rattle.answer_sets.proofs.reduct.kept_if.Tie as tie
 

@@ -1,12 +1,6 @@
 -- The loop drops from the word the rules whose body fails. The measure is how many are left.
-use lib.Count.{ones}
-use Rattle.atoms.proofs.Counts.{taken-less}
-use Rattle.atoms.proofs.TakenNumbers.{Sifts, sifts-start, sifts-end}
-use Rattle.answer_sets.specs.Program.{Body}
-use Rattle.answer_sets.specs.Lent.{lent}
-use Rattle.answer_sets.proofs.Judged.{sifts-kept-if, kept-collected}
-use borrow.Author.Needs.{needs}
-use Rattle.answer_sets.proofs.Lent.{lent-taken}
+use Rattle.answer_sets.proofs.Prelude.{ones, taken-less, Sifts, sifts-start, sifts-end, Body, lent, needs}
+use Rattle.answer_sets.proofs.Face.{sifts-kept-if, kept-collected, lent-taken}
 use Rattle.answer_sets.proofs.reduct.kept_rules.Statement.{statement}
 use Rattle.answer_sets.proofs.reduct.kept_rules.Tie as tie
 

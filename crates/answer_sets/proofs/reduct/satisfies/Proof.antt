@@ -1,6 +1,6 @@
 -- A failing body, or a head atom that is up.
-use Rattle.answer_sets.proofs.Cases.{satisfies-fails, satisfies-holds}
-use borrow.Author.Needs.{needs}
+use Rattle.answer_sets.proofs.Prelude.{needs}
+use Rattle.answer_sets.proofs.Face.{satisfies-fails, satisfies-holds}
 use Rattle.answer_sets.proofs.reduct.satisfies.Statement.{statement}
 use Rattle.answer_sets.proofs.reduct.satisfies.Tie as tie
 

@@ -1,6 +1,5 @@
 -- The last test tells.
-use mathlib.Core.Bool.{false≢true}
-use borrow.Author.Needs.{needs}
+use Rattle.answer_sets.proofs.Prelude.{false≢true, needs}
 use Rattle.answer_sets.proofs.rounds.is_moving.Statement.{statement}
 use Rattle.answer_sets.proofs.rounds.is_moving.Tie as tie
 

@@ -1,15 +1,6 @@
 -- The loop carries what the rounds so far leave, and that the last one narrowed. The measure is how many atoms were undecided before it.
-use mathlib.Core.Path.{refl}
-use lib.Count.{ones}
-use borrow.Author.Needs.{needs}
-use Rattle.answer_sets.specs.Lent.{lent}
-use Rattle.answer_sets.specs.Program.{SatisfiesAll}
-use Rattle.answer_sets.specs.RulePass.{Sifted}
-use Rattle.states.specs.State.{undecided}
-use Rattle.states.specs.Narrowing.{Narrows}
-use Rattle.states.proofs.Branches.{pass-falls}
-use Rattle.answer_sets.proofs.RulePass.{sifted-more, rounds-narrow}
-use Rattle.answer_sets.proofs.Between.{lent-part}
+use Rattle.answer_sets.proofs.Prelude.{refl, ones, needs, lent, SatisfiesAll, Sifted, undecided, Narrows, pass-falls}
+use Rattle.answer_sets.proofs.Face.{sifted-more, rounds-narrow, lent-part}
 use Rattle.answer_sets.proofs.rounds.rounds.Statement.{statement}
 use Rattle.answer_sets.proofs.rounds.rounds.Tie as tie
 

@@ -1,7 +1,5 @@
 -- The negative word and the inputs of the tables used.
-use mathlib.Core.Path.{_∙_, ap₂}
-use Rattle.atoms.specs.Word.{_∪_}
-use borrow.Author.Needs.{needs}
+use Rattle.answer_sets.proofs.Prelude.{_∙_, ap₂, _∪_, needs}
 use Rattle.answer_sets.proofs.rule.looks.Statement.{statement}
 use Rattle.answer_sets.proofs.rule.looks.Tie as tie
 

@@ -1,7 +1,5 @@
 -- The head, the positive word and what the rest of the body looks at.
-use mathlib.Core.Path.{_∙_, ap₂}
-use Rattle.atoms.specs.Word.{_∪_}
-use borrow.Author.Needs.{needs}
+use Rattle.answer_sets.proofs.Prelude.{_∙_, ap₂, _∪_, needs}
 use Rattle.answer_sets.proofs.rule.rule_atoms.Statement.{statement}
 use Rattle.answer_sets.proofs.rule.rule_atoms.Tie as tie
 

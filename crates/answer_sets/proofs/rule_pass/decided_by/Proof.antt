@@ -1,6 +1,6 @@
 -- The body would hold with the atom up, with the atom dropped, or neither is known.
-use Rattle.answer_sets.proofs.RulePass.{last-dropped, last-up}
-use borrow.Author.Needs.{needs}
+use Rattle.answer_sets.proofs.Prelude.{needs}
+use Rattle.answer_sets.proofs.Face.{last-dropped, last-up}
 use Rattle.answer_sets.proofs.rule_pass.decided_by.Statement.{statement}
 use Rattle.answer_sets.proofs.rule_pass.decided_by.Tie as tie
 

@@ -1,6 +1,6 @@
 -- With the whole head dropped the body fails, where one atom is left by that atom.
-use Rattle.answer_sets.proofs.RulePass.{subset-left, at-most-said}
-use borrow.Author.Needs.{needs}
+use Rattle.answer_sets.proofs.Prelude.{needs}
+use Rattle.answer_sets.proofs.Face.{subset-left, at-most-said}
 use Rattle.answer_sets.proofs.rule_pass.denied.Statement.{statement}
 use Rattle.answer_sets.proofs.rule_pass.denied.Tie as tie
 

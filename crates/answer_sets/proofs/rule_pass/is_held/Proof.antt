@@ -1,7 +1,6 @@
 -- Yes where the words hold and there are no uses, or the words and the uses hold.
-use Rattle.answer_sets.proofs.RulePass.{held-known}
-use Rattle.answer_sets.proofs.Parts.{up-apart, words-told, body-of-words}
-use borrow.Author.Needs.{needs}
+use Rattle.answer_sets.proofs.Prelude.{needs}
+use Rattle.answer_sets.proofs.Face.{held-known, up-apart, words-told, body-of-words}
 use Rattle.answer_sets.proofs.rule_pass.is_held.Statement.{statement}
 use Rattle.answer_sets.proofs.rule_pass.is_held.Tie as tie
 

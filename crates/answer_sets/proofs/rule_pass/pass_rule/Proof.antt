@@ -1,6 +1,6 @@
 -- A head atom is up, or the body fails: the rule goes. Else its step is taken.
-use Rattle.answer_sets.proofs.RulePass.{met-by-head, met-by-body, sifted-met, sifted-on}
-use borrow.Author.Needs.{needs}
+use Rattle.answer_sets.proofs.Prelude.{needs}
+use Rattle.answer_sets.proofs.Face.{met-by-head, met-by-body, sifted-met, sifted-on}
 use Rattle.answer_sets.proofs.rule_pass.pass_rule.Statement.{statement}
 use Rattle.answer_sets.proofs.rule_pass.pass_rule.Tie as tie
 

@@ -1,12 +1,6 @@
 -- The loop carries what the turns so far leave, in three words. The measure is how many rules are left.
-use lib.Count.{ones}
-use borrow.Author.Needs.{needs}
-use Rattle.atoms.proofs.Counts.{taken-less}
-use Rattle.atoms.proofs.TakenNumbers.{Carrying, carrying-start, taken-lent, carrying-more}
-use Rattle.answer_sets.specs.Lent.{lent}
-use Rattle.answer_sets.specs.RulePass.{Sifted}
-use Rattle.answer_sets.proofs.RulePass.{sifted-start, sifted-turn}
-use Rattle.answer_sets.proofs.Lent.{lent-taken}
+use Rattle.answer_sets.proofs.Prelude.{ones, needs, taken-less, Carrying, carrying-start, taken-lent, carrying-more, lent, Sifted}
+use Rattle.answer_sets.proofs.Face.{sifted-start, sifted-turn, lent-taken}
 use Rattle.answer_sets.proofs.rule_pass.rule_pass.Statement.{statement}
 use Rattle.answer_sets.proofs.rule_pass.rule_pass.Tie as tie
 

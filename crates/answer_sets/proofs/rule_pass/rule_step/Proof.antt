@@ -1,9 +1,6 @@
 -- A head atom is up already; or the body is known to hold, and one has to go up; or it is open, and `denied` tells.
-use mathlib.Core.Path.{sym, _∙_}
-use Rattle.states.proofs.Narrows.{narrows-refl}
-use Rattle.answer_sets.proofs.Truths.{holds-not-fails, open-not-holds}
-use Rattle.answer_sets.proofs.RulePass.{head-met, holds-head, not-held}
-use borrow.Author.Needs.{needs}
+use Rattle.answer_sets.proofs.Prelude.{sym, _∙_, narrows-refl, needs}
+use Rattle.answer_sets.proofs.Face.{holds-not-fails, open-not-holds, head-met, holds-head, not-held}
 use Rattle.answer_sets.proofs.rule_pass.rule_step.Statement.{statement}
 use Rattle.answer_sets.proofs.rule_pass.rule_step.Tie as tie
 

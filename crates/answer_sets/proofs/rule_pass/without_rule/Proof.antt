@@ -1,5 +1,5 @@
 -- The rule's number is dropped from the word.
-use borrow.Author.Needs.{needs}
+use Rattle.answer_sets.proofs.Prelude.{needs}
 use Rattle.answer_sets.proofs.rule_pass.without_rule.Statement.{statement}
 use Rattle.answer_sets.proofs.rule_pass.without_rule.Tie as tie
 

@@ -1,21 +1,10 @@
 -- The measure is the count of undecided atoms. Each return says of the completions what its step of the subset test shows.
-use mathlib.Core.Path.{sym, _∙_}
-use mathlib.Core.Bool.{true, false}
-use Prim.Native.Nat.{ℕ, _<_}
-use lib.Count.{ones}
-use denote.Ref.{now}
-use borrow.Author.Needs.{needs}
-use borrow.Author.Tests.{not-false}
-use borrow.Fn.Kinds.{In}
-use borrow.Fn.PlainCycle.{Measures, is, falls, and}
-use Rattle.atoms.specs.Word.{Has, Apart}
-use Rattle.atoms.proofs.Sets.{decides-apart}
-use Rattle.answer_sets.specs.Program.{Satisfies}
-use Rattle.answer_sets.specs.Lent.{lent}
-use Rattle.states.specs.State.{undecided}
-use Rattle.answer_sets.proofs.Between.{lent-part, confines-more, confines-branch, between-clash, between-whole, between-model, between-stuck}
-use Rattle.answer_sets.proofs.Between.{lasts-trans, tries-told, tries-spent, tries-yes, tries-no}
-use Rattle.states.proofs.Branches.{decided-falls}
+use Rattle.answer_sets.proofs.Prelude.{sym, _∙_, true, false, ℕ, _<_, ones, now, needs, not-false, In, Measures, is, falls, and, Has, Apart}
+use Rattle.answer_sets.proofs.Prelude.{decides-apart, Satisfies, lent, undecided, decided-falls}
+use Rattle.answer_sets.proofs.Face.{lent-part, confines-more, confines-branch, between-clash, between-whole, between-model, between-stuck, lasts-trans}
+use Rattle.answer_sets.proofs.Face.{tries-told, tries-spent, tries-yes, tries-no}
+use Rattle.answer_sets.proofs.smaller.+some_between.{statement}
+use Rattle.answer_sets.proofs.smaller.+some_between.Tie.{close}
 use Rattle.answer_sets.proofs.smaller.some_between.Reads as some-between
 use Rattle.answer_sets.proofs.smaller.some_between.Kinds as some-between-kinds
 use Rattle.answer_sets.proofs.smaller.+some_between.Lts-some_between as some-between-lts
@@ -29,8 +18,6 @@ use Rattle.answer_sets.proofs.smaller.spend.Reads as spend-reads
 use Rattle.answer_sets.proofs.rounds.rounds.Reads as rounds-reads
 use Rattle.atoms.proofs.are_apart.Reads as are-apart-reads
 use Rattle.atoms.proofs.lowest.Reads as lowest-reads
-use Rattle.answer_sets.proofs.smaller.+some_between.{statement}
-use Rattle.answer_sets.proofs.smaller.+some_between.Tie.{close}
 
 abbrev μ-some-between : Measures 1 some-between-kinds.ps ℕ
 μ-some-between κs a = ones (undecided (a .1 .1 .1 .0 .up) (a .1 .1 .1 .0 .dropped))

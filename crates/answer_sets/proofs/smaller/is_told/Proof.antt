@@ -1,7 +1,6 @@
 -- The whole position is no proper subset; and what the memo tells of a test that is like its own.
-use borrow.Author.Needs.{needs}
-use Rattle.answer_sets.proofs.Between.{between-whole}
-use Rattle.answer_sets.proofs.Memos.{memo-none}
+use Rattle.answer_sets.proofs.Prelude.{needs}
+use Rattle.answer_sets.proofs.Face.{between-whole, memo-none}
 use Rattle.answer_sets.proofs.smaller.is_told.Statement.{statement}
 use Rattle.answer_sets.proofs.smaller.is_told.Tie as tie
 

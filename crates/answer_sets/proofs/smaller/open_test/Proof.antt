@@ -1,5 +1,5 @@
 -- The rounds, from the facts up and all outside the position dropped.
-use borrow.Author.Needs.{needs}
+use Rattle.answer_sets.proofs.Prelude.{needs}
 use Rattle.answer_sets.proofs.smaller.open_test.Statement.{statement}
 use Rattle.answer_sets.proofs.smaller.open_test.Tie as tie
 

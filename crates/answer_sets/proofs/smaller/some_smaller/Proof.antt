@@ -1,13 +1,7 @@
 -- The subsets of the position that have the facts are the completions of: facts up, everything outside the position dropped. What the rounds leave of
 -- them is told, or tried with as many branchings as it takes, and then written down where there is none.
-use mathlib.Core.Path.{sym, _∙_}
-use native.Mathlib.Omega.{arith}
-use denote.Ref.{now}
-use borrow.Author.Needs.{needs}
-use Rattle.answer_sets.specs.Lent.{lent}
-use Rattle.answer_sets.specs.SubsetTest.{Finds}
-use Rattle.answer_sets.proofs.Between.{lent-part, passed-confines, tested-passed, tries-unbounded}
-use Rattle.answer_sets.proofs.Memos.{memo-whole, memo-written}
+use Rattle.answer_sets.proofs.Prelude.{sym, _∙_, arith, now, needs, lent, Finds}
+use Rattle.answer_sets.proofs.Face.{lent-part, passed-confines, tested-passed, tries-unbounded, memo-whole, memo-written}
 use Rattle.answer_sets.proofs.smaller.some_smaller.Statement.{statement}
 use Rattle.answer_sets.proofs.smaller.some_smaller.Tie as tie
 

@@ -1,6 +1,6 @@
 -- Free atoms of the head, else of the body.
-use Rattle.answer_sets.proofs.Candidates.{candidates-head, candidates-body}
-use borrow.Author.Needs.{needs}
+use Rattle.answer_sets.proofs.Prelude.{needs}
+use Rattle.answer_sets.proofs.Face.{candidates-head, candidates-body}
 use Rattle.answer_sets.proofs.tried.candidates.Statement.{statement}
 use Rattle.answer_sets.proofs.tried.candidates.Tie as tie
 

@@ -1,11 +1,6 @@
 -- The tally keeps its length. The measure is how many rules are left.
-use mathlib.Core.Path.{_≡_, refl}
-use lib.Count.{ones}
-use lib.ListN.{length}
-use borrow.Author.Needs.{needs}
-use Rattle.atoms.proofs.Counts.{taken-less}
-use Rattle.atoms.proofs.TakenNumbers.{Carrying, carrying-start, carrying-more}
-use Rattle.answer_sets.proofs.Lent.{lent-taken}
+use Rattle.answer_sets.proofs.Prelude.{_≡_, refl, ones, length, needs, taken-less, Carrying, carrying-start, carrying-more}
+use Rattle.answer_sets.proofs.Face.{lent-taken}
 use Rattle.atoms.proofs.Tallies.{counted-long}
 use Rattle.answer_sets.proofs.tried.most_wanted.Statement.{statement}
 use Rattle.answer_sets.proofs.tried.most_wanted.Tie as tie

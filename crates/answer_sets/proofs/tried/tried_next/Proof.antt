@@ -1,6 +1,6 @@
 -- Either word has some of the free atoms.
-use Rattle.answer_sets.proofs.Candidates.{some-free}
-use borrow.Author.Needs.{needs}
+use Rattle.answer_sets.proofs.Prelude.{needs}
+use Rattle.answer_sets.proofs.Face.{some-free}
 use Rattle.answer_sets.proofs.tried.tried_next.Statement.{statement}
 use Rattle.answer_sets.proofs.tried.tried_next.Tie as tie
 

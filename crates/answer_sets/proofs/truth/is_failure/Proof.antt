@@ -1,6 +1,6 @@
 -- Fails, and neither of the others.
-use Rattle.answer_sets.proofs.Truths.{holds-no-failure, open-no-failure}
-use borrow.Author.Needs.{needs}
+use Rattle.answer_sets.proofs.Prelude.{needs}
+use Rattle.answer_sets.proofs.Face.{holds-no-failure, open-no-failure}
 use Rattle.answer_sets.proofs.truth.is_failure.Statement.{statement}
 use Rattle.answer_sets.proofs.truth.is_failure.Tie as tie
 

@@ -1,6 +1,6 @@
 -- Holds, and neither of the others.
-use Rattle.answer_sets.proofs.Truths.{fails-no-success, open-no-success}
-use borrow.Author.Needs.{needs}
+use Rattle.answer_sets.proofs.Prelude.{needs}
+use Rattle.answer_sets.proofs.Face.{fails-no-success, open-no-success}
 use Rattle.answer_sets.proofs.truth.is_success.Statement.{statement}
 use Rattle.answer_sets.proofs.truth.is_success.Tie as tie
 

@@ -1,6 +1,6 @@
 -- None of them, all, or neither.
-use Rattle.answer_sets.proofs.Truths.{rows-hold, rows-fail, rows-open}
-use borrow.Author.Needs.{needs}
+use Rattle.answer_sets.proofs.Prelude.{needs}
+use Rattle.answer_sets.proofs.Face.{rows-hold, rows-fail, rows-open}
 use Rattle.answer_sets.proofs.truth.rows_known.Statement.{statement}
 use Rattle.answer_sets.proofs.truth.rows_known.Tie as tie
 

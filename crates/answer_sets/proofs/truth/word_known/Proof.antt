@@ -1,6 +1,6 @@
 -- One barred, all wanted, or neither.
-use Rattle.answer_sets.proofs.Truths.{word-fails, word-holds, word-open}
-use borrow.Author.Needs.{needs}
+use Rattle.answer_sets.proofs.Prelude.{needs}
+use Rattle.answer_sets.proofs.Face.{word-fails, word-holds, word-open}
 use Rattle.answer_sets.proofs.truth.word_known.Statement.{statement}
 use Rattle.answer_sets.proofs.truth.word_known.Tie as tie
 

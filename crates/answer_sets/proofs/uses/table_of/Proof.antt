@@ -1,6 +1,6 @@
 -- The first half of the uses wants tables true, the second half false.
-use borrow.Author.Needs.{needs}
-use Rattle.answer_sets.proofs.Bodies.{table-first, table-second}
+use Rattle.answer_sets.proofs.Prelude.{needs}
+use Rattle.answer_sets.proofs.Face.{table-first, table-second}
 use Rattle.answer_sets.proofs.uses.table_of.Statement.{statement}
 use Rattle.answer_sets.proofs.uses.table_of.Tie as tie
 

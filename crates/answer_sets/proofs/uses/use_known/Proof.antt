@@ -1,13 +1,6 @@
 -- The rows that completions have, held against the truth word, by the sign.
-use mathlib.Core.Path.{_≡_}
-use mathlib.Core.Bool.{true}
-use denote.Ref.{now}
-use Rattle.answer_sets.specs.Known.{Says}
-use Rattle.states.specs.State.{halfDecided}
-use Rattle.answer_sets.proofs.Truths.{says-opposite, says-same}
-use Rattle.answer_sets.proofs.Parts.{rows-some, table-says}
-use Rattle.answer_sets.proofs.Bodies.{said, wanted-true, wanted-false}
-use borrow.Author.Needs.{needs}
+use Rattle.answer_sets.proofs.Prelude.{_≡_, true, now, Says, halfDecided, needs}
+use Rattle.answer_sets.proofs.Face.{says-opposite, says-same, rows-some, table-says, said, wanted-true, wanted-false}
 use Rattle.answer_sets.proofs.uses.use_known.Statement.{statement}
 use Rattle.answer_sets.proofs.uses.use_known.Tie as tie
 

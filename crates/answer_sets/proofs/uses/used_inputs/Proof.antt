@@ -1,10 +1,7 @@
 -- The inputs gathered use by use.
-use lib.Count.{ones}
-use Rattle.atoms.proofs.Counts.{taken-less}
+use Rattle.answer_sets.proofs.Prelude.{ones, taken-less, uses, USE_BITS, usedTable, inputs, usedInputs, needs}
+use Rattle.answer_sets.proofs.Face.{used-inputs-read}
 use Rattle.atoms.proofs.GatheredWords.{Gathers, gathers-lt, gathers-next, gathers-end, gathers-read}
-use Rattle.answer_sets.specs.Lent.{uses, USE_BITS, usedTable, inputs, usedInputs}
-use borrow.Author.Needs.{needs}
-use Rattle.answer_sets.proofs.Bodies.{used-inputs-read}
 use Rattle.answer_sets.proofs.uses.used_inputs.Statement.{statement}
 use Rattle.answer_sets.proofs.uses.used_inputs.Tie as tie
 

@@ -1,9 +1,6 @@
 -- The loop puts together what is known of the words and of the uses that are done. The measure is how many are left.
-use lib.Count.{ones}
-use Rattle.atoms.proofs.Counts.{taken-less}
-use Rattle.states.specs.State.{halfDecided}
-use Rattle.answer_sets.proofs.Parts.{UsesDone, uses-start, uses-lt, uses-next, uses-fail, uses-end}
-use borrow.Author.Needs.{needs}
+use Rattle.answer_sets.proofs.Prelude.{ones, taken-less, halfDecided, needs}
+use Rattle.answer_sets.proofs.Face.{UsesDone, uses-start, uses-lt, uses-next, uses-fail, uses-end}
 use Rattle.answer_sets.proofs.uses.with_uses.Statement.{statement}
 use Rattle.answer_sets.proofs.uses.with_uses.Tie as tie
 

@@ -1,10 +1,6 @@
 -- The loop carries what is counted, place by place. The measure is how many places are left.
-use native.Mathlib.Omega.{arith}
-use Prim.Native.Nat.{_-_, _<_}
-use lib.ListN.{length}
-use borrow.Author.Tests.{ltb-true, ltb-false}
-use Rattle.atoms.proofs.Tallies.{Counting, counting-start, counting-next, counting-none, counting-end}
-use borrow.Author.Needs.{needs}
+use Rattle.atoms.proofs.Prelude.{arith, _-_, _<_, length, ltb-true, ltb-false, needs}
+use Rattle.atoms.proofs.Face.{Counting, counting-start, counting-next, counting-none, counting-end}
 use Rattle.atoms.proofs.tally.count_atoms.Statement.{statement}
 use Rattle.atoms.proofs.tally.count_atoms.Tie as tie
 

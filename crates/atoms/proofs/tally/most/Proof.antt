@@ -1,11 +1,6 @@
 -- The invariant: some of the atoms are left, those with the highest count in the places that were looked at. The measure is how many are left.
-use Prim.Native.Nat.{_≤_}
-use lib.ListN.{length, drop}
-use Rattle.atoms.specs.Word.{SomeOf}
-use Rattle.atoms.specs.Tally.{MostCounted}
-use Rattle.atoms.proofs.Sets.{subset-refl, subset-trans}
-use Rattle.atoms.proofs.Tallies.{most-start, most-next, most-end}
-use borrow.Author.Needs.{needs}
+use Rattle.atoms.proofs.Prelude.{_≤_, length, drop, SomeOf, MostCounted, needs}
+use Rattle.atoms.proofs.Face.{subset-refl, subset-trans, most-start, most-next, most-end}
 use Rattle.atoms.proofs.tally.most.Statement.{statement}
 use Rattle.atoms.proofs.tally.most.Tie as tie
 

@@ -1,10 +1,6 @@
 -- Some atoms are in both, or all of the word are left.
-use mathlib.Core.Path.{subst}
-use Prim.Native.Nat.{ℕ}
-use Rattle.atoms.specs.Word.{Has}
-use Rattle.atoms.proofs.Sets.{subset-refl, cut-left}
-use Rattle.atoms.proofs.Tallies.{preferred-word, preferred-both}
-use borrow.Author.Needs.{needs}
+use Rattle.atoms.proofs.Prelude.{subst, ℕ, Has, needs}
+use Rattle.atoms.proofs.Face.{subset-refl, cut-left, preferred-word, preferred-both}
 use Rattle.atoms.proofs.tally.prefer.Statement.{statement}
 use Rattle.atoms.proofs.tally.prefer.Tie as tie
 

@@ -1,11 +1,5 @@
 -- The words passed so far are copied.
-use borrow.Author.Needs.{needs}
-use mathlib.Core.Path.{_≡_, ap, _∙_}
-use Prim.Native.Nat.{_-_, _≤_}
-use native.Mathlib.Omega.{arith}
-use denote.Ref.{now}
-use lib.ListN.{length, getD, length-set}
-use lib.Seq.{paste, paste-zero}
+use Rattle.atoms.proofs.Prelude.{needs, _≡_, ap, _∙_, _-_, _≤_, arith, now, length, getD, length-set, paste, paste-zero}
 use Rattle.atoms.proofs.StoredWords.{stored-next}
 use Rattle.atoms.proofs.words.store.Statement.{statement}
 use Rattle.atoms.proofs.words.store.Tie as tie

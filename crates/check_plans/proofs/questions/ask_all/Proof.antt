@@ -1,7 +1,5 @@
 -- The measure is how many bytes are left; the last line may end without a line's end.
-use Prim.Native.Nat.{_≤_, _-_, _+_}
-use lib.ListN.{length}
-use borrow.Author.Needs.{needs}
+use Rattle.check_plans.proofs.Prelude.{_≤_, _-_, _+_, length, needs}
 use Rattle.check_plans.proofs.questions.ask_all.Statement.{statement}
 use Rattle.check_plans.proofs.questions.ask_all.Tie as tie
 

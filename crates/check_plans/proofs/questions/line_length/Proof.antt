@@ -1,7 +1,5 @@
 -- The place stays within the text.
-use Prim.Native.Nat.{_≤_, _-_}
-use lib.ListN.{length}
-use borrow.Author.Needs.{needs}
+use Rattle.check_plans.proofs.Prelude.{_≤_, _-_, length, needs}
 use Rattle.check_plans.proofs.questions.line_length.Statement.{statement}
 use Rattle.check_plans.proofs.questions.line_length.Tie as tie
 

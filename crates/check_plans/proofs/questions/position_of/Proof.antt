@@ -1,7 +1,5 @@
 -- The measure is how many digits are left.
-use Prim.Native.Nat.{_≤_, _-_}
-use lib.ListN.{length}
-use borrow.Author.Needs.{needs}
+use Rattle.check_plans.proofs.Prelude.{_≤_, _-_, length, needs}
 use Rattle.check_plans.proofs.questions.position_of.Statement.{statement}
 use Rattle.check_plans.proofs.questions.position_of.Tie as tie
 

@@ -1,15 +1,7 @@
 -- The loop takes the inputs from the lowest on. The measure is how many are left.
-use mathlib.Core.Path.{_∙_, ap}
-use mathlib.Core.Logic.{inl, inr}
-use Prim.Native.Nat.{ℕ, _≤_}
-use native.Mathlib.Omega.{arith}
-use lib.Count.{ones}
-use lib.Pow.{pow-mono}
-use borrow.Author.Needs.{needs}
-use borrow.Author.Tests.{ltb-true, ltb-false}
-use Rattle.atoms.specs.Word.{ATOMS, atom, below, _∩_}
-use Rattle.atoms.proofs.Counts.{taken-less}
-use Rattle.contact_tables.proofs.Sifting.{Sifting, sifting-start, sifting-next, sifting-end}
+use Rattle.contact_tables.proofs.Prelude.{_∙_, ap, inl, inr, ℕ, _≤_, arith, ones, pow-mono, needs, ltb-true, ltb-false, ATOMS, atom, below, _∩_}
+use Rattle.contact_tables.proofs.Prelude.{taken-less}
+use Rattle.contact_tables.proofs.RowSifting.{Sifting, sifting-start, sifting-next, sifting-end}
 use Rattle.contact_tables.proofs.rows.agreeing_rows.Statement.{statement}
 use Rattle.contact_tables.proofs.rows.agreeing_rows.Tie as tie
 

@@ -1,6 +1,6 @@
 -- The word at place k of the six.
-use borrow.Author.Needs.{needs}
-use Rattle.contact_tables.proofs.Columns.{column-collects}
+use Rattle.contact_tables.proofs.Prelude.{needs}
+use Rattle.contact_tables.proofs.Face.{column-collects}
 use Rattle.contact_tables.proofs.rows.column.Statement.{statement}
 use Rattle.contact_tables.proofs.rows.column.Tie as tie
 

@@ -1,6 +1,6 @@
 -- Three cases: the atom is up, dropped and not up, or undecided.
-use borrow.Author.Needs.{needs}
-use Rattle.contact_tables.proofs.Columns.{sifted-up, sifted-dropped, sifted-open, test-has, test-lacks}
+use Rattle.contact_tables.proofs.Prelude.{needs}
+use Rattle.contact_tables.proofs.Face.{sifted-up, sifted-dropped, sifted-open, test-has, test-lacks}
 use Rattle.contact_tables.proofs.rows.sifted.Statement.{statement}
 use Rattle.contact_tables.proofs.rows.sifted.Tie as tie
 

@@ -1,10 +1,5 @@
 -- The loop takes the inputs from the lowest on. The measure is how many are left.
-use mathlib.Core.Logic.{inl, inr}
-use native.Mathlib.Omega.{arith}
-use lib.Count.{ones}
-use borrow.Author.Needs.{needs}
-use borrow.Author.Tests.{ltb-true, ltb-false}
-use Rattle.atoms.proofs.Counts.{taken-less}
+use Rattle.contact_tables.proofs.Prelude.{inl, inr, arith, ones, needs, ltb-true, ltb-false, taken-less}
 use Rattle.contact_tables.proofs.ToldInputs.{Telling, telling-start, telling-next, told-up, told-dropped}
 use Rattle.contact_tables.proofs.rows.told_inputs.Statement.{statement}
 use Rattle.contact_tables.proofs.rows.told_inputs.Tie as tie

@@ -1,7 +1,5 @@
 -- The counts are all 0.
-use borrow.Author.Needs.{needs}
-use Rattle.demands.specs.Handed.{refusal}
-use Rattle.demands.specs.Table.{noCounts}
+use Rattle.demands.proofs.Prelude.{needs, refusal, noCounts}
 use Rattle.demands.proofs.listing.refuse.Statement.{statement}
 use Rattle.demands.proofs.listing.refuse.Tie as tie
 

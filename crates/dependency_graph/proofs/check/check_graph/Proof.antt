@@ -1,6 +1,6 @@
 -- The rows in turn: a row found, or passed with its word empty (Rows).
-use borrow.Author.Needs.{needs}
-use Rattle.dependency_graph.proofs.Rows.{row-16-found, row-10-found, row-11-found, row-12-found, row-13-found, row-14-found, rows-passed}
+use Rattle.dependency_graph.proofs.Prelude.{needs}
+use Rattle.dependency_graph.proofs.ConditionRows.{row-16-found, row-10-found, row-11-found, row-12-found, row-13-found, row-14-found, rows-passed}
 use Rattle.dependency_graph.proofs.check.check_graph.Statement.{statement}
 use Rattle.dependency_graph.proofs.check.check_graph.Tie as tie
 

@@ -1,11 +1,6 @@
 -- A unit on a cycle is in its own reach.
-use mathlib.Core.Path.{ap, _∙_}
-use Prim.Native.Nat.{ℕ}
-use borrow.Author.Needs.{needs}
-use Rattle.atoms.specs.Word.{has}
-use Rattle.dependency_graph.specs.PlanUnits.{unitsOf}
-use Rattle.dependency_graph.specs.Offenders.{cycle}
-use Rattle.dependency_graph.proofs.Built.{word-same}
+use Rattle.dependency_graph.proofs.Prelude.{ap, _∙_, ℕ, needs, has, unitsOf, cycle}
+use Rattle.dependency_graph.proofs.Face.{word-same}
 use Rattle.dependency_graph.proofs.cycle.cycle.Statement.{statement}
 use Rattle.dependency_graph.proofs.cycle.cycle.Tie as tie
 

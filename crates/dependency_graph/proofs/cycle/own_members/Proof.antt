@@ -1,11 +1,6 @@
 -- The word is built number by number (Built).
-use Prim.Native.Nat.{_-_}
-use lib.ListN.{getD}
-use borrow.Author.Needs.{needs}
-use Rattle.atoms.specs.Word.{has}
-use Rattle.atoms.specs.Bounded.{wordBelow}
-use Rattle.atoms.proofs.Singles.{has-is-test}
-use Rattle.dependency_graph.proofs.Built.{Built, built-end, word-start, word-more}
+use Rattle.dependency_graph.proofs.Prelude.{_-_, getD, needs, has, wordBelow, has-is-test}
+use Rattle.dependency_graph.proofs.Face.{Built, built-end, word-start, word-more}
 use Rattle.dependency_graph.proofs.cycle.own_members.Statement.{statement}
 use Rattle.dependency_graph.proofs.cycle.own_members.Tie as tie
 

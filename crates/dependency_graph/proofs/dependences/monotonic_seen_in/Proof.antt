@@ -1,11 +1,6 @@
 -- The rules of which the test holds are picked one by one (Gathering).
-use lib.Count.{ones}
-use borrow.Author.Needs.{needs}
-use Rattle.atoms.specs.Word.{apart, _∪_}
-use Rattle.atoms.proofs.Counts.{taken-less}
-use Rattle.atoms.proofs.GatheredWords.{Picks, picks-start, picks-lt, picks-next}
-use Rattle.dependency_graph.specs.PlanUnits.{unitsOf}
-use Rattle.dependency_graph.proofs.UnseenRules.{apart-read, union-read, seen-end}
+use Rattle.dependency_graph.proofs.Prelude.{ones, needs, apart, _∪_, taken-less, Picks, picks-start, picks-lt, picks-next, unitsOf}
+use Rattle.dependency_graph.proofs.Face.{apart-read, union-read, seen-end}
 use Rattle.dependency_graph.proofs.dependences.monotonic_seen_in.Statement.{statement}
 use Rattle.dependency_graph.proofs.dependences.monotonic_seen_in.Tie as tie
 

@@ -1,12 +1,6 @@
 -- The rules of which the test holds are picked one by one (Gathering).
-use mathlib.Core.Bool.{not}
-use lib.Count.{ones}
-use borrow.Author.Needs.{needs}
-use Rattle.atoms.specs.Word.{apart}
-use Rattle.atoms.proofs.Counts.{taken-less}
-use Rattle.atoms.proofs.GatheredWords.{Picks, picks-start, picks-lt, picks-next}
-use Rattle.dependency_graph.specs.PlanUnits.{unitsOf}
-use Rattle.dependency_graph.proofs.UnseenRules.{shares-read, unseen-end}
+use Rattle.dependency_graph.proofs.Prelude.{not, ones, needs, apart, taken-less, Picks, picks-start, picks-lt, picks-next, unitsOf}
+use Rattle.dependency_graph.proofs.Face.{shares-read, unseen-end}
 use Rattle.dependency_graph.proofs.dependences.nonmonotonic_unseen_in.Statement.{statement}
 use Rattle.dependency_graph.proofs.dependences.nonmonotonic_unseen_in.Tie as tie
 

@@ -1,7 +1,5 @@
 -- All rules without those seen, and their heads.
-use borrow.Author.Needs.{needs}
-use Rattle.dependency_graph.specs.PlanUnits.{unitsOf}
-use Rattle.dependency_graph.specs.Offenders.{seen, unseenHeads}
+use Rattle.dependency_graph.proofs.Prelude.{needs, unitsOf, seen, unseenHeads}
 use Rattle.dependency_graph.proofs.dependences.unseen_heads.Statement.{statement}
 use Rattle.dependency_graph.proofs.dependences.unseen_heads.Tie as tie
 

@@ -1,12 +1,6 @@
 -- The word is built rule by rule (Built).
-use mathlib.Core.Bool.{not}
-use Prim.Native.Nat.{_-_}
-use borrow.Author.Needs.{needs}
-use Rattle.atoms.specs.Word.{apart}
-use Rattle.atoms.specs.Bounded.{wordBelow}
-use Rattle.dependency_graph.specs.PlanUnits.{unitsOf}
-use Rattle.dependency_graph.specs.Offenders.{givenInHead}
-use Rattle.dependency_graph.proofs.Built.{Built, built-end, word-start, word-more}
+use Rattle.dependency_graph.proofs.Prelude.{not, _-_, needs, apart, wordBelow, unitsOf, givenInHead}
+use Rattle.dependency_graph.proofs.Face.{Built, built-end, word-start, word-more}
 use Rattle.dependency_graph.proofs.given.given_in_head.Statement.{statement}
 use Rattle.dependency_graph.proofs.given.given_in_head.Tie as tie
 

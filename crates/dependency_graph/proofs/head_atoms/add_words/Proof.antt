@@ -1,9 +1,6 @@
 -- The table is filled from the front; words not yet reached are as they came (Filled).
-use Prim.Native.Nat.{_-_}
-use lib.ListN.{getD}
-use borrow.Author.Needs.{needs}
-use Rattle.atoms.specs.Word.{_∪_}
-use Rattle.dependency_graph.proofs.Filled.{Filling, filling-start, unreached, filling-more, filling-end}
+use Rattle.dependency_graph.proofs.Prelude.{_-_, getD, needs, _∪_}
+use Rattle.dependency_graph.proofs.Face.{Filling, filling-start, unreached, filling-more, filling-end}
 use Rattle.dependency_graph.proofs.head_atoms.add_words.Statement.{statement}
 use Rattle.dependency_graph.proofs.head_atoms.add_words.Tie as tie
 

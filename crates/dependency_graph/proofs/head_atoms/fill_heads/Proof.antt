@@ -1,6 +1,6 @@
 -- H(u) is the own head atoms, those of the units reached, and the given atoms (PlanUnits).
-use borrow.Author.Needs.{needs}
-use Rattle.dependency_graph.proofs.PlanUnits.{heads-filled}
+use Rattle.dependency_graph.proofs.Prelude.{needs}
+use Rattle.dependency_graph.proofs.Face.{heads-filled}
 use Rattle.dependency_graph.proofs.head_atoms.fill_heads.Statement.{statement}
 use Rattle.dependency_graph.proofs.head_atoms.fill_heads.Tie as tie
 

@@ -1,9 +1,6 @@
 -- The table is filled from the front (Filled).
-use Prim.Native.Nat.{_-_}
-use borrow.Author.Needs.{needs}
-use Rattle.dependency_graph.specs.Heads.{own}
-use Rattle.dependency_graph.specs.PlanUnits.{unitsOf}
-use Rattle.dependency_graph.proofs.Filled.{Filling, filling-start, filling-more, filling-end}
+use Rattle.dependency_graph.proofs.Prelude.{_-_, needs, own, unitsOf}
+use Rattle.dependency_graph.proofs.Face.{Filling, filling-start, filling-more, filling-end}
 use Rattle.dependency_graph.proofs.head_atoms.fill_own.Statement.{statement}
 use Rattle.dependency_graph.proofs.head_atoms.fill_own.Tie as tie
 

@@ -1,11 +1,6 @@
 -- The table is filled from the front (Filled).
-use mathlib.Core.Path.{ap, _∙_}
-use Prim.Native.Nat.{ℕ, _-_}
-use lib.ListN.{getD}
-use borrow.Author.Needs.{needs}
-use Rattle.atoms.specs.Word.{_∪_}
-use Rattle.atoms.specs.Bounded.{unionIn}
-use Rattle.dependency_graph.proofs.Filled.{Filling, filling-start, filling-more, filling-end}
+use Rattle.dependency_graph.proofs.Prelude.{ap, _∙_, ℕ, _-_, getD, needs, _∪_, unionIn}
+use Rattle.dependency_graph.proofs.Face.{Filling, filling-start, filling-more, filling-end}
 use Rattle.dependency_graph.proofs.head_atoms.fill_unions.Statement.{statement}
 use Rattle.dependency_graph.proofs.head_atoms.fill_unions.Tie as tie
 

@@ -1,6 +1,5 @@
 -- The rules with a head cut to those in several units.
-use borrow.Author.Needs.{needs}
-use Rattle.dependency_graph.specs.Offenders.{headedRuleInSeveral}
+use Rattle.dependency_graph.proofs.Prelude.{needs, headedRuleInSeveral}
 use Rattle.dependency_graph.proofs.placement.headed_rule_in_several.Statement.{statement}
 use Rattle.dependency_graph.proofs.placement.headed_rule_in_several.Tie as tie
 

@@ -1,11 +1,6 @@
 -- The word is built rule by rule (Built).
-use mathlib.Core.Bool.{not}
-use Prim.Native.Nat.{_-_}
-use lib.Dec.{eqb}
-use borrow.Author.Needs.{needs}
-use Rattle.atoms.specs.Bounded.{wordBelow}
-use Rattle.dependency_graph.specs.PlanUnits.{unitsOf}
-use Rattle.dependency_graph.proofs.Built.{Built, built-end, word-start, word-more}
+use Rattle.dependency_graph.proofs.Prelude.{not, _-_, eqb, needs, wordBelow, unitsOf}
+use Rattle.dependency_graph.proofs.Face.{Built, built-end, word-start, word-more}
 use Rattle.dependency_graph.proofs.placement.headed_rules.Statement.{statement}
 use Rattle.dependency_graph.proofs.placement.headed_rules.Tie as tie
 

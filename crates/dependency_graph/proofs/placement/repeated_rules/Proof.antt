@@ -1,11 +1,6 @@
 -- What is in one unit and what is in two, unit by unit (Built).
-use mathlib.Core.Path.{refl}
-use Prim.Native.Nat.{_-_}
-use lib.ListN.{getD}
-use borrow.Author.Needs.{needs}
-use Rattle.dependency_graph.specs.PlanUnits.{unitsOf}
-use Rattle.dependency_graph.specs.Offenders.{unionBelow, twiceBelow}
-use Rattle.dependency_graph.proofs.Built.{Built, built-end, union-start, union-more, twice-start, twice-more}
+use Rattle.dependency_graph.proofs.Prelude.{refl, _-_, getD, needs, unitsOf, unionBelow, twiceBelow}
+use Rattle.dependency_graph.proofs.Face.{Built, built-end, union-start, union-more, twice-start, twice-more}
 use Rattle.dependency_graph.proofs.placement.repeated_rules.Statement.{statement}
 use Rattle.dependency_graph.proofs.placement.repeated_rules.Tie as tie
 

@@ -1,7 +1,5 @@
 -- All rules without those of some unit (Offenders).
-use borrow.Author.Needs.{needs}
-use Rattle.dependency_graph.specs.PlanUnits.{unitsOf}
-use Rattle.dependency_graph.specs.Offenders.{ruleInNoUnit}
+use Rattle.dependency_graph.proofs.Prelude.{needs, unitsOf, ruleInNoUnit}
 use Rattle.dependency_graph.proofs.placement.rule_in_no_unit.Statement.{statement}
 use Rattle.dependency_graph.proofs.placement.rule_in_no_unit.Tie as tie
 

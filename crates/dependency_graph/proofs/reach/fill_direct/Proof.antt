@@ -1,9 +1,6 @@
 -- The table is filled from the front with paths of one edge (Filled).
-use Prim.Native.Nat.{_-_}
-use borrow.Author.Needs.{needs}
-use Rattle.dependency_graph.specs.Heads.{reachVia}
-use Rattle.dependency_graph.specs.PlanUnits.{unitsOf}
-use Rattle.dependency_graph.proofs.Filled.{Filling, filling-start, filling-more, filling-end}
+use Rattle.dependency_graph.proofs.Prelude.{_-_, needs, reachVia, unitsOf}
+use Rattle.dependency_graph.proofs.Face.{Filling, filling-start, filling-more, filling-end}
 use Rattle.dependency_graph.proofs.reach.fill_direct.Statement.{statement}
 use Rattle.dependency_graph.proofs.reach.fill_direct.Tie as tie
 

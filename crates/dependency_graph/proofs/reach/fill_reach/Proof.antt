@@ -1,17 +1,11 @@
 -- After k turns the table has the paths whose middle units are below k: Warshall's recursion.
-use Prim.Native.Nat.{_-_, _≤_}
-use native.Mathlib.Omega.{arith}
-use borrow.Author.Needs.{needs}
-use Rattle.dependency_graph.specs.Heads.{reachVia}
-use Rattle.dependency_graph.specs.PlanUnits.{unitsOf}
-use Rattle.dependency_graph.specs.Filled.{Filled}
-use Rattle.dependency_graph.proofs.Heads.{reach-next, reach-filled}
-use Rattle.dependency_graph.proofs.Filled.{filled-itself}
+use Rattle.dependency_graph.proofs.Prelude.{_-_, _≤_, arith, needs, reachVia, unitsOf, FilledFirst}
+use Rattle.dependency_graph.proofs.Face.{reach-next, reach-filled, filled-itself}
 use Rattle.dependency_graph.proofs.reach.fill_reach.Statement.{statement}
 use Rattle.dependency_graph.proofs.reach.fill_reach.Tie as tie
 
 abbrev Inv-loop : tie.InvT-loop
-Inv-loop plan table₀ k₀ table k = Filled (plan .«unit_count») (reachVia (unitsOf plan) k) table₀ table × (k ≤ plan .«unit_count»)
+Inv-loop plan table₀ k₀ table k = FilledFirst (plan .«unit_count») (reachVia (unitsOf plan) k) table₀ table × (k ≤ plan .«unit_count»)
 
 abbrev μ-loop : tie.MeasureT-loop
 μ-loop plan table₀ k₀ table k = plan .«unit_count» - k

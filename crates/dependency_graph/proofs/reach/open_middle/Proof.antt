@@ -1,9 +1,6 @@
 -- The table is filled from the front; words not yet reached are as they came (Filled).
-use Prim.Native.Nat.{_-_}
-use lib.ListN.{getD}
-use borrow.Author.Needs.{needs}
-use Rattle.dependency_graph.specs.Heads.{through}
-use Rattle.dependency_graph.proofs.Filled.{Filling, filling-start, unreached, filling-more, filling-end}
+use Rattle.dependency_graph.proofs.Prelude.{_-_, getD, needs, through}
+use Rattle.dependency_graph.proofs.Face.{Filling, filling-start, unreached, filling-more, filling-end}
 use Rattle.dependency_graph.proofs.reach.open_middle.Statement.{statement}
 use Rattle.dependency_graph.proofs.reach.open_middle.Tie as tie
 

@@ -1,8 +1,6 @@
 -- The test of unit k is membership (Singles).
-use mathlib.Core.Path.{_∙_}
-use borrow.Author.Needs.{needs}
-use Rattle.atoms.proofs.Singles.{lacks-of-test, has-of-test}
-use Rattle.dependency_graph.proofs.Heads.{through-miss, through-hit}
+use Rattle.dependency_graph.proofs.Prelude.{_∙_, needs, lacks-of-test, has-of-test}
+use Rattle.dependency_graph.proofs.Face.{through-miss, through-hit}
 use Rattle.dependency_graph.proofs.reach.through.Statement.{statement}
 use Rattle.dependency_graph.proofs.reach.through.Tie as tie
 

@@ -1,9 +1,5 @@
 -- Head atoms gathered rule by rule (Gathering).
-use lib.Count.{ones}
-use borrow.Author.Needs.{needs}
-use Rattle.atoms.proofs.Counts.{taken-less}
-use Rattle.atoms.proofs.GatheredWords.{Gathers, gathers-start, gathers-lt, gathers-next, gathers-end}
-use Rattle.dependency_graph.specs.PlanUnits.{unitsOf}
+use Rattle.dependency_graph.proofs.Prelude.{ones, needs, taken-less, Gathers, gathers-start, gathers-lt, gathers-next, gathers-end, unitsOf}
 use Rattle.dependency_graph.proofs.rule_heads.rule_heads.Statement.{statement}
 use Rattle.dependency_graph.proofs.rule_heads.rule_heads.Tie as tie
 

@@ -1,10 +1,6 @@
 -- The test of u is membership; the predecessors' word is cut to the units there are.
-use mathlib.Core.Path.{_∙_}
-use borrow.Author.Tests.{not-true, not-false}
-use borrow.Author.Needs.{needs}
-use Rattle.atoms.proofs.Singles.{lacks-of-test, has-of-test}
-use Rattle.dependency_graph.specs.PlanUnits.{unitsOf}
-use Rattle.dependency_graph.proofs.Order.{done-not-ready, ready-of-waiting}
+use Rattle.dependency_graph.proofs.Prelude.{_∙_, not-true, not-false, needs, lacks-of-test, has-of-test, unitsOf}
+use Rattle.dependency_graph.proofs.Face.{done-not-ready, ready-of-waiting}
 use Rattle.dependency_graph.proofs.working_order.is_ready.Statement.{statement}
 use Rattle.dependency_graph.proofs.working_order.is_ready.Tie as tie
 

@@ -1,13 +1,6 @@
 -- No unit passed is ready; the first that is ready is the lowest (Order).
-use mathlib.Core.Path.{_∙_, sym, _≡_}
-use mathlib.Core.Bool.{false}
-use Prim.Native.Nat.{ℕ, _-_, _≤_, _<_}
-use native.Mathlib.Omega.{arith}
-use borrow.Author.Count.{below-more}
-use borrow.Author.Needs.{needs}
-use Rattle.dependency_graph.specs.Order.{ready}
-use Rattle.dependency_graph.specs.PlanUnits.{unitsOf}
-use Rattle.dependency_graph.proofs.Order.{next-found, next-missing}
+use Rattle.dependency_graph.proofs.Prelude.{_∙_, sym, _≡_, false, ℕ, _-_, _≤_, _<_, arith, below-more, needs, ready, unitsOf}
+use Rattle.dependency_graph.proofs.Face.{next-found, next-missing}
 use Rattle.dependency_graph.proofs.working_order.next_unit.Statement.{statement}
 use Rattle.dependency_graph.proofs.working_order.next_unit.Tie as tie
 

@@ -1,11 +1,5 @@
 -- The loop carries that the pair so far is lifted from the first. The measure is how many steps of the trail are left.
-use Prim.Native.Nat.{_≤_}
-use Rattle.learning.specs.Store.{STEPS}
-use Rattle.learning.specs.Reason.{Lifted}
-use Rattle.learning.proofs.Reasons.{lifted-start, lifted-learn, lifted-over}
-use Rattle.propagating.specs.Desk.{Wired}
-use Rattle.learning.proofs.HeededSteps.{lifted-after}
-use borrow.Author.Needs.{needs}
+use Rattle.explaining.proofs.Prelude.{_≤_, STEPS, Lifted, lifted-start, lifted-learn, lifted-over, Wired, lifted-after, needs}
 use Rattle.explaining.proofs.lift.lift.Statement.{statement}
 use Rattle.explaining.proofs.lift.lift.Tie as tie
 

@@ -1,6 +1,5 @@
 -- The step added nothing that the pair names, or its reason takes the place of that.
-use Rattle.learning.proofs.Reasons.{leads-refl, replaced-leads}
-use borrow.Author.Needs.{needs}
+use Rattle.explaining.proofs.Prelude.{leads-refl, replaced-leads, needs}
 use Rattle.explaining.proofs.lift.lift_over.Statement.{statement}
 use Rattle.explaining.proofs.lift.lift_over.Tie as tie
 

@@ -1,7 +1,5 @@
 -- The part that the step looks at tells the goal, and so does what is left of it.
-use borrow.Author.Tests.{not-false}
-use Rattle.learning.proofs.Reasons.{explains-refl}
-use borrow.Author.Needs.{needs}
+use Rattle.explaining.proofs.Prelude.{not-false, explains-refl, needs}
 use Rattle.explaining.proofs.reasons.explain.Statement.{statement}
 use Rattle.explaining.proofs.reasons.explain.Tie as tie
 

@@ -1,6 +1,6 @@
 -- The filter of all entries has each position's own.
+use Rattle.explaining.proofs.Prelude.{needs}
 use Rattle.joining.proofs.Filters.{full-filtered}
-use borrow.Author.Needs.{needs}
 use Rattle.explaining.proofs.reasons.list_again.Statement.{statement}
 use Rattle.explaining.proofs.reasons.list_again.Tie as tie
 

@@ -1,11 +1,7 @@
 -- The decoded step is one that there is, and the rules that may back an atom are some of the unit's.
-use native.Mathlib.Omega.{arith}
-use Prim.Native.Nat.{_<_}
-use Rattle.plan.specs.Limits.{MAX_TABLES, MAX_UNITS}
+use Rattle.explaining.proofs.Prelude.{arith, _<_, MAX_TABLES, MAX_UNITS, decoded-rule, decoded-atom, decoded-list, decoded-table, decoded-pair}
+use Rattle.explaining.proofs.Prelude.{pilots-long, needs}
 use Rattle.answer_sets.proofs.Lent.{lent-within}
-use Rattle.propagating.proofs.DecodedSteps.{decoded-rule, decoded-atom, decoded-list, decoded-table, decoded-pair}
-use Rattle.propagating.proofs.Desks.{pilots-long}
-use borrow.Author.Needs.{needs}
 use Rattle.explaining.proofs.reasons.looked_at.Statement.{statement}
 use Rattle.explaining.proofs.reasons.looked_at.Tie as tie
 

@@ -1,6 +1,6 @@
 -- The rule is numbered, so its words are there.
+use Rattle.explaining.proofs.Prelude.{needs}
 use Rattle.atoms.proofs.Singles.{numbered-by}
-use borrow.Author.Needs.{needs}
 use Rattle.explaining.proofs.reasons.numbered_atoms.Statement.{statement}
 use Rattle.explaining.proofs.reasons.numbered_atoms.Tie as tie
 

@@ -1,11 +1,6 @@
 -- The loop carries what the claim tells. The measure is how many steps of the trail are left.
-use native.Mathlib.Omega.{arith}
-use Prim.Native.Nat.{_<_}
-use Rattle.learning.specs.Store.{STEPS}
-use Rattle.propagating.specs.Desk.{Wired}
-use Rattle.explaining.specs.Claims.{Told}
-use Rattle.explaining.proofs.ToldClaims.{told-own, told-on}
-use borrow.Author.Needs.{needs}
+use Rattle.explaining.proofs.Prelude.{arith, _<_, STEPS, Wired, Told, needs}
+use Rattle.explaining.proofs.Face.{told-own, told-on}
 use Rattle.explaining.proofs.reasons.shrink.Statement.{statement}
 use Rattle.explaining.proofs.reasons.shrink.Tie as tie
 

@@ -1,5 +1,5 @@
 -- The step tells the goal without the atom, or the claim stays.
-use borrow.Author.Needs.{needs}
+use Rattle.explaining.proofs.Prelude.{needs}
 use Rattle.explaining.proofs.reasons.spare.Statement.{statement}
 use Rattle.explaining.proofs.reasons.spare.Tie as tie
 

@@ -1,10 +1,6 @@
 -- The loop carries what the claim tells. The measure is how many atoms were not tried yet.
-use borrow.Author.Needs.{needs}
-use lib.Count.{ones}
-use Rattle.atoms.proofs.Counts.{taken-less}
-use Rattle.propagating.specs.Desk.{Wired}
-use Rattle.explaining.specs.Claims.{Told}
-use Rattle.explaining.proofs.ToldClaims.{told-own, told-on}
+use Rattle.explaining.proofs.Prelude.{needs, ones, taken-less, Wired, Told}
+use Rattle.explaining.proofs.Face.{told-own, told-on}
 use Rattle.explaining.proofs.reasons.spare_each.Statement.{statement}
 use Rattle.explaining.proofs.reasons.spare_each.Tie as tie
 

@@ -1,14 +1,8 @@
 -- Each kind of step tells of what belongs to the list and heeds the memory.
-use Prim.Native.Nat.{_<_}
-use native.Mathlib.Omega.{arith}
-use Rattle.plan.specs.Limits.{MAX_TABLES}
-use Rattle.learning.specs.Store.{PAIRS}
+use Rattle.explaining.proofs.Prelude.{_<_, arith, MAX_TABLES, PAIRS, heeds-narrows, pairs-narrow, pair-narrows, decoded-rule, decoded-atom}
+use Rattle.explaining.proofs.Prelude.{decoded-list, decoded-table, decoded-pair, pilot-at, pilots-long, needs}
 use Rattle.joining.proofs.JoinedLists.{joinable-some}
 use Rattle.propagating.proofs.Propagation.{lists-narrow, rules-narrow, linked-narrow, satisfying-wired, table-narrows, sums-narrow}
-use Rattle.learning.proofs.HeededSteps.{heeds-narrows, pairs-narrow, pair-narrows}
-use Rattle.propagating.proofs.DecodedSteps.{decoded-rule, decoded-atom, decoded-list, decoded-table, decoded-pair}
-use Rattle.propagating.proofs.Desks.{pilot-at, pilots-long}
-use borrow.Author.Needs.{needs}
 use Rattle.explaining.proofs.reasons.step_again.Statement.{statement}
 use Rattle.explaining.proofs.reasons.step_again.Tie as tie
 

@@ -1,7 +1,5 @@
 -- The step's result tells the goal, or not.
-use mathlib.Core.Path.{refl}
-use Rattle.learning.proofs.Reasons.{explains-told}
-use borrow.Author.Needs.{needs}
+use Rattle.explaining.proofs.Prelude.{refl, explains-told, needs}
 use Rattle.explaining.proofs.reasons.still_tells.Statement.{statement}
 use Rattle.explaining.proofs.reasons.still_tells.Tie as tie
 

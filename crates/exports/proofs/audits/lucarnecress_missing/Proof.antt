@@ -1,8 +1,5 @@
 -- The result that `first_missing` promises, handed over.
-use denote.Ref.{now}
-use borrow.Author.Needs.{needs}
-use Rattle.reading.specs.Layout.{IsByte, All}
-use Rattle.reading.proofs.Limits.{all-bytes}
+use Rattle.exports.proofs.Prelude.{now, needs, IsByte, All, all-bytes}
 use Rattle.exports.proofs.AuditCodes.{missing-handed}
 use Rattle.exports.proofs.audits.lucarnecress_missing.Statement.{statement}
 use Rattle.exports.proofs.audits.lucarnecress_missing.Tie as tie

@@ -1,9 +1,6 @@
 -- The result that `next_positions` promises, handed over.
-use denote.Ref.{now}
-use borrow.Author.Needs.{needs}
-use Rattle.reading.specs.Layout.{IsByte, All}
-use Rattle.reading.proofs.Limits.{all-bytes}
-use Rattle.exports.proofs.BatchCodes.{batch-handed}
+use Rattle.exports.proofs.Prelude.{now, needs, IsByte, All, all-bytes}
+use Rattle.exports.proofs.Face.{batch-handed}
 use Rattle.exports.proofs.batches.lucarnecress_next_positions.Statement.{statement}
 use Rattle.exports.proofs.batches.lucarnecress_next_positions.Tie as tie
 

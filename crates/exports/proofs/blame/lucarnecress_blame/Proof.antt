@@ -1,8 +1,5 @@
 -- The result that `blame_plan` promises, handed over.
-use denote.Ref.{now}
-use borrow.Author.Needs.{needs}
-use Rattle.reading.specs.Layout.{IsByte, All}
-use Rattle.reading.proofs.Limits.{all-bytes}
+use Rattle.exports.proofs.Prelude.{now, needs, IsByte, All, all-bytes}
 use Rattle.exports.proofs.BlameCodes.{blame-handed}
 use Rattle.exports.proofs.blame.lucarnecress_blame.Statement.{statement}
 use Rattle.exports.proofs.blame.lucarnecress_blame.Tie as tie

@@ -1,5 +1,5 @@
 -- By how much room there is.
-use borrow.Author.Needs.{needs}
+use Rattle.exports.proofs.Prelude.{needs}
 use Rattle.exports.proofs.PairedWords.{no-room, room-for-one, two-fit, room-for-two}
 use Rattle.exports.proofs.pair.write_pair.Statement.{statement}
 use Rattle.exports.proofs.pair.write_pair.Tie as tie

@@ -1,6 +1,6 @@
 -- By the test of the number.
-use borrow.Author.Needs.{needs}
-use Rattle.exports.proofs.ReadingCodes.{asked-unmeasured, asked-measured}
+use Rattle.exports.proofs.Prelude.{needs}
+use Rattle.exports.proofs.Face.{asked-unmeasured, asked-measured}
 use Rattle.exports.proofs.readings.asked.Statement.{statement}
 use Rattle.exports.proofs.readings.asked.Tie as tie
 

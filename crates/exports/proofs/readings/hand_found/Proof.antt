@@ -1,8 +1,5 @@
 -- By the two cases of what was found.
-use mathlib.Core.Path.{sym, ap, _∙_}
-use borrow.Author.Needs.{needs}
-use Rattle.packed_decimal.specs.declared.largest.LargestFound.{LargestFound}
-use Rattle.exports.specs.Readings.{foundWords}
+use Rattle.exports.proofs.Prelude.{sym, ap, _∙_, needs, LargestFound, foundWords}
 use Rattle.exports.proofs.readings.hand_found.Statement.{statement}
 use Rattle.exports.proofs.readings.hand_found.Tie as tie
 

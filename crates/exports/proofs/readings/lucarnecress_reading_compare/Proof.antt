@@ -1,8 +1,6 @@
 -- By the two cases of the answer: its code is the one that the definition gives.
-use mathlib.Core.Path.{sym, ap, _∙_}
-use borrow.Author.Needs.{needs}
-use Rattle.exports.specs.Readings.{comparedCode}
-use Rattle.exports.proofs.ReadingCodes.{compare-handed}
+use Rattle.exports.proofs.Prelude.{sym, ap, _∙_, needs, comparedCode}
+use Rattle.exports.proofs.Face.{compare-handed}
 use Rattle.exports.proofs.readings.lucarnecress_reading_compare.Statement.{statement}
 use Rattle.exports.proofs.readings.lucarnecress_reading_compare.Tie as tie
 

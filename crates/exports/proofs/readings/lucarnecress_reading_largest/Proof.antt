@@ -1,9 +1,6 @@
 -- By the two cases of the answer: what was found is handed over, or nothing is written.
-use mathlib.Core.Path.{sym, ap, _∙_}
-use borrow.Author.Needs.{needs}
-use Rattle.packed_decimal.specs.declared.largest.Largest.{Largest}
-use Rattle.exports.specs.Readings.{largestCode, largestWords}
-use Rattle.exports.proofs.ReadingCodes.{largest-handed}
+use Rattle.exports.proofs.Prelude.{sym, ap, _∙_, needs, Largest, largestCode, largestWords}
+use Rattle.exports.proofs.Face.{largest-handed}
 use Rattle.exports.proofs.readings.lucarnecress_reading_largest.Statement.{statement}
 use Rattle.exports.proofs.readings.lucarnecress_reading_largest.Tie as tie
 

@@ -1,8 +1,6 @@
 -- By the two cases of the answer: its code is the one that the definition gives.
-use mathlib.Core.Path.{sym, ap, _∙_}
-use borrow.Author.Needs.{needs}
-use Rattle.exports.specs.Readings.{readingCode}
-use Rattle.exports.proofs.ReadingCodes.{reading-handed}
+use Rattle.exports.proofs.Prelude.{sym, ap, _∙_, needs, readingCode}
+use Rattle.exports.proofs.Face.{reading-handed}
 use Rattle.exports.proofs.readings.lucarnecress_reading_of.Statement.{statement}
 use Rattle.exports.proofs.readings.lucarnecress_reading_of.Tie as tie
 

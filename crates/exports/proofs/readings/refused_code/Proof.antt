@@ -1,6 +1,6 @@
 -- The number of the refusal fits 16 bits.
-use borrow.Author.Needs.{needs}
-use Rattle.exports.proofs.ReadingCodes.{number-fits}
+use Rattle.exports.proofs.Prelude.{needs}
+use Rattle.exports.proofs.Face.{number-fits}
 use Rattle.exports.proofs.readings.refused_code.Statement.{statement}
 use Rattle.exports.proofs.readings.refused_code.Tie as tie
 

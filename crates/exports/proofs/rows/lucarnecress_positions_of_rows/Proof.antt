@@ -1,6 +1,6 @@
 -- The code of the answer that `to_positions` promises, and its area.
-use borrow.Author.Needs.{needs}
-use Rattle.exports.proofs.RowCodes.{area-handed}
+use Rattle.exports.proofs.Prelude.{needs}
+use Rattle.exports.proofs.Face.{area-handed}
 use Rattle.exports.proofs.rows.lucarnecress_positions_of_rows.Statement.{statement}
 use Rattle.exports.proofs.rows.lucarnecress_positions_of_rows.Tie as tie
 

@@ -1,8 +1,5 @@
 -- The number of the answer that `judge_sheet` promises.
-use denote.Ref.{now}
-use borrow.Author.Needs.{needs}
-use Rattle.reading.specs.Layout.{IsByte, All}
-use Rattle.reading.proofs.Limits.{all-bytes}
+use Rattle.exports.proofs.Prelude.{now, needs, IsByte, All, all-bytes}
 use Rattle.exports.proofs.SheetCodes.{sheet-judge-handed}
 use Rattle.exports.proofs.sheets.lucarnecress_judge_sheet.Statement.{statement}
 use Rattle.exports.proofs.sheets.lucarnecress_judge_sheet.Tie as tie

@@ -1,6 +1,7 @@
 -- One word, written where there is room.
-use Rattle.exports.proofs.NextCodes.{no-room, first-word}
-use borrow.Author.Needs.{needs}
+use Rattle.exports.proofs.Prelude.{needs}
+use Rattle.exports.proofs.Face.{first-word}
+use Rattle.exports.proofs.NextCodes.{no-room}
 use Rattle.exports.proofs.steps.hand_word.Statement.{statement}
 use Rattle.exports.proofs.steps.hand_word.Tie as tie
 

@@ -1,6 +1,5 @@
 -- A position without the hidden atoms, or none.
-use Rattle.finding.specs.Whole.{member, nothing}
-use borrow.Author.Needs.{needs}
+use Rattle.finding.proofs.Prelude.{member, nothing, needs}
 use Rattle.finding.proofs.ask.darkened.Statement.{statement}
 use Rattle.finding.proofs.ask.darkened.Tie as tie
 

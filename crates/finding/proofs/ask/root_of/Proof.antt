@@ -1,10 +1,7 @@
 -- At first nothing is learnt and the facts are up.
-use native.Mathlib.Omega.{arith}
+use Rattle.finding.proofs.Prelude.{arith, joinable-some, full-filtered, needs}
+use Rattle.finding.proofs.Face.{root-stands, root-rooted}
 use Rattle.learning.proofs.Reasons.{remembers-empty}
-use Rattle.joining.proofs.JoinedLists.{joinable-some}
-use Rattle.joining.proofs.Filters.{full-filtered}
-use Rattle.finding.proofs.Wholes.{root-stands, root-rooted}
-use borrow.Author.Needs.{needs}
 use Rattle.finding.proofs.ask.root_of.Statement.{statement}
 use Rattle.finding.proofs.ask.root_of.Tie as tie
 

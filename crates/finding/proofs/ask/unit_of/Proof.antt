@@ -1,5 +1,5 @@
 -- The pilots are those of the desk.
-use borrow.Author.Needs.{needs}
+use Rattle.finding.proofs.Prelude.{needs}
 use Rattle.finding.proofs.ask.unit_of.Statement.{statement}
 use Rattle.finding.proofs.ask.unit_of.Tie as tie
 

@@ -1,20 +1,9 @@
 -- The measure is the count of undecided atoms. Each return says what its node adds to the words.
-use mathlib.Core.Path.{sym, _∙_}
-use mathlib.Core.Bool.{true, false}
-use Prim.Native.Nat.{ℕ, _<_}
-use denote.Ref.{now}
-use native.Mathlib.Omega.{arith}
-use lib.Count.{ones}
-use borrow.Author.Needs.{needs}
-use borrow.Fn.Kinds.{In}
-use borrow.Fn.PlainCycle.{Measures, is, falls, and}
-use Rattle.atoms.specs.Word.{ATOMS, Highest}
-use Rattle.states.specs.State.{undecided}
-use Rattle.states.specs.declared.state.State.{State}
-use Rattle.finding.specs.Whole.{hiddenOf}
-use Rattle.finding.specs.Gather.{darkOf, Likely}
-use Rattle.finding.proofs.Trees.{looked-seen, dark-free, gather-full, gather-none, gather-leaf, gather-low, gather-both, descended-falls}
-use Rattle.finding.proofs.Wholes.{stands-still}
+use Rattle.finding.proofs.Prelude.{sym, _∙_, true, false, ℕ, _<_, now, arith, ones, needs, In, Measures, is, falls, and, ATOMS, Highest, undecided}
+use Rattle.finding.proofs.Prelude.{State, hiddenOf, darkOf, Likely}
+use Rattle.finding.proofs.Face.{looked-seen, dark-free, gather-full, gather-none, gather-leaf, gather-low, gather-both, descended-falls, stands-still}
+use Rattle.finding.proofs.gather.+gather.{statement}
+use Rattle.finding.proofs.gather.+gather.Tie.{close}
 use Rattle.finding.proofs.gather.gather.Reads as gather
 use Rattle.finding.proofs.gather.gather.Kinds as gather-kinds
 use Rattle.finding.proofs.gather.+gather.Lts-gather as gather-lts
@@ -25,8 +14,6 @@ use Rattle.finding.proofs.gather.dark_of.Reads as dark-of-reads
 use Rattle.atoms.proofs.without.Reads as without-reads
 use Rattle.finding.proofs.least.put.Reads as put-reads
 use Rattle.states.proofs.undecided.Reads as undecided-reads
-use Rattle.finding.proofs.gather.+gather.{statement}
-use Rattle.finding.proofs.gather.+gather.Tie.{close}
 
 abbrev μ-gather : Measures 5 gather-kinds.ps ℕ
 μ-gather κs a = ones (undecided (a .1 .1 .1 .1 .0 .front .state .up) (a .1 .1 .1 .1 .0 .front .state .dropped))

@@ -1,6 +1,6 @@
 -- The front of the branch, and the position if it lies there.
-use Rattle.finding.proofs.Trees.{descended}
-use borrow.Author.Needs.{needs}
+use Rattle.finding.proofs.Prelude.{needs}
+use Rattle.finding.proofs.Face.{descended}
 use Rattle.finding.proofs.gather.descend.Statement.{statement}
 use Rattle.finding.proofs.gather.descend.Tie as tie
 

@@ -1,9 +1,6 @@
 -- From the root, where every answer set is left: those near the place, then all others.
-use native.Mathlib.Omega.{arith}
-use denote.Ref.{now}
-use Rattle.finding.proofs.Trees.{hinted-place, gather-root}
-use Rattle.finding.proofs.NearPlaces.{between-rest}
-use borrow.Author.Needs.{needs}
+use Rattle.finding.proofs.Prelude.{arith, now, needs}
+use Rattle.finding.proofs.Face.{hinted-place, gather-root, between-rest}
 use Rattle.finding.proofs.gather.gather_all.Statement.{statement}
 use Rattle.finding.proofs.gather.gather_all.Tie as tie
 

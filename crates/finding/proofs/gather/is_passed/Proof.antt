@@ -1,6 +1,6 @@
 -- The greatest completion has every atom that is not dropped.
-use borrow.Author.Needs.{needs}
-use Rattle.finding.proofs.Trees.{passed-all}
+use Rattle.finding.proofs.Prelude.{needs}
+use Rattle.finding.proofs.Face.{passed-all}
 use Rattle.finding.proofs.gather.is_passed.Statement.{statement}
 use Rattle.finding.proofs.gather.is_passed.Tie as tie
 

@@ -1,7 +1,6 @@
 -- Both words of the state are tested.
-use borrow.Author.Needs.{needs}
-use Rattle.finding.specs.Gather.{left}
-use Rattle.finding.proofs.Trees.{kept-there}
+use Rattle.finding.proofs.Prelude.{needs, left}
+use Rattle.finding.proofs.Face.{kept-there}
 use Rattle.finding.proofs.gather.kept.Statement.{statement}
 use Rattle.finding.proofs.gather.kept.Tie as tie
 

@@ -1,6 +1,6 @@
 -- None there is behind the place; one is known; or it is asked.
-use Rattle.finding.proofs.Trees.{looked-passed, looked-known, looked-asked}
-use borrow.Author.Needs.{needs}
+use Rattle.finding.proofs.Prelude.{needs}
+use Rattle.finding.proofs.Face.{looked-passed, looked-known, looked-asked}
 use Rattle.finding.proofs.gather.look.Statement.{statement}
 use Rattle.finding.proofs.gather.look.Tie as tie
 

@@ -1,7 +1,6 @@
 -- From the start there is no such position.
-use borrow.Author.Needs.{needs}
-use Rattle.finding.specs.Gather.{elsewhere}
-use Rattle.finding.proofs.Trees.{place-kept}
+use Rattle.finding.proofs.Prelude.{needs, elsewhere}
+use Rattle.finding.proofs.Face.{place-kept}
 use Rattle.finding.proofs.gather.place_in.Statement.{statement}
 use Rattle.finding.proofs.gather.place_in.Tie as tie
 

@@ -1,9 +1,6 @@
 -- One atom is decided, and the steps that this wakes are taken.
-use Rattle.states.proofs.Narrows.{narrows-refl}
-use Rattle.joining.proofs.JoinedLists.{joinable-some}
-use Rattle.joining.proofs.Filters.{full-filtered}
-use borrow.Author.Needs.{needs}
-use Rattle.finding.proofs.Wholes.{no-lists-full}
+use Rattle.finding.proofs.Prelude.{narrows-refl, joinable-some, full-filtered, needs}
+use Rattle.finding.proofs.Face.{no-lists-full}
 use Rattle.finding.proofs.gather.step_down.Statement.{statement}
 use Rattle.finding.proofs.gather.step_down.Tie as tie
 

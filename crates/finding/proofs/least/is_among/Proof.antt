@@ -1,11 +1,6 @@
 -- It is none of the words up to here.
-use Prim.Native.Nat.{ℕ, _<_, _-_}
-use mathlib.Core.Path.{_≡_}
-use native.Mathlib.Omega.{arith}
-use lib.ListN.{length, getD}
-use denote.Ref.{now}
-use Rattle.finding.proofs.Trees.{among-here, among-not, among-more}
-use borrow.Author.Needs.{needs}
+use Rattle.finding.proofs.Prelude.{ℕ, _<_, _-_, _≡_, arith, length, getD, now, needs}
+use Rattle.finding.proofs.Face.{among-here, among-not, among-more}
 use Rattle.finding.proofs.least.is_among.Statement.{statement}
 use Rattle.finding.proofs.least.is_among.Tie as tie
 

@@ -1,7 +1,6 @@
 -- Everything is behind the start.
-use borrow.Author.Needs.{needs}
-use Rattle.atoms.proofs.Tests.{decides}
-use Rattle.finding.proofs.Trees.{behind-from-start, behind-from-above, decides-below}
+use Rattle.finding.proofs.Prelude.{needs, decides}
+use Rattle.finding.proofs.Face.{behind-from-start, behind-from-above, decides-below}
 use Rattle.finding.proofs.least.is_behind.Statement.{statement}
 use Rattle.finding.proofs.least.is_behind.Tie as tie
 

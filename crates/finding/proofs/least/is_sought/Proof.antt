@@ -1,6 +1,6 @@
 -- Behind the place, and none of the words.
-use borrow.Author.Needs.{needs}
-use Rattle.finding.proofs.Trees.{sought-before, sought-new}
+use Rattle.finding.proofs.Prelude.{needs}
+use Rattle.finding.proofs.Face.{sought-before, sought-new}
 use Rattle.finding.proofs.least.is_sought.Statement.{statement}
 use Rattle.finding.proofs.least.is_sought.Tie as tie
 

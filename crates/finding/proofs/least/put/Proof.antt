@@ -1,7 +1,6 @@
 -- It is left out, or it is the next word.
-use denote.Ref.{now}
-use borrow.Author.Needs.{needs}
-use Rattle.finding.proofs.Trees.{put-none, put-one}
+use Rattle.finding.proofs.Prelude.{now, needs}
+use Rattle.finding.proofs.Face.{put-none, put-one}
 use Rattle.finding.proofs.least.put.Statement.{statement}
 use Rattle.finding.proofs.least.put.Tie as tie
 

@@ -1,8 +1,6 @@
 -- Those like the place from the bound on are the ones up to the last of them.
-use mathlib.Core.Path.{refl}
-use borrow.Author.Needs.{needs}
-use Rattle.finding.proofs.Wholes.{stands-still}
-use Rattle.finding.proofs.NearPlaces.{near-node, reaches-none, reaches-near}
+use Rattle.finding.proofs.Prelude.{refl, needs}
+use Rattle.finding.proofs.Face.{stands-still, near-node, reaches-none, reaches-near}
 use Rattle.finding.proofs.near.gather_near.Statement.{statement}
 use Rattle.finding.proofs.near.gather_near.Tie as tie
 

@@ -1,8 +1,6 @@
 -- The place completes the state, or nothing is put.
-use mathlib.Core.Path.{refl}
-use native.Mathlib.Omega.{arith}
-use borrow.Author.Needs.{needs}
-use Rattle.finding.proofs.NearPlaces.{place-at, reaches-none}
+use Rattle.finding.proofs.Prelude.{refl, arith, needs}
+use Rattle.finding.proofs.Face.{place-at, reaches-none}
 use Rattle.finding.proofs.near.gather_nearest.Statement.{statement}
 use Rattle.finding.proofs.near.gather_nearest.Tie as tie
 

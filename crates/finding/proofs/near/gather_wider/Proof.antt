@@ -1,12 +1,6 @@
 -- From place to place, each further than the one before; the width grows.
-use mathlib.Core.Path.{_≡_, refl}
-use Prim.Native.Nat.{_-_, _≤_}
-use native.Mathlib.Omega.{arith}
-use lib.ListN.{length}
-use borrow.Author.Needs.{needs}
-use Rattle.finding.specs.Whole.{Standing}
-use Rattle.finding.specs.Near.{Reaches}
-use Rattle.finding.proofs.NearPlaces.{place-further, reaches-none, reaches-more}
+use Rattle.finding.proofs.Prelude.{_≡_, refl, _-_, _≤_, arith, length, needs, Standing, Reaches}
+use Rattle.finding.proofs.Face.{place-further, reaches-none, reaches-more}
 use Rattle.finding.proofs.near.gather_wider.Statement.{statement}
 use Rattle.finding.proofs.near.gather_wider.Tie as tie
 

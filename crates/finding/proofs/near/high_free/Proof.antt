@@ -1,5 +1,5 @@
 -- The word is told by its operations.
-use borrow.Author.Needs.{needs}
+use Rattle.finding.proofs.Prelude.{needs}
 use Rattle.finding.proofs.near.high_free.Statement.{statement}
 use Rattle.finding.proofs.near.high_free.Tie as tie
 

@@ -1,5 +1,5 @@
 -- The greatest completion has every atom that is not dropped.
-use borrow.Author.Needs.{needs}
+use Rattle.finding.proofs.Prelude.{needs}
 use Rattle.finding.proofs.near.last_like.Statement.{statement}
 use Rattle.finding.proofs.near.last_like.Tie as tie
 

@@ -1,6 +1,5 @@
 -- Both words are told by their operations.
-use mathlib.Core.Path.{refl}
-use borrow.Author.Needs.{needs}
+use Rattle.finding.proofs.Prelude.{refl, needs}
 use Rattle.finding.proofs.near.like_place.Statement.{statement}
 use Rattle.finding.proofs.near.like_place.Tie as tie
 

@@ -1,7 +1,6 @@
 -- The batch of one.
-use mathlib.Core.Path.{refl}
+use Rattle.finding.proofs.Prelude.{refl, needs}
 use Rattle.finding.proofs.AddedWords.{added-behind, one-none, one-least}
-use borrow.Author.Needs.{needs}
 use Rattle.finding.proofs.next.next.Statement.{statement}
 use Rattle.finding.proofs.next.next.Tie as tie
 

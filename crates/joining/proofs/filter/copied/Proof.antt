@@ -1,10 +1,5 @@
 -- The loop carries the words that are copied. The measure is how many are left.
-use borrow.Author.Needs.{needs}
-use mathlib.Core.Path.{_≡_}
-use Prim.Native.Nat.{_-_}
-use native.Mathlib.Omega.{arith}
-use lib.ListN.{length}
-use Rattle.joining.specs.Filter.{FILTER_WORDS}
+use Rattle.joining.proofs.Prelude.{needs, _≡_, _-_, arith, length, FILTER_WORDS}
 use Rattle.atoms.proofs.StoredWords.{Copying, copying-next, copying-end}
 use Rattle.joining.proofs.filter.copied.Statement.{statement}
 use Rattle.joining.proofs.filter.copied.Tie as tie

@@ -1,9 +1,5 @@
 -- A block has no entry, all, or the first of them.
-use mathlib.Core.Path.{_≡_, ap, _∙_}
-use Prim.Native.Nat.{_-_, _*_, min}
-use native.Mathlib.Omega.{arith}
-use Rattle.atoms.specs.Word.{ATOMS, below}
-use borrow.Author.Needs.{needs}
+use Rattle.joining.proofs.Prelude.{_≡_, ap, _∙_, _-_, _*_, min, arith, ATOMS, below, needs}
 use Rattle.joining.proofs.filter.entries.Statement.{statement}
 use Rattle.joining.proofs.filter.entries.Tie as tie
 

@@ -1,8 +1,7 @@
 -- The list is looked at where its number is in the word.
+use Rattle.joining.proofs.Prelude.{needs, arith}
+use Rattle.joining.proofs.Face.{step-narrows, step-filtered}
 use Rattle.atoms.proofs.Singles.{numbered-by}
-use Rattle.joining.proofs.Filters.{step-narrows, step-filtered}
-use borrow.Author.Needs.{needs}
-use native.Mathlib.Omega.{arith}
 use Rattle.joining.proofs.filter.filter_step.Statement.{statement}
 use Rattle.joining.proofs.filter.filter_step.Tie as tie
 

@@ -1,9 +1,6 @@
 -- The loop carries the words that are filled. The measure is how many are left.
-use Prim.Native.Nat.{_-_}
-use native.Mathlib.Omega.{arith}
-use Rattle.joining.specs.Filter.{FILTER_WORDS}
-use Rattle.joining.proofs.Filters.{Filling, filling-next, filling-end}
-use borrow.Author.Needs.{needs}
+use Rattle.joining.proofs.Prelude.{_-_, arith, FILTER_WORDS, needs}
+use Rattle.joining.proofs.Face.{Filling, filling-next, filling-end}
 use Rattle.joining.proofs.filter.full_filter.Statement.{statement}
 use Rattle.joining.proofs.filter.full_filter.Tie as tie
 

@@ -1,16 +1,7 @@
 -- The loop takes the predecessors: each that is done has the position's cut in its list. The measure is how many are left.
-use mathlib.Core.Path.{_≡_}
-use mathlib.Core.Bool.{true}
-use Prim.Native.Nat.{_*_}
-use lib.ListN.{getD}
-use lib.Count.{ones}
-use borrow.Author.Needs.{needs}
-use Rattle.atoms.specs.Word.{_∩_}
-use Rattle.atoms.proofs.Counts.{taken-less}
-use Rattle.atoms.proofs.TakenNumbers.{Taking, taking-start, taken-lent, taking-more}
-use Rattle.plan.specs.Limits.{LIST_WORDS}
-use Rattle.joining.specs.Joins.{isListed}
-use Rattle.joining.proofs.JoinedLists.{joins-not, joins-all, listed-said, count-there, heads-there, list-there, unit-taken}
+use Rattle.joining.proofs.Prelude.{_≡_, true, _*_, getD, ones, needs, _∩_, taken-less, Taking, taking-start, taken-lent, taking-more, LIST_WORDS}
+use Rattle.joining.proofs.Prelude.{isListed}
+use Rattle.joining.proofs.Face.{joins-not, joins-all, listed-said, count-there, heads-there, list-there, unit-taken}
 use Rattle.joining.proofs.join.joins.Statement.{statement}
 use Rattle.joining.proofs.join.joins.Tie as tie
 

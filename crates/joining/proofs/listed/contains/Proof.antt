@@ -1,16 +1,7 @@
 -- It is at its likely place; or no word passed so far is the value.
-use native.Mathlib.Omega.{arith}
-use mathlib.Core.Path.{_≡_, sym}
-use denote.Ref.{now}
-use borrow.Author.Count.{below-none, below-more}
-use borrow.Author.Needs.{needs}
-use borrow.Author.Tests.{eqb-true}
-use Prim.Native.Nat.{ℕ, _+_, _-_, _≤_, _<_}
-use lib.Dec.{eqb}
-use lib.ListN.{getD}
-use Rattle.atoms.proofs.Bounded.{some-none}
-use Rattle.joining.specs.Joins.{isListed}
-use Rattle.joining.proofs.JoinedLists.{listed-here}
+use Rattle.joining.proofs.Prelude.{arith, _≡_, sym, now, below-none, below-more, needs, eqb-true, ℕ, _+_, _-_, _≤_, _<_, eqb, getD, some-none}
+use Rattle.joining.proofs.Prelude.{isListed}
+use Rattle.joining.proofs.Face.{listed-here}
 use Rattle.joining.proofs.listed.contains.Statement.{statement}
 use Rattle.joining.proofs.listed.contains.Tie as tie
 

@@ -1,6 +1,5 @@
 -- The place lies between two bounds that approach each other. The measure is how far they are apart.
-use Prim.Native.Nat.{_-_, _≤_}
-use native.Mathlib.Omega.{arith}
+use Rattle.joining.proofs.Prelude.{_-_, _≤_, arith}
 use Rattle.joining.proofs.listed.likely_place.Statement.{statement}
 use Rattle.joining.proofs.listed.likely_place.Tie as tie
 

@@ -1,10 +1,5 @@
 -- The loop takes the units: none that is done covers the word. The measure is how many are left.
-use lib.Count.{ones}
-use borrow.Author.Needs.{needs}
-use lib.ListN.{getD}
-use Rattle.atoms.specs.Word.{_⊆_}
-use Rattle.atoms.proofs.Counts.{taken-less}
-use Rattle.atoms.proofs.TakenNumbers.{Taking, taking-start, taken-lent, taking-more}
+use Rattle.joining.proofs.Prelude.{ones, needs, getD, _⊆_, taken-less, Taking, taking-start, taken-lent, taking-more}
 use Rattle.joining.proofs.CoveredUnits.{covered-here, covered-nowhere, not-within, unit-there}
 use Rattle.joining.proofs.nearest.is_covered.Statement.{statement}
 use Rattle.joining.proofs.nearest.is_covered.Tie as tie

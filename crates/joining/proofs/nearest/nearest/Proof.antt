@@ -1,13 +1,6 @@
 -- Some of the predecessors are left. The measure is how many are to be tried.
-use mathlib.Core.Path.{ap, subst, _∙_}
-use Prim.Native.Nat.{ℕ, _<_}
-use lib.Count.{ones}
-use Rattle.atoms.specs.Word.{Has, _⊆_, _∩_, below}
-use Rattle.atoms.proofs.Sets.{subset-refl, subset-trans, cut-left, cut-right, below-lt, lt-of-has}
-use Rattle.atoms.proofs.Counts.{taken-less}
-use Rattle.atoms.proofs.TakenNumbers.{Carrying, carrying-start, carrying-next, taken-lent}
-use borrow.Author.Needs.{needs}
-use Rattle.plan.specs.Limits.{MAX_UNITS}
+use Rattle.joining.proofs.Prelude.{ap, subst, _∙_, ℕ, _<_, ones, Has, _⊆_, _∩_, below, subset-refl, subset-trans, cut-left, cut-right, below-lt}
+use Rattle.joining.proofs.Prelude.{lt-of-has, taken-less, Carrying, carrying-start, carrying-next, taken-lent, needs, MAX_UNITS}
 use Rattle.joining.proofs.nearest.nearest.Statement.{statement}
 use Rattle.joining.proofs.nearest.nearest.Tie as tie
 

@@ -1,10 +1,5 @@
 -- One unit fewer, or all.
-use mathlib.Core.Path.{sym, subst}
-use Prim.Native.Nat.{ℕ, _^_, _<_}
-use Rattle.atoms.specs.Word.{Has, atom}
-use Rattle.atoms.proofs.Sets.{without-left, without-fits}
-use borrow.Author.Needs.{needs}
-use Rattle.plan.specs.Limits.{MAX_UNITS}
+use Rattle.joining.proofs.Prelude.{sym, subst, ℕ, _^_, _<_, Has, atom, without-left, without-fits, needs, MAX_UNITS}
 use Rattle.joining.proofs.nearest.without_covered.Statement.{statement}
 use Rattle.joining.proofs.nearest.without_covered.Tie as tie
 

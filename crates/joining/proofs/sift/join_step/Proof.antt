@@ -1,11 +1,6 @@
 -- The position's own entry agrees: it has what all have, and some has what it has.
-use mathlib.Core.Path.{sym, subst, _∙_}
-use denote.Ref.{now}
-use borrow.Author.Tests.{not-true}
-use Rattle.states.specs.Narrowing.{Narrows}
-use Rattle.joining.specs.Filter.{Picked}
-use Rattle.joining.proofs.Filters.{list-refined, list-clash, list-narrows}
-use borrow.Author.Needs.{needs}
+use Rattle.joining.proofs.Prelude.{sym, subst, _∙_, now, not-true, Narrows, Picked, needs}
+use Rattle.joining.proofs.Face.{list-refined, list-clash, list-narrows}
 use Rattle.joining.proofs.sift.join_step.Statement.{statement}
 use Rattle.joining.proofs.sift.join_step.Tie as tie
 

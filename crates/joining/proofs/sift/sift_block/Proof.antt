@@ -1,10 +1,6 @@
 -- The loop carries that each entry that is done is kept and spanned where it agrees. The measure is how many are left.
-use native.Mathlib.Omega.{arith}
-use lib.Count.{ones}
-use Rattle.atoms.proofs.Sets.{subset-refl}
-use Rattle.atoms.proofs.Counts.{taken-less}
-use Rattle.joining.proofs.Filters.{Sifting, sifting-start, sifting-next, sifting-end, sifted-from}
-use borrow.Author.Needs.{needs}
+use Rattle.joining.proofs.Prelude.{arith, ones, subset-refl, taken-less, needs}
+use Rattle.joining.proofs.Face.{Sifting, sifting-start, sifting-next, sifting-end, sifted-from}
 use Rattle.joining.proofs.sift.sift_block.Statement.{statement}
 use Rattle.joining.proofs.sift.sift_block.Tie as tie
 

@@ -1,7 +1,6 @@
 -- An entry that does not agree leaves.
-use mathlib.Core.Path.{_∙_}
-use Rattle.joining.proofs.Filters.{entry-leaves, entry-stays}
-use borrow.Author.Needs.{needs}
+use Rattle.joining.proofs.Prelude.{_∙_, needs}
+use Rattle.joining.proofs.Face.{entry-leaves, entry-stays}
 use Rattle.joining.proofs.sift.sift_entry.Statement.{statement}
 use Rattle.joining.proofs.sift.sift_entry.Tie as tie
 

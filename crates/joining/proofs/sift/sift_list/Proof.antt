@@ -1,10 +1,6 @@
 -- The loop carries that the entries of the words that are done are sifted. The measure is how many words are left.
-use Prim.Native.Nat.{_+_, _-_, _<_}
-use native.Mathlib.Omega.{arith}
-use lib.ListN.{length}
-use borrow.Author.Needs.{needs}
-use Rattle.joining.specs.Filter.{BLOCKS}
-use Rattle.joining.proofs.Filters.{Listing, listing-start, listing-next, listing-end}
+use Rattle.joining.proofs.Prelude.{_+_, _-_, _<_, arith, length, needs, BLOCKS}
+use Rattle.joining.proofs.Face.{Listing, listing-start, listing-next, listing-end}
 use Rattle.joining.proofs.sift.sift_list.Statement.{statement}
 use Rattle.joining.proofs.sift.sift_list.Tie as tie
 

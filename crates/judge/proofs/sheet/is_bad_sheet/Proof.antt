@@ -1,6 +1,6 @@
 -- `is_bad_sheet` meets its contract, test by test.
-use borrow.Author.Needs.{needs}
-use Rattle.judge.proofs.JudgedSheets.{bad-over, bad-rest}
+use Rattle.judge.proofs.Prelude.{needs}
+use Rattle.judge.proofs.Face.{bad-over, bad-rest}
 use Rattle.judge.proofs.sheet.is_bad_sheet.Statement.{statement}
 use Rattle.judge.proofs.sheet.is_bad_sheet.Tie as tie
 

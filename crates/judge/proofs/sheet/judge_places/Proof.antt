@@ -1,15 +1,7 @@
 -- The positions passed so far are answer sets (Passed), and the memo keeps its promise.
-use mathlib.Core.Path.{_≡_, sym, _∙_}
-use Prim.Native.Nat.{_-_}
-use native.Mathlib.Omega.{arith}
-use denote.Ref.{now}
-use borrow.Author.Needs.{needs}
-use borrow.Author.Tests.{not-true, not-false}
+use Rattle.judge.proofs.Prelude.{_≡_, sym, _∙_, _-_, arith, now, needs, not-true, not-false, settled, positionAt}
+use Rattle.judge.proofs.Face.{whole-lent, Passed, tested-at, passed-more, places-first, places-all}
 use Rattle.answer_sets.specs.Memo.{Memo}
-use Rattle.plan_meaning.specs.Settled.{settled}
-use Rattle.judge.specs.Sheets.{positionAt}
-use Rattle.judge.proofs.Settled.{whole-lent}
-use Rattle.judge.proofs.JudgedSheets.{Passed, tested-at, passed-more, places-first, places-all}
 use Rattle.judge.proofs.sheet.judge_places.Statement.{statement}
 use Rattle.judge.proofs.sheet.judge_places.Tie as tie
 

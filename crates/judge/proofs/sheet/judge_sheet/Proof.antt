@@ -1,10 +1,6 @@
 -- The answer at each return, from what was read and the test of the sheet.
-use denote.Ref.{now}
-use borrow.Author.Needs.{needs}
-use Rattle.reading.specs.Layout.{IsByte, All}
-use Rattle.reading.proofs.Limits.{all-bytes}
-use Rattle.plan_meaning.proofs.AskedPlans.{read-fits}
-use Rattle.judge.proofs.JudgedSheets.{refused-sheet, bad-sheet, judged-sheet}
+use Rattle.judge.proofs.Prelude.{now, needs, IsByte, All, all-bytes, read-fits}
+use Rattle.judge.proofs.Face.{refused-sheet, bad-sheet, judged-sheet}
 use Rattle.judge.proofs.sheet.judge_sheet.Statement.{statement}
 use Rattle.judge.proofs.sheet.judge_sheet.Tie as tie
 

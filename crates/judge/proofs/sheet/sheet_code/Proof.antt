@@ -1,7 +1,5 @@
 -- The variant that was told gives the case of the definition.
-use mathlib.Core.Path.{ap, sym, _∙_}
-use Rattle.judge.specs.Sheets.{sheetCode}
-use borrow.Author.Needs.{needs}
+use Rattle.judge.proofs.Prelude.{ap, sym, _∙_, sheetCode, needs}
 use Rattle.judge.proofs.sheet.sheet_code.Statement.{statement}
 use Rattle.judge.proofs.sheet.sheet_code.Tie as tie
 

@@ -1,6 +1,6 @@
 -- The atom is resolved whichever of the two has it up.
-use Rattle.learning.proofs.Nogoods.{resolves-either}
-use borrow.Author.Needs.{needs}
+use Rattle.learning.proofs.Prelude.{needs}
+use Rattle.learning.proofs.Face.{resolves-either}
 use Rattle.learning.proofs.nogood.merge.Statement.{statement}
 use Rattle.learning.proofs.nogood.merge.Tie as tie
 

@@ -1,7 +1,6 @@
 -- Nothing is missing of the up atoms, nothing of the dropped ones, or something of both.
-use Rattle.states.proofs.Narrows.{narrows-refl}
-use Rattle.learning.proofs.Nogoods.{refuted-up, refuted-down, within-up, within-dropped}
-use borrow.Author.Needs.{needs}
+use Rattle.learning.proofs.Prelude.{narrows-refl, needs}
+use Rattle.learning.proofs.Face.{refuted-up, refuted-down, within-up, within-dropped}
 use Rattle.learning.proofs.nogood.refute.Statement.{statement}
 use Rattle.learning.proofs.nogood.refute.Tie as tie
 

@@ -1,6 +1,6 @@
 -- Either word is told by its two operations.
-use borrow.Author.Needs.{needs}
-use Rattle.learning.proofs.Nogoods.{resolves-equal}
+use Rattle.learning.proofs.Prelude.{needs}
+use Rattle.learning.proofs.Face.{resolves-equal}
 use Rattle.learning.proofs.nogood.resolve.Statement.{statement}
 use Rattle.learning.proofs.nogood.resolve.Tie as tie
 

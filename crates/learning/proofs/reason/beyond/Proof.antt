@@ -1,5 +1,5 @@
 -- Either word is told by its operation.
-use borrow.Author.Needs.{needs}
+use Rattle.learning.proofs.Prelude.{needs}
 use Rattle.learning.proofs.reason.beyond.Statement.{statement}
 use Rattle.learning.proofs.reason.beyond.Tie as tie
 

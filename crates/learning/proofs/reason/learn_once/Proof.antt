@@ -1,7 +1,6 @@
 -- Nothing is learnt, or the pair is; the scores stand behind the pairs.
-use Rattle.learning.proofs.Stores.{keeps-refl, keeps-same, learnt-keeps}
-use Rattle.learning.proofs.Reasons.{contradicts, names-many, worth-learning, once-before, once-not, once-now}
-use borrow.Author.Needs.{needs}
+use Rattle.learning.proofs.Prelude.{needs}
+use Rattle.learning.proofs.Face.{keeps-refl, keeps-same, learnt-keeps, contradicts, names-many, worth-learning, once-before, once-not, once-now}
 use Rattle.learning.proofs.reason.learn_once.Statement.{statement}
 use Rattle.learning.proofs.reason.learn_once.Tie as tie
 

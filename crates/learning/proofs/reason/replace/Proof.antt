@@ -1,5 +1,5 @@
 -- Either word is told by its two operations.
-use borrow.Author.Needs.{needs}
+use Rattle.learning.proofs.Prelude.{needs}
 use Rattle.learning.proofs.reason.replace.Statement.{statement}
 use Rattle.learning.proofs.reason.replace.Tie as tie
 

@@ -1,9 +1,6 @@
 -- The words overlap, or the goal lies within the state or not.
-use mathlib.Core.Path.{sym, _∙_}
-use borrow.Author.Tests.{not-true, not-false}
-use Rattle.atoms.proofs.Sets.{decides-apart}
-use Rattle.learning.proofs.Reasons.{overlap-tells, within-tells}
-use borrow.Author.Needs.{needs}
+use Rattle.learning.proofs.Prelude.{sym, _∙_, not-true, not-false, decides-apart, needs}
+use Rattle.learning.proofs.Face.{overlap-tells, within-tells}
 use Rattle.learning.proofs.reason.tells.Statement.{statement}
 use Rattle.learning.proofs.reason.tells.Tie as tie
 

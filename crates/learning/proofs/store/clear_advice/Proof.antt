@@ -1,9 +1,6 @@
 -- The loop carries that the pairs are as before: each word that is written stands behind them.
-use native.Mathlib.Omega.{arith}
-use Prim.Native.Nat.{_*_, _-_, _≤_}
-use Rattle.learning.specs.Store.{PAIRS, MEMORY_WORDS, SamePairs}
-use Rattle.learning.proofs.Stores.{same-pairs, same-trans}
-use borrow.Author.Needs.{needs}
+use Rattle.learning.proofs.Prelude.{arith, _*_, _-_, _≤_, PAIRS, MEMORY_WORDS, SamePairs, needs}
+use Rattle.learning.proofs.Face.{same-pairs, same-trans}
 use Rattle.learning.proofs.store.clear_advice.Statement.{statement}
 use Rattle.learning.proofs.store.clear_advice.Tie as tie
 

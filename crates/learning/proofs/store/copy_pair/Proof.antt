@@ -1,8 +1,6 @@
 -- Nothing is written, or one pair.
-use mathlib.Core.Path.{refl}
-use native.Mathlib.Omega.{arith}
-use Rattle.learning.proofs.Stores.{keeps-refl, keeps-written}
-use borrow.Author.Needs.{needs}
+use Rattle.learning.proofs.Prelude.{refl, arith, needs}
+use Rattle.learning.proofs.Face.{keeps-refl, keeps-written}
 use Rattle.learning.proofs.store.copy_pair.Statement.{statement}
 use Rattle.learning.proofs.store.copy_pair.Tie as tie
 

@@ -1,7 +1,6 @@
 -- Both words of each pair have atom 0, and no pair is changed when the advice is cleared.
-use mathlib.Core.Path.{refl}
-use Rattle.learning.proofs.Stores.{empty-of, empty-same}
-use borrow.Author.Needs.{needs}
+use Rattle.learning.proofs.Prelude.{refl, needs}
+use Rattle.learning.proofs.Face.{empty-of, empty-same}
 use Rattle.learning.proofs.store.empty_store.Statement.{statement}
 use Rattle.learning.proofs.store.empty_store.Tie as tie
 

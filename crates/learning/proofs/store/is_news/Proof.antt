@@ -1,6 +1,6 @@
 -- Too many atoms are missing, or none that are there are decided.
-use Rattle.learning.proofs.Stores.{not-news, is-news}
-use borrow.Author.Needs.{needs}
+use Rattle.learning.proofs.Prelude.{needs}
+use Rattle.learning.proofs.Face.{not-news, is-news}
 use Rattle.learning.proofs.store.is_news.Statement.{statement}
 use Rattle.learning.proofs.store.is_news.Tie as tie
 

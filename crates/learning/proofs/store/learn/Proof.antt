@@ -1,8 +1,6 @@
 -- The ring's place is noted behind the pairs, then the pair is written within the ring.
-use native.Mathlib.Omega.{arith}
-use Rattle.learning.proofs.Stores.{learnt-at, learnt-is}
-use denote.Ref.{now}
-use borrow.Author.Needs.{needs}
+use Rattle.learning.proofs.Prelude.{arith, now, needs}
+use Rattle.learning.proofs.Face.{learnt-at, learnt-is}
 use Rattle.learning.proofs.store.learn.Statement.{statement}
 use Rattle.learning.proofs.store.learn.Tie as tie
 

@@ -1,8 +1,6 @@
 -- The pairs that were passed over are no news; the loop ends where the pairs that were learnt do, which are no more than the ring has.
-use Prim.Native.Nat.{_-_}
-use Rattle.learning.specs.Store.{RING}
-use Rattle.learning.proofs.Stores.{Passing, passing-start, passing-next, news-stopped, news-met, news-none}
-use borrow.Author.Needs.{needs}
+use Rattle.learning.proofs.Prelude.{_-_, RING, needs}
+use Rattle.learning.proofs.Face.{Passing, passing-start, passing-next, news-stopped, news-met, news-none}
 use Rattle.learning.proofs.store.next_pair.Statement.{statement}
 use Rattle.learning.proofs.store.next_pair.Tie as tie
 

@@ -1,6 +1,6 @@
 -- Within the ring, or above it.
-use Rattle.learning.proofs.Stores.{next-low, next-high}
-use borrow.Author.Needs.{needs}
+use Rattle.learning.proofs.Prelude.{needs}
+use Rattle.learning.proofs.Face.{next-low, next-high}
 use Rattle.learning.proofs.store.next_place.Statement.{statement}
 use Rattle.learning.proofs.store.next_place.Tie as tie
 

@@ -1,7 +1,6 @@
 -- One write.
-use Rattle.learning.proofs.Stores.{same-pairs, same-behind}
-use mathlib.Core.Path.{refl}
-use borrow.Author.Needs.{needs}
+use Rattle.learning.proofs.Prelude.{refl, needs}
+use Rattle.learning.proofs.Face.{same-pairs, same-behind}
 use Rattle.learning.proofs.store.note.Statement.{statement}
 use Rattle.learning.proofs.store.note.Tie as tie
 

@@ -1,11 +1,6 @@
 -- Two writes, the second beside the first.
-use mathlib.Core.Path.{refl}
-use native.Mathlib.Omega.{arith}
-use Prim.Native.Nat.{_*_}
-use lib.ListN.{length-set}
-use denote.Ref.{now}
-use Rattle.learning.proofs.Stores.{written}
-use borrow.Author.Needs.{needs}
+use Rattle.learning.proofs.Prelude.{refl, arith, _*_, length-set, now, needs}
+use Rattle.learning.proofs.Face.{written}
 use Rattle.learning.proofs.store.write_pair.Statement.{statement}
 use Rattle.learning.proofs.store.write_pair.Tie as tie
 

@@ -1,9 +1,6 @@
 -- What the step has is what its words have.
-use mathlib.Core.Path.{_≡_, ap, _∙_, subst}
-use Prim.Native.Nat.{ℕ}
-use Rattle.atoms.specs.Word.{_∖_}
+use Rattle.learning.proofs.Prelude.{_≡_, ap, _∙_, subst, ℕ, _∖_, needs}
 use Rattle.learning.specs.declared.trail.Recorded.{Recorded}
-use borrow.Author.Needs.{needs}
 use Rattle.learning.proofs.trail.decided_since.Statement.{statement}
 use Rattle.learning.proofs.trail.decided_since.Tie as tie
 

@@ -1,6 +1,6 @@
 -- Word by word.
-use Rattle.atoms.proofs.Tests.{decides-equal}
-use Rattle.learning.proofs.Trails.{up-differs, dropped-same}
+use Rattle.learning.proofs.Prelude.{decides-equal}
+use Rattle.learning.proofs.Face.{up-differs, dropped-same}
 use Rattle.learning.proofs.trail.is_same.Statement.{statement}
 use Rattle.learning.proofs.trail.is_same.Tie as tie
 

@@ -1,7 +1,6 @@
 -- Nothing is noted, or three words behind the pairs.
-use Rattle.learning.proofs.Stores.{same-pairs, same-trans}
-use Rattle.learning.proofs.Trails.{step-same, step-full, step-noted}
-use borrow.Author.Needs.{needs}
+use Rattle.learning.proofs.Prelude.{needs}
+use Rattle.learning.proofs.Face.{same-pairs, same-trans, step-same, step-full, step-noted}
 use Rattle.learning.proofs.trail.note_step.Statement.{statement}
 use Rattle.learning.proofs.trail.note_step.Tie as tie
 

@@ -1,10 +1,6 @@
 -- The tally is a part behind the pairs, and comes back as long as it was.
-use native.Mathlib.Omega.{arith}
-use denote.Ref.{now}
-use Rattle.learning.specs.Store.{SCORES, SCORE_PLACES}
-use Rattle.learning.proofs.Stores.{same-part}
-use Rattle.learning.proofs.Trails.{scored-part}
-use borrow.Author.Needs.{needs}
+use Rattle.learning.proofs.Prelude.{arith, now, SCORES, SCORE_PLACES, needs}
+use Rattle.learning.proofs.Face.{same-part, scored-part}
 use Rattle.learning.proofs.trail.score_atoms.Statement.{statement}
 use Rattle.learning.proofs.trail.score_atoms.Tie as tie
 

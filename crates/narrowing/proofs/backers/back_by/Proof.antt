@@ -1,6 +1,6 @@
 -- The rule is noted for its head atoms without those of its body.
-use Rattle.narrowing.proofs.BackedAtoms.{rule-backs}
-use borrow.Author.Needs.{needs}
+use Rattle.narrowing.proofs.Prelude.{needs}
+use Rattle.narrowing.proofs.Face.{rule-backs}
 use Rattle.narrowing.proofs.backers.back_by.Statement.{statement}
 use Rattle.narrowing.proofs.backers.back_by.Tie as tie
 

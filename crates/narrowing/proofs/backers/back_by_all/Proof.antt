@@ -1,10 +1,6 @@
 -- The loop carries that the rules that are done are noted. The measure is how many are left.
-use borrow.Author.Needs.{needs}
-use lib.Count.{ones}
-use Rattle.atoms.proofs.Counts.{taken-less}
-use Rattle.narrowing.proofs.BackedAtoms.{Backing, backing-start, backing-next, backing-end}
-use Rattle.answer_sets.proofs.Lent.{lent-taken}
-use Rattle.narrowing.proofs.MarkedTables.{still-long}
+use Rattle.narrowing.proofs.Prelude.{needs, ones, taken-less, lent-taken}
+use Rattle.narrowing.proofs.Face.{Backing, backing-start, backing-next, backing-end, still-long}
 use Rattle.narrowing.proofs.backers.back_by_all.Statement.{statement}
 use Rattle.narrowing.proofs.backers.back_by_all.Tie as tie
 

@@ -1,8 +1,6 @@
 -- At first the table has no rule.
-use mathlib.Core.Path.{refl}
-use Rattle.atoms.specs.Word.{ATOMS}
-use Rattle.narrowing.proofs.BackedAtoms.{zeros-at, backers-of}
-use borrow.Author.Needs.{needs}
+use Rattle.narrowing.proofs.Prelude.{refl, ATOMS, needs}
+use Rattle.narrowing.proofs.Face.{zeros-at, backers-of}
 use Rattle.narrowing.proofs.backers.backers.Statement.{statement}
 use Rattle.narrowing.proofs.backers.backers.Tie as tie
 

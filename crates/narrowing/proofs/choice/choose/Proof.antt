@@ -1,8 +1,6 @@
 -- A rule that was met, or the lowest of some of the free atoms, which is a free atom.
-use Rattle.atoms.proofs.Sets.{subset-trans}
-use borrow.Author.Needs.{needs}
-use Rattle.narrowing.proofs.StoppedRules.{met-stop, met-none}
-use Rattle.atoms.proofs.TakenNumbers.{taken-lent}
+use Rattle.narrowing.proofs.Prelude.{subset-trans, needs, taken-lent}
+use Rattle.narrowing.proofs.Face.{met-stop, met-none}
 use Rattle.narrowing.proofs.choice.choose.Statement.{statement}
 use Rattle.narrowing.proofs.choice.choose.Tie as tie
 

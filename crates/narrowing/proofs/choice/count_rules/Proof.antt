@@ -1,11 +1,6 @@
 -- The rules that are done are at no stop, and both tallies keep their length. The measure is how many rules are left.
-use lib.Count.{ones}
-use Rattle.atoms.proofs.Counts.{taken-less}
-use Rattle.atoms.proofs.TakenNumbers.{taken-lent}
-use Rattle.narrowing.specs.Stops.{SameLengths}
-use Rattle.answer_sets.proofs.Lent.{lent-taken}
-use Rattle.narrowing.proofs.StoppedRules.{Passing, passing-start, passing-next, passing-end, stop-found, same-lengths, lengths-kept}
-use borrow.Author.Needs.{needs}
+use Rattle.narrowing.proofs.Prelude.{ones, taken-less, taken-lent, SameLengths, lent-taken, needs}
+use Rattle.narrowing.proofs.Face.{Passing, passing-start, passing-next, passing-end, stop-found, same-lengths, lengths-kept}
 use Rattle.narrowing.proofs.choice.count_rules.Statement.{statement}
 use Rattle.narrowing.proofs.choice.count_rules.Tie as tie
 

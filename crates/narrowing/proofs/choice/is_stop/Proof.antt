@@ -1,6 +1,6 @@
 -- The three standings are apart.
-use Rattle.narrowing.proofs.StoppedRules.{spent-no, live-no}
-use borrow.Author.Needs.{needs}
+use Rattle.narrowing.proofs.Prelude.{needs}
+use Rattle.narrowing.proofs.Face.{spent-no, live-no}
 use Rattle.narrowing.proofs.choice.is_stop.Statement.{statement}
 use Rattle.narrowing.proofs.choice.is_stop.Tie as tie
 

@@ -1,6 +1,6 @@
 -- Both words are tested.
+use Rattle.narrowing.proofs.Prelude.{needs}
 use Rattle.narrowing.proofs.UnfailedRules.{failed, unfailed}
-use borrow.Author.Needs.{needs}
 use Rattle.narrowing.proofs.choice.is_unfailed.Statement.{statement}
 use Rattle.narrowing.proofs.choice.is_unfailed.Tie as tie
 

@@ -1,6 +1,6 @@
 -- By where the rule stands.
-use Rattle.narrowing.proofs.WideRules.{spent-narrow, stopped-narrow, live-wide}
-use borrow.Author.Needs.{needs}
+use Rattle.narrowing.proofs.Prelude.{needs}
+use Rattle.narrowing.proofs.Face.{spent-narrow, stopped-narrow, live-wide}
 use Rattle.narrowing.proofs.choice.is_wide.Statement.{statement}
 use Rattle.narrowing.proofs.choice.is_wide.Tie as tie
 

@@ -1,11 +1,6 @@
 -- The rules that are done are not wide. The measure is how many are left.
-use borrow.Author.Needs.{needs}
-use lib.Count.{ones}
-use Rattle.atoms.proofs.Counts.{taken-less}
-use Rattle.atoms.proofs.TakenNumbers.{Taking, taking-start, taken-lent, taking-more}
-use Rattle.narrowing.specs.Wide.{IsWide}
-use Rattle.narrowing.proofs.WideRules.{wide-found, none-wide, not-wide}
-use Rattle.answer_sets.proofs.Lent.{lent-taken}
+use Rattle.narrowing.proofs.Prelude.{needs, ones, taken-less, Taking, taking-start, taken-lent, taking-more, IsWide, lent-taken}
+use Rattle.narrowing.proofs.Face.{wide-found, none-wide, not-wide}
 use Rattle.narrowing.proofs.choice.some_wide.Statement.{statement}
 use Rattle.narrowing.proofs.choice.some_wide.Tie as tie
 

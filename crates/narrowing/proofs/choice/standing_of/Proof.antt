@@ -1,6 +1,6 @@
 -- A head atom is up; or the body fails, is open or holds; and where it holds, the whole head is dropped or not.
-use Rattle.narrowing.proofs.StoppedRules.{met-spent, failing-spent, open-live, held-stopped, held-live}
-use borrow.Author.Needs.{needs}
+use Rattle.narrowing.proofs.Prelude.{needs}
+use Rattle.narrowing.proofs.Face.{met-spent, failing-spent, open-live, held-stopped, held-live}
 use Rattle.narrowing.proofs.choice.standing_of.Statement.{statement}
 use Rattle.narrowing.proofs.choice.standing_of.Tie as tie
 

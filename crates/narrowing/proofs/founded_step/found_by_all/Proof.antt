@@ -1,10 +1,6 @@
 -- What is left are rules of the word. The measure is how many are left.
-use lib.Count.{ones}
-use Rattle.atoms.specs.Word.{_⊆_}
-use Rattle.atoms.proofs.Counts.{taken-less, taken-within}
-use Rattle.narrowing.proofs.NumberedSteps.{cut-within}
-use borrow.Author.Needs.{needs}
-use Rattle.answer_sets.proofs.Lent.{lent-taken}
+use Rattle.narrowing.proofs.Prelude.{ones, _⊆_, taken-less, taken-within, needs, lent-taken}
+use Rattle.narrowing.proofs.Face.{cut-within}
 use Rattle.narrowing.proofs.founded_step.found_by_all.Statement.{statement}
 use Rattle.narrowing.proofs.founded_step.found_by_all.Tie as tie
 

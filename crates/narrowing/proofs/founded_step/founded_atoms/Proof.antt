@@ -1,8 +1,5 @@
 -- The measure is how many rounds are left.
-use Prim.Native.Nat.{_-_, _≤_}
-use native.Mathlib.Omega.{arith}
-use Rattle.atoms.specs.Word.{ATOMS}
-use borrow.Author.Needs.{needs}
+use Rattle.narrowing.proofs.Prelude.{_-_, _≤_, arith, ATOMS, needs}
 use Rattle.narrowing.proofs.founded_step.founded_atoms.Statement.{statement}
 use Rattle.narrowing.proofs.founded_step.founded_atoms.Tie as tie
 

@@ -1,6 +1,6 @@
 -- Nothing is added, or the atoms of the head.
-use Rattle.narrowing.proofs.LoopedAtoms.{none-held, head-held}
-use borrow.Author.Needs.{needs}
+use Rattle.narrowing.proofs.Prelude.{needs}
+use Rattle.narrowing.proofs.Face.{none-held, head-held}
 use Rattle.narrowing.proofs.loops.held_on.Statement.{statement}
 use Rattle.narrowing.proofs.loops.held_on.Tie as tie
 

@@ -1,9 +1,6 @@
 -- The loop carries what the rules that are done hold. The measure is how many are left.
-use lib.Count.{ones}
-use Rattle.atoms.proofs.Counts.{taken-less}
-use Rattle.narrowing.proofs.LoopedAtoms.{Holding, holding-start, holding-next, holding-end}
-use borrow.Author.Needs.{needs}
-use Rattle.answer_sets.proofs.Lent.{lent-taken}
+use Rattle.narrowing.proofs.Prelude.{ones, taken-less, needs, lent-taken}
+use Rattle.narrowing.proofs.Face.{Holding, holding-start, holding-next, holding-end}
 use Rattle.narrowing.proofs.loops.held_on_all.Statement.{statement}
 use Rattle.narrowing.proofs.loops.held_on_all.Tie as tie
 

@@ -1,10 +1,6 @@
 -- The loop carries that every set that holds itself up is within. The measure is how many atoms are left.
-use borrow.Author.Needs.{needs}
-use native.Mathlib.Omega.{arith}
-use lib.Count.{ones}
-use Rattle.atoms.proofs.Counts.{count-proper}
-use Rattle.narrowing.specs.Loops.{HeldAmong}
-use Rattle.narrowing.proofs.LoopedAtoms.{Above, above-all, above-next, held-within, looped-end}
+use Rattle.narrowing.proofs.Prelude.{needs, arith, ones, count-proper, HeldAmong}
+use Rattle.narrowing.proofs.Face.{Above, above-all, above-next, held-within, looped-end}
 use Rattle.narrowing.proofs.loops.looped_atoms.Statement.{statement}
 use Rattle.narrowing.proofs.loops.looped_atoms.Tie as tie
 

@@ -1,11 +1,6 @@
 -- The loop carries that the word was noted for the atoms that are done. The measure is how many are left.
-use Prim.Native.Nat.{_+_, _<_}
-use native.Mathlib.Omega.{arith}
-use lib.Count.{ones}
-use lib.ListN.{length}
-use borrow.Author.Needs.{needs}
-use Rattle.atoms.proofs.Counts.{taken-less}
-use Rattle.narrowing.proofs.MarkedTables.{Adding, adding-start, adding-next, IsAt, word-added, marked-end}
+use Rattle.narrowing.proofs.Prelude.{_+_, _<_, arith, ones, length, needs, taken-less}
+use Rattle.narrowing.proofs.Face.{Adding, adding-start, adding-next, IsAt, word-added, marked-end}
 use Rattle.narrowing.proofs.marks.mark.Statement.{statement}
 use Rattle.narrowing.proofs.marks.mark.Tie as tie
 

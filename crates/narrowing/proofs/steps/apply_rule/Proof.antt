@@ -1,8 +1,6 @@
 -- The rule is one of those numbered.
-use denote.Ref.{now}
-use Rattle.narrowing.proofs.NumberedSteps.{rule-narrows}
-use Rattle.atoms.proofs.Singles.{numbered-by}
-use borrow.Author.Needs.{needs}
+use Rattle.narrowing.proofs.Prelude.{now, numbered-by, needs}
+use Rattle.narrowing.proofs.Face.{rule-narrows}
 use Rattle.narrowing.proofs.steps.apply_rule.Statement.{statement}
 use Rattle.narrowing.proofs.steps.apply_rule.Tie as tie
 

@@ -1,8 +1,6 @@
 -- The atom is no input, so that its backers hold it.
-use borrow.Author.Tests.{not-false}
-use Rattle.narrowing.proofs.NumberedSteps.{backers-lent, support-narrows}
-use Rattle.atoms.proofs.Singles.{lacked-by}
-use borrow.Author.Needs.{needs}
+use Rattle.narrowing.proofs.Prelude.{not-false, lacked-by, needs}
+use Rattle.narrowing.proofs.Face.{backers-lent, support-narrows}
 use Rattle.narrowing.proofs.steps.apply_support.Statement.{statement}
 use Rattle.narrowing.proofs.steps.apply_support.Tie as tie
 

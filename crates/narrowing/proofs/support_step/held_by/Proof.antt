@@ -1,7 +1,6 @@
 -- The rule supports the atom, so its body holds and its other head atoms are not up.
-use Rattle.narrowing.proofs.SupportSteps.{held-narrows}
-use borrow.Author.Needs.{needs}
-use denote.Ref.{now}
+use Rattle.narrowing.proofs.Prelude.{needs, now}
+use Rattle.narrowing.proofs.Face.{held-narrows}
 use Rattle.narrowing.proofs.support_step.held_by.Statement.{statement}
 use Rattle.narrowing.proofs.support_step.held_by.Tie as tie
 

@@ -1,6 +1,6 @@
 -- It may not where another head atom is up or the body fails.
-use Rattle.narrowing.proofs.SupportSteps.{may, not-alone, body-failed}
-use borrow.Author.Needs.{needs}
+use Rattle.narrowing.proofs.Prelude.{needs}
+use Rattle.narrowing.proofs.Face.{may, not-alone, body-failed}
 use Rattle.narrowing.proofs.support_step.may_support.Statement.{statement}
 use Rattle.narrowing.proofs.support_step.may_support.Tie as tie
 

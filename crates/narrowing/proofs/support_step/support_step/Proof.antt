@@ -1,6 +1,6 @@
 -- No rule is left, or one alone of an atom that is up.
-use Rattle.narrowing.proofs.SupportSteps.{none-left, one-left, supporter-lent, others-lent}
-use borrow.Author.Needs.{needs}
+use Rattle.narrowing.proofs.Prelude.{needs}
+use Rattle.narrowing.proofs.Face.{none-left, one-left, supporter-lent, others-lent}
 use Rattle.narrowing.proofs.support_step.support_step.Statement.{statement}
 use Rattle.narrowing.proofs.support_step.support_step.Tie as tie
 

@@ -1,9 +1,6 @@
 -- The loop carries that the rules left are all that may support the atom. The measure is how many are left.
-use borrow.Author.Needs.{needs}
-use lib.Count.{ones}
-use Rattle.atoms.proofs.Counts.{taken-less}
-use Rattle.narrowing.specs.Support.{Supporters}
-use Rattle.narrowing.proofs.SupportSteps.{supporters-all, supporters-next, supporter-lent, supporters-end}
+use Rattle.narrowing.proofs.Prelude.{needs, ones, taken-less, Supporters}
+use Rattle.narrowing.proofs.Face.{supporters-all, supporters-next, supporter-lent, supporters-end}
 use Rattle.narrowing.proofs.support_step.supporters.Statement.{statement}
 use Rattle.narrowing.proofs.support_step.supporters.Tie as tie
 

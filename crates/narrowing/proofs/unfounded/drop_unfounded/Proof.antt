@@ -1,7 +1,6 @@
 -- The atoms are no inputs, and each rule can do without them.
-use Rattle.states.proofs.Narrows.{narrows-refl}
-use Rattle.narrowing.proofs.UnfoundedAtoms.{unfounded-narrows}
-use borrow.Author.Needs.{needs}
+use Rattle.narrowing.proofs.Prelude.{narrows-refl, needs}
+use Rattle.narrowing.proofs.Face.{unfounded-narrows}
 use Rattle.narrowing.proofs.unfounded.drop_unfounded.Statement.{statement}
 use Rattle.narrowing.proofs.unfounded.drop_unfounded.Tie as tie
 

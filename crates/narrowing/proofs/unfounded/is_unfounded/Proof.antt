@@ -1,12 +1,6 @@
 -- The rules that are done can do without the atoms. The measure is how many are left.
-use lib.Count.{ones}
-use mathlib.Core.Bool.{false≢true}
-use Rattle.atoms.proofs.Counts.{taken-less}
-use Rattle.atoms.proofs.TakenNumbers.{Taking, taking-start, taking-end, taking-more}
-use Rattle.narrowing.specs.Unfounded.{Spares}
-use borrow.Author.Needs.{needs}
-use Rattle.answer_sets.proofs.Lent.{lent-taken}
-use Rattle.narrowing.proofs.UnfoundedAtoms.{spared}
+use Rattle.narrowing.proofs.Prelude.{ones, false≢true, taken-less, Taking, taking-start, taking-end, taking-more, Spares, needs, lent-taken}
+use Rattle.narrowing.proofs.Face.{spared}
 use Rattle.narrowing.proofs.unfounded.is_unfounded.Statement.{statement}
 use Rattle.narrowing.proofs.unfounded.is_unfounded.Tie as tie
 

@@ -1,6 +1,6 @@
 -- The five ways in which a rule can do without the atoms.
-use Rattle.narrowing.proofs.UnfoundedAtoms.{spares-head, spares-positive, spares-up, spares-failed, spares-without}
-use borrow.Author.Needs.{needs}
+use Rattle.narrowing.proofs.Prelude.{needs}
+use Rattle.narrowing.proofs.Face.{spares-head, spares-positive, spares-up, spares-failed, spares-without}
 use Rattle.narrowing.proofs.unfounded.spares.Statement.{statement}
 use Rattle.narrowing.proofs.unfounded.spares.Tie as tie
 

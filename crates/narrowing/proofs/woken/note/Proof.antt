@@ -1,6 +1,6 @@
 -- One part after the other.
-use Rattle.narrowing.proofs.MarkedTables.{adds-trans}
-use borrow.Author.Needs.{needs}
+use Rattle.narrowing.proofs.Prelude.{needs}
+use Rattle.narrowing.proofs.Face.{adds-trans}
 use Rattle.narrowing.proofs.woken.note.Statement.{statement}
 use Rattle.narrowing.proofs.woken.note.Tie as tie
 

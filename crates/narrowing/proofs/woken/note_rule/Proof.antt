@@ -1,6 +1,6 @@
 -- The atoms of either side are told by the rule's words.
+use Rattle.narrowing.proofs.Prelude.{needs}
 use Rattle.narrowing.proofs.WokenSteps.{rule-wakes}
-use borrow.Author.Needs.{needs}
 use Rattle.narrowing.proofs.woken.note_rule.Statement.{statement}
 use Rattle.narrowing.proofs.woken.note_rule.Tie as tie
 

@@ -1,10 +1,6 @@
 -- The loop adds what each rule has woken. The measure is how many are left.
-use lib.Count.{ones}
-use Rattle.atoms.proofs.Counts.{taken-less}
-use Rattle.narrowing.specs.Woken.{Wakes}
-use Rattle.narrowing.proofs.MarkedTables.{Adding, adding-start, adding-next, adding-end, still-long}
-use borrow.Author.Needs.{needs}
-use Rattle.answer_sets.proofs.Lent.{lent-taken}
+use Rattle.narrowing.proofs.Prelude.{ones, taken-less, Wakes, needs, lent-taken}
+use Rattle.narrowing.proofs.Face.{Adding, adding-start, adding-next, adding-end, still-long}
 use Rattle.narrowing.proofs.woken.note_rules.Statement.{statement}
 use Rattle.narrowing.proofs.woken.note_rules.Tie as tie
 

@@ -1,8 +1,6 @@
 -- The one reading is bad, or it is what it says.
-use borrow.Author.Needs.{needs}
-use Rattle.packed_decimal.proofs.FirstBad.{tested-bad, tested-good}
-use Rattle.packed_decimal.proofs.Conversion.{number-bad, number-says}
-use Rattle.packed_decimal.proofs.Promises.{numbered}
+use Rattle.packed_decimal.proofs.Prelude.{needs}
+use Rattle.packed_decimal.proofs.Face.{tested-bad, tested-good, number-bad, number-says, numbered}
 use Rattle.packed_decimal.proofs.convert.to_number.Statement.{statement}
 use Rattle.packed_decimal.proofs.convert.to_number.Tie as tie
 

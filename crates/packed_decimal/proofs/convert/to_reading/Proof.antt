@@ -1,10 +1,6 @@
 -- By the cases of what is to be said: not measured, a number above 9999, any other.
-use mathlib.Core.Path.{sym, ap, _∙_}
-use borrow.Author.Needs.{needs}
-use Rattle.packed_decimal.specs.Answers.{readingOf}
-use Rattle.packed_decimal.specs.declared.convert.Packed.the-variants.{Word}
-use Rattle.packed_decimal.proofs.Conversion.{reading-large, reading-word, reading-unmeasured}
-use Rattle.packed_decimal.proofs.Promises.{repacked}
+use Rattle.packed_decimal.proofs.Prelude.{sym, ap, _∙_, needs, readingOf, Word}
+use Rattle.packed_decimal.proofs.Face.{reading-large, reading-word, reading-unmeasured, repacked}
 use Rattle.packed_decimal.proofs.convert.to_reading.Statement.{statement}
 use Rattle.packed_decimal.proofs.convert.to_reading.Tie as tie
 

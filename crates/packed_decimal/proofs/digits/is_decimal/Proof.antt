@@ -1,8 +1,6 @@
 -- The digits passed so far are decimal, so the word is if the digits that are left are (Testing).
-use Prim.Native.Nat.{_-_}
-use borrow.Author.Needs.{needs}
-use Rattle.packed_decimal.specs.Reading.{DIGITS}
-use Rattle.packed_decimal.proofs.DigitLoops.{Testing, testing-start, testing-bad, testing-more, testing-all}
+use Rattle.packed_decimal.proofs.Prelude.{_-_, needs, DIGITS}
+use Rattle.packed_decimal.proofs.Face.{Testing, testing-start, testing-bad, testing-more, testing-all}
 use Rattle.packed_decimal.proofs.digits.is_decimal.Statement.{statement}
 use Rattle.packed_decimal.proofs.digits.is_decimal.Tie as tie
 

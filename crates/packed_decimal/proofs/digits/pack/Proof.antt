@@ -1,8 +1,6 @@
 -- Packed decimal digits fit their 16 bits.
-use native.Mathlib.Omega.{arith}
-use borrow.Author.Needs.{needs}
-use Rattle.packed_decimal.specs.Reading.{DIGITS}
-use Rattle.packed_decimal.proofs.Conversion.{packed-fits}
+use Rattle.packed_decimal.proofs.Prelude.{arith, needs, DIGITS}
+use Rattle.packed_decimal.proofs.Face.{packed-fits}
 use Rattle.packed_decimal.proofs.digits.pack.Statement.{statement}
 use Rattle.packed_decimal.proofs.digits.pack.Tie as tie
 

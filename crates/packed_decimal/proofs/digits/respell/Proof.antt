@@ -1,9 +1,6 @@
 -- The digits passed so far stand in the result, and those that are left make the rest of it (Respelling).
-use Prim.Native.Nat.{_-_}
-use native.Mathlib.Omega.{arith}
-use borrow.Author.Needs.{needs}
-use Rattle.packed_decimal.specs.Reading.{DIGITS}
-use Rattle.packed_decimal.proofs.DigitLoops.{Respelling, respelling-start, sum-fits, next-fits, respelling-more, respelling-all}
+use Rattle.packed_decimal.proofs.Prelude.{_-_, arith, needs, DIGITS}
+use Rattle.packed_decimal.proofs.Face.{Respelling, respelling-start, sum-fits, next-fits, respelling-more, respelling-all}
 use Rattle.packed_decimal.proofs.digits.respell.Statement.{statement}
 use Rattle.packed_decimal.proofs.digits.respell.Tie as tie
 

@@ -1,10 +1,6 @@
 -- The readings passed so far are good, and their largest is found (Seeking); a lone last byte stands behind all whole ones.
-use Prim.Native.Nat.{_-_}
-use native.Mathlib.Omega.{arith}
-use borrow.Author.Needs.{needs}
-use Rattle.packed_decimal.proofs.FirstBad.{tested-bad, tested-good}
-use Rattle.packed_decimal.proofs.LargestReading.{Seeking, seeking-start, seeking-more}
-use Rattle.packed_decimal.proofs.Promises.{sought-bad, sought-lone, sought-all}
+use Rattle.packed_decimal.proofs.Prelude.{_-_, arith, needs}
+use Rattle.packed_decimal.proofs.Face.{tested-bad, tested-good, Seeking, seeking-start, seeking-more, sought-bad, sought-lone, sought-all}
 use Rattle.packed_decimal.proofs.largest.find_largest.Statement.{statement}
 use Rattle.packed_decimal.proofs.largest.find_largest.Tie as tie
 

@@ -1,13 +1,6 @@
 -- By the cases of the word, of what was found, and of the two words.
-use mathlib.Core.Path.{sym, ap, _∙_, subst}
-use native.Mathlib.Omega.{arith}
-use borrow.Author.Needs.{needs}
-use Rattle.packed_decimal.specs.Reading.{says}
-use Rattle.packed_decimal.specs.MeasuredWord.{MeasuredFound}
-use Rattle.packed_decimal.specs.Largest.{larger}
-use Rattle.packed_decimal.specs.declared.largest.LargestFound.{LargestFound}
-use Rattle.packed_decimal.proofs.Readings.{measured-word}
-use Rattle.packed_decimal.proofs.LargestReading.{larger-unmeasured, larger-first, larger-more, larger-same}
+use Rattle.packed_decimal.proofs.Prelude.{sym, ap, _∙_, subst, arith, needs, says, MeasuredFound, larger, LargestFound}
+use Rattle.packed_decimal.proofs.Face.{measured-word, larger-unmeasured, larger-first, larger-more, larger-same}
 use Rattle.packed_decimal.proofs.largest.larger.Statement.{statement}
 use Rattle.packed_decimal.proofs.largest.larger.Tie as tie
 

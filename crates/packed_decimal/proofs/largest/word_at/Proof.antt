@@ -1,8 +1,5 @@
 -- Two bytes fit 16 bits.
-use Prim.Native.Nat.{_+_, _*_}
-use native.Mathlib.Omega.{arith}
-use borrow.Author.Needs.{needs}
-use Rattle.packed_decimal.specs.Largest.{READING_BYTES}
+use Rattle.packed_decimal.proofs.Prelude.{_+_, _*_, arith, needs, READING_BYTES}
 use Rattle.packed_decimal.proofs.largest.word_at.Statement.{statement}
 use Rattle.packed_decimal.proofs.largest.word_at.Tie as tie
 

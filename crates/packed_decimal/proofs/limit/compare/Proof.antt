@@ -1,11 +1,7 @@
 -- The first of the two that is bad, or how they stand to each other.
-use mathlib.Core.Path.{sym, ap, _∙_}
-use native.Mathlib.Omega.{arith}
-use borrow.Author.Needs.{needs}
+use Rattle.packed_decimal.proofs.Prelude.{sym, ap, _∙_, arith, needs}
+use Rattle.packed_decimal.proofs.Face.{pair-good, compared-refused, compared-is, held}
 use Rattle.packed_decimal.specs.declared.limit.Compared.the-variants.{Is}
-use Rattle.packed_decimal.proofs.FirstBad.{pair-good}
-use Rattle.packed_decimal.proofs.Orders.{compared-refused, compared-is}
-use Rattle.packed_decimal.proofs.Promises.{held}
 use Rattle.packed_decimal.proofs.limit.compare.Statement.{statement}
 use Rattle.packed_decimal.proofs.limit.compare.Tie as tie
 

@@ -1,7 +1,7 @@
 -- By what the two words say: one is not measured; or the words stand as the numbers do.
-use borrow.Author.Needs.{needs}
-use Rattle.packed_decimal.proofs.Readings.{unmeasured-says, measured-word}
-use Rattle.packed_decimal.proofs.Orders.{order-unmeasured-left, order-unmeasured-right, words-below, words-above, words-equal}
+use Rattle.packed_decimal.proofs.Prelude.{needs}
+use Rattle.packed_decimal.proofs.Face.{unmeasured-says, measured-word, order-unmeasured-left, order-unmeasured-right, words-below, words-above}
+use Rattle.packed_decimal.proofs.Face.{words-equal}
 use Rattle.packed_decimal.proofs.limit.order_of.Statement.{statement}
 use Rattle.packed_decimal.proofs.limit.order_of.Tie as tie
 

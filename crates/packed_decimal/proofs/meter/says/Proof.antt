@@ -1,6 +1,6 @@
 -- By the two cases of a word: 0xFFFF, and any other.
-use borrow.Author.Needs.{needs}
-use Rattle.packed_decimal.proofs.Readings.{unmeasured-says, measured-says}
+use Rattle.packed_decimal.proofs.Prelude.{needs}
+use Rattle.packed_decimal.proofs.Face.{unmeasured-says, measured-says}
 use Rattle.packed_decimal.proofs.meter.says.Statement.{statement}
 use Rattle.packed_decimal.proofs.meter.says.Tie as tie
 

@@ -1,6 +1,6 @@
 -- The first test that fails tells which is the first.
-use borrow.Author.Needs.{needs}
-use Rattle.packed_decimal.proofs.FirstBad.{tested-bad, tested-good, pair-first, pair-second, pair-none}
+use Rattle.packed_decimal.proofs.Prelude.{needs}
+use Rattle.packed_decimal.proofs.Face.{tested-bad, tested-good, pair-first, pair-second, pair-none}
 use Rattle.packed_decimal.proofs.pair.first_bad.Statement.{statement}
 use Rattle.packed_decimal.proofs.pair.first_bad.Tie as tie
 

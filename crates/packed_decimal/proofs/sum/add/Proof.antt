@@ -1,11 +1,6 @@
 -- The first of the two that is bad, or their sum.
-use mathlib.Core.Path.{sym, ap, _∙_}
-use native.Mathlib.Omega.{arith}
-use borrow.Author.Needs.{needs}
-use Rattle.packed_decimal.proofs.FirstBad.{pair-good}
-use Rattle.packed_decimal.proofs.Sums.{added-refused, added-is}
-use Rattle.packed_decimal.specs.declared.sum.Added.the-variants.{Is}
-use Rattle.packed_decimal.proofs.Promises.{summed}
+use Rattle.packed_decimal.proofs.Prelude.{sym, ap, _∙_, arith, needs, Is}
+use Rattle.packed_decimal.proofs.Face.{pair-good, added-refused, added-is, summed}
 use Rattle.packed_decimal.proofs.sum.add.Statement.{statement}
 use Rattle.packed_decimal.proofs.sum.add.Tie as tie
 

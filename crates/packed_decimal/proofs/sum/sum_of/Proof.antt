@@ -1,9 +1,6 @@
 -- By what the two words say: one is not measured; or the sum of the numbers, with or without a carry.
-use mathlib.Core.Path.{sym}
-use native.Mathlib.Omega.{arith}
-use borrow.Author.Needs.{needs}
-use Rattle.packed_decimal.proofs.Readings.{unmeasured-says}
-use Rattle.packed_decimal.proofs.Sums.{sum-unmeasured-left, sum-unmeasured-right, left-fits, right-fits, words-plain, words-carry}
+use Rattle.packed_decimal.proofs.Prelude.{sym, arith, needs}
+use Rattle.packed_decimal.proofs.Face.{unmeasured-says, sum-unmeasured-left, sum-unmeasured-right, left-fits, right-fits, words-plain, words-carry}
 use Rattle.packed_decimal.proofs.sum.sum_of.Statement.{statement}
 use Rattle.packed_decimal.proofs.sum.sum_of.Tie as tie
 

@@ -1,7 +1,6 @@
 -- One word is written, and one bit.
-use Rattle.atoms.proofs.Digits.{digit-lt}
-use Rattle.parities.proofs.SummedRows.{row-added}
-use borrow.Author.Needs.{needs}
+use Rattle.parities.proofs.Prelude.{digit-lt, needs}
+use Rattle.parities.proofs.Face.{row-added}
 use Rattle.parities.proofs.rows.add_row.Statement.{statement}
 use Rattle.parities.proofs.rows.add_row.Tie as tie
 

@@ -1,6 +1,6 @@
 -- A bit is set or not.
-use Rattle.parities.proofs.SummedRows.{bit-zero, bit-one}
-use borrow.Author.Needs.{needs}
+use Rattle.parities.proofs.Prelude.{needs}
+use Rattle.parities.proofs.Face.{bit-zero, bit-one}
 use Rattle.parities.proofs.rows.bit_of.Statement.{statement}
 use Rattle.parities.proofs.rows.bit_of.Tie as tie
 

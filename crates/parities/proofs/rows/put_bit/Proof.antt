@@ -1,6 +1,6 @@
 -- The bit is set or not.
-use Rattle.parities.proofs.SummedRows.{bit-one-put, bit-none-put}
-use borrow.Author.Needs.{needs}
+use Rattle.parities.proofs.Prelude.{needs}
+use Rattle.parities.proofs.Face.{bit-one-put, bit-none-put}
 use Rattle.parities.proofs.rows.put_bit.Statement.{statement}
 use Rattle.parities.proofs.rows.put_bit.Tie as tie
 

@@ -1,8 +1,6 @@
 -- One atom is up, or none is.
-use borrow.Author.Tests.{not-false}
-use Rattle.states.proofs.Narrows.{narrows-for, narrows-refl}
-use Rattle.parities.proofs.SummedRows.{row-some, row-drops}
-use borrow.Author.Needs.{needs}
+use Rattle.parities.proofs.Prelude.{not-false, narrows-for, narrows-refl, needs}
+use Rattle.parities.proofs.Face.{row-some, row-drops}
 use Rattle.parities.proofs.rows.read_row.Statement.{statement}
 use Rattle.parities.proofs.rows.read_row.Tie as tie
 

@@ -1,11 +1,6 @@
 -- The loop carries that the state narrows for the rows. The measure is how many are left.
-use Prim.Native.Nat.{_-_}
-use Rattle.atoms.proofs.Digits.{digit-lt}
-use Rattle.states.specs.Narrowing.{Narrows}
-use Rattle.states.proofs.Narrows.{narrows-refl}
-use Rattle.parities.specs.Rows.{ROWS, RowsHold}
-use Rattle.parities.proofs.SummedRows.{rows-more}
-use borrow.Author.Needs.{needs}
+use Rattle.parities.proofs.Prelude.{_-_, digit-lt, Narrows, narrows-refl, SUM_ROWS, RowsHold, needs}
+use Rattle.parities.proofs.Face.{rows-more}
 use Rattle.parities.proofs.rows.read_rows.Statement.{statement}
 use Rattle.parities.proofs.rows.read_rows.Tie as tie
 
@@ -13,7 +8,7 @@ abbrev Inv-loop : tie.InvT-loop
 Inv-loop words bits t₀ row₀ t row = Narrows (RowsHold words bits) t₀ t
 
 abbrev μ-loop : tie.MeasureT-loop
-μ-loop words bits t₀ row₀ t row = ROWS - row
+μ-loop words bits t₀ row₀ t row = SUM_ROWS - row
 
 pub read-rows-spec : {M : Type 1} → statement M
 read-rows-spec =

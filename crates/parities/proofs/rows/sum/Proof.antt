@@ -1,6 +1,6 @@
 -- The atoms that are in one of the words.
-use Rattle.parities.proofs.SummedRows.{sum-is}
-use borrow.Author.Needs.{needs}
+use Rattle.parities.proofs.Prelude.{needs}
+use Rattle.parities.proofs.Face.{sum-is}
 use Rattle.parities.proofs.rows.sum.Statement.{statement}
 use Rattle.parities.proofs.rows.sum.Tie as tie
 

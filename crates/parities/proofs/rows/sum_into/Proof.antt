@@ -1,6 +1,6 @@
 -- Nothing changes, or one row is added.
-use Rattle.parities.proofs.SummedRows.{same-rows-refl}
-use borrow.Author.Needs.{needs}
+use Rattle.parities.proofs.Prelude.{needs}
+use Rattle.parities.proofs.Face.{same-rows-refl}
 use Rattle.parities.proofs.rows.sum_into.Statement.{statement}
 use Rattle.parities.proofs.rows.sum_into.Tie as tie
 

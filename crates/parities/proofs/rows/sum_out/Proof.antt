@@ -1,8 +1,6 @@
 -- The loop carries that the rows are the same. The measure is how many are left.
-use Prim.Native.Nat.{_-_}
-use Rattle.parities.specs.Rows.{ROWS, SameRows}
-use Rattle.parities.proofs.SummedRows.{same-rows-refl, same-rows-trans}
-use borrow.Author.Needs.{needs}
+use Rattle.parities.proofs.Prelude.{_-_, SUM_ROWS, SameRows, needs}
+use Rattle.parities.proofs.Face.{same-rows-refl, same-rows-trans}
 use Rattle.parities.proofs.rows.sum_out.Statement.{statement}
 use Rattle.parities.proofs.rows.sum_out.Tie as tie
 
@@ -10,7 +8,7 @@ abbrev Inv-loop : tie.InvT-loop
 Inv-loop words₀ bits row word atom sums₀ to₀ words sums to = SameRows words₀ sums₀ words sums
 
 abbrev μ-loop : tie.MeasureT-loop
-μ-loop words₀ bits row word atom sums₀ to₀ words sums to = ROWS - to
+μ-loop words₀ bits row word atom sums₀ to₀ words sums to = SUM_ROWS - to
 
 pub sum-out-spec : {M : Type 1} → statement M
 sum-out-spec =

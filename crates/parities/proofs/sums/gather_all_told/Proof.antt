@@ -1,18 +1,12 @@
 -- The loop carries that the rows are right. The measure is how many rules are left.
-use lib.Count.{ones}
-use Rattle.atoms.proofs.Counts.{taken-less}
-use Rattle.atoms.proofs.TakenNumbers.{Carrying, carrying-start, carrying-next, taken-lent}
-use Rattle.answer_sets.specs.Program.{SatisfiesAll}
-use Rattle.answer_sets.specs.Lent.{lent}
-use Rattle.parities.specs.Rows.{Gathered}
-use Rattle.parities.proofs.SummedRows.{gathered-refl, gathered-trans, gathered-for}
-use borrow.Author.Needs.{needs}
+use Rattle.parities.proofs.Prelude.{ones, taken-less, Carrying, carrying-start, carrying-next, taken-lent, SatisfiesAll, lent, RowsGathered, needs}
+use Rattle.parities.proofs.Face.{gathered-refl, gathered-trans, gathered-for}
 use Rattle.parities.proofs.sums.gather_all_told.Statement.{statement}
 use Rattle.parities.proofs.sums.gather_all_told.Tie as tie
 
 abbrev Inv-loop : tie.InvT-loop
 Inv-loop rules which s words₀ bits sums₀ rest₀ words sums rest =
-    Carrying rest₀ rest (Gathered (SatisfiesAll (lent rules) which) s words₀ sums₀ words sums)
+    Carrying rest₀ rest (RowsGathered (SatisfiesAll (lent rules) which) s words₀ sums₀ words sums)
 
 abbrev μ-loop : tie.MeasureT-loop
 μ-loop rules which s words₀ bits sums₀ rest₀ words sums rest = ones rest

@@ -1,7 +1,6 @@
 -- The row of a parity table is right where its pilot follows it.
-use borrow.Author.Tests.{not-false}
-use Rattle.parities.proofs.SummedRows.{gathered-refl, row-put, gathered-row, row-bit-small, open-bit-small}
-use borrow.Author.Needs.{needs}
+use Rattle.parities.proofs.Prelude.{not-false, needs}
+use Rattle.parities.proofs.Face.{gathered-refl, row-put, gathered-row, row-bit-small, open-bit-small}
 use Rattle.parities.proofs.sums.gather_row.Statement.{statement}
 use Rattle.parities.proofs.sums.gather_row.Tie as tie
 

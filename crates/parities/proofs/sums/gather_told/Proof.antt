@@ -1,8 +1,6 @@
 -- The row of a use that fails is right where the rule is satisfied.
-use borrow.Author.Tests.{not-false}
-use Rattle.parities.proofs.SummedRows.{gathered-refl, row-put, open-bit-small}
-use Rattle.parities.proofs.ToldRows.{some-use, use-small, same-use, use-bit-small, told-row}
-use borrow.Author.Needs.{needs}
+use Rattle.parities.proofs.Prelude.{not-false, needs}
+use Rattle.parities.proofs.Face.{gathered-refl, row-put, open-bit-small, some-use, use-small, same-use, use-bit-small, told-row}
 use Rattle.parities.proofs.sums.gather_told.Statement.{statement}
 use Rattle.parities.proofs.sums.gather_told.Tie as tie
 

@@ -1,7 +1,6 @@
 -- The open atoms, and the count of those that are up.
-use Rattle.atoms.proofs.Counts.{counts-small}
-use Rattle.parities.proofs.SummedRows.{open-is}
-use borrow.Author.Needs.{needs}
+use Rattle.parities.proofs.Prelude.{counts-small, needs}
+use Rattle.parities.proofs.Face.{open-is}
 use Rattle.parities.proofs.sums.open_row.Statement.{statement}
 use Rattle.parities.proofs.sums.open_row.Tie as tie
 

@@ -1,6 +1,6 @@
 -- The rows are right, so are their sums, and what these tell keeps every position whose pilots follow and which satisfies the rules.
-use Rattle.parities.proofs.SummedRows.{rows-narrow}
-use borrow.Author.Needs.{needs}
+use Rattle.parities.proofs.Prelude.{needs}
+use Rattle.parities.proofs.Face.{rows-narrow}
 use Rattle.parities.proofs.sums.sum_step.Statement.{statement}
 use Rattle.parities.proofs.sums.sum_step.Tie as tie
 

@@ -1,6 +1,6 @@
 -- The two words of the table and its pilot.
-use Rattle.parities.proofs.SummedRows.{row-is}
-use borrow.Author.Needs.{needs}
+use Rattle.parities.proofs.Prelude.{needs}
+use Rattle.parities.proofs.Face.{row-is}
 use Rattle.parities.proofs.sums.table_row.Statement.{statement}
 use Rattle.parities.proofs.sums.table_row.Tie as tie
 

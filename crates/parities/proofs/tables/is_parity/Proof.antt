@@ -1,7 +1,6 @@
 -- There are too many inputs, or the truth word is one of two words or not.
-use Rattle.parities.proofs.ParityTables.{rows-fit, too-many, is-odd, may-be-even}
-use mathlib.Core.Path.{refl}
-use borrow.Author.Needs.{needs}
+use Rattle.parities.proofs.Prelude.{refl, needs}
+use Rattle.parities.proofs.Face.{rows-fit, too-many, is-odd, may-be-even}
 use Rattle.parities.proofs.tables.is_parity.Statement.{statement}
 use Rattle.parities.proofs.tables.is_parity.Tie as tie
 

@@ -1,6 +1,6 @@
 -- The tables are lent, the pilot is one atom, and the truth word is a parity.
-use Rattle.parities.proofs.ParityTables.{not-lent, not-piloted, piloted-parity}
-use borrow.Author.Needs.{needs}
+use Rattle.parities.proofs.Prelude.{needs}
+use Rattle.parities.proofs.Face.{not-lent, not-piloted, piloted-parity}
 use Rattle.parities.proofs.tables.is_parity_table.Statement.{statement}
 use Rattle.parities.proofs.tables.is_parity_table.Tie as tie
 

@@ -1,8 +1,6 @@
 -- The loop gathers the atoms of the tables. The measure is how many are left.
-use lib.Count.{ones}
-use Rattle.atoms.proofs.Counts.{taken-less}
-use Rattle.parities.proofs.ParityTables.{Gathering, gathering-start, gathering-lent, gathering-next, gathering-end}
-use borrow.Author.Needs.{needs}
+use Rattle.parities.proofs.Prelude.{ones, taken-less, needs}
+use Rattle.parities.proofs.Face.{Gathering, gathering-start, gathering-lent, gathering-next, gathering-end}
 use Rattle.parities.proofs.tables.parity_atoms.Statement.{statement}
 use Rattle.parities.proofs.tables.parity_atoms.Tie as tie
 

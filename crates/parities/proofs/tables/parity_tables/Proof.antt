@@ -1,9 +1,6 @@
 -- The loop carries the word of those tables that are done. The measure is how many are left.
-use Prim.Native.Nat.{_-_}
-use Rattle.plan.specs.Limits.{MAX_TABLES}
-use Rattle.parities.specs.Parity.{ParityTable}
-use Rattle.parities.proofs.ParityTables.{Found, found-none, found-next, found-all}
-use borrow.Author.Needs.{needs}
+use Rattle.parities.proofs.Prelude.{_-_, MAX_TABLES, ParityTable, needs}
+use Rattle.parities.proofs.Face.{Found, found-none, found-next, found-all}
 use Rattle.parities.proofs.tables.parity_tables.Statement.{statement}
 use Rattle.parities.proofs.tables.parity_tables.Tie as tie
 

@@ -1,8 +1,6 @@
 -- Two words within the state's.
-use mathlib.Core.Bool.{false≢true}
-use borrow.Author.Tests.{not-false}
-use Rattle.parities.proofs.ToldRows.{held-when}
-use borrow.Author.Needs.{needs}
+use Rattle.parities.proofs.Prelude.{false≢true, not-false, needs}
+use Rattle.parities.proofs.Face.{held-when}
 use Rattle.parities.proofs.told.is_held.Statement.{statement}
 use Rattle.parities.proofs.told.is_held.Tie as tie
 

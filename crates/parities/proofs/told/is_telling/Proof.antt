@@ -1,7 +1,6 @@
 -- The rule has a head, or makes no use, several, or one, of a table that is a parity or not.
-use borrow.Author.Tests.{not-true, not-false}
-use Rattle.parities.proofs.ToldRows.{some-head, no-use, several-uses, one-use, use-small}
-use borrow.Author.Needs.{needs}
+use Rattle.parities.proofs.Prelude.{not-true, not-false, needs}
+use Rattle.parities.proofs.Face.{some-head, no-use, several-uses, one-use, use-small}
 use Rattle.parities.proofs.told.is_telling.Statement.{statement}
 use Rattle.parities.proofs.told.is_telling.Tie as tie
 

@@ -1,8 +1,6 @@
 -- The loop gathers the atoms of the rules. The measure is how many are left.
-use lib.Count.{ones}
-use Rattle.atoms.proofs.Counts.{taken-less}
-use Rattle.parities.proofs.ToldRows.{GatheringTold, told-start, told-numbered, told-next, told-end}
-use borrow.Author.Needs.{needs}
+use Rattle.parities.proofs.Prelude.{ones, taken-less, needs}
+use Rattle.parities.proofs.Face.{GatheringTold, told-start, told-numbered, told-next, told-end}
 use Rattle.parities.proofs.told.telling_atoms.Statement.{statement}
 use Rattle.parities.proofs.told.telling_atoms.Tie as tie
 

@@ -1,15 +1,11 @@
 -- The loop carries the word of those rules that are done. The measure is how many are left.
-use lib.Count.{ones}
-use Rattle.atoms.proofs.Counts.{taken-less}
-use Rattle.atoms.proofs.TakenNumbers.{taken-lent}
-use Rattle.parities.specs.Told.{Tells}
-use Rattle.parities.proofs.ToldRows.{Chosen, chosen-start, chosen-next, chosen-end}
-use borrow.Author.Needs.{needs}
+use Rattle.parities.proofs.Prelude.{ones, taken-less, taken-lent, TellsParity, needs}
+use Rattle.parities.proofs.Face.{Chosen, chosen-start, chosen-next, chosen-end}
 use Rattle.parities.proofs.told.telling_rules.Statement.{statement}
 use Rattle.parities.proofs.told.telling_rules.Tie as tie
 
 abbrev Inv-loop : tie.InvT-loop
-Inv-loop rules which telling₀ rest₀ telling rest = Chosen (Tells rules) which rest telling
+Inv-loop rules which telling₀ rest₀ telling rest = Chosen (TellsParity rules) which rest telling
 
 abbrev μ-loop : tie.MeasureT-loop
 μ-loop rules which telling₀ rest₀ telling rest = ones rest

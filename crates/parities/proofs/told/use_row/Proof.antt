@@ -1,6 +1,6 @@
 -- The table's inputs, and its answer by the use's sign.
-use Rattle.parities.proofs.ToldRows.{use-row-is}
-use borrow.Author.Needs.{needs}
+use Rattle.parities.proofs.Prelude.{needs}
+use Rattle.parities.proofs.Face.{use-row-is}
 use Rattle.parities.proofs.told.use_row.Statement.{statement}
 use Rattle.parities.proofs.told.use_row.Tie as tie
 

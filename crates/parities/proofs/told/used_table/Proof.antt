@@ -1,6 +1,5 @@
 -- The first half of the uses wants tables true, the second half false.
-use borrow.Author.Needs.{needs}
-use Rattle.answer_sets.proofs.Bodies.{table-first, table-second}
+use Rattle.parities.proofs.Prelude.{needs, table-first, table-second}
 use Rattle.parities.proofs.told.used_table.Statement.{statement}
 use Rattle.parities.proofs.told.used_table.Tie as tie
 

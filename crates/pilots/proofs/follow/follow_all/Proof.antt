@@ -1,9 +1,6 @@
 -- The loop carries that the tables so far are followed.
-use Prim.Native.Nat.{_-_}
-use borrow.Author.Tests.{not-true, not-false}
-use Rattle.plan.specs.Limits.{MAX_TABLES}
-use Rattle.pilots.proofs.FollowedTables.{Followed, followed-start, followed-next, followed-end, not-followed, none-follow}
-use borrow.Author.Needs.{needs}
+use Rattle.pilots.proofs.Prelude.{_-_, not-true, not-false, MAX_TABLES, needs}
+use Rattle.pilots.proofs.Face.{Followed, followed-start, followed-next, followed-end, not-followed, none-follow}
 use Rattle.pilots.proofs.follow.follow_all.Statement.{statement}
 use Rattle.pilots.proofs.follow.follow_all.Tie as tie
 

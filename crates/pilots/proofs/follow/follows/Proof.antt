@@ -1,8 +1,6 @@
 -- The one row that is left tells what the table says.
-use mathlib.Core.Path.{sym, _∙_}
-use Rattle.atoms.proofs.Sets.{decides-subset}
-use Rattle.pilots.proofs.FollowedTables.{follows-nothing, row-true, row-false, follows-true, follows-false}
-use borrow.Author.Needs.{needs}
+use Rattle.pilots.proofs.Prelude.{sym, _∙_, decides-subset, needs}
+use Rattle.pilots.proofs.Face.{follows-nothing, row-true, row-false, follows-true, follows-false}
 use Rattle.pilots.proofs.follow.follows.Statement.{statement}
 use Rattle.pilots.proofs.follow.follows.Tie as tie
 

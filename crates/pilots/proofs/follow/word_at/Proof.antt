@@ -1,8 +1,5 @@
 -- Behind the end there is none.
-use mathlib.Core.Path.{sym}
-use denote.Ref.{now}
-use lib.ListN.{List·getD-eq-default}
-use borrow.Author.Needs.{needs}
+use Rattle.pilots.proofs.Prelude.{sym, now, List·getD-eq-default, needs}
 use Rattle.pilots.proofs.follow.word_at.Statement.{statement}
 use Rattle.pilots.proofs.follow.word_at.Tie as tie
 

@@ -1,10 +1,6 @@
 -- The loop gathers the pilots. The measure is how many tables are left.
-use Prim.Native.Nat.{_-_, _≤_}
-use native.Mathlib.Omega.{arith}
-use denote.Ref.{now}
-use Rattle.plan.specs.Limits.{MAX_TABLES}
-use Rattle.pilots.proofs.Linking.{NoneBelow, none-start, none-next, none-end}
-use borrow.Author.Needs.{needs}
+use Rattle.pilots.proofs.Prelude.{_-_, _≤_, arith, now, MAX_TABLES, needs}
+use Rattle.pilots.proofs.Face.{NoneBelow, none-start, none-next, none-end}
 use Rattle.pilots.proofs.link.are_none.Statement.{statement}
 use Rattle.pilots.proofs.link.are_none.Tie as tie
 

@@ -1,9 +1,5 @@
 -- Both are tested.
-use mathlib.Core.Bool.{true≢false}
-use mathlib.Core.Path.{sym}
-use native.Mathlib.Omega.{arith}
-use borrow.Author.Needs.{needs}
-use Rattle.atoms.proofs.Tests.{decides-iff}
+use Rattle.pilots.proofs.Prelude.{true≢false, sym, arith, needs, decides-iff}
 use Rattle.pilots.proofs.link.is_plain.Statement.{statement}
 use Rattle.pilots.proofs.link.is_plain.Tie as tie
 

@@ -1,9 +1,6 @@
 -- The tables are copied and the rules linked; without room for the tables no rule is numbered.
-use Prim.Native.Nat.{_^_, _<_}
-use native.Mathlib.Omega.{arith}
-use Rattle.atoms.specs.Word.{ATOMS}
-use Rattle.pilots.proofs.Linking.{lent-linked, linked-none, linked-copy, linked-all}
-use borrow.Author.Needs.{needs}
+use Rattle.pilots.proofs.Prelude.{_^_, _<_, arith, ATOMS, needs}
+use Rattle.pilots.proofs.Face.{lent-linked, linked-none, linked-copy, linked-all}
 use Rattle.pilots.proofs.link.link.Statement.{statement}
 use Rattle.pilots.proofs.link.link.Tie as tie
 

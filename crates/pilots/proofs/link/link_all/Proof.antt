@@ -1,10 +1,7 @@
 -- The loop carries that the rules that are done are linked. The measure is how many are left.
-use lib.Count.{ones}
-use native.Mathlib.Omega.{arith}
+use Rattle.pilots.proofs.Prelude.{ones, arith, taken-lent, needs}
+use Rattle.pilots.proofs.Face.{Linking, linking-start, linking-next, linking-end}
 use Rattle.atoms.proofs.Counts.{taken-less}
-use Rattle.atoms.proofs.TakenNumbers.{taken-lent}
-use Rattle.pilots.proofs.Linking.{Linking, linking-start, linking-next, linking-end}
-use borrow.Author.Needs.{needs}
 use Rattle.pilots.proofs.link.link_all.Statement.{statement}
 use Rattle.pilots.proofs.link.link_all.Tie as tie
 

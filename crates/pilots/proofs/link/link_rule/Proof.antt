@@ -1,6 +1,6 @@
 -- The four words are those of the linked rule.
-use Rattle.pilots.proofs.Linking.{rule-linked}
-use borrow.Author.Needs.{needs}
+use Rattle.pilots.proofs.Prelude.{needs}
+use Rattle.pilots.proofs.Face.{rule-linked}
 use Rattle.pilots.proofs.link.link_rule.Statement.{statement}
 use Rattle.pilots.proofs.link.link_rule.Tie as tie
 

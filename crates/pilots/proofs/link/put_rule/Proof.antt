@@ -1,12 +1,6 @@
 -- Each word has its place, and writing one leaves room for the others.
-use mathlib.Core.List.{List}
-use Prim.Native.Nat.{ℕ, _+_}
-use native.Mathlib.Omega.{arith}
-use lib.ListN.{set}
-use denote.Ref.{now}
-use Rattle.answer_sets.specs.Lent.{ruleAt}
-use Rattle.pilots.proofs.Linking.{room}
-use borrow.Author.Needs.{needs}
+use Rattle.pilots.proofs.Prelude.{List, ℕ, _+_, arith, set, now, ruleAt, needs}
+use Rattle.pilots.proofs.Face.{room}
 use Rattle.pilots.proofs.link.put_rule.Statement.{statement}
 use Rattle.pilots.proofs.link.put_rule.Tie as tie
 

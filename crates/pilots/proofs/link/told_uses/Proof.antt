@@ -1,9 +1,6 @@
 -- The loop carries that what is told so far is of tables with a pilot.
-use Prim.Native.Nat.{_-_}
-use Rattle.plan.specs.Limits.{MAX_TABLES}
-use Rattle.pilots.specs.Linked.{ToldUses}
-use Rattle.pilots.proofs.Linking.{told-none}
-use borrow.Author.Needs.{needs}
+use Rattle.pilots.proofs.Prelude.{_-_, MAX_TABLES, ToldUses, needs}
+use Rattle.pilots.proofs.Face.{told-none}
 use Rattle.pilots.proofs.link.told_uses.Statement.{statement}
 use Rattle.pilots.proofs.link.told_uses.Tie as tie
 

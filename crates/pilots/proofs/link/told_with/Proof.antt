@@ -1,6 +1,6 @@
 -- The table has a pilot, and tells both its uses.
-use Rattle.pilots.proofs.Linking.{told-more}
-use borrow.Author.Needs.{needs}
+use Rattle.pilots.proofs.Prelude.{needs}
+use Rattle.pilots.proofs.Face.{told-more}
 use Rattle.pilots.proofs.link.told_with.Statement.{statement}
 use Rattle.pilots.proofs.link.told_with.Tie as tie
 

@@ -1,7 +1,6 @@
 -- The pilot is up, dropped or undecided.
-use Rattle.states.proofs.Narrows.{narrows-refl}
-use Rattle.pilots.proofs.PilotRows.{tested-shared, pilot-up, pilot-dropped}
-use borrow.Author.Needs.{needs}
+use Rattle.pilots.proofs.Prelude.{narrows-refl, needs}
+use Rattle.pilots.proofs.Face.{tested-shared, pilot-up, pilot-dropped}
 use Rattle.pilots.proofs.table_step.table_step.Statement.{statement}
 use Rattle.pilots.proofs.table_step.table_step.Tie as tie
 

@@ -1,6 +1,6 @@
 -- No row is left; or those that are tell of the inputs.
-use Rattle.pilots.proofs.PilotRows.{none-left, inputs-told}
-use borrow.Author.Needs.{needs}
+use Rattle.pilots.proofs.Prelude.{needs}
+use Rattle.pilots.proofs.Face.{none-left, inputs-told}
 use Rattle.pilots.proofs.table_step.tell_inputs.Statement.{statement}
 use Rattle.pilots.proofs.table_step.tell_inputs.Tie as tie
 

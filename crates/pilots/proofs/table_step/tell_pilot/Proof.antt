@@ -1,6 +1,6 @@
 -- All rows that are left are in the truth word, or none is.
-use Rattle.pilots.proofs.PilotRows.{tested-apart, tested-within, all-true, all-false}
-use borrow.Author.Needs.{needs}
+use Rattle.pilots.proofs.Prelude.{needs}
+use Rattle.pilots.proofs.Face.{tested-apart, tested-within, all-true, all-false}
 use Rattle.pilots.proofs.table_step.tell_pilot.Statement.{statement}
 use Rattle.pilots.proofs.table_step.tell_pilot.Tie as tie
 

@@ -1,8 +1,5 @@
 -- A fault's number fits 16 bits.
-use mathlib.Core.Path.{ap₂, _∙_}
-use native.Mathlib.Omega.{arith}
-use borrow.Author.Needs.{needs}
-use Rattle.plan.specs.Faults.{codeOf}
+use Rattle.plan.proofs.Prelude.{ap₂, _∙_, arith, needs, codeOf}
 use Rattle.plan.proofs.Faults.{number-fits}
 use Rattle.plan.proofs.fault.refusal_code.Statement.{statement}
 use Rattle.plan.proofs.fault.refusal_code.Tie as tie

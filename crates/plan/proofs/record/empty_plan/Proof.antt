@@ -1,6 +1,5 @@
 -- `empty_plan` meets its contract: all zero.
-use borrow.Author.Needs.{needs}
-use Rattle.plan.specs.Record.{emptyPlan}
+use Rattle.plan.proofs.Prelude.{needs, emptyPlan}
 use Rattle.plan.proofs.record.empty_plan.Statement.{statement}
 use Rattle.plan.proofs.record.empty_plan.Tie as tie
 

@@ -1,6 +1,5 @@
 -- `with_count` meets its contract: the three numbers and that they are declared, and all else as it was.
-use borrow.Author.Needs.{needs}
-use Rattle.plan.specs.Record.{withCount}
+use Rattle.plan.proofs.Prelude.{needs, withCount}
 use Rattle.plan.proofs.record.with_count.Statement.{statement}
 use Rattle.plan.proofs.record.with_count.Tie as tie
 

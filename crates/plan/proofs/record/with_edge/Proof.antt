@@ -1,6 +1,5 @@
 -- `with_edge` meets its contract.
-use Rattle.plan.specs.Record.{withEdge}
-use borrow.Author.Needs.{needs}
+use Rattle.plan.proofs.Prelude.{withEdge, needs}
 use Rattle.plan.proofs.record.with_edge.Statement.{statement}
 use Rattle.plan.proofs.record.with_edge.Tie as tie
 

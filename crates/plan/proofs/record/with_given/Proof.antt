@@ -1,6 +1,5 @@
 -- `with_given` meets its contract: the word and its count, and all else as it was.
-use borrow.Author.Needs.{needs}
-use Rattle.plan.specs.Record.{withGiven}
+use Rattle.plan.proofs.Prelude.{needs, withGiven}
 use Rattle.plan.proofs.record.with_given.Statement.{statement}
 use Rattle.plan.proofs.record.with_given.Tie as tie
 

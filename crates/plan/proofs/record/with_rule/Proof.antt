@@ -1,6 +1,5 @@
 -- `with_rule` meets its contract: the words stand where the definition puts them.
-use Rattle.plan.specs.Record.{withRule}
-use borrow.Author.Needs.{needs}
+use Rattle.plan.proofs.Prelude.{withRule, needs}
 use Rattle.plan.proofs.record.with_rule.Statement.{statement}
 use Rattle.plan.proofs.record.with_rule.Tie as tie
 

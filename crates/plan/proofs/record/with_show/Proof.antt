@@ -1,6 +1,5 @@
 -- `with_show` meets its contract: the word and its count, and all else as it was.
-use borrow.Author.Needs.{needs}
-use Rattle.plan.specs.Record.{withShow}
+use Rattle.plan.proofs.Prelude.{needs, withShow}
 use Rattle.plan.proofs.record.with_show.Statement.{statement}
 use Rattle.plan.proofs.record.with_show.Tie as tie
 

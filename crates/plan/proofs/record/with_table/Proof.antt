@@ -1,6 +1,5 @@
 -- `with_table` meets its contract: the words stand where the definition puts them.
-use Rattle.plan.specs.Record.{withTable}
-use borrow.Author.Needs.{needs}
+use Rattle.plan.proofs.Prelude.{withTable, needs}
 use Rattle.plan.proofs.record.with_table.Statement.{statement}
 use Rattle.plan.proofs.record.with_table.Tie as tie
 

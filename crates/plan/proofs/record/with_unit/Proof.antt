@@ -1,6 +1,5 @@
 -- `with_unit` meets its contract: its word stands behind the units that are there.
-use Rattle.plan.specs.Record.{withUnit}
-use borrow.Author.Needs.{needs}
+use Rattle.plan.proofs.Prelude.{withUnit, needs}
 use Rattle.plan.proofs.record.with_unit.Statement.{statement}
 use Rattle.plan.proofs.record.with_unit.Tie as tie
 

@@ -1,6 +1,5 @@
 -- `with_use` meets its contract.
-use Rattle.plan.specs.Record.{withUse}
-use borrow.Author.Needs.{needs}
+use Rattle.plan.proofs.Prelude.{withUse, needs}
 use Rattle.plan.proofs.record.with_use.Statement.{statement}
 use Rattle.plan.proofs.record.with_use.Tie as tie
 

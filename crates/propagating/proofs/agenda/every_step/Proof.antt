@@ -1,8 +1,5 @@
 -- Each word is told by its operations.
-use mathlib.Core.Path.{ap, _∙_}
-use Prim.Native.Nat.{ℕ}
-use Rattle.atoms.specs.Word.{_∪_}
-use borrow.Author.Needs.{needs}
+use Rattle.propagating.proofs.Prelude.{ap, _∙_, ℕ, _∪_, needs}
 use Rattle.propagating.proofs.agenda.every_step.Statement.{statement}
 use Rattle.propagating.proofs.agenda.every_step.Tie as tie
 

@@ -1,6 +1,5 @@
 -- One of the three words has a step, or none has.
-use mathlib.Core.Bool.{false≢true}
-use Rattle.atoms.proofs.Tests.{decides-iff, decides-equal}
+use Rattle.propagating.proofs.Prelude.{false≢true, decides-iff, decides-equal}
 use Rattle.propagating.proofs.agenda.is_idle.Statement.{statement}
 use Rattle.propagating.proofs.agenda.is_idle.Tie as tie
 

@@ -1,8 +1,6 @@
 -- No head atom is looped, or all atoms of the rule are handed back.
-use mathlib.Core.Path.{refl, ap₂, _∙_}
-use Rattle.atoms.specs.Word.{_∪_}
-use Rattle.propagating.proofs.WakeIndices.{not-looped, is-looped}
-use borrow.Author.Needs.{needs}
+use Rattle.propagating.proofs.Prelude.{refl, ap₂, _∙_, _∪_, needs}
+use Rattle.propagating.proofs.Face.{not-looped, is-looped}
 use Rattle.propagating.proofs.agenda.looped_rule.Statement.{statement}
 use Rattle.propagating.proofs.agenda.looped_rule.Tie as tie
 

@@ -1,13 +1,7 @@
 -- The loop adds what each rule wakes. The measure is how many are left.
-use mathlib.Core.Path.{_≡_}
-use lib.Count.{ones}
-use borrow.Author.Needs.{needs}
-use Rattle.atoms.specs.Word.{atom}
-use Rattle.atoms.proofs.Counts.{taken-less}
-use Rattle.atoms.proofs.TakenNumbers.{taken-lent}
-use Rattle.narrowing.proofs.MarkedTables.{Adding, adding-start, adding-next, adding-end}
-use Rattle.propagating.specs.Agenda.{FOUNDED_PLACE, WakesFounded}
-use Rattle.propagating.proofs.WakeIndices.{founded-added}
+use Rattle.propagating.proofs.Prelude.{_≡_, ones, needs, atom, taken-less, taken-lent, Adding, adding-start, adding-next, adding-end, FOUNDED_PLACE}
+use Rattle.propagating.proofs.Prelude.{WakesFounded}
+use Rattle.propagating.proofs.Face.{founded-added}
 use Rattle.propagating.proofs.agenda.note_founded.Statement.{statement}
 use Rattle.propagating.proofs.agenda.note_founded.Tie as tie
 

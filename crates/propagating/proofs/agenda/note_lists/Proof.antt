@@ -1,14 +1,7 @@
 -- The loop adds what each list wakes. The measure is how many are left.
-use borrow.Author.Needs.{needs}
-use Prim.Native.Nat.{_<_}
-use native.Mathlib.Omega.{arith}
-use lib.Count.{ones}
-use Rattle.atoms.proofs.Counts.{taken-less}
-use Rattle.atoms.proofs.TakenNumbers.{taken-lt}
-use Rattle.plan.specs.Limits.{MAX_UNITS}
-use Rattle.narrowing.proofs.MarkedTables.{Adding, adding-start, adding-next, adding-end}
-use Rattle.propagating.specs.Agenda.{WakesList}
-use Rattle.propagating.proofs.WakeIndices.{list-added}
+use Rattle.propagating.proofs.Prelude.{needs, _<_, arith, ones, taken-less, taken-lt, MAX_UNITS, Adding, adding-start, adding-next, adding-end}
+use Rattle.propagating.proofs.Prelude.{WakesList}
+use Rattle.propagating.proofs.Face.{list-added}
 use Rattle.propagating.proofs.agenda.note_lists.Statement.{statement}
 use Rattle.propagating.proofs.agenda.note_lists.Tie as tie
 

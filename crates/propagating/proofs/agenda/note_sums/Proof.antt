@@ -1,6 +1,6 @@
 -- Two parity tables or more are noted; fewer are not.
-use Rattle.propagating.proofs.WakeIndices.{sums-added, sums-left}
-use borrow.Author.Needs.{needs}
+use Rattle.propagating.proofs.Prelude.{needs}
+use Rattle.propagating.proofs.Face.{sums-added, sums-left}
 use Rattle.propagating.proofs.agenda.note_sums.Statement.{statement}
 use Rattle.propagating.proofs.agenda.note_sums.Tie as tie
 

@@ -1,11 +1,6 @@
 -- A table that has a pilot is noted; one that has none is not.
-use mathlib.Core.Path.{ap, _∙_}
-use Prim.Native.Nat.{ℕ}
-use denote.Ref.{now}
-use lib.ListN.{getD}
-use Rattle.atoms.specs.Word.{_∪_}
-use Rattle.propagating.proofs.WakeIndices.{table-added, table-left}
-use borrow.Author.Needs.{needs}
+use Rattle.propagating.proofs.Prelude.{ap, _∙_, ℕ, now, getD, _∪_, needs}
+use Rattle.propagating.proofs.Face.{table-added, table-left}
 use Rattle.propagating.proofs.agenda.note_table.Statement.{statement}
 use Rattle.propagating.proofs.agenda.note_table.Tie as tie
 

@@ -1,16 +1,11 @@
 -- The loop adds what each table wakes. The measure is how many are left.
-use Prim.Native.Nat.{_-_, _≤_}
-use native.Mathlib.Omega.{arith}
-use Rattle.plan.specs.Limits.{MAX_TABLES}
-use Rattle.narrowing.specs.Marks.{Adds}
-use Rattle.propagating.specs.Agenda.{WakesTables}
-use Rattle.propagating.proofs.WakeIndices.{tables-start, tables-next, tables-end}
-use borrow.Author.Needs.{needs}
+use Rattle.propagating.proofs.Prelude.{_-_, _≤_, arith, MAX_TABLES, AddsAt, WakesTables, needs}
+use Rattle.propagating.proofs.Face.{tables-start, tables-next, tables-end}
 use Rattle.propagating.proofs.agenda.note_tables.Statement.{statement}
 use Rattle.propagating.proofs.agenda.note_tables.Tie as tie
 
 abbrev Inv-loop : tie.InvT-loop
-Inv-loop linked pilots index₀ t₀ index t = Adds (WakesTables linked pilots t) index₀ index × (t ≤ MAX_TABLES)
+Inv-loop linked pilots index₀ t₀ index t = AddsAt (WakesTables linked pilots t) index₀ index × (t ≤ MAX_TABLES)
 
 abbrev μ-loop : tie.MeasureT-loop
 μ-loop linked pilots index₀ t₀ index t = MAX_TABLES - t

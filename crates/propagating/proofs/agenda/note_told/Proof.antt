@@ -1,6 +1,6 @@
 -- Two constraints that tell or more are noted; fewer are not.
-use Rattle.propagating.proofs.WakeIndices.{told-added, told-left}
-use borrow.Author.Needs.{needs}
+use Rattle.propagating.proofs.Prelude.{needs}
+use Rattle.propagating.proofs.Face.{told-added, told-left}
 use Rattle.propagating.proofs.agenda.note_told.Statement.{statement}
 use Rattle.propagating.proofs.agenda.note_told.Tie as tie
 

@@ -1,11 +1,6 @@
 -- The loop gathers the places of the tables below t. The measure is how many are left.
-use Prim.Native.Nat.{_-_, _≤_}
-use native.Mathlib.Omega.{arith}
-use Rattle.atoms.specs.Collected.{Collects}
-use Rattle.plan.specs.Limits.{MAX_TABLES}
-use Rattle.propagating.specs.Agenda.{TablePlace}
-use Rattle.propagating.proofs.WakeIndices.{places-start, places-next, places-end}
-use borrow.Author.Needs.{needs}
+use Rattle.propagating.proofs.Prelude.{_-_, _≤_, arith, Collects, MAX_TABLES, TablePlace, needs}
+use Rattle.propagating.proofs.Face.{places-start, places-next, places-end}
 use Rattle.propagating.proofs.agenda.table_places.Statement.{statement}
 use Rattle.propagating.proofs.agenda.table_places.Tie as tie
 

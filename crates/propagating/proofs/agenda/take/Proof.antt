@@ -1,7 +1,5 @@
 -- The word that the step was on has one fewer.
-use native.Mathlib.Omega.{arith}
-use Rattle.atoms.proofs.Counts.{taken-less}
-use borrow.Author.Needs.{needs}
+use Rattle.propagating.proofs.Prelude.{arith, taken-less, needs}
 use Rattle.propagating.proofs.agenda.take.Statement.{statement}
 use Rattle.propagating.proofs.agenda.take.Tie as tie
 

@@ -1,9 +1,5 @@
 -- The measure is how many atoms are left.
-use Prim.Native.Nat.{_≤_}
-use lib.Count.{ones}
-use borrow.Author.Needs.{needs}
-use Rattle.atoms.specs.Word.{ATOMS}
-use Rattle.atoms.proofs.Counts.{taken-less}
+use Rattle.propagating.proofs.Prelude.{_≤_, ones, needs, ATOMS, taken-less}
 use Rattle.propagating.proofs.agenda.wake.Statement.{statement}
 use Rattle.propagating.proofs.agenda.wake.Tie as tie
 

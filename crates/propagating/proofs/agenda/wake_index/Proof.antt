@@ -1,9 +1,7 @@
 -- Six parts, from zeros on.
-use mathlib.Core.Path.{refl}
+use Rattle.propagating.proofs.Prelude.{refl, INDEX_WORDS, needs}
+use Rattle.propagating.proofs.Face.{index-of}
 use Rattle.narrowing.proofs.BackedAtoms.{zeros-at}
-use Rattle.propagating.specs.Agenda.{INDEX_WORDS}
-use Rattle.propagating.proofs.WakeIndices.{index-of}
-use borrow.Author.Needs.{needs}
 use Rattle.propagating.proofs.agenda.wake_index.Statement.{statement}
 use Rattle.propagating.proofs.agenda.wake_index.Tie as tie
 

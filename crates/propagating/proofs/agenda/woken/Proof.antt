@@ -1,6 +1,6 @@
 -- The agenda is empty, as it was, or atoms were decided.
-use Rattle.propagating.proofs.Agendas.{woken-none, woken-new}
-use borrow.Author.Needs.{needs}
+use Rattle.propagating.proofs.Prelude.{needs}
+use Rattle.propagating.proofs.Face.{woken-none, woken-new}
 use Rattle.propagating.proofs.agenda.woken.Statement.{statement}
 use Rattle.propagating.proofs.agenda.woken.Tie as tie
 

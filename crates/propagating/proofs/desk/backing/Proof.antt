@@ -1,9 +1,5 @@
 -- They are some of the rules.
-use mathlib.Core.Path.{_≡_}
-use Prim.Native.Nat.{ℕ}
-use Rattle.atoms.specs.Word.{_⊆_, _∩_}
-use Rattle.atoms.proofs.Sets.{cut-left}
-use borrow.Author.Needs.{needs}
+use Rattle.propagating.proofs.Prelude.{_≡_, ℕ, _⊆_, _∩_, cut-left, needs}
 use Rattle.propagating.proofs.desk.backing.Statement.{statement}
 use Rattle.propagating.proofs.desk.backing.Tie as tie
 

@@ -1,6 +1,6 @@
 -- The desk is put together of five parts, and each stands where it is looked for.
-use Rattle.propagating.proofs.Desks.{laid-out}
-use borrow.Author.Needs.{needs}
+use Rattle.propagating.proofs.Prelude.{needs}
+use Rattle.propagating.proofs.Face.{laid-out}
 use Rattle.propagating.proofs.desk.lay_out.Statement.{statement}
 use Rattle.propagating.proofs.desk.lay_out.Tie as tie
 

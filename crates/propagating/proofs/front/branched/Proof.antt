@@ -1,6 +1,5 @@
 -- The front is moved to where the atom is decided.
-use mathlib.Core.Path.{_∙_}
-use borrow.Author.Needs.{needs}
+use Rattle.propagating.proofs.Prelude.{_∙_, needs}
 use Rattle.propagating.proofs.front.branched.Statement.{statement}
 use Rattle.propagating.proofs.front.branched.Tie as tie
 

@@ -1,16 +1,7 @@
 -- The loop carries what is promised of the front so far. The measure is how many pairs are left.
-use borrow.Author.Needs.{needs}
-use Prim.Native.Nat.{_+_, _-_}
-use lib.ListN.{length}
-use mathlib.Core.Path.{_≡_}
-use Rattle.states.specs.Narrowing.{Narrows}
-use Rattle.states.proofs.Narrows.{narrows-refl, narrows-trans}
-use Rattle.learning.specs.Store.{RING}
+use Rattle.propagating.proofs.Prelude.{needs, _+_, _-_, length, _≡_, Narrows, narrows-refl, narrows-trans, RING, Wired, Filtered, filtered-narrows}
 use Rattle.learning.specs.Reason.{Remembers}
 use Rattle.learning.proofs.Reasons.{remembers-same, remembers-keeps, remembered-narrows}
-use Rattle.propagating.specs.Desk.{Wired}
-use Rattle.joining.specs.Filter.{Filtered}
-use Rattle.joining.proofs.Filters.{filtered-narrows}
 use Rattle.propagating.proofs.propagate.propagate.Statement.{statement}
 use Rattle.propagating.proofs.propagate.propagate.Tie as tie
 

@@ -1,19 +1,8 @@
 -- The loop carries that the state so far narrows the first one, that the filter has each entry that may still be joined, and that the pairs
 -- stay. The measure is 193 for each undecided atom and one for each step on the agenda.
-use Prim.Native.Nat.{_+_, _*_}
-use native.Mathlib.Omega.{arith}
-use lib.Count.{ones}
-use borrow.Author.Tests.{not-true}
-use Rattle.states.specs.State.{undecided}
-use Rattle.states.specs.Narrowing.{Narrows}
-use Rattle.states.proofs.Narrows.{narrows-refl, narrows-trans}
-use Rattle.learning.specs.Store.{SamePairs}
-use Rattle.learning.proofs.Stores.{same-pairs, same-trans}
-use Rattle.propagating.specs.Desk.{Wired}
-use Rattle.joining.specs.Filter.{Filtered}
-use Rattle.propagating.specs.Agenda.{weight}
-use Rattle.propagating.proofs.Agendas.{propagation-falls}
-use borrow.Author.Needs.{needs}
+use Rattle.propagating.proofs.Prelude.{_+_, _*_, arith, ones, not-true, undecided, Narrows, narrows-refl, narrows-trans, SamePairs, same-pairs}
+use Rattle.propagating.proofs.Prelude.{same-trans, Wired, Filtered, weight, needs}
+use Rattle.propagating.proofs.Face.{propagation-falls}
 use Rattle.propagating.proofs.propagate.run_agenda.Statement.{statement}
 use Rattle.propagating.proofs.propagate.run_agenda.Tie as tie
 

@@ -1,9 +1,6 @@
 -- The pair is one that is avoided, so that a copy of it may be kept.
-use native.Mathlib.Omega.{arith}
+use Rattle.propagating.proofs.Prelude.{arith, keeps-refl, narrows-refl, needs}
 use Rattle.learning.proofs.HeededSteps.{pair-narrows, copied-keeps}
-use Rattle.learning.proofs.Stores.{keeps-refl}
-use Rattle.states.proofs.Narrows.{narrows-refl}
-use borrow.Author.Needs.{needs}
 use Rattle.propagating.proofs.propagate.take_pair.Statement.{statement}
 use Rattle.propagating.proofs.propagate.take_pair.Tie as tie
 

@@ -1,13 +1,8 @@
 -- Each kind of step tells of what belongs to the list. A step on rules leaves the filter as it is; a list's step narrows it.
-use native.Mathlib.Omega.{arith}
-use Rattle.joining.proofs.JoinedLists.{joinable-some}
-use Rattle.joining.proofs.Filters.{filtered-narrows}
+use Rattle.propagating.proofs.Prelude.{arith, joinable-some, filtered-narrows, MAX_TABLES, _<_, needs}
+use Rattle.propagating.proofs.Face.{pilot-at, pilots-long}
 use Rattle.propagating.proofs.Propagation.{lists-narrow, rules-narrow, linked-narrow, satisfying-wired, table-narrows, sums-narrow}
-use Rattle.plan.specs.Limits.{MAX_TABLES}
-use Prim.Native.Nat.{_<_}
 use Rattle.propagating.proofs.DecodedSteps.{decoded-rule, decoded-atom, decoded-list, decoded-table}
-use Rattle.propagating.proofs.Desks.{pilot-at, pilots-long}
-use borrow.Author.Needs.{needs}
 use Rattle.propagating.proofs.propagate.take_step.Statement.{statement}
 use Rattle.propagating.proofs.propagate.take_step.Tie as tie
 

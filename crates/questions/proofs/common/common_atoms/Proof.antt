@@ -1,7 +1,5 @@
 -- The words are right for the first `at` positions (CommonSoFar).
-use Prim.Native.Nat.{_-_}
-use lib.ListN.{length}
-use borrow.Author.Needs.{needs}
+use Rattle.questions.proofs.Prelude.{_-_, length, needs}
 use Rattle.questions.proofs.CommonAtoms.{CommonSoFar, common-start, common-more, common-end}
 use Rattle.questions.proofs.common.common_atoms.Statement.{statement}
 use Rattle.questions.proofs.common.common_atoms.Tie as tie

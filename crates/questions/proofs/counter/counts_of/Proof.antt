@@ -1,8 +1,6 @@
 -- The counts are right for the first `at` positions (Tally).
-use Prim.Native.Nat.{_-_}
-use lib.ListN.{length}
-use borrow.Author.Needs.{needs}
-use Rattle.questions.proofs.Held.{Tally, tally-start, tally-long, tally-holdable, tally-more, tally-end}
+use Rattle.questions.proofs.Prelude.{_-_, length, needs}
+use Rattle.questions.proofs.Face.{Tally, tally-start, tally-long, tally-holdable, tally-more, tally-end}
 use Rattle.questions.proofs.counter.counts_of.Statement.{statement}
 use Rattle.questions.proofs.counter.counts_of.Tie as tie
 

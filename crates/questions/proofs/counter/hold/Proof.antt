@@ -1,7 +1,6 @@
 -- The position is held against the first i questions (Holding).
-use Prim.Native.Nat.{_-_}
-use borrow.Author.Needs.{needs}
-use Rattle.questions.proofs.Held.{Holding, holding-start, within-now, holding-long, holding-fits, holding-more, holding-end}
+use Rattle.questions.proofs.Prelude.{_-_, needs}
+use Rattle.questions.proofs.Face.{Holding, holding-start, within-now, holding-long, holding-fits, holding-more, holding-end}
 use Rattle.questions.proofs.counter.hold.Statement.{statement}
 use Rattle.questions.proofs.counter.hold.Tie as tie
 

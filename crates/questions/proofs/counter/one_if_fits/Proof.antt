@@ -1,11 +1,6 @@
 -- No atom is in the way exactly if the position fits.
-use mathlib.Core.Path.{ap, ap₂, _∙_}
-use Prim.Native.Nat.{ℕ}
-use lib.Dec.{eqb}
-use borrow.Author.Needs.{needs}
-use Rattle.atoms.specs.Word.{_∪_}
-use Rattle.questions.specs.Counts.{one}
-use Rattle.questions.proofs.Counts.{fits-test, byte-is-one}
+use Rattle.questions.proofs.Prelude.{ap, ap₂, _∙_, ℕ, eqb, needs, _∪_, one}
+use Rattle.questions.proofs.QuestionCounts.{fits-test, byte-is-one}
 use Rattle.questions.proofs.counter.one_if_fits.Statement.{statement}
 use Rattle.questions.proofs.counter.one_if_fits.Tie as tie
 

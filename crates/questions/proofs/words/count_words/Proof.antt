@@ -1,6 +1,6 @@
 -- The callees' promises put together: refused, or the counts filled in.
-use borrow.Author.Needs.{needs}
-use Rattle.questions.proofs.QuestionWords.{whole-third, refused-words, filled-words}
+use Rattle.questions.proofs.Prelude.{needs}
+use Rattle.questions.proofs.Face.{whole-third, refused-words, filled-words}
 use Rattle.questions.proofs.words.count_words.Statement.{statement}
 use Rattle.questions.proofs.words.count_words.Tie as tie
 

@@ -1,7 +1,6 @@
 -- The counts of the first i questions are written (Putting).
-use Prim.Native.Nat.{_-_}
-use borrow.Author.Needs.{needs}
-use Rattle.questions.proofs.QuestionWords.{Putting, putting-start, putting-long, putting-more, putting-end, words-within}
+use Rattle.questions.proofs.Prelude.{_-_, needs}
+use Rattle.questions.proofs.Face.{Putting, putting-start, putting-long, putting-more, putting-end, words-within}
 use Rattle.questions.proofs.words.put_counts.Statement.{statement}
 use Rattle.questions.proofs.words.put_counts.Tie as tie
 

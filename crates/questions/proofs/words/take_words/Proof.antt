@@ -1,8 +1,6 @@
 -- The words of the first i questions are taken out (Taken).
-use Prim.Native.Nat.{_-_}
-use native.Mathlib.Omega.{arith}
-use borrow.Author.Needs.{needs}
-use Rattle.questions.proofs.QuestionWords.{Taken, taken-start, taken-more, taken-end, up-long, dropped-long, words-within}
+use Rattle.questions.proofs.Prelude.{_-_, arith, needs}
+use Rattle.questions.proofs.Face.{Taken, taken-start, taken-more, taken-end, up-long, dropped-long, words-within}
 use Rattle.questions.proofs.words.take_words.Statement.{statement}
 use Rattle.questions.proofs.words.take_words.Tie as tie
 

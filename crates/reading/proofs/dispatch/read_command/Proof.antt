@@ -1,7 +1,6 @@
 -- `read_command` meets its contract: the byte at `at` picks the kind, and the part behind it is what `commandAt` calls the operands.
-use Rattle.reading.proofs.Commands.{no-byte-there, kind-there, no-kind-there}
-use Rattle.reading.specs.Commands.{single, sizes, given, show, table, rule, usage, unit, edge, end}
-use borrow.Author.Needs.{needs}
+use Rattle.reading.proofs.Prelude.{single, sizes, given, show, table, rule, usage, unit, edge, end, needs}
+use Rattle.reading.proofs.Face.{no-byte-there, kind-there, no-kind-there}
 use Rattle.reading.proofs.dispatch.read_command.Statement.{statement}
 use Rattle.reading.proofs.dispatch.read_command.Tie as tie
 

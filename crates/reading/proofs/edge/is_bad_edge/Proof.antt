@@ -1,8 +1,6 @@
 -- `is_bad_edge` meets its contract, test by test; a repeat is the edge's atom in its row.
-use borrow.Author.Tests.{le-leb, lt-leb, eq-eqb, ne-eqb}
-use Rattle.reading.proofs.Edges.{has-by-subset}
-use Rattle.reading.specs.Commands.{badEdge}
-use borrow.Author.Needs.{needs}
+use Rattle.reading.proofs.Prelude.{le-leb, lt-leb, eq-eqb, ne-eqb, badEdge, needs}
+use Rattle.reading.proofs.Face.{has-by-subset}
 use Rattle.reading.proofs.edge.is_bad_edge.Statement.{statement}
 use Rattle.reading.proofs.edge.is_bad_edge.Tie as tie
 

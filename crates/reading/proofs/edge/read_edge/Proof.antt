@@ -1,6 +1,6 @@
 -- `read_edge` meets its contract: at each return the tests that led there say which row of the fault table fits.
-use borrow.Author.Needs.{needs}
-use Rattle.reading.proofs.RowsInTurn.{late-row, short-row, edge-refused, edge-read}
+use Rattle.reading.proofs.Prelude.{needs}
+use Rattle.reading.proofs.Face.{late-row, short-row, edge-refused, edge-read}
 use Rattle.reading.proofs.edge.read_edge.Statement.{statement}
 use Rattle.reading.proofs.edge.read_edge.Tie as tie
 

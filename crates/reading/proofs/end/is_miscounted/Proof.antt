@@ -1,5 +1,5 @@
 -- `is_miscounted` meets its contract, test by test.
-use borrow.Author.Needs.{needs}
+use Rattle.reading.proofs.Prelude.{needs}
 use Rattle.reading.proofs.Sizes.{not-declared, rules-differ, units-differ, edges-tell}
 use Rattle.reading.proofs.end.is_miscounted.Statement.{statement}
 use Rattle.reading.proofs.end.is_miscounted.Tie as tie

@@ -1,9 +1,5 @@
 -- `read_end` meets its contract: END has no operands, so nothing but a wrong COUNT and a byte behind it stops it.
-use mathlib.Core.Path.{sym, _∙_}
-use borrow.Author.Needs.{needs}
-use lib.Dec.{leb·suc-zero}
-use borrow.Author.Tests.{lt-ltb, le-ltb}
-use Rattle.reading.specs.Commands.{ofKind, carrying}
+use Rattle.reading.proofs.Prelude.{sym, _∙_, needs, leb·suc-zero, lt-ltb, le-ltb, ofKind, carrying}
 use Rattle.reading.proofs.CommandKinds.{end-in-time}
 use Rattle.reading.proofs.end.read_end.Statement.{statement}
 use Rattle.reading.proofs.end.read_end.Tie as tie

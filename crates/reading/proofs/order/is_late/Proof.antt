@@ -1,6 +1,5 @@
 -- `is_late` meets its contract: it asks kind by kind, in the order of kinds; of END none is read.
-use mathlib.Core.Bool.{or-assoc, or-false}
-use Rattle.reading.specs.Commands.{late}
+use Rattle.reading.proofs.Prelude.{or-assoc, or-false, late}
 use Rattle.reading.proofs.order.is_late.Statement.{statement}
 use Rattle.reading.proofs.order.is_late.Tie as tie
 

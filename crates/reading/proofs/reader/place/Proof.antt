@@ -1,6 +1,6 @@
 -- `place` meets its contract.
-use borrow.Author.Needs.{needs}
-use Rattle.reading.proofs.Groups.{place-is}
+use Rattle.reading.proofs.Prelude.{needs}
+use Rattle.reading.proofs.Face.{place-is}
 use Rattle.reading.proofs.reader.place.Statement.{statement}
 use Rattle.reading.proofs.reader.place.Tie as tie
 

@@ -1,12 +1,6 @@
 -- `read_counts` meets its contract: behind a COUNT comes no second one, so one look is enough.
-use mathlib.Core.Path.{refl}
-use native.Mathlib.Omega.{arith}
-use denote.Ref.{now}
-use Rattle.reading.specs.Commands.{single, sizes, given}
-use Rattle.reading.specs.Progress.{Reached}
-use Rattle.reading.proofs.Groups.{start, Turn, taken, taken-fits, taken-there, passed-by}
-use Rattle.reading.proofs.Limits.{empty-fits}
-use borrow.Author.Needs.{needs}
+use Rattle.reading.proofs.Prelude.{refl, arith, now, single, sizes, given, Reached, needs}
+use Rattle.reading.proofs.Face.{start, Turn, taken, taken-fits, taken-there, passed-by, empty-fits}
 use Rattle.reading.proofs.reader.read_counts.Statement.{statement}
 use Rattle.reading.proofs.reader.read_counts.Tie as tie
 

@@ -1,13 +1,7 @@
 -- `read_edges` meets its contract. The invariant: reading on from the place that is reached gives what reading from the start gives.
 -- The measure is what is left of the bytes.
-use mathlib.Core.Path.{refl, sym, _∙_}
-use native.Mathlib.Omega.{arith}
-use Prim.Native.Nat.{_-_}
-use lib.ListN.{length}
-use Rattle.reading.specs.Commands.{edge}
-use Rattle.reading.specs.Progress.{Reached}
-use Rattle.reading.proofs.Groups.{Turn, taken, passed-by, edge-there, next-fits, next-there, next-less}
-use borrow.Author.Needs.{needs}
+use Rattle.reading.proofs.Prelude.{refl, sym, _∙_, arith, _-_, length, edge, Reached, needs}
+use Rattle.reading.proofs.Face.{Turn, taken, passed-by, edge-there, next-fits, next-there, next-less}
 use Rattle.reading.proofs.reader.read_edges.Statement.{statement}
 use Rattle.reading.proofs.reader.read_edges.Tie as tie
 

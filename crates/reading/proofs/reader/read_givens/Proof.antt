@@ -1,8 +1,6 @@
 -- `read_givens` meets its contract: behind a GIVEN comes no second one, so one look is enough.
-use native.Mathlib.Omega.{arith}
-use Rattle.reading.specs.Commands.{single, given}
-use Rattle.reading.proofs.Groups.{passed-by, next-fits, next-there}
-use borrow.Author.Needs.{needs}
+use Rattle.reading.proofs.Prelude.{arith, single, given, needs}
+use Rattle.reading.proofs.Face.{passed-by, next-fits, next-there}
 use Rattle.reading.proofs.reader.read_givens.Statement.{statement}
 use Rattle.reading.proofs.reader.read_givens.Tie as tie
 

@@ -1,8 +1,6 @@
 -- `read_shows` meets its contract: behind a SHOW comes no second one, so one look is enough.
-use native.Mathlib.Omega.{arith}
-use Rattle.reading.specs.Commands.{single, show}
-use Rattle.reading.proofs.Groups.{passed-by, next-fits, next-there}
-use borrow.Author.Needs.{needs}
+use Rattle.reading.proofs.Prelude.{arith, single, show, needs}
+use Rattle.reading.proofs.Face.{passed-by, next-fits, next-there}
 use Rattle.reading.proofs.reader.read_shows.Statement.{statement}
 use Rattle.reading.proofs.reader.read_shows.Tie as tie
 

@@ -1,6 +1,5 @@
 -- `is_empty_rule` meets its contract, test by test.
-use borrow.Author.Tests.{eq-eqb, ne-eqb}
-use Rattle.reading.specs.Commands.{emptyRule}
+use Rattle.reading.proofs.Prelude.{eq-eqb, ne-eqb, emptyRule}
 use Rattle.reading.proofs.rule.is_empty_rule.Statement.{statement}
 use Rattle.reading.proofs.rule.is_empty_rule.Tie as tie
 

@@ -1,10 +1,6 @@
 -- `read_rule` meets its contract: at each return the tests that led there say which row of the fault table fits.
-use borrow.Author.Tests.{le-leb, lt-leb, le-ltb}
-use borrow.Author.Needs.{needs}
-use Rattle.reading.proofs.RowsInTurn.{late-row, full-row, short-row, empty-refused, contradictory-refused}
-use mathlib.Core.Path.{sym, ap, _∙_}
-use mathlib.Core.Bool.{not}
-use Rattle.reading.specs.Commands.{ofKind, contradictory, carrying}
+use Rattle.reading.proofs.Prelude.{le-leb, lt-leb, le-ltb, needs, sym, ap, _∙_, not, ofKind, contradictory, carrying}
+use Rattle.reading.proofs.Face.{late-row, full-row, short-row, empty-refused, contradictory-refused}
 use Rattle.reading.proofs.rule.read_rule.Statement.{statement}
 use Rattle.reading.proofs.rule.read_rule.Tie as tie
 

@@ -1,6 +1,6 @@
 -- `is_bad_table` meets its contract: a truth word above that of all rows has a bit behind them.
+use Rattle.reading.proofs.Prelude.{needs}
 use Rattle.reading.proofs.Tables.{bad-many-inputs, rows-few, bad-above-rows}
-use borrow.Author.Needs.{needs}
 use Rattle.reading.proofs.table.is_bad_table.Statement.{statement}
 use Rattle.reading.proofs.table.is_bad_table.Tie as tie
 

@@ -1,7 +1,6 @@
 -- `read_table` meets its contract: at each return the tests that led there say which row of the fault table fits.
-use borrow.Author.Tests.{le-leb, lt-leb}
-use borrow.Author.Needs.{needs}
-use Rattle.reading.proofs.RowsInTurn.{late-row, full-row, short-row, table-refused, table-read}
+use Rattle.reading.proofs.Prelude.{le-leb, lt-leb, needs}
+use Rattle.reading.proofs.Face.{late-row, full-row, short-row, table-refused, table-read}
 use Rattle.reading.proofs.table.read_table.Statement.{statement}
 use Rattle.reading.proofs.table.read_table.Tie as tie
 

@@ -1,8 +1,6 @@
 -- `is_bad_use` meets its contract, test by test; a repeat is the use's bit in the word of its rule.
-use borrow.Author.Tests.{le-leb, lt-leb, lt-ltb, le-ltb}
-use Rattle.reading.proofs.Edges.{has-by-subset}
-use Rattle.reading.specs.Commands.{badUse}
-use borrow.Author.Needs.{needs}
+use Rattle.reading.proofs.Prelude.{le-leb, lt-leb, lt-ltb, le-ltb, badUse, needs}
+use Rattle.reading.proofs.Face.{has-by-subset}
 use Rattle.reading.proofs.usage.is_bad_use.Statement.{statement}
 use Rattle.reading.proofs.usage.is_bad_use.Tie as tie
 

@@ -1,8 +1,6 @@
 -- `read_word` meets its contract. The loop goes from the highest byte down; its invariant: the word is the number of the bytes
 -- passed, and so below BYTE_VALUES to the power of their count.
-use Prim.Native.Nat.{_+_, _-_}
-use borrow.Author.Needs.{needs}
-use native.Mathlib.Omega.{arith}
+use Rattle.reading.proofs.Prelude.{_+_, _-_, needs, arith}
 use Rattle.reading.proofs.Numbers.{Built, built-none, built-fits, built-more, built-whole}
 use Rattle.reading.proofs.words.read_word.Statement.{statement}
 use Rattle.reading.proofs.words.read_word.Tie as tie

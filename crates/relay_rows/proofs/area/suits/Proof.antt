@@ -1,7 +1,5 @@
 -- By the three tests.
-use borrow.Author.Needs.{needs}
-use native.Mathlib.Omega.{arith}
-use mathlib.Core.Bool.{true≢false, false≢true}
+use Rattle.relay_rows.proofs.Prelude.{needs, arith, true≢false, false≢true}
 use Rattle.relay_rows.proofs.area.suits.Statement.{statement}
 use Rattle.relay_rows.proofs.area.suits.Tie as tie
 

@@ -1,9 +1,6 @@
 -- The first k rows are written (Filling).
-use Prim.Native.Nat.{_-_}
-use borrow.Author.Needs.{needs}
-use Rattle.atoms.specs.Word.{ATOMS}
-use Rattle.relay_rows.specs.Exchange.{exchangedWord}
-use Rattle.relay_rows.proofs.Filling.{Filling, filling-start, filling-room, filling-more, filling-end}
+use Rattle.relay_rows.proofs.Prelude.{_-_, needs, ATOMS, exchangedWord}
+use Rattle.relay_rows.proofs.Face.{Filling, filling-start, filling-room, filling-more, filling-end}
 use Rattle.relay_rows.proofs.block.exchange.Statement.{statement}
 use Rattle.relay_rows.proofs.block.exchange.Tie as tie
 

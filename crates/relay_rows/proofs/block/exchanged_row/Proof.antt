@@ -1,7 +1,6 @@
 -- A row whose number has bit e is a high one, any other a low one.
-use borrow.Author.Needs.{needs}
-use native.Mathlib.Omega.{arith}
-use Rattle.relay_rows.proofs.Exchanging.{half-lt, low-across, high-across, low-word, high-word}
+use Rattle.relay_rows.proofs.Prelude.{needs, arith}
+use Rattle.relay_rows.proofs.Face.{half-lt, low-across, high-across, low-word, high-word}
 use Rattle.relay_rows.proofs.block.exchanged_row.Statement.{statement}
 use Rattle.relay_rows.proofs.block.exchanged_row.Tie as tie
 

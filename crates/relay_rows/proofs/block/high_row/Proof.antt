@@ -1,7 +1,5 @@
 -- By what the cut, the difference and the union give.
-use mathlib.Core.Path.{ap₂, _∙_}
-use borrow.Author.Needs.{needs}
-use Rattle.atoms.specs.Word.{_∪_}
+use Rattle.relay_rows.proofs.Prelude.{ap₂, _∙_, needs, _∪_}
 use Rattle.relay_rows.proofs.block.high_row.Statement.{statement}
 use Rattle.relay_rows.proofs.block.high_row.Tie as tie
 

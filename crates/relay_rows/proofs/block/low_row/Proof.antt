@@ -1,8 +1,5 @@
 -- By what the two cuts and the union give.
-use mathlib.Core.Path.{ap, ap₂, _∙_}
-use Prim.Native.Nat.{ℕ, _*_, _%_, _^_}
-use borrow.Author.Needs.{needs}
-use Rattle.atoms.specs.Word.{_∪_}
+use Rattle.relay_rows.proofs.Prelude.{ap, ap₂, _∙_, ℕ, _*_, _%_, _^_, needs, _∪_}
 use Rattle.relay_rows.proofs.block.low_row.Statement.{statement}
 use Rattle.relay_rows.proofs.block.low_row.Tie as tie
 

@@ -1,7 +1,6 @@
 -- The six rounds, the largest half blocks first (halved-round).
-use native.Mathlib.Omega.{arith}
-use borrow.Author.Needs.{needs}
-use Rattle.relay_rows.proofs.Exchanging.{mask-5, mask-4, mask-3, mask-2, mask-1, mask-0, halved-start, halved-round, crossed}
+use Rattle.relay_rows.proofs.Prelude.{arith, needs}
+use Rattle.relay_rows.proofs.Face.{mask-5, mask-4, mask-3, mask-2, mask-1, mask-0, halved-start, halved-round, crossed}
 use Rattle.relay_rows.proofs.block.turn.Statement.{statement}
 use Rattle.relay_rows.proofs.block.turn.Tie as tie
 

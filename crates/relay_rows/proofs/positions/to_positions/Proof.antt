@@ -1,7 +1,6 @@
 -- Refused where the areas and the count do not suit; else the area is written.
-use borrow.Author.Needs.{needs}
-use borrow.Author.Tests.{not-true, not-false}
-use Rattle.relay_rows.proofs.Rearranging.{answer-refused, answer-written, positions-written}
+use Rattle.relay_rows.proofs.Prelude.{needs, not-true, not-false}
+use Rattle.relay_rows.proofs.Face.{answer-refused, answer-written, positions-written}
 use Rattle.relay_rows.proofs.positions.to_positions.Statement.{statement}
 use Rattle.relay_rows.proofs.positions.to_positions.Tie as tie
 

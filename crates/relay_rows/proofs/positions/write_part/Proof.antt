@@ -1,7 +1,6 @@
 -- Each turned word is the position's (position-part).
-use borrow.Author.Needs.{needs}
-use Rattle.relay_rows.proofs.Scattering.{scattered-same}
-use Rattle.relay_rows.proofs.SheetWords.{position-part}
+use Rattle.relay_rows.proofs.Prelude.{needs}
+use Rattle.relay_rows.proofs.Face.{scattered-same, position-part}
 use Rattle.relay_rows.proofs.positions.write_part.Statement.{statement}
 use Rattle.relay_rows.proofs.positions.write_part.Tie as tie
 

@@ -1,8 +1,6 @@
 -- The parts below q are written (ListParts).
-use Prim.Native.Nat.{_-_}
-use borrow.Author.Needs.{needs}
-use Rattle.relay_rows.specs.Sheet.{ROW_WORDS, positionWord}
-use Rattle.relay_rows.proofs.Scattering.{ListParts, list-parts-start, list-parts-more, list-parts-end}
+use Rattle.relay_rows.proofs.Prelude.{_-_, needs, ROW_WORDS, positionWord}
+use Rattle.relay_rows.proofs.Face.{ListParts, list-parts-start, list-parts-more, list-parts-end}
 use Rattle.relay_rows.proofs.positions.write_positions.Statement.{statement}
 use Rattle.relay_rows.proofs.positions.write_positions.Tie as tie
 

@@ -1,8 +1,6 @@
 -- The parts below q are written (RowParts).
-use Prim.Native.Nat.{_-_}
-use borrow.Author.Needs.{needs}
-use Rattle.relay_rows.specs.Sheet.{ROW_WORDS, rowWord}
-use Rattle.relay_rows.proofs.Scattering.{RowParts, row-parts-start, row-parts-more, row-parts-end}
+use Rattle.relay_rows.proofs.Prelude.{_-_, needs, ROW_WORDS, rowWord}
+use Rattle.relay_rows.proofs.Face.{RowParts, row-parts-start, row-parts-more, row-parts-end}
 use Rattle.relay_rows.proofs.rows.write_rows.Statement.{statement}
 use Rattle.relay_rows.proofs.rows.write_rows.Tie as tie
 

@@ -1,7 +1,6 @@
 -- Each turned word is the row's (row-part).
-use borrow.Author.Needs.{needs}
-use Rattle.relay_rows.proofs.Scattering.{scattered-same}
-use Rattle.relay_rows.proofs.SheetWords.{row-part}
+use Rattle.relay_rows.proofs.Prelude.{needs}
+use Rattle.relay_rows.proofs.Face.{scattered-same, row-part}
 use Rattle.relay_rows.proofs.rows.write_word.Statement.{statement}
 use Rattle.relay_rows.proofs.rows.write_word.Tie as tie
 

@@ -1,9 +1,6 @@
 -- The first k words are read (Reading).
-use Prim.Native.Nat.{_+_, _-_, _*_, _<_}
-use native.Mathlib.Omega.{arith}
-use lib.ListN.{length}
-use borrow.Author.Needs.{needs}
-use Rattle.relay_rows.proofs.Filling.{Reading, reading-start, reading-more, reading-end}
+use Rattle.relay_rows.proofs.Prelude.{_+_, _-_, _*_, _<_, arith, length, needs}
+use Rattle.relay_rows.proofs.Face.{Reading, reading-start, reading-more, reading-end}
 use Rattle.relay_rows.proofs.strided.read_block.Statement.{statement}
 use Rattle.relay_rows.proofs.strided.read_block.Tie as tie
 

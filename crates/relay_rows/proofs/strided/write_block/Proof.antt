@@ -1,10 +1,6 @@
 -- The first k words are written (Scattering).
-use Prim.Native.Nat.{_+_, _-_, _*_, _<_}
-use native.Mathlib.Omega.{arith}
-use lib.ListN.{length, getD}
-use borrow.Author.Needs.{needs}
-use Rattle.atoms.specs.Word.{ATOMS}
-use Rattle.relay_rows.proofs.Scattering.{Scattering, scattering-start, scattering-room, scattering-more, scattering-end}
+use Rattle.relay_rows.proofs.Prelude.{_+_, _-_, _*_, _<_, arith, length, getD, needs, ATOMS}
+use Rattle.relay_rows.proofs.Face.{Scattering, scattering-start, scattering-room, scattering-more, scattering-end}
 use Rattle.relay_rows.proofs.strided.write_block.Statement.{statement}
 use Rattle.relay_rows.proofs.strided.write_block.Tie as tie
 

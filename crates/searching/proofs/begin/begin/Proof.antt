@@ -1,5 +1,5 @@
 -- What propagation tells, and what is learnt on the ways down.
-use borrow.Author.Needs.{needs}
+use Rattle.searching.proofs.Prelude.{needs}
 use Rattle.searching.proofs.begin.begin.Statement.{statement}
 use Rattle.searching.proofs.begin.begin.Tie as tie
 

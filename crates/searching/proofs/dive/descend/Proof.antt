@@ -1,15 +1,6 @@
 -- Where a rule is at a stop nothing is left undecided; else the atom that is decided was, so that fewer are.
-use mathlib.Core.Path.{_≡_}
-use mathlib.Core.Bool.{Bool}
-use denote.Ref.{now}
-use Rattle.atoms.specs.Word.{Has}
-use Rattle.states.specs.Narrowing.{branchOf}
-use Rattle.states.specs.declared.state.State.{State}
-use Rattle.searching.specs.Entered.{GoesOn, further, ended}
-use Rattle.states.specs.State.{undecided}
-use Rattle.joining.proofs.Filters.{filtered-branch, filtered-overlap}
-use Rattle.states.proofs.Branches.{decided-falls, none-falls}
-use borrow.Author.Needs.{needs}
+use Rattle.searching.proofs.Prelude.{_≡_, Bool, now, Has, branchOf, State, GoesOn, further, ended, undecided, filtered-branch, filtered-overlap}
+use Rattle.searching.proofs.Prelude.{decided-falls, none-falls, needs}
 use Rattle.searching.proofs.dive.descend.Statement.{statement}
 use Rattle.searching.proofs.dive.descend.Tie as tie
 

@@ -1,13 +1,6 @@
 -- The loop carries that the memory keeps its promise and that the filter has each entry that may be joined. The measure is how many atoms are
 -- undecided.
-use mathlib.Core.Path.{_≡_, refl}
-use lib.Count.{ones}
-use lib.ListN.{length}
-use Rattle.states.specs.State.{undecided}
-use Rattle.learning.specs.Reason.{Remembers}
-use Rattle.joining.specs.Filter.{Filtered}
-use borrow.Author.Needs.{needs}
-use Rattle.propagating.specs.Desk.{Wired}
+use Rattle.searching.proofs.Prelude.{_≡_, refl, ones, length, undecided, Remembers, Filtered, needs, Wired}
 use Rattle.searching.proofs.dive.dive.Statement.{statement}
 use Rattle.searching.proofs.dive.dive.Tie as tie
 

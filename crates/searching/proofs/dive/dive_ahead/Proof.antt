@@ -1,9 +1,5 @@
 -- The loop carries that the memory keeps its promise. The measure is how many ways down are left.
-use mathlib.Core.Path.{_≡_, refl, _∙_}
-use lib.ListN.{length}
-use Rattle.learning.specs.Reason.{Remembers}
-use borrow.Author.Needs.{needs}
-use Rattle.propagating.specs.Desk.{Wired}
+use Rattle.searching.proofs.Prelude.{_≡_, refl, _∙_, length, Remembers, needs, Wired}
 use Rattle.searching.proofs.dive.dive_ahead.Statement.{statement}
 use Rattle.searching.proofs.dive.dive_ahead.Tie as tie
 

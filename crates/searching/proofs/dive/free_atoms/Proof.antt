@@ -1,6 +1,5 @@
 -- None, or just the undecided ones.
-use mathlib.Core.Path.{refl}
-use borrow.Author.Needs.{needs}
+use Rattle.searching.proofs.Prelude.{refl, needs}
 use Rattle.searching.proofs.dive.free_atoms.Statement.{statement}
 use Rattle.searching.proofs.dive.free_atoms.Tie as tie
 

@@ -1,5 +1,5 @@
 -- What is learnt from the stop is remembered.
-use borrow.Author.Needs.{needs}
+use Rattle.searching.proofs.Prelude.{needs}
 use Rattle.searching.proofs.dive.learn_stop.Statement.{statement}
 use Rattle.searching.proofs.dive.learn_stop.Tie as tie
 

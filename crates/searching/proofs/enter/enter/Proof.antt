@@ -1,5 +1,5 @@
 -- Steps are taken, and what the state then leaves is looked at.
-use borrow.Author.Needs.{needs}
+use Rattle.searching.proofs.Prelude.{needs}
 use Rattle.searching.proofs.enter.enter.Statement.{statement}
 use Rattle.searching.proofs.enter.enter.Tie as tie
 

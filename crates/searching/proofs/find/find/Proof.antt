@@ -1,12 +1,6 @@
 -- Nothing shows, so the list holds one cut at most, and the witness says whether a member was met.
-use mathlib.Core.Path.{sym}
-use mathlib.Core.List.{[]}
-use Rattle.joining.proofs.JoinedLists.{joinable-some}
-use Rattle.joining.proofs.Filters.{full-filtered}
-use Rattle.searching.proofs.Witnesses.{hidden-few}
-use Rattle.searching.proofs.Gathered.{zeros-ordered}
-use Rattle.searching.proofs.ExploredNodes.{explored-witnessed, entered-ready, explored-branch}
-use borrow.Author.Needs.{needs}
+use Rattle.searching.proofs.Prelude.{sym, [], joinable-some, full-filtered, needs}
+use Rattle.searching.proofs.Face.{hidden-few, zeros-ordered, explored-witnessed, entered-ready, explored-branch}
 use Rattle.searching.proofs.find.find.Statement.{statement}
 use Rattle.searching.proofs.find.find.Tie as tie
 

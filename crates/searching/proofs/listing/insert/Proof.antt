@@ -1,12 +1,6 @@
 -- The loop's invariant: what is carried is still to be put among the members from i on. The measure is how many members are left.
-use mathlib.Core.Path.{_≡_, sym, subst, subst₂, _∙_}
-use mathlib.Core.Logic.{⊎-elim}
-use mathlib.Core.List.{List}
-use Prim.Native.Nat.{ℕ, _-_, _+_}
-use denote.Ref.{now}
-use native.Mathlib.Omega.{arith}
-use lib.ListN.{length-set}
-use Rattle.searching.proofs.Insertion.{Passing, passing-start, pass-below, pass-above, pass-same, pass-full, pass-end}
+use Rattle.searching.proofs.Prelude.{_≡_, sym, subst, subst₂, _∙_, ⊎-elim, List, ℕ, _-_, _+_, now, arith, length-set}
+use Rattle.searching.proofs.ListInsertion.{Passing, passing-start, pass-below, pass-above, pass-same, pass-full, pass-end}
 use Rattle.searching.proofs.listing.insert.Statement.{statement}
 use Rattle.searching.proofs.listing.insert.Tie as tie
 

@@ -1,12 +1,6 @@
 -- It joins the lists, and it is an answer set with its input as facts.
-use mathlib.Core.Path.{ap, sym, _∙_}
-use Prim.Native.Nat.{ℕ}
-use denote.Ref.{now}
-use borrow.Author.Tests.{not-true, not-false}
-use Rattle.answer_sets.specs.Lent.{lent}
-use Rattle.answer_sets.specs.Test.{answerSet}
-use Rattle.searching.proofs.SearchSteps.{not-joined, joined-answers}
-use borrow.Author.Needs.{needs}
+use Rattle.searching.proofs.Prelude.{ap, sym, _∙_, ℕ, now, not-true, not-false, lent, answerSet, needs}
+use Rattle.searching.proofs.Face.{not-joined, joined-answers}
 use Rattle.searching.proofs.member.belongs.Statement.{statement}
 use Rattle.searching.proofs.member.belongs.Tie as tie
 

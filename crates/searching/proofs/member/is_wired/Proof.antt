@@ -1,7 +1,6 @@
 -- The pilots follow their tables, and the position belongs to the list.
-use borrow.Author.Tests.{not-true, not-false}
+use Rattle.searching.proofs.Prelude.{not-true, not-false, needs}
 use Rattle.searching.proofs.WiredPositions.{wired-if, not-wired}
-use borrow.Author.Needs.{needs}
 use Rattle.searching.proofs.member.is_wired.Statement.{statement}
 use Rattle.searching.proofs.member.is_wired.Tie as tie
 

@@ -1,9 +1,6 @@
 -- The position's cut is added where the position belongs to the list.
-use denote.Ref.{now}
-use borrow.Author.Tests.{not-true, not-false}
-use Rattle.learning.proofs.Nogoods.{overlap-nogood}
-use Rattle.searching.proofs.SearchSteps.{offer-none, offer-one}
-use borrow.Author.Needs.{needs}
+use Rattle.searching.proofs.Prelude.{now, not-true, not-false, overlap-nogood, needs}
+use Rattle.searching.proofs.Face.{offer-none, offer-one}
 use Rattle.searching.proofs.member.offer.Statement.{statement}
 use Rattle.searching.proofs.member.offer.Tie as tie
 
@@ -17,7 +14,7 @@ returns c =
       test .is-wired .ensures .1,
       offer-none (now (at .list)) (at .node .count) (at .node .shown) (at .node .front .state .up) (start .pre .1)
           (rw (not-true (test .is-wired .result .answers) (at-if1 .if1 .taken)) at (test .is-wired .ensures .0))
-          (c .handed .ensures) (rejected .reject .ensures .0) (rejected .reject .ensures .1),
+          (c .found-of .ensures) (rejected .reject .ensures .0) (rejected .reject .ensures .1),
     )
 
 returns-2 : tie.Need-returns-2
@@ -31,7 +28,7 @@ returns-2 c =
       test .is-wired .ensures .1,
       offer-one (now (at .list)) (at .node .count) (at .node .shown) (at .node .front .state .up) (put .insert .last .0) (start .pre .1)
           (test .is-wired .ensures .0 .yes (not-false (test .is-wired .result .answers) (at-if1 .if1 .left)))
-          (at-cut .cut .ensures) (put .insert .ensures) (c .handed2 .ensures) (start .pre .2) (overlap-nogood (c .before .everything .ensures .0)),
+          (at-cut .cut .ensures) (put .insert .ensures) (c .found-of2 .ensures) (start .pre .2) (overlap-nogood (c .before .everything .ensures .0)),
     )
 
 pub offer-spec : {M : Type 1} → statement M

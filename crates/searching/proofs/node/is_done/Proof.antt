@@ -1,6 +1,6 @@
 -- The list is too long, or the witness tells.
-use Rattle.searching.proofs.Nodes.{finished, finishes-met}
-use borrow.Author.Needs.{needs}
+use Rattle.searching.proofs.Prelude.{needs}
+use Rattle.searching.proofs.Face.{finished, finishes-met}
 use Rattle.searching.proofs.node.is_done.Statement.{statement}
 use Rattle.searching.proofs.node.is_done.Tie as tie
 

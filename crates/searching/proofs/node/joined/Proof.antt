@@ -1,6 +1,5 @@
 -- Put together from both.
-use mathlib.Core.Path.{refl}
-use borrow.Author.Needs.{needs}
+use Rattle.searching.proofs.Prelude.{refl, needs}
 use Rattle.searching.proofs.node.joined.Statement.{statement}
 use Rattle.searching.proofs.node.joined.Tie as tie
 
@@ -11,4 +10,4 @@ joined-spec =
     (λ c κs. search needs)
     (λ c κs. search needs)
     (λ c κs. search needs)
-    (λ c. rw (c .handed .ensures, c .before .either .ensures) (refl, c .before .before .merge .ensures)))
+    (λ c. rw (c .found-of .ensures, c .before .either .ensures) (refl, c .before .before .merge .ensures)))

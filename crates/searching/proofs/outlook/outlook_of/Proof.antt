@@ -1,9 +1,5 @@
 -- An overlap; nothing undecided; or what the choice says.
-use mathlib.Core.Path.{sym, _∙_}
-use mathlib.Core.Logic.{inl, inr}
-use borrow.Author.Tests.{not-true, not-false}
-use Rattle.atoms.proofs.Sets.{decides-apart}
-use borrow.Author.Needs.{needs}
+use Rattle.searching.proofs.Prelude.{sym, _∙_, inl, inr, not-true, not-false, decides-apart, needs}
 use Rattle.searching.proofs.outlook.outlook_of.Statement.{statement}
 use Rattle.searching.proofs.outlook.outlook_of.Tie as tie
 

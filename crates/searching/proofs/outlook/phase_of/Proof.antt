@@ -1,9 +1,5 @@
 -- Much was learnt, or the rules that may back the atom tell: they are some of the unit's.
-use mathlib.Core.Bool.{false≢true}
-use native.Mathlib.Omega.{arith}
-use Rattle.atoms.proofs.Tests.{decides-iff}
-use Rattle.answer_sets.proofs.Lent.{lent-within}
-use borrow.Author.Needs.{needs}
+use Rattle.searching.proofs.Prelude.{false≢true, arith, decides-iff, lent-within, needs}
 use Rattle.searching.proofs.outlook.phase_of.Statement.{statement}
 use Rattle.searching.proofs.outlook.phase_of.Tie as tie
 

@@ -1,7 +1,5 @@
 -- The choice is among the leading atoms, and these are free.
-use Rattle.atoms.proofs.Sets.{subset-trans}
-use Rattle.narrowing.proofs.StoppedRules.{chosen-within}
-use borrow.Author.Needs.{needs}
+use Rattle.searching.proofs.Prelude.{subset-trans, chosen-within, needs}
 use Rattle.searching.proofs.outlook.pick.Statement.{statement}
 use Rattle.searching.proofs.outlook.pick.Tie as tie
 

@@ -1,24 +1,11 @@
 -- The measure is the count of undecided atoms. Each return is a case of the node: a stop, a leaf, the first branch is enough, the second has nothing,
 -- or both are searched.
-use mathlib.Core.Path.{_≡_, refl, sym, _∙_}
-use mathlib.Core.Bool.{Bool, not}
-use Prim.Native.Nat.{ℕ, _<_, _≤_, _^_}
-use native.Mathlib.Omega.{arith}
-use lib.Count.{ones}
-use denote.Ref.{now}
-use borrow.Author.Needs.{needs}
-use borrow.Fn.Kinds.{In}
-use borrow.Fn.PlainCycle.{Measures, is, falls, and}
-use Rattle.atoms.specs.Word.{ATOMS, Has}
-use Rattle.plan.specs.Limits.{LIST_WORDS}
-use Rattle.states.specs.State.{undecided}
-use Rattle.states.proofs.Branches.{decided-falls}
-use Rattle.narrowing.specs.Stops.{NoStop}
-use Rattle.joining.proofs.Filters.{filtered-branch}
-use Rattle.searching.proofs.Gathered.{gathered-ordered}
-use Rattle.searching.proofs.SearchSteps.{belongs-answers}
-use Rattle.searching.proofs.ExploredNodes.{explored-stop, explored-leaf, explored-done, explored-skip, explored-both}
-use Rattle.searching.proofs.ExploredNodes.{is-stop, is-leaf, is-open, entered-ready, explored-branch}
+use Rattle.searching.proofs.Prelude.{_≡_, refl, sym, _∙_, Bool, not, ℕ, _<_, _≤_, _^_, arith, ones, now, needs, In, Measures, is, falls, and, ATOMS}
+use Rattle.searching.proofs.Prelude.{Has, LIST_WORDS, undecided, decided-falls, NoStop, filtered-branch}
+use Rattle.searching.proofs.Face.{gathered-ordered, belongs-answers, explored-stop, explored-leaf, explored-done, explored-skip, explored-both}
+use Rattle.searching.proofs.Face.{is-stop, is-leaf, is-open, entered-ready, explored-branch}
+use Rattle.searching.proofs.search.+explore.{statement}
+use Rattle.searching.proofs.search.+explore.Tie.{close}
 use Rattle.searching.proofs.search.explore.Reads as explore′
 use Rattle.searching.proofs.search.explore.Kinds as explore-kinds
 use Rattle.searching.proofs.search.+explore.Lts-explore as explore-lts
@@ -34,8 +21,6 @@ use Rattle.searching.proofs.outlook.phase_of.Reads as phase-of-reads
 use Rattle.searching.proofs.stop.halt.Reads as halt-reads
 use Rattle.searching.proofs.stop.hand_up.Reads as hand-up-reads
 use Rattle.joining.proofs.filter.copied.Reads as copied-reads
-use Rattle.searching.proofs.search.+explore.{statement}
-use Rattle.searching.proofs.search.+explore.Tie.{close}
 
 abbrev μ-explore : Measures 8 explore-kinds.ps ℕ
 μ-explore κs a =

@@ -1,18 +1,8 @@
 -- At first nothing is learnt, every entry may be joined, and every step is on the agenda. What is wanted with pilots, apart from these, is what is
 -- wanted.
-use mathlib.Core.Path.{refl, sym}
-use mathlib.Core.List.{[]}
-use Prim.Native.Nat.{_^_, _<_}
-use native.Mathlib.Omega.{arith}
-use denote.Ref.{now}
-use Rattle.atoms.specs.Word.{ATOMS}
-use Rattle.learning.proofs.Reasons.{remembers-empty}
-use Rattle.joining.proofs.JoinedLists.{joinable-some}
-use Rattle.joining.proofs.Filters.{full-filtered}
-use Rattle.propagating.specs.Desk.{Prepared}
+use Rattle.searching.proofs.Prelude.{refl, sym, [], _^_, _<_, arith, now, ATOMS, remembers-empty, joinable-some, full-filtered, Prepared, needs}
+use Rattle.searching.proofs.Face.{explored-narrowed, explored-gathered, entered-ready, explored-branch}
 use Rattle.searching.proofs.PilotedSearches.{piloted-ready, piloted-search}
-use Rattle.searching.proofs.ExploredNodes.{explored-narrowed, explored-gathered, entered-ready, explored-branch}
-use borrow.Author.Needs.{needs}
 use Rattle.searching.proofs.search.search.Statement.{statement}
 use Rattle.searching.proofs.search.search.Tie as tie
 

@@ -1,26 +1,10 @@
 -- The measure is the count of undecided atoms. Each return is a case of the calculus, as in `explore`.
-use mathlib.Core.Path.{_≡_, refl, sym, _∙_}
-use mathlib.Core.Bool.{Bool, not}
-use Prim.Native.Nat.{ℕ, _<_, _^_}
-use native.Mathlib.Omega.{arith}
-use lib.Count.{ones}
-use lib.ListN.{length-replicate}
-use denote.Ref.{now}
-use borrow.Author.Needs.{needs}
-use borrow.Fn.Kinds.{In}
-use borrow.Fn.PlainCycle.{Measures, is, falls, and}
-use Rattle.atoms.specs.Word.{ATOMS, Has}
-use Rattle.states.specs.State.{undecided}
-use Rattle.states.proofs.Branches.{decided-falls}
-use Rattle.narrowing.specs.Stops.{NoStop}
-use Rattle.joining.specs.Filter.{FILTER_WORDS}
-use Rattle.propagating.specs.Desk.{Wired}
-use Rattle.searching.specs.Node.{Sought}
-use Rattle.searching.proofs.Models.{unfiltered}
-use Rattle.searching.proofs.SearchSteps.{belongs-answers}
-use Rattle.searching.proofs.Witnesses.{enough-met}
-use Rattle.searching.proofs.ExploredNodes.{nothing-wanted, sought-stop, sought-leaf, sought-met, sought-skip, sought-both, sought-handed}
-use Rattle.searching.proofs.ExploredNodes.{is-stop, is-leaf, is-open, entered-job, sought-branch}
+use Rattle.searching.proofs.Prelude.{_≡_, refl, sym, _∙_, Bool, not, ℕ, _<_, _^_, arith, ones, length-replicate, now, needs, In, Measures, is, falls}
+use Rattle.searching.proofs.Prelude.{and, ATOMS, Has, undecided, decided-falls, NoStop, FILTER_WORDS, Wired, SoughtOf}
+use Rattle.searching.proofs.Face.{unfiltered, belongs-answers, enough-met, nothing-wanted, sought-stop, sought-leaf, sought-met, sought-skip}
+use Rattle.searching.proofs.Face.{sought-both, sought-handed, is-stop, is-leaf, is-open, entered-job, sought-branch}
+use Rattle.searching.proofs.seek.+seek.{statement}
+use Rattle.searching.proofs.seek.+seek.Tie.{close}
 use Rattle.searching.proofs.seek.seek.Reads as seek′
 use Rattle.searching.proofs.seek.seek.Kinds as seek-kinds
 use Rattle.searching.proofs.seek.+seek.Lts-seek as seek-lts
@@ -33,8 +17,6 @@ use Rattle.searching.proofs.outlook.phase_of.Reads as phase-of-reads
 use Rattle.searching.proofs.stop.halt.Reads as halt-reads
 use Rattle.searching.proofs.stop.hand_up.Reads as hand-up-reads
 use Rattle.searching.proofs.witness.is_enough.Reads as is-enough-reads
-use Rattle.searching.proofs.seek.+seek.{statement}
-use Rattle.searching.proofs.seek.+seek.Tie.{close}
 
 abbrev μ-seek : Measures 5 seek-kinds.ps ℕ
 μ-seek κs a = ones (undecided (a .1 .1 .1 .1 .1 .0 .front .state .up) (a .1 .1 .1 .1 .1 .0 .front .state .dropped))

@@ -1,10 +1,6 @@
 -- A full position is met where it satisfies the rules.
-use Prim.Native.Nat.{_<_, _^_}
-use native.Mathlib.Omega.{arith}
-use Rattle.atoms.specs.Word.{ATOMS}
-use Rattle.learning.proofs.Nogoods.{overlap-nogood}
-use Rattle.searching.proofs.Models.{settled-one, settled-none}
-use borrow.Author.Needs.{needs}
+use Rattle.searching.proofs.Prelude.{_<_, _^_, arith, ATOMS, overlap-nogood, needs}
+use Rattle.searching.proofs.Face.{settled-one, settled-none}
 use Rattle.searching.proofs.seek.settle.Statement.{statement}
 use Rattle.searching.proofs.seek.settle.Tie as tie
 
@@ -21,7 +17,7 @@ returns : tie.Need-returns
 returns c =
     let test = c .before .before .before in
     let at = start test in
-    rw (c .handed .ensures) (
+    rw (c .found-of .ensures) (
       settled-one (at .pre .1) (fits at) (word at) (test .all-satisfied .ensures) (c .before .before .if1 .taken),
       overlap-nogood
           (c .before .everything .ensures .0),
@@ -31,7 +27,7 @@ returns-2 : tie.Need-returns-2
 returns-2 c =
     let test = c .before .before .before in
     let at = start test in
-    rw (c .handed2 .ensures) (
+    rw (c .found-of2 .ensures) (
       settled-none (at .pre .1) (fits at) (word at) (test .all-satisfied .ensures) (c .before .before .if1 .left),
       overlap-nogood
           (c .before .everything2 .ensures .0),

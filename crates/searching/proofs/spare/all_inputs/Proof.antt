@@ -1,8 +1,5 @@
 -- The measure is how many tables are left.
-use Prim.Native.Nat.{_-_}
-use native.Mathlib.Omega.{arith}
-use Rattle.plan.specs.Limits.{MAX_TABLES}
-use borrow.Author.Needs.{needs}
+use Rattle.searching.proofs.Prelude.{_-_, arith, MAX_TABLES, needs}
 use Rattle.searching.proofs.spare.all_inputs.Statement.{statement}
 use Rattle.searching.proofs.spare.all_inputs.Tie as tie
 

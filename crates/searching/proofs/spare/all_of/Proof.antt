@@ -1,5 +1,5 @@
 -- The numbers of all tables.
-use borrow.Author.Needs.{needs}
+use Rattle.searching.proofs.Prelude.{needs}
 use Rattle.searching.proofs.spare.all_of.Statement.{statement}
 use Rattle.searching.proofs.spare.all_of.Tie as tie
 

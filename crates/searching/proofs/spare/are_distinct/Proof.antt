@@ -1,10 +1,6 @@
 -- The loop carries that the pilots so far are distinct.
-use mathlib.Core.Bool.{false≢true}
-use Prim.Native.Nat.{_-_}
-use native.Mathlib.Omega.{arith}
-use Rattle.plan.specs.Limits.{MAX_TABLES}
-use Rattle.searching.proofs.TestedPilots.{DistinctBelow, distinct-start, distinct-next, distinct-end}
-use borrow.Author.Needs.{needs}
+use Rattle.searching.proofs.Prelude.{false≢true, _-_, arith, MAX_TABLES, needs}
+use Rattle.searching.proofs.Face.{DistinctBelow, distinct-start, distinct-next, distinct-end}
 use Rattle.searching.proofs.spare.are_distinct.Statement.{statement}
 use Rattle.searching.proofs.spare.are_distinct.Tie as tie
 

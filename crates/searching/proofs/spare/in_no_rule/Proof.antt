@@ -1,10 +1,6 @@
 -- The loop carries that the rules that are done have none of the atoms.
-use mathlib.Core.Bool.{false≢true}
-use lib.Count.{ones}
-use Rattle.atoms.proofs.Counts.{taken-less}
-use Rattle.atoms.proofs.TakenNumbers.{Taking, taking-start, taking-next, taken-lent}
-use Rattle.searching.proofs.TestedPilots.{Clear, rule-clear, all-clear}
-use borrow.Author.Needs.{needs}
+use Rattle.searching.proofs.Prelude.{false≢true, ones, taken-less, Taking, taking-start, taking-next, taken-lent, needs}
+use Rattle.searching.proofs.Face.{Clear, rule-clear, all-clear}
 use Rattle.searching.proofs.spare.in_no_rule.Statement.{statement}
 use Rattle.searching.proofs.spare.in_no_rule.Tie as tie
 

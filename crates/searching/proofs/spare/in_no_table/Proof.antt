@@ -1,11 +1,6 @@
 -- The loop carries that the tables that are done have none of the atoms.
-use mathlib.Core.Bool.{false≢true}
-use Prim.Native.Nat.{_-_}
-use native.Mathlib.Omega.{arith}
-use Rattle.plan.specs.Limits.{MAX_TABLES}
-use Rattle.searching.specs.Spare.{NoInputs}
-use Rattle.searching.proofs.TestedPilots.{no-table, next-table, all-tables}
-use borrow.Author.Needs.{needs}
+use Rattle.searching.proofs.Prelude.{false≢true, _-_, arith, MAX_TABLES, NoInputs, needs}
+use Rattle.searching.proofs.Face.{no-table, next-table, all-tables}
 use Rattle.searching.proofs.spare.in_no_table.Statement.{statement}
 use Rattle.searching.proofs.spare.in_no_table.Tie as tie
 

@@ -1,9 +1,6 @@
 -- Each test says its part.
-use mathlib.Core.Bool.{false≢true}
-use denote.Ref.{now}
-use borrow.Author.Tests.{not-false}
-use Rattle.searching.proofs.TestedPilots.{tested-pilots}
-use borrow.Author.Needs.{needs}
+use Rattle.searching.proofs.Prelude.{false≢true, now, not-false, needs}
+use Rattle.searching.proofs.Face.{tested-pilots}
 use Rattle.searching.proofs.spare.may_serve.Statement.{statement}
 use Rattle.searching.proofs.spare.may_serve.Tie as tie
 

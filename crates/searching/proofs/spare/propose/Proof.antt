@@ -1,7 +1,5 @@
 -- The measure is how many tables are left.
-use lib.Count.{ones}
-use Rattle.atoms.proofs.Counts.{taken-less}
-use borrow.Author.Needs.{needs}
+use Rattle.searching.proofs.Prelude.{ones, taken-less, needs}
 use Rattle.searching.proofs.spare.propose.Statement.{statement}
 use Rattle.searching.proofs.spare.propose.Tie as tie
 

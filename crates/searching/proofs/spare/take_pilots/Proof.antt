@@ -1,6 +1,6 @@
 -- What was tested, or none.
-use Rattle.searching.proofs.TestedPilots.{no-pilots, none-down}
-use borrow.Author.Needs.{needs}
+use Rattle.searching.proofs.Prelude.{needs}
+use Rattle.searching.proofs.Face.{no-pilots, none-down}
 use Rattle.searching.proofs.spare.take_pilots.Statement.{statement}
 use Rattle.searching.proofs.spare.take_pilots.Tie as tie
 

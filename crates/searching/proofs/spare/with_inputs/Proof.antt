@@ -1,6 +1,6 @@
 -- The inputs are a union.
-use Rattle.searching.proofs.TestedPilots.{more-inputs}
-use borrow.Author.Needs.{needs}
+use Rattle.searching.proofs.Prelude.{needs}
+use Rattle.searching.proofs.Face.{more-inputs}
 use Rattle.searching.proofs.spare.with_inputs.Statement.{statement}
 use Rattle.searching.proofs.spare.with_inputs.Tie as tie
 

@@ -1,7 +1,5 @@
 -- What is noted leaves the pairs as they are.
-use Rattle.learning.proofs.Reasons.{remembers-same}
-use Rattle.learning.proofs.Nogoods.{overlap-nogood}
-use borrow.Author.Needs.{needs}
+use Rattle.searching.proofs.Prelude.{remembers-same, overlap-nogood, needs}
 use Rattle.searching.proofs.stop.reject.Statement.{statement}
 use Rattle.searching.proofs.stop.reject.Tie as tie
 

@@ -1,7 +1,5 @@
 -- Who completes the reason completes everything, and nobody does.
-use Rattle.learning.proofs.Nogoods.{overlap-nogood}
-use Rattle.learning.proofs.Reasons.{reason-nogood}
-use borrow.Author.Needs.{needs}
+use Rattle.searching.proofs.Prelude.{overlap-nogood, reason-nogood, needs}
 use Rattle.searching.proofs.stop.stop_reason.Statement.{statement}
 use Rattle.searching.proofs.stop.stop_reason.Tie as tie
 

@@ -1,6 +1,6 @@
 -- A set without the atom is asked for; where there is none the atom is in all of them.
-use Rattle.searching.proofs.Models.{asks-found, asks-none}
-use borrow.Author.Needs.{needs}
+use Rattle.searching.proofs.Prelude.{needs}
+use Rattle.searching.proofs.Face.{asks-found, asks-none}
 use Rattle.searching.proofs.subsets.ask_without.Statement.{statement}
 use Rattle.searching.proofs.subsets.ask_without.Tie as tie
 

@@ -1,12 +1,7 @@
 -- The steps are taken, and the node is searched.
-use mathlib.Core.Path.{refl}
-use Prim.Native.Nat.{ℕ}
-use lib.ListN.{length-replicate}
-use Rattle.joining.specs.Filter.{FILTER_WORDS}
+use Rattle.searching.proofs.Prelude.{refl, ℕ, length-replicate, FILTER_WORDS, needs}
+use Rattle.searching.proofs.Face.{entered-job, sought-branch, unfiltered}
 use Rattle.searching.proofs.Calculus.{witnesses}
-use Rattle.searching.proofs.ExploredNodes.{entered-job, sought-branch}
-use Rattle.searching.proofs.Models.{unfiltered}
-use borrow.Author.Needs.{needs}
 use Rattle.searching.proofs.subsets.find_model.Statement.{statement}
 use Rattle.searching.proofs.subsets.find_model.Tie as tie
 

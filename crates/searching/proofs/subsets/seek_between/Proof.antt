@@ -1,19 +1,9 @@
 -- The loop carries that what it knows holds of every set that satisfies the rules, and which atoms of the position it knows nothing of: fewer with each
 -- question.
-use mathlib.Core.Path.{_≡_, sym, _∙_}
-use lib.Count.{ones}
-use lib.ListN.{length}
-use denote.Ref.{now}
-use Rattle.atoms.specs.Word.{_∖_}
-use Rattle.states.specs.Narrowing.{Narrows}
-use Rattle.states.proofs.Narrows.{narrows-refl, narrows-trans}
-use Rattle.learning.specs.Reason.{Remembers}
+use Rattle.searching.proofs.Prelude.{_≡_, sym, _∙_, ones, length, now, _∖_, Narrows, narrows-refl, narrows-trans, Remembers, remembers-empty, Prepared}
+use Rattle.searching.proofs.Prelude.{Wired, ModelJob, needs}
+use Rattle.searching.proofs.Face.{models-lent, models-prepared, models-job, asked-found, asked-none, asked-less}
 use Rattle.learning.specs.Store.{MEMORY_WORDS}
-use Rattle.learning.proofs.Reasons.{remembers-empty}
-use Rattle.propagating.specs.Desk.{Prepared, Wired}
-use Rattle.searching.specs.Models.{ModelJob}
-use Rattle.searching.proofs.Models.{models-lent, models-prepared, models-job, asked-found, asked-none, asked-less}
-use borrow.Author.Needs.{needs}
 use Rattle.searching.proofs.subsets.seek_between.Statement.{statement}
 use Rattle.searching.proofs.subsets.seek_between.Tie as tie
 

@@ -1,9 +1,6 @@
 -- What the steps tell.
-use Prim.Native.Nat.{ℕ}
-use lib.ListN.{length-replicate}
-use Rattle.joining.specs.Filter.{FILTER_WORDS}
-use Rattle.searching.proofs.Models.{unfiltered}
-use borrow.Author.Needs.{needs}
+use Rattle.searching.proofs.Prelude.{ℕ, length-replicate, FILTER_WORDS, needs}
+use Rattle.searching.proofs.Face.{unfiltered}
 use Rattle.searching.proofs.subsets.settled.Statement.{statement}
 use Rattle.searching.proofs.subsets.settled.Tie as tie
 

@@ -1,5 +1,5 @@
 -- The plain test, where it had enough branchings, or the one that learns.
-use borrow.Author.Needs.{needs}
+use Rattle.searching.proofs.Prelude.{needs}
 use Rattle.searching.proofs.subsets.smaller_between.Statement.{statement}
 use Rattle.searching.proofs.subsets.smaller_between.Tie as tie
 

@@ -1,7 +1,6 @@
 -- The subsets of the position that have the facts are the completions of: facts up, everything outside the position dropped. What the rounds leave of
 -- them is told, or tried, and then written down where there is none.
-use borrow.Author.Needs.{needs}
-use Rattle.answer_sets.proofs.Between.{lent-part, passed-confines, tested-passed}
+use Rattle.searching.proofs.Prelude.{needs, lent-part, passed-confines, tested-passed}
 use Rattle.answer_sets.proofs.Memos.{memo-whole, memo-written}
 use Rattle.searching.proofs.subsets.some_smaller.Statement.{statement}
 use Rattle.searching.proofs.subsets.some_smaller.Tie as tie

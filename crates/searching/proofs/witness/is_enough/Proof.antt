@@ -1,6 +1,6 @@
 -- Where a member was met, the test is whether nothing is left.
-use Rattle.searching.proofs.Witnesses.{enough-is}
-use borrow.Author.Needs.{needs}
+use Rattle.searching.proofs.Prelude.{needs}
+use Rattle.searching.proofs.Face.{enough-is}
 use Rattle.searching.proofs.witness.is_enough.Statement.{statement}
 use Rattle.searching.proofs.witness.is_enough.Tie as tie
 

@@ -1,6 +1,6 @@
 -- No atom, one, or several.
-use Rattle.states.proofs.OneAtom.{none-down, last-down, several}
-use borrow.Author.Needs.{needs}
+use Rattle.states.proofs.Prelude.{needs}
+use Rattle.states.proofs.Face.{none-down, last-down, several}
 use Rattle.states.proofs.one_atom.one_down.Statement.{statement}
 use Rattle.states.proofs.one_atom.one_down.Tie as tie
 

@@ -1,6 +1,6 @@
 -- No atom, one, or several.
-use Rattle.states.proofs.OneAtom.{none-up, last-up, several}
-use borrow.Author.Needs.{needs}
+use Rattle.states.proofs.Prelude.{needs}
+use Rattle.states.proofs.Face.{none-up, last-up, several}
 use Rattle.states.proofs.one_atom.one_up.Statement.{statement}
 use Rattle.states.proofs.one_atom.one_up.Tie as tie
 

@@ -1,6 +1,5 @@
 -- Atom 0 goes into both words.
-use Rattle.states.specs.Narrowing.{clashed}
-use borrow.Author.Needs.{needs}
+use Rattle.states.proofs.Prelude.{clashed, needs}
 use Rattle.states.proofs.state.clash.Statement.{statement}
 use Rattle.states.proofs.state.clash.Tie as tie
 

@@ -1,6 +1,6 @@
 -- By the two phases.
-use Rattle.states.proofs.Branches.{raised-is, lowered-is, branch-up, branch-dropped}
-use borrow.Author.Needs.{needs}
+use Rattle.states.proofs.Prelude.{needs}
+use Rattle.states.proofs.Face.{raised-is, lowered-is, branch-up, branch-dropped}
 use Rattle.states.proofs.state.decide.Statement.{statement}
 use Rattle.states.proofs.state.decide.Tie as tie
 

@@ -1,6 +1,6 @@
 -- Atom 0 is in both words, and every atom is in one.
-use mathlib.Core.Path.{refl}
-use Rattle.states.proofs.Branches.{all-decided}
+use Rattle.states.proofs.Prelude.{refl}
+use Rattle.states.proofs.Face.{all-decided}
 use Rattle.states.proofs.state.everything.Statement.{statement}
 use Rattle.states.proofs.state.everything.Tie as tie
 

@@ -1,8 +1,6 @@
 -- One word is not within the other's, or the second test tells.
-use mathlib.Core.Path.{sym, _∙_}
-use borrow.Author.Tests.{not-true, not-false}
+use Rattle.states.proofs.Prelude.{sym, _∙_, not-true, not-false, needs}
 use Rattle.states.proofs.Within.{not-within, within-decided}
-use borrow.Author.Needs.{needs}
 use Rattle.states.proofs.state.lies_within.Statement.{statement}
 use Rattle.states.proofs.state.lies_within.Tie as tie
 

@@ -1,6 +1,5 @@
 -- Every atom, less those that are up and those that are dropped.
-use Rattle.states.specs.State.{undecided}
-use borrow.Author.Needs.{needs}
+use Rattle.states.proofs.Prelude.{undecided, needs}
 use Rattle.states.proofs.state.undecided.Statement.{statement}
 use Rattle.states.proofs.state.undecided.Tie as tie
 

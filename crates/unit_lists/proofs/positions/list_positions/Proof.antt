@@ -1,23 +1,16 @@
 -- The table, then reading, then the graph: the first fault counts.
-use mathlib.Core.Path.{_≡_, refl, ap, sym, _∙_}
-use Prim.Native.Nat.{ℕ}
-use denote.Ref.{now}
-use mathlib.Core.List.{List}
-use lib.ListN.{length}
-use Rattle.plan.specs.declared.fault.Fault.the-variants.{TableShort}
+use Rattle.unit_lists.proofs.Prelude.{_≡_, refl, ap, sym, _∙_, ℕ, now, List, length, TableShort, answer, handed-refused, short-answer, refused-answer}
+use Rattle.unit_lists.proofs.Prelude.{read-answer, needs}
 use Rattle.plan.specs.declared.fault.Outcome.{Outcome}
 use Rattle.reading.specs.Reading.{reading}
 use Rattle.reading.specs.Layout.{IsByte, All}
-use Rattle.reading.specs.declared.reader.Reading.{Reading}
+use Rattle.reading.specs.declared.reader.ReadPlan.{ReadPlan}
 use Rattle.reading.proofs.Limits.{record-fits, all-bytes}
-use Rattle.demands.specs.Answer.{answer}
 use Rattle.demands.specs.Handed.{Handed}
 use Rattle.demands.specs.Promised.{Promised}
 use Rattle.demands.specs.declared.listing.Listing.{Listing}
-use Rattle.demands.proofs.Answers.{handed-refused, short-answer, refused-answer, read-answer}
 use Rattle.demands.proofs.CleanPlan.{plan-clean}
 use Rattle.demands.proofs.Promised.{promised}
-use borrow.Author.Needs.{needs}
 use Rattle.unit_lists.proofs.positions.list_positions.Statement.{statement}
 use Rattle.unit_lists.proofs.positions.list_positions.Tie as tie
 
@@ -37,7 +30,7 @@ abbrev begun : tie.After-read-plan → tie.After-shared-slice-known
 begun c = c .before .before .before
 
 outcome-is : (c : tie.After-read-plan) (o : Outcome) → c .read-plan .result .outcome ≡ o → reading (now (start (begun c) .args .plan)) .outcome ≡ o
-outcome-is c o e = sym (ap (λ (r : Reading). r .outcome) (c .read-plan .ensures .0)) ∙ e
+outcome-is c o e = sym (ap (λ (r : ReadPlan). r .outcome) (c .read-plan .ensures .0)) ∙ e
 
 returns : tie.Need-returns
 returns c =

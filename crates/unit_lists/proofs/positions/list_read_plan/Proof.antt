@@ -1,11 +1,6 @@
 -- The graph's verdict, and unit work where it refuses nothing.
-use mathlib.Core.Path.{refl, sym, _∙_}
-use denote.Ref.{now}
-use borrow.Author.Needs.{needs}
-use Rattle.dependency_graph.specs.PlanUnits.{unitsOf}
+use Rattle.unit_lists.proofs.Prelude.{refl, sym, _∙_, now, needs, unitsOf, unitWork, handed-refused, unless-refused, unless-accepted}
 use Rattle.dependency_graph.proofs.Verdicts.{passes-of-verdict}
-use Rattle.demands.specs.Answer.{unitWork}
-use Rattle.demands.proofs.Answers.{handed-refused, unless-refused, unless-accepted}
 use Rattle.unit_lists.proofs.positions.list_read_plan.Statement.{statement}
 use Rattle.unit_lists.proofs.positions.list_read_plan.Tie as tie
 

@@ -1,14 +1,6 @@
 -- The words passed so far are zero.
-use borrow.Author.Needs.{needs}
-use mathlib.Core.Path.{_≡_, ap, _∙_}
-use mathlib.Core.List.{List, _++_}
-use Prim.Native.Nat.{ℕ, _-_, _≤_}
-use native.Mathlib.Omega.{arith}
-use denote.Ref.{now}
-use lib.ListN.{length, drop, replicate, set, length-set}
-use borrow.Author.Fill.{fill-more}
-use Rattle.plan.specs.Limits.{TABLE_WORDS}
-use Rattle.demands.proofs.HeldLists.{cleared-is}
+use Rattle.unit_lists.proofs.Prelude.{needs, _≡_, ap, _∙_, List, _++_, ℕ, _-_, _≤_, arith, now, length, drop, replicate, set, length-set, fill-more}
+use Rattle.unit_lists.proofs.Prelude.{TABLE_WORDS, cleared-is}
 use Rattle.unit_lists.proofs.table.clear.Statement.{statement}
 use Rattle.unit_lists.proofs.table.clear.Tie as tie
 

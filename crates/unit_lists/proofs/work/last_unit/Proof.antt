@@ -1,10 +1,6 @@
 -- No rules, and an edge to every unit.
-use mathlib.Core.Path.{_≡_}
-use native.Mathlib.Omega.{arith}
-use borrow.Author.Needs.{needs}
-use lib.ListN.{length}
-use Rattle.plan.specs.Limits.{MAX_UNITS}
-use Rattle.unit_lists.proofs.LastUnit.{last-told}
+use Rattle.unit_lists.proofs.Prelude.{_≡_, arith, needs, length, MAX_UNITS}
+use Rattle.unit_lists.proofs.Face.{last-told}
 use Rattle.unit_lists.proofs.work.last_unit.Statement.{statement}
 use Rattle.unit_lists.proofs.work.last_unit.Tie as tie
 

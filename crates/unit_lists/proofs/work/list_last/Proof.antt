@@ -1,15 +1,6 @@
 -- What the search finds of the one more unit is the last list.
-use mathlib.Core.Path.{_≡_, _∙_}
-use native.Mathlib.Omega.{arith}
-use borrow.Author.Needs.{needs}
-use denote.Ref.{now}
-use lib.ListN.{length}
-use Rattle.plan.specs.Limits.{MAX_UNITS, PROGRAM_WORDS, LAST_COUNT}
-use Rattle.dependency_graph.specs.PlanUnits.{unitsOf}
-use Rattle.splitting.specs.UnitList.{withLast}
-use Rattle.demands.specs.Lists.{lastList}
-use Rattle.unit_lists.proofs.Joined.{ReadyToList, searchable, cuts-stored}
-use Rattle.unit_lists.proofs.LastUnit.{last-listable, heads-of-last}
+use Rattle.unit_lists.proofs.Prelude.{_≡_, _∙_, arith, needs, now, length, MAX_UNITS, PROGRAM_WORDS, LAST_COUNT, unitsOf, withLast, lastList}
+use Rattle.unit_lists.proofs.Face.{ReadyToList, searchable, cuts-stored, last-listable, heads-of-last}
 use Rattle.unit_lists.proofs.work.list_last.Statement.{statement}
 use Rattle.unit_lists.proofs.work.list_last.Tie as tie
 

@@ -1,11 +1,5 @@
 -- The search from the start, and the store of what it found.
-use mathlib.Core.Path.{refl, ap, _∙_}
-use mathlib.Core.Bool.{true≢false, false≢true}
-use denote.Ref.{now}
-use lib.Seq.{paste}
-use borrow.Author.Needs.{needs}
-use Prim.Native.Nat.{_*_}
-use Rattle.plan.specs.Limits.{LIST_WORDS}
+use Rattle.unit_lists.proofs.Prelude.{refl, ap, _∙_, true≢false, false≢true, now, paste, needs, _*_, LIST_WORDS}
 use Rattle.searching.proofs.Gathered.{gathered-ordered}
 use Rattle.unit_lists.proofs.RisingLists.{zeros-ordered}
 use Rattle.unit_lists.proofs.work.list_one.Statement.{statement}

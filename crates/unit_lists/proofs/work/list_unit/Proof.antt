@@ -1,13 +1,6 @@
 -- What the search finds of the unit is its list.
-use mathlib.Core.Path.{_≡_}
-use native.Mathlib.Omega.{arith}
-use borrow.Author.Needs.{needs}
-use denote.Ref.{now}
-use lib.ListN.{length}
-use Rattle.plan.specs.Limits.{MAX_UNITS, PROGRAM_WORDS}
-use Rattle.dependency_graph.specs.PlanUnits.{unitsOf}
-use Rattle.unit_lists.proofs.Joined.{ReadyToList, searchable, unit-stored}
-use Rattle.unit_lists.proofs.LastUnit.{unit-listable}
+use Rattle.unit_lists.proofs.Prelude.{_≡_, arith, needs, now, length, MAX_UNITS, PROGRAM_WORDS, unitsOf}
+use Rattle.unit_lists.proofs.Face.{ReadyToList, searchable, unit-stored, unit-listable}
 use Rattle.unit_lists.proofs.work.list_unit.Statement.{statement}
 use Rattle.unit_lists.proofs.work.list_unit.Tie as tie
 

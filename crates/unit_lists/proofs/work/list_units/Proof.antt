@@ -1,13 +1,5 @@
 -- The lists of the units that are done are in the table, and the work that is left is the same (Turn).
-use mathlib.Core.Path.{_≡_, sym, _∙_}
-use Prim.Native.Nat.{_<_}
-use native.Mathlib.Omega.{arith}
-use borrow.Author.Needs.{needs}
-use denote.Ref.{now}
-use lib.ListN.{length}
-use borrow.Author.Tests.{not-true, not-false}
-use Rattle.dependency_graph.specs.PlanUnits.{unitsOf}
-use Rattle.demands.proofs.HeldLists.{held-long, held-counts-long}
+use Rattle.unit_lists.proofs.Prelude.{_≡_, sym, _∙_, _<_, arith, needs, now, length, not-true, not-false, unitsOf, held-long, held-counts-long}
 use Rattle.unit_lists.proofs.WorkOrder.{Turn, turn-start, turn-there, turn-next, turn-too-long, turn-stop, turn-end}
 use Rattle.unit_lists.proofs.work.list_units.Statement.{statement}
 use Rattle.unit_lists.proofs.work.list_units.Tie as tie

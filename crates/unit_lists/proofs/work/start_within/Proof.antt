@@ -1,8 +1,5 @@
 -- What is not within these atoms is dropped.
-use mathlib.Core.Path.{ap}
-use Prim.Native.Nat.{ℕ}
-use borrow.Author.Needs.{needs}
-use Rattle.states.specs.declared.state.State.{State}
+use Rattle.unit_lists.proofs.Prelude.{ap, ℕ, needs, State}
 use Rattle.unit_lists.proofs.work.start_within.Statement.{statement}
 use Rattle.unit_lists.proofs.work.start_within.Tie as tie
 

@@ -1,10 +1,5 @@
 -- The unit's rules are those that the count names.
-use mathlib.Core.Path.{refl, ap, _∙_}
-use Prim.Native.Nat.{ℕ}
-use borrow.Author.Needs.{needs}
-use lib.ListN.{getD}
-use Rattle.atoms.specs.Word.{_∩_}
-use Rattle.dependency_graph.specs.PlanUnits.{unitsOf}
+use Rattle.unit_lists.proofs.Prelude.{refl, ap, _∙_, ℕ, needs, getD, _∩_, unitsOf}
 use Rattle.unit_lists.proofs.work.unit_at.Statement.{statement}
 use Rattle.unit_lists.proofs.work.unit_at.Tie as tie
 

@@ -1,17 +1,6 @@
 -- A cleared table, the units, the last list: each way out hands back what the definition says.
-use mathlib.Core.Path.{_≡_, refl, sym, ap, _∙_}
-use mathlib.Core.List.{[]}
-use borrow.Author.Needs.{needs}
-use borrow.Author.Tests.{not-true, not-false}
-use denote.Ref.{now}
-use Rattle.plan.specs.declared.fault.Fault.the-variants.{LongList}
-use Rattle.dependency_graph.specs.Order.{workingOrder}
-use Rattle.dependency_graph.specs.PlanUnits.{unitsOf}
-use Rattle.demands.specs.Table.{cleared, noCounts}
-use Rattle.demands.specs.Answer.{unitWork, workFrom}
-use Rattle.unit_lists.specs.Work.{Setting, afterUnits}
-use Rattle.demands.proofs.Answers.{handed-refused, last-fits, last-long, work-cleared}
-use Rattle.demands.proofs.HeldLists.{held-cleared}
+use Rattle.unit_lists.proofs.Prelude.{_≡_, refl, sym, ap, _∙_, [], needs, not-true, not-false, now, LongList, workingOrder, unitsOf, cleared, noCounts}
+use Rattle.unit_lists.proofs.Prelude.{unitWork, workFrom, Setting, afterUnits, handed-refused, last-fits, last-long, work-cleared, held-cleared}
 use Rattle.unit_lists.proofs.WorkedUnits.{working-start, working-there, working-last}
 use Rattle.unit_lists.proofs.work.unit_work.Statement.{statement}
 use Rattle.unit_lists.proofs.work.unit_work.Tie as tie
