@@ -13,8 +13,8 @@ returns c =
       start .pre .1,
     )
 
-judge-set-requires : tie.Need-judge-set-requires
-judge-set-requires c κs = let pre = c .before .before .before .before .before .before .before .before .before .pre in (pre .0 .rules-lent, pre .1)
+judge-leaf-requires : tie.Need-judge-leaf-requires
+judge-leaf-requires c κs = let pre = c .before .before .before .before .before .before .before .before .before .pre in (pre .0 .rules-lent, pre .1)
 
 returns-2 : tie.Need-returns-2
 returns-2 c =
@@ -23,13 +23,13 @@ returns-2 c =
     let at-joins = at-cut .before .before in
     let start = at-joins .before .before .before .before .before .before in
     let at = start .args in (
-      joined-answers (now (at .rules)) (now (at .table)) (now (at .counts)) (now (at .heads)) (at .unit) (at .position) (judged .judge-set .result .answers)
+      joined-answers (now (at .rules)) (now (at .table)) (now (at .counts)) (now (at .heads)) (at .unit) (at .position) (judged .judge-leaf .result .answers)
           (start .fits .position .fits) (sym (at-joins .joins .ensures) ∙ not-false (at-joins .joins .result) (at-cut .before .if1 .left))
-          (judged .judge-set .ensures .0
+          (judged .judge-leaf .ensures .0
           ∙ ap (λ (w : ℕ). answerSet (lent (now (at .rules))) (at .unit .rules) w (at .position)) (at-cut .cut .ensures)),
-      judged .judge-set .ensures .1 .1,
+      judged .judge-leaf .ensures .1 .1,
     )
 
 pub belongs-spec : {M : Type 1} → statement M
 belongs-spec =
-    tie.close (tie.spec (λ c κs. search needs) returns (λ c κs. search needs) judge-set-requires (λ c. search needs) returns-2)
+    tie.close (tie.spec (λ c κs. search needs) returns (λ c κs. search needs) judge-leaf-requires (λ c. search needs) returns-2)

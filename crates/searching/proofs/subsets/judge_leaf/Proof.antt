@@ -37,8 +37,8 @@ returns-3 c =
       (refuted-smaller (k .kept-rules .ensures) (smaller .some-smaller .ensures .1 .0), smaller .some-smaller .ensures .1 .1),
     )
 
-pub judge-set-spec : {M : Type 1} → statement M
-judge-set-spec =
+pub judge-leaf-spec : {M : Type 1} → statement M
+judge-leaf-spec =
     tie.close
     (tie.spec
     (λ c κs. search needs)
