@@ -66,7 +66,7 @@ with_mistake painted "the same, seen by a call" "$header" "$list_stack" '#define
 with_mistake frames "the stack of a list is not told" "$header" "$list_stack" ''
 with_mistake frames "the most of all is that of a list" "$header" "$(grep '^#define LUCARNECRESS_STACK ' "$header")" \
     "#define LUCARNECRESS_STACK ${list_stack##* }"
-with_mistake painted "a recursion is half as deep" host/stack.py 'BITS = 64' 'BITS = 32'
+with_mistake painted "a recursion is a quarter as deep" host/stack.py 'BITS = 64' 'BITS = 16'
 with_mistake painted "a recursion is no call" host/stack.py 'max(own) * nested_calls(name) if own else 0' '0'
 with_mistake painted "the loop over pages is one page" host/stack.py 'return [(i + 1, (state[1], None))]' 'return [(i + 1, state)]'
 with_mistake frames "pushes are not counted" host/stack.py 'return depth + 8, probe' 'return depth, probe'

@@ -18,16 +18,11 @@ pub union-of-spec : {M : Type 1} → statement M
 union-of-spec =
     tie.close
     (tie.spec
-    Inv-loop
-    μ-loop
-    (λ c κs. search needs)
-    (λ c κs. search needs)
+    Inv-loop μ-loop (λ c κs. search needs) (λ c κs. search needs)
     (λ c. search (gathers-start, needs))
-    (λ c κs. search needs)
-    (λ c. search needs)
+    (λ c κs. search needs) (λ c. search needs)
     shared-slice-read-union
-    (λ c κs. search needs)
-    (λ c κs. search needs)
+    (λ c κs. search needs) (λ c κs. search needs)
     (λ c. search (taken-less, needs))
     (λ c. search (gathers-next, needs))
     (λ c. search (gathers-end, needs)))

@@ -8,9 +8,7 @@ pub words-known-spec : {M : Type 1} → statement M
 words-known-spec =
     tie.close
     (tie.spec
-    (λ c κs. search needs)
-    (λ c κs. search needs)
-    (λ c κs. search needs)
+    (λ c κs. search needs) (λ c κs. search needs) (λ c κs. search needs)
     (λ c κs. search (apart-sym, needs))
     (λ c κs. search needs)
     (λ c. search (words-say, needs)))

@@ -14,8 +14,7 @@ pub are-untouched-spec : {M : Type 1} → statement M
 are-untouched-spec =
     tie.close
     (tie.spec
-    Inv-loop
-    μ-loop
+    Inv-loop μ-loop
     (λ c. taking-start)
     (λ c κs. search needs)
     (λ c κs. search (lent-taken, needs))

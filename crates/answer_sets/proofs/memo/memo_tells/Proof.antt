@@ -15,16 +15,13 @@ pub memo-tells-spec : {M : Type 1} → statement M
 memo-tells-spec =
     tie.close
     (tie.spec
-    (λ c κs. search needs)
-    (λ c κs. search needs)
+    (λ c κs. search needs) (λ c κs. search needs)
     (λ c e. absurd (false≢true e))
     (λ c κs. search needs)
     (λ c e. absurd (false≢true e))
     (λ c κs. search needs)
     (λ c e. absurd (false≢true e))
-    (λ c κs. search needs)
-    (λ c κs. search needs)
-    (λ c κs. search needs)
+    (λ c κs. search needs) (λ c κs. search needs) (λ c κs. search needs)
     (λ c e. absurd (false≢true e))
     (λ c κs. search (lent-part, part, needs))
     (λ c. search (alike-memo, needs)))

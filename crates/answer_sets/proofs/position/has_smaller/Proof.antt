@@ -10,8 +10,6 @@ pub has-smaller-spec : {M : Type 1} → statement M
 has-smaller-spec =
     tie.close
     (tie.spec
-    (λ c κs. search needs)
-    (λ c κs. search needs)
-    (λ c. search needs)
+    (λ c κs. search needs) (λ c κs. search needs) (λ c. search needs)
     (λ c κs. (c .before .lent-numbers .ensures .1, c .before .before .blank-memo .ensures .memo _))
     returns)

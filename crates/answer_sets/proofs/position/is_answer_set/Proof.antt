@@ -7,7 +7,6 @@ pub is-answer-set-spec : {M : Type 1} → statement M
 is-answer-set-spec =
     tie.close
     (tie.spec
-    (λ c κs. search needs)
-    (λ c. search needs)
+    (λ c κs. search needs) (λ c. search needs)
     (λ c κs. (c .before .before .before .pre, c .before .blank-memo .ensures .memo _))
     (λ c. search needs))

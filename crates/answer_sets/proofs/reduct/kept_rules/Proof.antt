@@ -19,8 +19,7 @@ pub kept-rules-spec : {M : Type 1} → statement M
 kept-rules-spec =
     tie.close
     (tie.spec
-    Inv-loop
-    μ-loop
+    Inv-loop μ-loop
     (λ c. sifts-start)
     (λ c κs. search needs)
     (λ c κs. search (lent-taken, needs))

@@ -10,7 +10,6 @@ is-moving-spec =
     (λ c κs. search needs)
     (λ c e f. false≢true e)
     (λ c e f. false≢true e)
-    (λ c κs. search needs)
-    (λ c κs. search needs)
+    (λ c κs. search needs) (λ c κs. search needs)
     (λ c e f. false≢true e)
     (λ c e f. search needs))

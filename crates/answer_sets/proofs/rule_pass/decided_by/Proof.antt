@@ -8,9 +8,7 @@ pub decided-by-spec : {M : Type 1} → statement M
 decided-by-spec =
     tie.close
     (tie.spec
-    (λ c κs. search needs)
-    (λ c κs. search needs)
-    (λ c κs. search needs)
+    (λ c κs. search needs) (λ c κs. search needs) (λ c κs. search needs)
     (λ c. search (last-dropped, needs))
     (λ c κs. search needs)
     (λ c. search (last-up, needs))

@@ -10,8 +10,7 @@ is-held-spec =
     (tie.spec
     (λ c κs. search needs)
     (λ c κs. search (up-apart, needs))
-    (λ c κs. search needs)
-    (λ c κs. search needs)
+    (λ c κs. search needs) (λ c κs. search needs)
     (λ c. search (held-known, body-of-words, words-told, needs))
     (λ c κs. search (words-told, needs))
     (λ c κs. search needs)

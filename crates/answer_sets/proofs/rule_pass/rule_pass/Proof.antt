@@ -16,11 +16,9 @@ pub rule-pass-spec : {M : Type 1} → statement M
 rule-pass-spec =
     tie.close
     (tie.spec
-    Inv-loop
-    μ-loop
+    Inv-loop μ-loop
     (λ c. carrying-start sifted-start)
-    (λ c κs. search needs)
-    (λ c κs. search needs)
+    (λ c κs. search needs) (λ c κs. search needs)
     (λ c κs. search (lent-taken, needs))
     (λ c κs. search needs)
     (λ c. search (taken-less, needs))

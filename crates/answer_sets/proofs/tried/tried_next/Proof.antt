@@ -8,7 +8,6 @@ pub tried-next-spec : {M : Type 1} → statement M
 tried-next-spec =
     tie.close
     (tie.spec
-    (λ c κs. search needs)
-    (λ c. search needs)
+    (λ c κs. search needs) (λ c. search needs)
     (λ c κs. search (some-free, needs))
     (λ c. search needs))

@@ -8,9 +8,6 @@ pub is-failure-spec : {M : Type 1} → statement M
 is-failure-spec =
     tie.close
     (tie.spec
-    (λ c. search needs)
-    (λ c. search needs)
-    (λ c. search needs)
-    (λ c. search needs)
+    (λ c. search needs) (λ c. search needs) (λ c. search needs) (λ c. search needs)
     (λ c. search (holds-no-failure, needs))
     (λ c. search (open-no-failure, needs)))

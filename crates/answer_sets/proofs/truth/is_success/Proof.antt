@@ -8,9 +8,6 @@ pub is-success-spec : {M : Type 1} → statement M
 is-success-spec =
     tie.close
     (tie.spec
-    (λ c. search needs)
-    (λ c. search needs)
-    (λ c. search needs)
-    (λ c. search needs)
+    (λ c. search needs) (λ c. search needs) (λ c. search needs) (λ c. search needs)
     (λ c. search (fails-no-success, needs))
     (λ c. search (open-no-success, needs)))

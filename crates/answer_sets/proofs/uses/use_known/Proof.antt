@@ -24,10 +24,7 @@ pub use-known-spec : {M : Type 1} → statement M
 use-known-spec =
     tie.close
     (tie.spec
-    (λ c κs. search needs)
-    (λ c κs. search needs)
-    (λ c κs. search needs)
-    (λ c κs. search needs)
+    (λ c κs. search needs) (λ c κs. search needs) (λ c κs. search needs) (λ c κs. search needs)
     (λ c κs. search (rows-some, needs))
     (λ c κs. search needs)
     returns

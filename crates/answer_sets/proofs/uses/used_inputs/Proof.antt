@@ -19,17 +19,11 @@ pub used-inputs-spec : {M : Type 1} → statement M
 used-inputs-spec =
     tie.close
     (tie.spec
-    Inv-loop
-    μ-loop
-    (λ c κs. search needs)
-    (λ c κs. search needs)
-    (λ c κs. search needs)
+    Inv-loop μ-loop (λ c κs. search needs) (λ c κs. search needs) (λ c κs. search needs)
     (λ c. search (gathers-read, needs))
     (λ c κs. search needs)
     (λ c κs. search (gathers-lt, needs))
-    (λ c κs. search needs)
-    (λ c κs. search needs)
-    (λ c κs. search needs)
+    (λ c κs. search needs) (λ c κs. search needs) (λ c κs. search needs)
     (λ c. search (taken-less, needs))
     (λ c. search (gathers-next, used-inputs-read, needs))
     returns)

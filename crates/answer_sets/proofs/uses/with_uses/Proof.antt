@@ -14,18 +14,13 @@ pub with-uses-spec : {M : Type 1} → statement M
 with-uses-spec =
     tie.close
     (tie.spec
-    Inv-loop
-    μ-loop
-    (λ c κs. search needs)
-    (λ c κs. search needs)
-    (λ c κs. search needs)
+    Inv-loop μ-loop (λ c κs. search needs) (λ c κs. search needs) (λ c κs. search needs)
     (λ c. search (uses-start, needs))
     (λ c κs. search needs)
     (λ c. search (uses-fail, needs))
     (λ c κs. search needs)
     (λ c κs. search (uses-lt, needs))
-    (λ c κs. search needs)
-    (λ c κs. search needs)
+    (λ c κs. search needs) (λ c κs. search needs)
     (λ c. search (taken-less, needs))
     (λ c. search (uses-next, needs))
     (λ c. search (uses-end, needs)))

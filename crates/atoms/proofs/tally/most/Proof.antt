@@ -14,13 +14,8 @@ pub most-spec : {M : Type 1} → statement M
 most-spec =
     tie.close
     (tie.spec
-    Inv-loop
-    μ-loop
+    Inv-loop μ-loop
     (λ c. search (subset-refl, most-start, needs))
-    (λ c. search needs)
-    (λ c. search needs)
-    (λ c. search needs)
-    (λ c κs. search needs)
-    (λ c. search needs)
+    (λ c. search needs) (λ c. search needs) (λ c. search needs) (λ c κs. search needs) (λ c. search needs)
     (λ c. search (subset-trans, most-next, needs))
     (λ c. search (most-end, needs)))

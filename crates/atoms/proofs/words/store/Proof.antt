@@ -21,8 +21,7 @@ pub store-spec : {M : Type 1} → statement M
 store-spec =
     tie.close
     (tie.spec
-    Inv-loop
-    μ-loop
+    Inv-loop μ-loop
     (λ c. search (paste-zero, needs))
     (λ c. omega arith)
     (λ c. omega arith)

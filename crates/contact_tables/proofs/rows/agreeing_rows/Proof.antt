@@ -37,9 +37,7 @@ pub agreeing-rows-spec : {M : Type 1} → statement M
 agreeing-rows-spec =
     tie.close
     (tie.spec
-    Inv-loop
-    μ-loop
-    (λ c κs. search needs)
+    Inv-loop μ-loop (λ c κs. search needs)
     (λ c. search (sifting-start, needs))
     (λ c κs. search needs)
     (λ c κs. search (ltb-true, needs))

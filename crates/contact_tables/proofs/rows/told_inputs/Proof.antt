@@ -17,17 +17,11 @@ pub told-inputs-spec : {M : Type 1} → statement M
 told-inputs-spec =
     tie.close
     (tie.spec
-    Inv-loop
-    μ-loop
+    Inv-loop μ-loop
     (λ c. telling-start _ _)
     (λ c κs. search needs)
     (λ c κs. search (ltb-true, needs))
-    (λ c κs. search needs)
-    (λ c κs. search needs)
-    (λ c κs. search needs)
-    (λ c κs. search needs)
-    (λ c κs. search needs)
-    (λ c κs. search needs)
+    (λ c κs. search needs) (λ c κs. search needs) (λ c κs. search needs) (λ c κs. search needs) (λ c κs. search needs) (λ c κs. search needs)
     (λ c κs. search needs)
     (λ c. omega arith)
     (λ c. search (taken-less, needs))

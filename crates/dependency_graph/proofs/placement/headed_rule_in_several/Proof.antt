@@ -11,7 +11,5 @@ pub headed-rule-in-several-spec : {M : Type 1} → statement M
 headed-rule-in-several-spec =
     tie.close
     (tie.spec
-    (λ c κs. search needs)
-    (λ c κs. search needs)
-    (λ c κs. search needs)
+    (λ c κs. search needs) (λ c κs. search needs) (λ c κs. search needs)
     returns)

@@ -20,17 +20,9 @@ pub fill-direct-spec : {M : Type 1} → statement M
 fill-direct-spec =
     tie.close
     (tie.spec
-    Inv-loop
-    μ-loop
-    (λ c κs. search needs)
+    Inv-loop μ-loop (λ c κs. search needs)
     (λ c. search (filling-start, needs))
-    (λ c. search needs)
-    (λ c. search needs)
-    (λ c κs. search needs)
-    (λ c. search needs)
-    (λ c. search needs)
-    (λ c. search needs)
-    (λ c. search needs)
+    (λ c. search needs) (λ c. search needs) (λ c κs. search needs) (λ c. search needs) (λ c. search needs) (λ c. search needs) (λ c. search needs)
     loop-again
     (λ c. search needs)
     (λ c. search (filling-end, needs)))

@@ -18,13 +18,9 @@ pub fill-reach-spec : {M : Type 1} → statement M
 fill-reach-spec =
     tie.close
     (tie.spec
-    Inv-loop
-    μ-loop
-    (λ c κs. search needs)
+    Inv-loop μ-loop (λ c κs. search needs)
     (λ c. search (filled-itself, needs))
-    (λ c κs. search needs)
-    (λ c. search needs)
-    (λ c. search needs)
+    (λ c κs. search needs) (λ c. search needs) (λ c. search needs)
     (λ c. (search (reach-next, needs), omega arith))
     (λ c. search needs)
     returns)

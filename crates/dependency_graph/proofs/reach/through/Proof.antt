@@ -13,8 +13,7 @@ pub through-spec : {M : Type 1} → statement M
 through-spec =
     tie.close
     (tie.spec
-    (λ c κs. search needs)
-    (λ c κs. search needs)
+    (λ c κs. search needs) (λ c κs. search needs)
     (λ c. search (through-miss, lacks-of-test, needs))
     (λ c κs. search needs)
     returns-2)

@@ -25,15 +25,11 @@ pub rule-heads-spec : {M : Type 1} → statement M
 rule-heads-spec =
     tie.close
     (tie.spec
-    Inv-loop
-    μ-loop
-    (λ c κs. search needs)
-    (λ c κs. search needs)
+    Inv-loop μ-loop (λ c κs. search needs) (λ c κs. search needs)
     loop-holds
     (λ c κs. search needs)
     head-requires
-    (λ c κs. search needs)
-    (λ c κs. search needs)
+    (λ c κs. search needs) (λ c κs. search needs)
     (λ c. search (taken-less, needs))
     loop-again
     (λ c. search (gathers-end, needs)))

@@ -17,8 +17,5 @@ descend-spec =
     tie.close
     (tie.spec
     (λ c κs. let pre = c .before .before .before .before .pre in (pre .0, pre .2))
-    (λ c κs. search needs)
-    (λ c κs. search needs)
-    (λ c κs. search needs)
-    (λ c. search needs)
+    (λ c κs. search needs) (λ c κs. search needs) (λ c κs. search needs) (λ c. search needs)
     returns)

@@ -31,15 +31,10 @@ pub step-down-spec : {M : Type 1} → statement M
 step-down-spec =
     tie.close
     (tie.spec
-    (λ c κs. search needs)
-    (λ c κs. search needs)
-    (λ c κs. search needs)
-    (λ c κs. search needs)
+    (λ c κs. search needs) (λ c κs. search needs) (λ c κs. search needs) (λ c κs. search needs)
     returns
     (λ c κs. c .before .before .before .before .before .before .before .before .before .pre .0 .serves .prepared .long)
-    (λ c. search needs)
-    (λ c. search needs)
-    (λ c. search needs)
+    (λ c. search needs) (λ c. search needs) (λ c. search needs)
     propagate-requires
     (λ c. search needs)
     returns-2)

@@ -50,12 +50,10 @@ gather-near-spec =
     returns
     (λ c κs. search needs)
     (λ c κs. c .before .before .before .before .before .before .before .before .pre .2)
-    (λ c κs. search needs)
-    (λ c κs. search needs)
+    (λ c κs. search needs) (λ c κs. search needs)
     returns-2
     (λ c κs. search needs)
     (λ c κs. c .before .before .before .before .before .before .before .before .before .before .before .before .before .pre .0 .serves .prepared .long)
     gather-requires
-    (λ c. search needs)
-    (λ c. search needs)
+    (λ c. search needs) (λ c. search needs)
     returns-3)

@@ -29,16 +29,11 @@ pub gather-nearest-spec : {M : Type 1} → statement M
 gather-nearest-spec =
     tie.close
     (tie.spec
-    (λ c κs. search needs)
-    (λ c κs. search needs)
-    (λ c κs. search needs)
-    (λ c. search needs)
-    (λ c. search needs)
+    (λ c κs. search needs) (λ c κs. search needs) (λ c κs. search needs) (λ c. search needs) (λ c. search needs)
     returns
     (λ c κs. search needs)
     returns-2
     (λ c κs. search needs)
     gather-wider-requires
-    (λ c. search needs)
-    (λ c. search needs)
+    (λ c. search needs) (λ c. search needs)
     (λ c. c .before .before .before .before .gather-wider .ensures))

@@ -44,8 +44,7 @@ pub gather-wider-spec : {M : Type 1} → statement M
 gather-wider-spec =
     tie.close
     (tie.spec
-    Inv-loop
-    μ-loop
+    Inv-loop μ-loop
     loop-holds
     (λ c. omega (arith, c .before .loop .inv .4, c .before .before .before .before .before .before .before .before .before .pre .2))
     (λ c. omega (arith, c .before .if1 .taken))

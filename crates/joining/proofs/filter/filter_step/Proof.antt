@@ -18,13 +18,7 @@ pub filter-step-spec : {M : Type 1} → statement M
 filter-step-spec =
     tie.close
     (tie.spec
-    (λ c κs. search needs)
-    (λ c κs. search needs)
-    (λ c. search needs)
-    (λ c. search needs)
-    (λ c. search needs)
-    (λ c. search needs)
-    (λ c. search needs)
+    (λ c κs. search needs) (λ c κs. search needs) (λ c. search needs) (λ c. search needs) (λ c. search needs) (λ c. search needs) (λ c. search needs)
     join-step-requires
     (λ c. search needs)
     (λ c. search (numbered-by, step-narrows, step-filtered, needs)))

@@ -14,8 +14,7 @@ pub full-filter-spec : {M : Type 1} → statement M
 full-filter-spec =
     tie.close
     (tie.spec
-    Inv-loop
-    μ-loop
+    Inv-loop μ-loop
     (λ c. omega arith)
     (λ c. omega arith)
     (λ c. omega arith)

@@ -16,12 +16,9 @@ pub joins-spec : {M : Type 1} → statement M
 joins-spec =
     tie.close
     (tie.spec
-    Inv-loop
-    μ-loop
+    Inv-loop μ-loop
     (λ c. taking-start)
-    (λ c κs. search needs)
-    (λ c. search needs)
-    (λ c. search needs)
+    (λ c κs. search needs) (λ c. search needs) (λ c. search needs)
     (λ c. search (count-there, needs))
     (λ c. search needs)
     (λ c. search (heads-there, needs))

@@ -13,8 +13,7 @@ pub likely-place-spec : {M : Type 1} → statement M
 likely-place-spec =
     tie.close
     (tie.spec
-    Inv-loop
-    μ-loop
+    Inv-loop μ-loop
     (λ c. (omega arith, omega arith))
     (λ c. omega arith)
     (λ c. omega arith)

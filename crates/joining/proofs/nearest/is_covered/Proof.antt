@@ -14,11 +14,9 @@ pub is-covered-spec : {M : Type 1} → statement M
 is-covered-spec =
     tie.close
     (tie.spec
-    Inv-loop
-    μ-loop
+    Inv-loop μ-loop
     (λ c. taking-start)
-    (λ c κs. search needs)
-    (λ c. search needs)
+    (λ c κs. search needs) (λ c. search needs)
     (λ c. search (unit-there, needs))
     (λ c κs. search needs)
     (λ c. search (covered-here, taken-lent, needs))

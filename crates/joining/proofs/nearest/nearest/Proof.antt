@@ -40,10 +40,7 @@ pub nearest-spec : {M : Type 1} → statement M
 nearest-spec =
     tie.close
     (tie.spec
-    Inv-loop
-    μ-loop
-    (λ c κs. search needs)
-    (λ c κs. search needs)
+    Inv-loop μ-loop (λ c κs. search needs) (λ c κs. search needs)
     (λ c. carrying-start subset-refl)
     (λ c κs. search needs)
     without-covered-requires

@@ -19,9 +19,7 @@ pub without-covered-spec : {M : Type 1} → statement M
 without-covered-spec =
     tie.close
     (tie.spec
-    (λ c κs. search needs)
-    (λ c. search needs)
-    (λ c. search needs)
+    (λ c κs. search needs) (λ c. search needs) (λ c. search needs)
     is-covered-requires
     returns
     (λ c. search needs))

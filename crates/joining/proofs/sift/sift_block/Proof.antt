@@ -14,15 +14,13 @@ pub sift-block-spec : {M : Type 1} → statement M
 sift-block-spec =
     tie.close
     (tie.spec
-    Inv-loop
-    μ-loop
+    Inv-loop μ-loop
     (λ c. sifting-start _ _ _ _ _ _ subset-refl)
     (λ c κs. search needs)
     (λ c. omega arith)
     (λ c. omega arith)
     (λ c. omega arith)
-    (λ c κs. search needs)
-    (λ c κs. search needs)
+    (λ c κs. search needs) (λ c κs. search needs)
     (λ c. search (taken-less, needs))
     (λ c. search (sifting-next, needs))
     (λ c. sifted-from (c .before .before .before .args .found) (sifting-end _ _ _ _ _ _ _ _ (c .before .loop .inv) (c .loop-test .left))))

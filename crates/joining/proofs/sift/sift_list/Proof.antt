@@ -28,9 +28,7 @@ pub sift-list-spec : {M : Type 1} → statement M
 sift-list-spec =
     tie.close
     (tie.spec
-    Inv-loop
-    μ-loop
-    (λ c κs. search needs)
+    Inv-loop μ-loop (λ c κs. search needs)
     (λ c. listing-start _ _ _ _ _ _ _)
     (λ c. omega arith)
     (λ c. omega arith)

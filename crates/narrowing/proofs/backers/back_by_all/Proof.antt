@@ -14,8 +14,7 @@ pub back-by-all-spec : {M : Type 1} → statement M
 back-by-all-spec =
     tie.close
     (tie.spec
-    Inv-loop
-    μ-loop
+    Inv-loop μ-loop
     (λ c. search (backing-start, needs))
     (λ c κs. search needs)
     (λ c κs. search (lent-taken, still-long, needs))

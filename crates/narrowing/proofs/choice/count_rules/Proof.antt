@@ -15,19 +15,15 @@ pub count-rules-spec : {M : Type 1} → statement M
 count-rules-spec =
     tie.close
     (tie.spec
-    Inv-loop
-    μ-loop
+    Inv-loop μ-loop
     (λ c. (passing-start, same-lengths))
     (λ c κs. search needs)
     (λ c κs. search (lent-taken, needs))
-    (λ c κs. search needs)
-    (λ c. search needs)
-    (λ c. search needs)
+    (λ c κs. search needs) (λ c. search needs) (λ c. search needs)
     (λ c. search (taken-lent, stop-found, needs))
     (λ c κs. search (lent-taken, needs))
     (λ c κs. search needs)
     (λ c. search (taken-less, needs))
     (λ c. search (passing-next, lengths-kept, needs))
-    (λ c. search needs)
-    (λ c. search needs)
+    (λ c. search needs) (λ c. search needs)
     (λ c. search (passing-end, needs)))

@@ -8,9 +8,7 @@ pub is-unfailed-spec : {M : Type 1} → statement M
 is-unfailed-spec =
     tie.close
     (tie.spec
-    (λ c κs. search needs)
-    (λ c κs. search needs)
+    (λ c κs. search needs) (λ c κs. search needs)
     (λ c. search (failed, needs))
-    (λ c κs. search needs)
-    (λ c κs. search needs)
+    (λ c κs. search needs) (λ c κs. search needs)
     (λ c. search (unfailed, needs)))

@@ -8,13 +8,7 @@ pub is-wide-spec : {M : Type 1} → statement M
 is-wide-spec =
     tie.close
     (tie.spec
-    (λ c κs. search needs)
-    (λ c. search needs)
-    (λ c. search needs)
-    (λ c. search needs)
-    (λ c κs. search needs)
-    (λ c κs. search needs)
-    (λ c κs. search needs)
+    (λ c κs. search needs) (λ c. search needs) (λ c. search needs) (λ c. search needs) (λ c κs. search needs) (λ c κs. search needs) (λ c κs. search needs)
     (λ c. search (spent-narrow, needs))
     (λ c. search (stopped-narrow, needs))
     (λ c. search (live-wide, needs)))

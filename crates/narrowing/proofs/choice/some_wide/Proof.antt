@@ -14,8 +14,7 @@ pub some-wide-spec : {M : Type 1} → statement M
 some-wide-spec =
     tie.close
     (tie.spec
-    Inv-loop
-    μ-loop
+    Inv-loop μ-loop
     (λ c. taking-start)
     (λ c κs. search needs)
     (λ c κs. search (lent-taken, needs))

@@ -14,9 +14,7 @@ pub found-by-all-spec : {M : Type 1} → statement M
 found-by-all-spec =
     tie.close
     (tie.spec
-    Inv-loop
-    μ-loop
-    (λ c κs. search needs)
+    Inv-loop μ-loop (λ c κs. search needs)
     (λ c. search (cut-within, needs))
     (λ c κs. search needs)
     (λ c κs. search (lent-taken, needs))

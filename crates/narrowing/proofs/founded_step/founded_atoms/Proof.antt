@@ -13,11 +13,9 @@ pub founded-atoms-spec : {M : Type 1} → statement M
 founded-atoms-spec =
     tie.close
     (tie.spec
-    Inv-loop
-    μ-loop
+    Inv-loop μ-loop
     (λ c. omega arith)
-    (λ c κs. search needs)
-    (λ c. search needs)
+    (λ c κs. search needs) (λ c. search needs)
     (λ c. omega arith)
     (λ c. omega arith)
     (λ c. omega arith)

@@ -14,8 +14,7 @@ pub held-on-all-spec : {M : Type 1} → statement M
 held-on-all-spec =
     tie.close
     (tie.spec
-    Inv-loop
-    μ-loop
+    Inv-loop μ-loop
     (λ c. holding-start)
     (λ c κs. search needs)
     (λ c κs. search (lent-taken, needs))

@@ -14,8 +14,7 @@ pub looped-atoms-spec : {M : Type 1} → statement M
 looped-atoms-spec =
     tie.close
     (tie.spec
-    Inv-loop
-    μ-loop
+    Inv-loop μ-loop
     (λ c κs. omega arith)
     (λ c κs. search needs)
     (λ c. search (above-all, needs))

@@ -8,10 +8,6 @@ pub apply-support-spec : {M : Type 1} → statement M
 apply-support-spec =
     tie.close
     (tie.spec
-    (λ c κs. search needs)
-    (λ c κs. search needs)
-    (λ c. search needs)
-    (λ c. search needs)
-    (λ c. search needs)
+    (λ c κs. search needs) (λ c κs. search needs) (λ c. search needs) (λ c. search needs) (λ c. search needs)
     (λ c κs. search (backers-lent, needs))
     (λ c. search (support-narrows, lacked-by, not-false, needs)))

@@ -8,14 +8,9 @@ pub may-support-spec : {M : Type 1} → statement M
 may-support-spec =
     tie.close
     (tie.spec
-    (λ c κs. search needs)
-    (λ c κs. search needs)
-    (λ c κs. search needs)
+    (λ c κs. search needs) (λ c κs. search needs) (λ c κs. search needs)
     (λ c. search (not-alone, needs))
-    (λ c κs. search needs)
-    (λ c. search needs)
-    (λ c. search needs)
-    (λ c. search needs)
+    (λ c κs. search needs) (λ c. search needs) (λ c. search needs) (λ c. search needs)
     (λ c. search (may, needs))
     (λ c. search (body-failed, needs))
     (λ c. search (may, needs)))

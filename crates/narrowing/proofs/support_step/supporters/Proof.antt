@@ -14,13 +14,11 @@ pub supporters-spec : {M : Type 1} → statement M
 supporters-spec =
     tie.close
     (tie.spec
-    Inv-loop
-    μ-loop
+    Inv-loop μ-loop
     (λ c. search (supporters-all, needs))
     (λ c κs. search needs)
     (λ c κs. search (supporter-lent, needs))
-    (λ c. search needs)
-    (λ c κs. search needs)
+    (λ c. search needs) (λ c κs. search needs)
     (λ c. search (taken-less, needs))
     (λ c. search (supporters-next, needs))
     (λ c. search (supporters-end, needs)))

@@ -8,8 +8,7 @@ pub drop-unfounded-spec : {M : Type 1} → statement M
 drop-unfounded-spec =
     tie.close
     (tie.spec
-    (λ c κs. search needs)
-    (λ c κs. search needs)
+    (λ c κs. search needs) (λ c κs. search needs)
     (λ c. narrows-refl)
     (λ c κs. search needs)
     (λ c. narrows-refl)

@@ -14,8 +14,7 @@ pub is-unfounded-spec : {M : Type 1} → statement M
 is-unfounded-spec =
     tie.close
     (tie.spec
-    Inv-loop
-    μ-loop
+    Inv-loop μ-loop
     (λ c. taking-start)
     (λ c κs. search needs)
     (λ c κs. search (lent-taken, needs))

@@ -14,8 +14,7 @@ pub note-rules-spec : {M : Type 1} → statement M
 note-rules-spec =
     tie.close
     (tie.spec
-    Inv-loop
-    μ-loop
+    Inv-loop μ-loop
     (λ c. adding-start)
     (λ c κs. search needs)
     (λ c κs. search (lent-taken, still-long, needs))

@@ -31,10 +31,7 @@ pub read-uses-spec : {M : Type 1} → statement M
 read-uses-spec =
     tie.close
     (tie.spec
-    Inv-loop
-    μ-loop
-    (λ c. search needs)
-    (λ c. search needs)
+    Inv-loop μ-loop (λ c. search needs) (λ c. search needs)
     (λ c. search (passed-by, needs))
     with-use-requires
     (λ c. omega arith)

@@ -12,7 +12,6 @@ read-unit-spec =
     (λ c. search (late-row, needs))
     (λ c. search (full-row, le-leb, needs))
     (λ c. search (short-row, lt-leb, needs))
-    (λ c κs. search needs)
-    (λ c κs. search needs)
+    (λ c κs. search needs) (λ c κs. search needs)
     (λ c. search (unit-refused, lt-leb, needs))
     (λ c. search (unit-read, lt-leb, needs)))

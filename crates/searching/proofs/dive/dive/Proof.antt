@@ -38,12 +38,9 @@ pub dive-spec : {M : Type 1} → statement M
 dive-spec =
     tie.close
     (tie.spec
-    Inv-loop
-    μ-loop
-    (λ c κs. search needs)
+    Inv-loop μ-loop (λ c κs. search needs)
     loop-holds
-    (λ c κs. search needs)
-    (λ c. search needs)
+    (λ c κs. search needs) (λ c. search needs)
     descend-requires
     (λ c. c .before .before .before .descend .ensures .1 .1 .1)
     loop-again

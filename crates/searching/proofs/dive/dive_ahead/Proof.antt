@@ -33,17 +33,12 @@ pub dive-ahead-spec : {M : Type 1} → statement M
 dive-ahead-spec =
     tie.close
     (tie.spec
-    Inv-loop
-    μ-loop
-    (λ c κs. search needs)
-    (λ c κs. search needs)
-    (λ c. search needs)
+    Inv-loop μ-loop (λ c κs. search needs) (λ c κs. search needs) (λ c. search needs)
     loop-holds
     dive-requires
     same-length
     (λ c. c .before .before .before .dive .ensures)
-    (λ c. search needs)
-    (λ c. search needs)
+    (λ c. search needs) (λ c. search needs)
     loop-again
     (λ c. c .before .loop .inv .1)
     (λ c. c .before .loop .inv .0))

@@ -7,9 +7,5 @@ pub learn-stop-spec : {M : Type 1} → statement M
 learn-stop-spec =
     tie.close
     (tie.spec
-    (λ c κs. search needs)
-    (λ c. search needs)
-    (λ c κs. search needs)
-    (λ c κs. search needs)
-    (λ c. search needs)
+    (λ c κs. search needs) (λ c. search needs) (λ c κs. search needs) (λ c κs. search needs) (λ c. search needs)
     (λ c. c .before .before .stop .ensures .0))

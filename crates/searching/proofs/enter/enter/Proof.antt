@@ -18,7 +18,4 @@ enter-spec =
     (tie.spec
     (λ c κs. search needs)
     outlook-of-requires
-    (λ c κs. search needs)
-    (λ c. search needs)
-    (λ c. search needs)
-    (λ c. search needs))
+    (λ c κs. search needs) (λ c. search needs) (λ c. search needs) (λ c. search needs))

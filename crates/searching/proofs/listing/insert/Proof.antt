@@ -78,8 +78,7 @@ pub insert-spec : {M : Type 1} → statement M
 insert-spec =
     tie.close
     (tie.spec
-    Inv-loop
-    μ-loop
+    Inv-loop μ-loop
     loop-holds
     (λ c. omega arith)
     (λ c. omega arith)

@@ -23,10 +23,7 @@ pub is-wired-spec : {M : Type 1} → statement M
 is-wired-spec =
     tie.close
     (tie.spec
-    (λ c. search needs)
-    (λ c. search needs)
-    (λ c. search needs)
-    (λ c κs. search needs)
+    (λ c. search needs) (λ c. search needs) (λ c. search needs) (λ c κs. search needs)
     returns
     belongs-requires
     (λ c. search needs)

@@ -38,9 +38,7 @@ settle-spec =
     tie.close
     (tie.spec
     (λ c κs. c .before .before .before .before .before .before .before .pre .0 .searchable .rules-lent)
-    (λ c κs. search needs)
-    (λ c κs. search needs)
+    (λ c κs. search needs) (λ c κs. search needs)
     returns
-    (λ c κs. search needs)
-    (λ c κs. search needs)
+    (λ c κs. search needs) (λ c κs. search needs)
     returns-2)

@@ -19,17 +19,11 @@ pub are-distinct-spec : {M : Type 1} → statement M
 are-distinct-spec =
     tie.close
     (tie.spec
-    Inv-loop
-    μ-loop
+    Inv-loop μ-loop
     (λ c. distinct-start)
-    (λ c. search needs)
-    (λ c. search needs)
-    (λ c κs. search needs)
+    (λ c. search needs) (λ c. search needs) (λ c κs. search needs)
     (λ c e. absurd (false≢true e))
-    (λ c. search needs)
-    (λ c. search needs)
-    (λ c κs. search needs)
-    (λ c. search needs)
+    (λ c. search needs) (λ c. search needs) (λ c κs. search needs) (λ c. search needs)
     (λ c. omega (arith, c .before .before .before .before .before .loop-test .taken))
     loop-again
     (λ c e. distinct-end (c .before .loop .inv) (omega (arith, c .loop-test .left))))

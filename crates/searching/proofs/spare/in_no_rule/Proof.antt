@@ -21,8 +21,7 @@ pub in-no-rule-spec : {M : Type 1} → statement M
 in-no-rule-spec =
     tie.close
     (tie.spec
-    Inv-loop
-    μ-loop
+    Inv-loop μ-loop
     (λ c. taking-start)
     (λ c κs. c .loop-test .taken)
     (λ c κs. c .before .before .before .before .pre .each _ (taken-lent (c .before .before .loop .inv .within) (c .lowest .ensures .0)))

@@ -18,12 +18,9 @@ pub in-no-table-spec : {M : Type 1} → statement M
 in-no-table-spec =
     tie.close
     (tie.spec
-    Inv-loop
-    μ-loop
+    Inv-loop μ-loop
     (λ c. no-table)
-    (λ c. search needs)
-    (λ c κs. search needs)
-    (λ c κs. search needs)
+    (λ c. search needs) (λ c κs. search needs) (λ c κs. search needs)
     (λ c e. absurd (false≢true e))
     (λ c. search needs)
     (λ c. omega (arith, c .before .before .before .loop-test .taken))

@@ -33,13 +33,11 @@ pub may-serve-spec : {M : Type 1} → statement M
 may-serve-spec =
     tie.close
     (tie.spec
-    (λ c κs. search needs)
-    (λ c κs. search needs)
+    (λ c κs. search needs) (λ c κs. search needs)
     (λ c e. absurd (false≢true e))
     (λ c κs. search needs)
     (λ c e. absurd (false≢true e))
-    (λ c κs. search needs)
-    (λ c κs. search needs)
+    (λ c κs. search needs) (λ c κs. search needs)
     (λ c e. absurd (false≢true e))
     (λ c κs. search needs)
     (λ c e. absurd (false≢true e))

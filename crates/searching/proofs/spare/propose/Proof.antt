@@ -13,8 +13,7 @@ pub propose-spec : {M : Type 1} → statement M
 propose-spec =
     tie.close
     (tie.spec
-    Inv-loop
-    μ-loop
+    Inv-loop μ-loop
     (λ c. tt)
     (λ c κs. c .loop-test .taken)
     (λ c κs. search needs)

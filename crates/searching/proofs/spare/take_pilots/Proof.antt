@@ -10,9 +10,6 @@ take-pilots-spec =
     (tie.spec
     (λ c κs. search needs)
     (λ c. (no-pilots, none-down))
-    (λ c κs. search needs)
-    (λ c κs. search needs)
-    (λ c. search needs)
-    (λ c κs. search needs)
+    (λ c κs. search needs) (λ c κs. search needs) (λ c. search needs) (λ c κs. search needs)
     (λ c. c .before .may-serve .ensures (c .if2 .taken))
     (λ c. (no-pilots, none-down)))

@@ -14,7 +14,5 @@ stop-reason-spec =
     (tie.spec
     (λ c κs. search needs)
     (λ c. overlap-nogood (c .everything .ensures .0))
-    (λ c κs. search needs)
-    (λ c κs. search needs)
-    (λ c κs. search needs)
+    (λ c κs. search needs) (λ c κs. search needs) (λ c κs. search needs)
     returns-2)

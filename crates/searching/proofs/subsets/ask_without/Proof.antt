@@ -30,8 +30,7 @@ ask-without-spec =
     (tie.spec
     (λ c κs. c .before .before .before .before .before .pre .3)
     (λ c κs. let pre = c .before .before .before .before .before .before .before .pre in (pre .0, pre .1, pre .2))
-    (λ c. search needs)
-    (λ c. search needs)
+    (λ c. search needs) (λ c. search needs)
     (λ c κs. c .before .before .before .before .before .before .before .before .before .before .before .before .pre .3)
     (λ c κs. let asked = c .before .before .before .before .before .before in (start asked .pre .0, start asked .pre .1, asked .find-model .ensures .1))
     (λ c. search needs)

@@ -34,9 +34,7 @@ pub find-model-spec : {M : Type 1} → statement M
 find-model-spec =
     tie.close
     (tie.spec
-    (λ c κs. search needs)
-    (λ c κs. search needs)
-    (λ c. search needs)
+    (λ c κs. search needs) (λ c κs. search needs) (λ c. search needs)
     enter-requires
     seek-requires
     (λ c. search needs)

@@ -76,17 +76,12 @@ pub seek-between-spec : {M : Type 1} → statement M
 seek-between-spec =
     tie.close
     (tie.spec
-    Inv-loop
-    μ-loop
-    (λ c κs. search needs)
-    (λ c. search needs)
+    Inv-loop μ-loop (λ c κs. search needs) (λ c. search needs)
     (λ c κs. models-lent (c .before .before .models-of .ensures) (c .before .before .before .before .pre .0))
-    (λ c κs. search needs)
-    (λ c κs. search needs)
+    (λ c κs. search needs) (λ c κs. search needs)
     (λ c. (narrows-refl, remembers-empty (c .before .empty-store .ensures), c .without .ensures, c .before .empty-store .ensures .long))
     (λ c κs. c .loop-test .taken)
-    (λ c. search needs)
-    (λ c. search needs)
+    (λ c. search needs) (λ c. search needs)
     (λ c. sym (laid (c .before .before .before .before .before) .lay-out .ensures .long))
     (λ c. sym (c .before .before .before .before .before .before .loop .inv .3))
     ask-without-requires
