@@ -4,8 +4,5 @@ use Rattle.finding.proofs.Face.{passed-all}
 use Rattle.finding.proofs.gather.is_passed.Statement.{statement}
 use Rattle.finding.proofs.gather.is_passed.Tie as tie
 
-returns : tie.Need-returns
-returns c = passed-all (c .before .outside .ensures) (c .is-behind .ensures)
-
 pub is-passed-spec : {M : Type 1} → statement M
-is-passed-spec = tie.close (tie.spec (λ c κs. search needs) (λ c κs. search needs) returns)
+is-passed-spec = tie.close (tie.spec (λ c κs. search needs) (λ c κs. search needs) (λ c. search (passed-all, needs)))

@@ -10,17 +10,6 @@ returns c =
     let stands = dark .before .before .before .before .before .before .before .pre .stands in
     (looked-passed stands (rw (dark .before .without .ensures) at (dark .dark-of .ensures)) (c .before .is-passed .ensures (c .if1 .taken)), stands)
 
-returns-2 : tie.Need-returns-2
-returns-2 c =
-    let pre = c .before .before .before .before .before .before .before .before .before .before .before .before .pre in
-    (looked-known (c .before .known .given .1) (pre .hinted), pre .stands)
-
-returns-3 : tie.Need-returns-3
-returns-3 c =
-    let said = c .before .before in
-    let stands = said .before .before .before .before .before .before .before .before .before .before .before .before .before .pre .stands in
-    (looked-asked stands (said .ask .ensures .0), said .ask .ensures .1)
-
 pub look-spec : {M : Type 1} → statement M
 look-spec =
     tie.close
@@ -29,6 +18,6 @@ look-spec =
     returns
     (λ c. search needs) (λ c. search needs)
     (λ c κs. c .before .before .before .before .before .before .before .before .before .before .before .before .pre .stands)
-    returns-2
+    (λ c. search (looked-known, needs))
     (λ c. search needs)
-    returns-3)
+    (λ c. search (looked-asked, needs)))

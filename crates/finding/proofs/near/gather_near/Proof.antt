@@ -1,16 +1,8 @@
 -- Those like the place from the bound on are the ones up to the last of them.
-use Rattle.finding.proofs.Prelude.{refl, needs}
+use Rattle.finding.proofs.Prelude.{needs, refl}
 use Rattle.finding.proofs.Face.{stands-still, near-node, reaches-none, reaches-near}
 use Rattle.finding.proofs.near.gather_near.Statement.{statement}
 use Rattle.finding.proofs.near.gather_near.Tie as tie
-
-returns : tie.Need-returns
-returns c = let pre = c .before .before .before .before .before .before .pre in (reaches-none (pre .3) refl refl, pre .0)
-
-returns-2 : tie.Need-returns-2
-returns-2 c =
-    let pre = c .before .before .before .before .before .before .before .before .before .before .before .before .pre in
-    (reaches-none (pre .3) refl refl, pre .0)
 
 gather-requires : tie.Need-gather-requires
 gather-requires c κs =
@@ -47,11 +39,11 @@ pub gather-near-spec : {M : Type 1} → statement M
 gather-near-spec =
     tie.close
     (tie.spec
-    returns
+    (λ c. search (reaches-none, needs))
     (λ c κs. search needs)
     (λ c κs. c .before .before .before .before .before .before .before .before .pre .2)
     (λ c κs. search needs) (λ c κs. search needs)
-    returns-2
+    (λ c. search (reaches-none, needs))
     (λ c κs. search needs)
     (λ c κs. c .before .before .before .before .before .before .before .before .before .before .before .before .before .pre .0 .serves .prepared .long)
     gather-requires

@@ -1,18 +1,8 @@
 -- The place completes the state, or nothing is put.
-use Rattle.finding.proofs.Prelude.{refl, arith, needs}
+use Rattle.finding.proofs.Prelude.{needs, arith}
 use Rattle.finding.proofs.Face.{place-at, reaches-none}
 use Rattle.finding.proofs.near.gather_nearest.Statement.{statement}
 use Rattle.finding.proofs.near.gather_nearest.Tie as tie
-
-returns : tie.Need-returns
-returns c =
-    let pre = c .before .before .before .before .before .before .before .before .before .before .pre in
-    (reaches-none (omega arith) refl refl, pre)
-
-returns-2 : tie.Need-returns-2
-returns-2 c =
-    let pre = c .before .before .before .before .before .before .before .before .before .before .before .before .before .pre in
-    (reaches-none (omega arith) refl refl, pre)
 
 gather-wider-requires : tie.Need-gather-wider-requires
 gather-wider-requires c κs =
@@ -30,9 +20,9 @@ gather-nearest-spec =
     tie.close
     (tie.spec
     (λ c κs. search needs) (λ c κs. search needs) (λ c κs. search needs) (λ c. search needs) (λ c. search needs)
-    returns
+    (λ c. search (reaches-none, needs))
     (λ c κs. search needs)
-    returns-2
+    (λ c. search (reaches-none, needs))
     (λ c κs. search needs)
     gather-wider-requires
     (λ c. search needs) (λ c. search needs)

@@ -1,5 +1,5 @@
 -- From place to place, each further than the one before; the width grows.
-use Rattle.finding.proofs.Prelude.{_≡_, refl, _-_, _≤_, arith, length, needs, Standing, Reaches}
+use Rattle.finding.proofs.Prelude.{needs, _≡_, _-_, _≤_, arith, length, Standing, Reaches}
 use Rattle.finding.proofs.Face.{place-further, reaches-none, reaches-more}
 use Rattle.finding.proofs.near.gather_wider.Statement.{statement}
 use Rattle.finding.proofs.near.gather_wider.Tie as tie
@@ -11,24 +11,6 @@ Inv-loop rules desk memory₀ query near skip out₀ unit front reached₀ width
 
 abbrev μ-loop : tie.MeasureT-loop
 μ-loop rules desk memory₀ query near skip out₀ unit front reached₀ width₀ memory out reached width = 128 - width
-
-loop-holds : tie.Need-loop-holds Inv-loop μ-loop
-loop-holds c =
-    let pre = c .before .before .before .before .before .before .before .pre in
-    (reaches-none (omega arith) refl refl, pre .0, refl, omega arith, omega arith)
-
-gather-near-requires : tie.Need-gather-near-requires Inv-loop μ-loop
-gather-near-requires c κs =
-    let test = c .before .before .before in
-    let loop = test .before .before in
-    let inv = loop .loop .inv in
-    let pre = loop .before .before .before .before .before .before .before .before .pre in
-    (inv .1, place-further (inv .0 .further) (pre .1), omega (arith, test .if1 .taken), omega (arith, inv .0 .added .room, inv .0 .added .long))
-
-loop-less : tie.Need-loop-less Inv-loop μ-loop
-loop-less c =
-    let test = c .before .before .before .before .before .before .before .before in
-    omega (arith, test .if1 .taken, test .before .before .loop .inv .3)
 
 loop-again : tie.Need-loop-again Inv-loop μ-loop
 loop-again c =
@@ -45,12 +27,12 @@ gather-wider-spec =
     tie.close
     (tie.spec
     Inv-loop μ-loop
-    loop-holds
+    (λ c. search (reaches-none, needs))
     (λ c. omega (arith, c .before .loop .inv .4, c .before .before .before .before .before .before .before .before .before .pre .2))
     (λ c. omega (arith, c .before .if1 .taken))
-    gather-near-requires
+    (λ c κs. search (place-further, needs))
     (λ c. omega (arith, c .before .before .before .before .before .before .before .before .if1 .taken))
-    loop-less
+    (λ c. search needs)
     loop-again
     (λ c. c .before .before .loop .inv .2)
     (λ c. c .before .before .loop .inv .0 .added .long)
