@@ -8,7 +8,7 @@ use Rattle.answer_sets.proofs.Prelude.{SmallerSet, State, Passed, completes_back
 use Rattle.answer_sets.proofs.Prelude.{decided_cases}
 use Rattle.answer_sets.specs.declared.smaller.Smaller.{Smaller as Answer}
 use Rattle.answer_sets.proofs.Bodies.{rest_same}
-use Rattle.answer_sets.proofs.Judged.{decides_smaller}
+use Rattle.answer_sets.proofs.JudgedSets.{decides_smaller}
 
 -- ---- which completions lie within M
 

@@ -2,7 +2,7 @@
 use Rattle.answer_sets.proofs.Prelude.{◌≡◌, refl, sym, ◌∙◌, Bool, true, false, not, false≢true, inl, inr, ℕ, not-true, not-false, subset, apart, ◌∖◌}
 use Rattle.answer_sets.proofs.Prelude.{atom, decides_subset, Program, body, satisfies, satisfies_all, kept, kept_if, some_smaller, answer_set, SmallerSet}
 use Rattle.answer_sets.proofs.Prelude.{RefutedBy}
-use Rattle.answer_sets.proofs.Judged.{decides_all_satisfied, kept_fits}
+use Rattle.answer_sets.proofs.JudgedSets.{decides_all_satisfied, kept_fits}
 
 -- ---- one rule
 

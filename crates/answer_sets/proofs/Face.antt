@@ -5,7 +5,7 @@ pub use Rattle.answer_sets.proofs.Bodies.{said, table_first, table_second, used_
 pub use Rattle.answer_sets.proofs.Candidates.{candidates_body, candidates_head, some_free}
 pub use Rattle.answer_sets.proofs.Cases.{kept_if_fails, kept_if_holds, model_judged, no_facts, no_model, refuted_facts, refuted_model, refuted_smaller}
 pub use Rattle.answer_sets.proofs.Cases.{satisfies_fails, satisfies_holds}
-pub use Rattle.answer_sets.proofs.Judged.{decides_all_satisfied, kept_collected, satisfies_denied, satisfies_said, sifts_kept_if}
+pub use Rattle.answer_sets.proofs.JudgedSets.{decides_all_satisfied, kept_collected, satisfies_denied, satisfies_said, sifts_kept_if}
 pub use Rattle.answer_sets.proofs.Lent.{lent_kept, lent_taken, numbered_cut}
 pub use Rattle.answer_sets.proofs.Memos.{alike_memo, blank_memo, differing_is, memo_none, memo_whole, memo_written, untouched_rule, words_written}
 pub use Rattle.answer_sets.proofs.Parts.{UsesDone, apart_sym, body_of_words, rows_some, table_says, up_apart, uses_end, uses_fail, uses_lt, uses_next}

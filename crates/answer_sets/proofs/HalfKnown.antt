@@ -7,7 +7,7 @@ use Rattle.answer_sets.proofs.Prelude.{cut_left, cut_right, has_without, subset_
 use Rattle.answer_sets.proofs.Prelude.{CONTACT_WORDS, Body, Satisfies, lent, rule_at, negative, inputs, uses, USE_BITS, used_table, use_holds, body}
 use Rattle.answer_sets.proofs.Prelude.{Completes, half_decided, Part, positive_word, negative_word, table_use, PartHolds, InBody, has_positive}
 use Rattle.answer_sets.proofs.Prelude.{has_negative, has_use, BodySays, Truth, Holds, Fails}
-use Rattle.answer_sets.proofs.Judged.{decides_body}
+use Rattle.answer_sets.proofs.JudgedSets.{decides_body}
 use Rattle.answer_sets.proofs.Bodies.{use_same, body_parts, parts_body}
 use Rattle.answer_sets.proofs.Parts.{known_holds}
 use Rattle.answer_sets.proofs.Truths.{holds_not_fails}

@@ -2,7 +2,7 @@
 use Rattle.answer_sets.proofs.Prelude.{◌≡◌, ◌↔◌, inl, inr, List, ℕ, ◌^◌, ◌<◌, ◌≤◌, min, arith, length, get_or, ATOMS, Has, ◌⊆◌, ◌∩◌, below, Lowest}
 use Rattle.answer_sets.proofs.Prelude.{has_cut, cut_left, cut_right, has_below, below_lt, has_lt, lt_of_has, MAX_RULES, AnswerSet, lent, rule_at}
 use Rattle.answer_sets.proofs.Prelude.{rule_count_of, IsLent, Lent, numbered, kept}
-use Rattle.answer_sets.proofs.Judged.{kept_at}
+use Rattle.answer_sets.proofs.JudgedSets.{kept_at}
 use Rattle.answer_sets.proofs.Support.{Supported, supported}
 
 pub lent_within : {rules : List ℕ} {v w : ℕ} → v ⊆ w → Lent rules w → Lent rules v

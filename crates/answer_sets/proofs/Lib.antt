@@ -3,7 +3,7 @@ pub mod Prelude
 -- The laws of this crate that the proofs of its functions name, each with its home.
 pub mod Face
 -- The computing twins decide what they are twins of. Rule numbers are bits of a word, so `which` is below 2 ^ 64
-pub mod Judged
+pub mod JudgedSets
 -- Which rules are lent, and that answer sets of lent words are words
 pub mod Lent
 -- Which case of a computing definition the tests of the code pick: the answers' equations come in the order of the code

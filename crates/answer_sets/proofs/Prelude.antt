@@ -17,7 +17,7 @@ pub use Rattle.atoms.proofs.Bounded.{all_in_at, all_in_intro, decides_all_in, de
 pub use Rattle.atoms.proofs.Counts.{taken_less}
 pub use Rattle.atoms.proofs.Kit.{Bool, In, List, Measures, ◌&&◌, ◌*◌, ◌+◌, ◌-◌, ◌<◌, ◌^◌, ◌↔◌, ◌∙◌, ◌≡◌, ◌≤◌, ◌⊎◌, and, ap, ap₂, arith, falls, false}
 pub use Rattle.atoms.proofs.Kit.{false≢true, get_or, get_or-set_other, get_or-set_same, inl, inr, is, le-ltb, length, length-replicate, length-set, lt-ltb}
-pub use Rattle.atoms.proofs.Kit.{lt_of_le_of_lt, min, needs, not, not-false, not-true, now, ones, pow-suc, refl, replicate, set, subst, suc, sym, true}
+pub use Rattle.atoms.proofs.Kit.{lt_of_le_of_lt, min, needs, not, not-false, not-true, ones, pow-suc, refl, replicate, set, subst, suc, sym, true}
 pub use Rattle.atoms.proofs.Kit.{true≢false, zero, ℕ, ℕ_discrete}
 pub use Rattle.atoms.proofs.Sets.{apart_of_cut, atom_only, below_lt, cut_fits, cut_left, cut_right, decides_apart, decides_has, decides_subset, ext, has_atom}
 pub use Rattle.atoms.proofs.Sets.{has_below, has_cut, has_dec, has_left, has_lt, has_none, has_outside, has_right, has_without, lt_of_has, outside_lacks}

@@ -1,4 +1,6 @@
 // Judging one position over lent rules: the single-position crate.
+#![tactic(auto)]
+
 pub mod known;
 pub mod memo;
 mod position;

@@ -11,7 +11,7 @@ use crate::smaller::some_smaller;
 use plan::MAX_RULES;
 
 // Whether a position is an answer set, and if it is none, what shows it: a smaller set, or the position itself. Which smaller set it is, is free.
-#[derive(Drop)]
+#[derive(Clone, Copy)]
 pub struct Judged {
     pub answers: bool,
     pub smaller: u64,

@@ -9,7 +9,7 @@ use crate::known::body_holds;
 use crate::rule::head;
 
 // A rule that a position does not satisfy, if there is one.
-#[derive(Drop)]
+#[derive(Clone, Copy)]
 pub enum FoundRule {
     Rule(usize),
     Nothing,

@@ -85,7 +85,7 @@ pub fn rule_step(rules: &[u64], rule: usize, s: State) -> State
 }
 
 // Where a round over rules stands: the state, and the rules that some completion of it may not satisfy.
-#[derive(Drop)]
+#[derive(Clone, Copy)]
 pub struct Passed {
     pub state: State,
     pub left: u64,

@@ -21,7 +21,7 @@ pub const UNBOUNDED: u64 = EVERY_ATOM;
 
 // Whether there is a smaller set, and if so one that was found. Which one it is, is free. Beside it stands how many branchings are left: where that is
 // none, nothing is said.
-#[derive(Drop)]
+#[derive(Clone, Copy)]
 pub struct Smaller {
     pub found: bool,
     pub set: u64,

@@ -5,7 +5,7 @@ ghost use Rattle.atoms.specs.Word.{Apart};
 ghost use Rattle.answer_sets.specs.Known.{both as both_of, opposite as oppositeOf, WordSays, RowsSay};
 
 // What is known of a test at a half-decided position.
-#[derive(Drop)]
+#[derive(Clone, Copy)]
 pub enum Truth {
     Holds,
     Fails,

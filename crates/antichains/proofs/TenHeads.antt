@@ -3,7 +3,7 @@
 use Rattle.antichains.proofs.Prelude.{◌≡◌, sym, ap, ◌∙◌, subst, List, ℕ, ◌/◌, ◌≤◌, ◌<◌, arith, dec_lt, length, take, get_or, replicate, Has, reading}
 use Rattle.antichains.proofs.Prelude.{Contents, WithinLimits, record_of, predecessors_of, IsByte, All, Units, Passes, units_of, Listed, Clean, Shown}
 use Rattle.antichains.proofs.Prelude.{FitsList, middle_binomial, FewHeads, TenHeaded, ListingFits, SheetFits, CodeFits}
-use Rattle.atoms.proofs.Lists.{get_d_tabulate}
+use Rattle.atoms.proofs.Lists.{get_or_tabulate}
 use Rattle.plan.specs.Limits.{MAX_RULES, MAX_UNITS, TABLE_WORDS, COUNTS, LAST_COUNT}
 use Rattle.plan.specs.Faults.{RefusedBy, CODE_STEP}
 use Rattle.plan.specs.declared.record.Plan.{Plan}
@@ -37,7 +37,7 @@ within_clean c w = record { there = there }
   where
     there : (u v : ℕ) → u < length c.units → Has (get_or (record_of c).predecessors u 0) v → v < length c.units
     there u v l h =
-        let row = get_d_tabulate MAX_UNITS (predecessors_of c.edges) u (omega (arith, w.under unit)) in
+        let row = get_or_tabulate MAX_UNITS (predecessors_of c.edges) u (omega (arith, w.under unit)) in
         (all_member _ c.edges (pair u v) w.good_edges (has_member c.edges (pair u v) (subst (λ (w : ℕ). Has w v) row h))
         ).to_there
 

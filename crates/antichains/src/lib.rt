@@ -1,1 +1,2 @@
 // Families of sets, none within another: no code, only theorems. Ten headed relays always fit.
+#![tactic(auto)]

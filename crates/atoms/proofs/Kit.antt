@@ -5,14 +5,14 @@ pub use base.Logic.{SProp, emp, ent, fst∗, guard, id⊢, sep, via}
 pub use base.Stored.{Gv}
 pub use borrow.Author.Count.{below_more, below_none}
 pub use borrow.Author.Fill.{fill_more}
-pub use borrow.Author.Rules.{rules}
+pub use borrow.Author.Rules.{rules as needs}
 pub use borrow.Author.Tests.{eq-eqb, eqb-false, eqb-true, le-leb, le-ltb, leb-false, leb-true, lt-leb, lt-ltb, ltb-false, ltb-true, ne_eqb, not-false}
 pub use borrow.Author.Tests.{not-true}
 pub use borrow.Fn.Kinds.{In}
 pub use borrow.Fn.PlainCycle.{Measures, and, falls, is}
 pub use borrow.Rule.Slice.PartMut.{drop_put, mid_len, mid_of, post_of, put_mid, same_len_mid}
 pub use contract.Monad.{Fun, fact}
-pub use contract.Running.{given_of, tables}
+pub use contract.Running.{tables}
 unfoldable pub use contract.Running.{tables_of}
 pub use denote.Array.{Array, Array-Makes, Array-Tells, Array-Typed, array_vals, array_val, each}
 pub use denote.ArrayMemory.{Array-apart, Array-whole}
@@ -38,7 +38,7 @@ pub use denote.Triple.Entry.{on_entry}
 pub use denote.Triple.Spec.{Meets, triple_of}
 pub use denote.Triple.Table.{cited, entered}
 pub use denote.Triple.Walked.{Stays, Walks, ends_at, Goes-dropped, Goes-slice, says, stay_dropped, stay_slice, walk_Meets, walk_of, walked}
-pub use ghost.Atoms.{Atoms, sem}
+pub use ghost.Atoms.{Atoms}
 pub use seplogic.Ra.TreeShare.{full_share}
 pub use seplogic.Ra.Ura.{Ura}
 pub use lib.Arith.{bin_ind, digits_div, digits_lt, digits_mod}
@@ -90,7 +90,7 @@ pub use prog.Routine.{Routine}
 pub use prog.Wp.{Calls, Env, Heap, Loops, Out, Spot, Tables, Wp, WpFn, after_block, after_seq, at_return, spot_of}
 unfoldable pub use prog.Wp.{after_turn}
 pub use sound.WpLaws.{FmC, WpFn-mono, fm_of}
-pub use types.Kit.{ !, Given, Goal, Item, Post, Seq, Soaks, Sq, Step, ◌$◌, ◌∵◌, ◌⊛◌, allocs, any_q, at_ret, await, by, check, done, feq_i, feq_l, fjoin, fpack}
+pub use types.Kit.{!, Goal, Item, Post, Seq, Soaks, Sq, Step, ◌$◌, ◌∵◌, ◌⊛◌, allocs, any_q, at_ret, await, by, check, done, feq_i, feq_l, fjoin, fpack}
 pub use types.Kit.{fpick, frame, frees, fsplit, given, join, keep, later, learn, mean, move, nth, pick, post, put, qed, raw, rewrite, runs, split, step}
 pub use types.Kit.{suffices, use1, use2, use3, ‵, ⋆}
 pub use types.Part.{Part, agg, look_in, rep, store_in, sub, whole}

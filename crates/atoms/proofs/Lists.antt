@@ -6,10 +6,10 @@ use Rattle.atoms.specs.Lists.{padded, tabulate}
 
 -- ---- members by index
 
-pub member_get_d : (xs : List ℕ) (i : ℕ) → i < length xs → List-as-Memᴰ (get_or xs i 0) xs
-member_get_d [] i l = absurd (omega arith)
-member_get_d (x ∷ xs) zero l = Memᴰ-head refl
-member_get_d (x ∷ xs) (suc i) l = Memᴰ-tail (member_get_d xs i (omega arith))
+pub member_get_or : (xs : List ℕ) (i : ℕ) → i < length xs → List-as-Memᴰ (get_or xs i 0) xs
+member_get_or [] i l = absurd (omega arith)
+member_get_or (x ∷ xs) zero l = Memᴰ-head refl
+member_get_or (x ∷ xs) (suc i) l = Memᴰ-tail (member_get_or xs i (omega arith))
 
 pub index_of : (xs : List ℕ) (x : ℕ) → List-as-Memᴰ x xs → (i : ℕ) × (i < length xs) × (get_or xs i 0 ≡ x)
 index_of [] x m = absurd (Memᴰ-not-nil m)
@@ -80,11 +80,11 @@ tabulate_at zero f rest v l = absurd (omega arith)
 tabulate_at (suc n) f rest zero l = refl
 tabulate_at (suc n) f rest (suc v) l = tabulate_at n (λ i. f (suc i)) rest v (omega arith)
 
-pub get_d_tabulate : (n : ℕ) (f : ℕ → ℕ) (v : ℕ) → v < n → get_or (tabulate n f) v 0 ≡ f v
+pub get_or_tabulate : (n : ℕ) (f : ℕ → ℕ) (v : ℕ) → v < n → get_or (tabulate n f) v 0 ≡ f v
 unfolding tabulate
-get_d_tabulate zero f v l = absurd (omega arith)
-get_d_tabulate (suc n) f zero l = refl
-get_d_tabulate (suc n) f (suc v) l = get_d_tabulate n (λ i. f (suc i)) v (omega arith)
+get_or_tabulate zero f v l = absurd (omega arith)
+get_or_tabulate (suc n) f zero l = refl
+get_or_tabulate (suc n) f (suc v) l = get_or_tabulate n (λ i. f (suc i)) v (omega arith)
 
 -- one entry is changed
 pub tabulate_set : (n : ℕ) (f g : ℕ → ℕ) (rest : List ℕ) (v : ℕ) → ((j : ℕ) → j < n → ¬ (j ≡ v) → f j ≡ g j) → v < n

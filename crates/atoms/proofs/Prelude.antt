@@ -6,7 +6,7 @@ pub use Rattle.atoms.proofs.Kit.{and_shr, and_step, ap, append_assoc, ap₂, ari
 pub use Rattle.atoms.proofs.Kit.{div-lt_iff_lt-mul, div-one, drop, drop_at, drop-cons, drop_of_length-le, eq-eqb, eqb, eqb-false, eqb-true, ext_get_or}
 pub use Rattle.atoms.proofs.Kit.{false, false≢true, get_or, get_or-set_other, get_or-set_same, inl, inr, le-div_iff_mul-le, le-ltb, leading_le, leading_top}
 pub use Rattle.atoms.proofs.Kit.{count_leading_zeros, length, length-append, length-paste, length-replicate, length-set, lt-ltb, ltb-false, ltb-true, max}
-pub use Rattle.atoms.proofs.Kit.{min, mod-eq_of_lt, mul-add, mul_assoc, ne_eqb, needs, not, now, ones-le, ones_step, or_lt, or_shr, or_step, paste}
+pub use Rattle.atoms.proofs.Kit.{min, mod-eq_of_lt, mul-add, mul_assoc, ne_eqb, needs, not, ones-le, ones_step, or_lt, or_shr, or_step, paste}
 pub use Rattle.atoms.proofs.Kit.{paste-suc, paste-zero, pow_mono, pow_pos, pow-suc, pow-succ', refl, replicate, set, set_at, shl_exact, shr-shr, subst}
 pub use Rattle.atoms.proofs.Kit.{suc, sym, take, take_all, take_at, take-paste, trailing_le, true, true≢false, under, xor_add_and, xor_shr, zero, ℕ}
 pub use Rattle.atoms.proofs.Kit.{ℕ_discrete}

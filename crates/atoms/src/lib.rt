@@ -1,4 +1,6 @@
 // A 64-bit word as a set of atoms: atom i is bit i. Code above takes sets apart through these functions alone.
+#![tactic(auto)]
+
 pub mod tally;
 pub mod words;
 

@@ -6,7 +6,7 @@ use Rattle.atoms.specs.Bounded.{Decides}
 use Rattle.atoms.specs.Collected.{lowest}
 use Rattle.atoms.proofs.Tests.{decides, decides_equal, decides_iff, decided, decided_true}
 use Rattle.atoms.proofs.Bounded.{decides_some}
-use Rattle.atoms.proofs.Lists.{member_get_d, index_of}
+use Rattle.atoms.proofs.Lists.{member_get_or, index_of}
 use Rattle.plan.specs.Record.{Fitting}
 use Rattle.plan.specs.declared.record.Plan.{Plan}
 use Rattle.plan.specs.declared.fault.Fault.{Fault}
@@ -62,7 +62,7 @@ module _ {sheet words : List ℕ} {count : ℕ} (w : WordsRead sheet words count
   on_words M o =
       let l : o.place < count = omega (arith, w.all, o.within) in
       subst (λ (x : ℕ). List-as-Memᴰ x (take count words)) (word_at o.place l ∙ o.is)
-      (member_get_d (take count words) o.place (omega (arith, words_long)))
+      (member_get_or (take count words) o.place (omega (arith, words_long)))
 
   -- the part that is lent
   part_is : take (count - 0) (drop 0 words) ≡ take count words
@@ -122,7 +122,7 @@ module _ {ps sheet : List ℕ} (laid : Laid ps sheet) where
   on_listed : (M : ℕ) → OnSheet sheet M → List-as-Memᴰ M ps
   on_listed M o =
       let l : o.place < length ps = omega (arith, laid_count laid, o.within) in
-      subst (λ (x : ℕ). List-as-Memᴰ x ps) (sym (laid_at laid o.place l) ∙ o.is) (member_get_d ps o.place l)
+      subst (λ (x : ℕ). List-as-Memᴰ x ps) (sym (laid_at laid o.place l) ∙ o.is) (member_get_or ps o.place l)
 
   listed_on : (M : ℕ) → List-as-Memᴰ M ps → OnSheet sheet M
   listed_on M m =
@@ -189,7 +189,7 @@ module _ {p : Plan} {ps : List ℕ} (few : length ps ≤ MAX_POSITIONS) where
   )
   all_iff (first_not {place} n) = (
     λ e. absurd (omega (arith, n.within)),
-    λ f. absurd (n.not_here (f _ (member_get_d ps place n.within))),
+    λ f. absurd (n.not_here (f _ (member_get_or ps place n.within))),
   )
 
 -- a sheet is judged with 256 and found full exactly if its positions are, as a set, the answer sets of the plan

@@ -1,4 +1,6 @@
 // What a sheet lacks (beside document 02, S-12, which "doesn't say the sheet is full"): the least answer set of a plan that is not among its positions.
+#![tactic(auto)]
+
 ghost use Rattle.std.specs.Prelude.{◌≤◌, length};
 ghost use Rattle.plan.specs.Record.{Fitting};
 ghost use Rattle.plan_meaning.specs.Settled.{Settles};
@@ -14,7 +16,7 @@ use searching::witness::Witness;
 use stepping::gather_of;
 
 // Every answer set is on the sheet, or the least one that is not; or the plan is refused; or the bytes are no sheet.
-#[derive(Drop)]
+#[derive(Clone, Copy)]
 pub enum Audit {
     Full,
     Lacks(u64),

@@ -7,7 +7,7 @@ use Rattle.blaming.proofs.Prelude.{OneSettled, may_be_up, Constraint, Among, hea
 use Rattle.blaming.proofs.Prelude.{rules_with, leaves}
 use Rattle.atoms.proofs.Bounded.{some_at, some_intro, some_none, union_has}
 use Rattle.plan.specs.Limits.{MAX_RULES}
-use Rattle.answer_sets.proofs.Judged.{decides_answer_set}
+use Rattle.answer_sets.proofs.JudgedSets.{decides_answer_set}
 
 -- ---- the constraints
 

@@ -1,4 +1,6 @@
 // The few constraints that empty a plan, or its least position if it has one.
+#![tactic(auto)]
+
 ghost use Rattle.std.specs.Prelude.{◌≡◌, ◌<◌};
 ghost use Rattle.atoms.specs.Word.{ATOMS, Has};
 ghost use Rattle.atoms.specs.Collected.{Collects};
@@ -15,7 +17,7 @@ use searching::witness::Witness;
 use stepping::next_of;
 
 // The least position, the constraints that are held where there is none, or the fault for which the plan is refused.
-#[derive(Drop)]
+#[derive(Clone, Copy)]
 pub enum Blame {
     Position(u64),
     Held(u64),

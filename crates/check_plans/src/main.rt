@@ -1,5 +1,7 @@
 // Plans of data/, whole and faulty, read and judged: one line for each question of data/asked.txt, which says why it is asked. data/reading/PLANS.md says
 // what each faulty plan is and how its line comes about. What sheets the sample plans have is compared by tests/settle.sh.
+#![tactic(auto)]
+
 mod answers;
 mod questions;
 

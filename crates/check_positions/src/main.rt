@@ -1,5 +1,7 @@
 // Questions on single positions and their subsets that no plan asks, or that a wrong program gets wrong, one line each. Those of document 01's
 // circuits are asked of their plans, by check_plans.
+#![tactic(auto)]
+
 use libc::STDOUT_FILENO;
 use plan::{FIRST_RULE, RULE_WORDS, USES};
 

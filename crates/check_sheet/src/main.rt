@@ -1,4 +1,6 @@
 // The two sheets that document 01 shows, written into buffers of their length and compared with their bytes.
+#![tactic(auto)]
+
 use check::{expect, same};
 
 // Plan P's sheet, and that of P without its EDGE.

@@ -1,1 +1,2 @@
 // Document 01's circuits, from their bytes, computed from the definitions. No code.
+#![tactic(auto)]

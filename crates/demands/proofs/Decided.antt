@@ -5,7 +5,7 @@ use Rattle.demands.proofs.Prelude.{decides_some, all_in_at, all_in_intro, member
 use Rattle.demands.proofs.Prelude.{heads, input_heads, Listed, is_input, in_list, unit_list_of}
 use Rattle.atoms.specs.Bounded.{Decides, all_in, some_below}
 use Rattle.answer_sets.specs.Test.{answer_set}
-use Rattle.answer_sets.proofs.Judged.{decides_answer_set}
+use Rattle.answer_sets.proofs.JudgedSets.{decides_answer_set}
 use Rattle.dependency_graph.proofs.Heads.{edge_rank}
 use Rattle.splitting.proofs.Words.{Input, listed_words, words_listed}
 use Rattle.splitting.proofs.Form.{listed_member}

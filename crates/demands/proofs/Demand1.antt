@@ -1,6 +1,6 @@
 -- Demand 1, from the answer that the function hands back: where the answer comes from tells the first fault, and each first fault tells the answer.
 use Rattle.demands.proofs.Prelude.{◌≡◌, refl, sym, ap, ◌∙◌, subst, subst₂, Bool, true, false, true≢false, inl, inr, List, [], ◌∷◌, ℕ, ◌+◌, ◌-◌, ◌≤◌}
-use Rattle.demands.proofs.Prelude.{◌<◌, arith, dec_lt, eqb, length, drop, get_or, replicate, get_d_replicate, get_or-append, length-append, length-drop}
+use Rattle.demands.proofs.Prelude.{◌<◌, arith, dec_lt, eqb, length, drop, get_or, replicate, get_or-replicate, get_or-append, length-append, length-drop}
 use Rattle.demands.proofs.Prelude.{length-replicate, get_or-append-add, eqb-false, padded, MAX_RULES, LIST_WORDS, TABLE_WORDS, COUNTS, LAST_COUNT}
 use Rattle.demands.proofs.Prelude.{RefusedBy, FaultRow, FirstFit, Fault, TableShort, LongList, Outcome, Accepted, Refused, refused_by, told}
 use Rattle.demands.proofs.Prelude.{refused_for, reading, accepted, IsByte, All, Contents, commands, record_of, Lays, accepted_is_plan, record_fits}
@@ -36,13 +36,13 @@ unfolding padded
 padded_behind size xs j l k =
     let e : length xs + (j - length xs) ≡ j = omega arith in
     ap (λ (n : ℕ). get_or (padded size xs) n 0) (sym e) ∙ get_or-append-add xs (replicate {A = ℕ} (size - length xs) 0) (j - length xs) 0
-    ∙ get_d_replicate (size - length xs) (j - length xs) 0 0 (omega arith)
+    ∙ get_or-replicate (size - length xs) (j - length xs) 0 0 (omega arith)
 
 cleared_word : (table : List ℕ) (i : ℕ) → i < TABLE_WORDS → get_or (cleared table) i 0 ≡ 0
 unfolding cleared
 cleared_word table i l =
     let k : i < length (replicate {A = ℕ} TABLE_WORDS 0) = omega (arith, length-replicate {A = ℕ} TABLE_WORDS 0) in
-    get_or-append (replicate {A = ℕ} TABLE_WORDS 0) (drop TABLE_WORDS table) 0 i k ∙ get_d_replicate TABLE_WORDS i 0 0 l
+    get_or-append (replicate {A = ℕ} TABLE_WORDS 0) (drop TABLE_WORDS table) 0 i k ∙ get_or-replicate TABLE_WORDS i 0 0 l
 
 cleared_long : (table : List ℕ) → TABLE_WORDS ≤ length table → length (cleared table) ≡ length table
 unfolding cleared
@@ -195,7 +195,7 @@ module _ (bytes table : List ℕ) (all : All IsByte bytes) where
     left_as_it_was : {n : ℕ} → r.counts ≡ no_counts_of → table' ≡ table → ¬ (n ≡ 15) → LeftBy n table r table'
     unfolding no_counts_of
     left_as_it_was k t d = record {
-      no_counts = λ i l. ap (λ (x : List ℕ). get_or x i 0) k ∙ get_d_replicate COUNTS i 0 0 l;
+      no_counts = λ i l. ap (λ (x : List ℕ). get_or x i 0) k ∙ get_or-replicate COUNTS i 0 0 l;
       untouched = λ _. t;
       emptied = λ e. absurd (d e);
       behind = ap (drop TABLE_WORDS) t;
@@ -205,7 +205,7 @@ module _ (bytes table : List ℕ) (all : All IsByte bytes) where
     left_empty : {n : ℕ} → TABLE_WORDS ≤ length table → r.counts ≡ no_counts_of → table' ≡ cleared table → n ≡ 15 → LeftBy n table r table'
     unfolding no_counts_of
     left_empty long k t e = record {
-      no_counts = λ i l. ap (λ (x : List ℕ). get_or x i 0) k ∙ get_d_replicate COUNTS i 0 0 l;
+      no_counts = λ i l. ap (λ (x : List ℕ). get_or x i 0) k ∙ get_or-replicate COUNTS i 0 0 l;
       untouched = λ d. absurd (d e);
       emptied = λ _ i l. ap (λ (x : List ℕ). get_or x i 0) t ∙ cleared_word table i l;
       behind = ap (drop TABLE_WORDS) t ∙ cleared_behind table;

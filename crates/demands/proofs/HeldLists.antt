@@ -2,7 +2,7 @@
 use Rattle.demands.proofs.Prelude.{◌≡◌, refl, sym, ap, ap₂, ◌∙◌, subst, List, [], ◌++◌, append_assoc, ℕ, ◌+◌, ◌-◌, ◌*◌, ◌≤◌, ◌<◌, arith, ℕ_discrete}
 use Rattle.demands.proofs.Prelude.{length, take, drop, get_or, set, replicate, length-append, length-drop, length-replicate, paste, take_at, drop_at}
 use Rattle.demands.proofs.Prelude.{lt-ltb, le-ltb, ne_eqb, padded, padded_nil, padded_long, padded_at, tabulate_long, tabulate_same, tabulate_zero}
-use Rattle.demands.proofs.Prelude.{get_d_tabulate, set_tabulate, MAX_UNITS, LIST_WORDS, TABLE_WORDS, COUNTS, LAST_COUNT, Units, unit_list_of, last_list_of}
+use Rattle.demands.proofs.Prelude.{get_or_tabulate, set_tabulate, MAX_UNITS, LIST_WORDS, TABLE_WORDS, COUNTS, LAST_COUNT, Units, unit_list_of, last_list_of}
 use Rattle.demands.proofs.Prelude.{list_at, runs, table_with, counts_with, cleared, no_counts_of, Holding}
 use Rattle.demands.proofs.Runs.{runs_long, runs_same, runs_zero, runs_at, runs_from, runs_paste}
 
@@ -69,7 +69,7 @@ module _ {lists : ℕ → List ℕ} {table₀ table counts : List ℕ} (h : Hold
 
   pub held_count : (v : ℕ) → v < COUNTS → get_or counts v 0 ≡ length (lists v)
   unfolding counts_with
-  held_count v l = ap (λ (c : List ℕ). get_or c v 0) h.counts_are ∙ get_d_tabulate COUNTS (λ i. length (lists i)) v l
+  held_count v l = ap (λ (c : List ℕ). get_or c v 0) h.counts_are ∙ get_or_tabulate COUNTS (λ i. length (lists i)) v l
 
   pub held_padded : (v i : ℕ) → v < COUNTS → i < LIST_WORDS → get_or table (LIST_WORDS * v + i) 0 ≡ get_or (padded LIST_WORDS (lists v)) i 0
   unfolding table_with

@@ -1,5 +1,5 @@
 -- The last count is at most 256, whatever the plan and the table.
-use Rattle.demands.proofs.Prelude.{◌≡◌, refl, sym, ap, ◌∙◌, subst, List, [], ◌∷◌, ℕ, ◌≤◌, ◌<◌, arith, dec_lt, length, get_or, get_d_tabulate, LIST_WORDS}
+use Rattle.demands.proofs.Prelude.{◌≡◌, refl, sym, ap, ◌∙◌, subst, List, [], ◌∷◌, ℕ, ◌≤◌, ◌<◌, arith, dec_lt, length, get_or, get_or_tabulate, LIST_WORDS}
 use Rattle.demands.proofs.Prelude.{COUNTS, LAST_COUNT, Outcome, Accepted, Refused, reading, Units, units_of, verdict, working_order, unit_list_of, last_list_of}
 use Rattle.demands.proofs.Prelude.{list_at, counts_with, list_counts, no_counts_of, Answer, unless_refused, work_from, after_graph, table_outcome, answer}
 use Rattle.demands.proofs.HeldLists.{list_last}
@@ -17,7 +17,7 @@ none_counted a e = record { at_most = subst (λ (c : List ℕ). get_or c LAST_CO
 
 pub last_count : (S : Units) → get_or (list_counts S) LAST_COUNT 0 ≡ length (last_list_of S)
 unfolding counts_with
-last_count S = get_d_tabulate COUNTS (λ i. length (list_at S i)) LAST_COUNT (omega arith) ∙ ap length (list_last S)
+last_count S = get_or_tabulate COUNTS (λ i. length (list_at S i)) LAST_COUNT (omega arith) ∙ ap length (list_last S)
 
 all_counted : (S : Units) (a : Answer) → a.counts ≡ list_counts S → length (last_list_of S) ≤ LIST_WORDS → Small a
 all_counted S a e h = record {

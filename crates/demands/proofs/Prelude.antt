@@ -6,10 +6,10 @@ pub use Rattle.atoms.proofs.Bounded.{all_in_at, all_in_intro, decides_some}
 pub use Rattle.atoms.proofs.Cuts.{cut_for, cut_of_list, cut_rising}
 pub use Rattle.atoms.proofs.Kit.{Bool, List, List-as-Memᴰ, Memᴰ-cases_cons, Memᴰ-eq_of_singleton, Memᴰ-head, Memᴰ-not-nil, Memᴰ-tail}
 pub use Rattle.atoms.proofs.Kit.{get_or-append, [], ◌&&◌, ◌*◌, ◌++◌, ◌+◌, ◌-◌, ◌<◌, ◌^◌, ◌↔◌, ◌∙◌, ◌∷◌, ◌≡◌, ◌≤◌, ◌⊎◌, ap, append_assoc, ap₂, arith, dec_lt}
-pub use Rattle.atoms.proofs.Kit.{drop, drop-append-add, drop_at, eqb, eqb-false, false, get_or, get_or-append-add, get_d_replicate, inl, inr, le-ltb, length}
+pub use Rattle.atoms.proofs.Kit.{drop, drop-append-add, drop_at, eqb, eqb-false, false, get_or, get_or-append-add, get_or-replicate, inl, inr, le-ltb, length}
 pub use Rattle.atoms.proofs.Kit.{length-append, length-drop, length-replicate, lt-ltb, ltb, ne_eqb, needs, paste, refl, replicate, replicate-append-replicate}
 pub use Rattle.atoms.proofs.Kit.{set, subst, subst₂, suc, sym, take, take_all, take-append-add, take_at, true, true≢false, zero, ℕ, ℕ_discrete}
-pub use Rattle.atoms.proofs.Lists.{get_d_tabulate, padded_at, padded_long, padded_nil, set_tabulate, tabulate_long, tabulate_same, tabulate_zero}
+pub use Rattle.atoms.proofs.Lists.{get_or_tabulate, padded_at, padded_long, padded_nil, set_tabulate, tabulate_long, tabulate_same, tabulate_zero}
 pub use Rattle.atoms.proofs.Rising.{members_at, members_has, members_rising, rising_ext}
 pub use Rattle.atoms.proofs.Sets.{below_lt, cut_left, cut_right, decides_subset, empty, ext, has_cut, has_lt, has_none, lt_of_has, subset_le}
 pub use Rattle.atoms.proofs.Tests.{bool_ext, decided_true, decides, decides_and, decides_iff, not_both}

@@ -5,7 +5,7 @@ ghost use Rattle.demands.specs.Handed.{refusal};
 use plan::{COUNTS, Fault, Outcome};
 
 // What a plan gets: listed or refused, and the seventeen counts. Its lists are in the lent table.
-#[derive(Drop)]
+#[derive(Clone, Copy)]
 pub struct Listing {
     pub outcome: Outcome,
     pub counts: [usize; COUNTS],

@@ -12,7 +12,7 @@ use crate::rule_heads::rule_heads;
 use plan::{MAX_UNITS, Plan};
 
 // H(u) and Hp(u) of each unit u, zeros behind.
-#[derive(Drop)]
+#[derive(Clone, Copy)]
 pub struct HeadAtoms {
     pub heads: [u64; MAX_UNITS],
     pub inputs: [u64; MAX_UNITS],

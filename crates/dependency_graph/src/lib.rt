@@ -1,4 +1,6 @@
 // The dependency graph between units: reach, head atoms, the working order, and the check of the graph conditions.
+#![tactic(auto)]
+
 pub mod check;
 mod cycle;
 mod dependences;

@@ -1,3 +1,5 @@
 // Reasons of steps, and pairs lifted over a trail by them.
+#![tactic(auto)]
+
 pub mod lift;
 pub mod reasons;

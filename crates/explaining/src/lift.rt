@@ -13,7 +13,7 @@ use propagating::Job;
 use states::State;
 
 // The steps of the trail from `from` up to `top`, and the state that they and a decision began from.
-#[derive(Drop)]
+#[derive(Clone, Copy)]
 pub struct Stretch {
     pub base: State,
     pub from: usize,

@@ -31,7 +31,7 @@ use propagating::step::{Step, UNFOUNDED_STEP, decode};
 use states::State;
 
 // A claim: from this part of a state the step tells the goal. For the unfounded step also the atoms that it drops; `explain` finds these itself.
-#[derive(Drop)]
+#[derive(Clone, Copy)]
 pub struct Claim {
     pub step: usize,
     pub part: State,

@@ -1,7 +1,7 @@
 -- What code and word tell a host of what a sheet lacks, from what `first_missing` promises; and with S-12 that its positions are just the answer sets.
 use Rattle.exports.proofs.Prelude.{◌≡◌, refl, ap, ◌∙◌, subst, ◌↔◌, List, List-as-Memᴰ, ℕ, arith, Plan, IsByte, All, Contents, record_of, Lays, ReadPlan}
 use Rattle.exports.proofs.Prelude.{PlanAnswerSet, Settles, Laid, SheetRight, lays_read, lays_accepted, SheetJudgeHanded, Reply}
-use Rattle.atoms.proofs.Lists.{member_get_d, index_of}
+use Rattle.atoms.proofs.Lists.{member_get_or, index_of}
 use Rattle.auditing.specs.Audit.{IsFull, AuditRight, is_full, lacks_first, Audited, audit_code}
 use Rattle.auditing.specs.declared.Audit.{Audit}
 use Rattle.auditing.specs.declared.Audit.TheVariants.{BadSheet}
@@ -46,7 +46,7 @@ exact_handed j m c l ps laid =
         λ s. (full.0 q.1).each M ((means M).1 s),
       ),
       λ f. (
-        all.1 (record { each = λ place k. (means _).1 ((f _).0 (member_get_d ps place k)) }),
+        all.1 (record { each = λ place k. (means _).1 ((f _).0 (member_get_or ps place k)) }),
         full.1 (record { each = λ M s. (f M).1 ((means M).0 s) }),
       ),
     )

@@ -1,7 +1,7 @@
 -- What the proofs of this crate name of the kit, of the crates below and of its own definitions, each with its home.
 pub use Rattle.atoms.proofs.Kit.{Bool, List, List-as-Memᴰ, [], ◌*◌, ◌++◌, ◌+◌, ◌-◌, ◌<◌, ◌↔◌, ◌∙◌, ◌∷◌, ◌≡◌, ◌≤◌, ◌⊎◌, add-one, ap, append_snoc, ap₂, arith}
 pub use Rattle.atoms.proofs.Kit.{dec_lt, drop, drop-cons, drop_of_length-le, eq-eqb, false, get_or, inl, inr, length, length-set, length-take-le, min, ne_eqb}
-pub use Rattle.atoms.proofs.Kit.{needs, now, refl, set, set_at, subst, suc, sym, take, take_all, take-nil, take-suc, true, ℕ}
+pub use Rattle.atoms.proofs.Kit.{needs, refl, set, set_at, subst, suc, sym, take, take_all, take-nil, take-suc, true, ℕ}
 pub use Rattle.demands.proofs.Demand1.{lays_accepted, lays_read}
 pub use Rattle.demands.specs.Demand1.{FirstFault, graph_place, reading_place, table_place, work_place}
 pub use Rattle.exports.specs.ExportedSheets.{SheetJudgeHanded}

@@ -1,4 +1,6 @@
 // The functions that other languages call: a slice passes as a pointer and a length.
+#![tactic(auto)]
+
 mod audits;
 mod batches;
 mod blame;

@@ -1,7 +1,7 @@
 -- Words added rising behind a count: none, one, as many as there is room for, and the higher ones behind the lower ones.
 use Rattle.finding.proofs.Prelude.{◌≡◌, refl, sym, ap, ◌∙◌, subst, ◌⊎◌, inl, inr, List, [], ◌++◌, List-as-Memᴰ, Memᴰ-not-nil, ℕ, ◌+◌, ◌-◌, ◌≤◌, ◌<◌}
 use Rattle.finding.proofs.Prelude.{arith, dec_lt, length, get_or, set, take, drop, length-set, length-take, length-drop, take-append-drop, get_or-set_same}
-use Rattle.finding.proofs.Prelude.{get_or-set_other, get_or-take, get_or-drop, ext_get_or, member_get_d, index_of, rising_by, Member, Nothing, Behind, LeastOf}
+use Rattle.finding.proofs.Prelude.{get_or-set_other, get_or-take, get_or-drop, ext_get_or, member_get_or, index_of, rising_by, Member, Nothing, Behind, LeastOf}
 use Rattle.finding.proofs.Prelude.{least, none as no-least, Leasts, From, StandsAmong, Added, Sought}
 
 -- nothing is to be added
@@ -174,7 +174,7 @@ module _ {Q : ℕ → Type 0} {before after : List ℕ} {r : ℕ} (a : Added Q b
 
   written_has : (i : ℕ) → i < r → List-as-Memᴰ (get_or after i 0) (take r after)
   written_has i l =
-      subst (λ (M : ℕ). List-as-Memᴰ M (take r after)) (there i l) (member_get_d (take r after) i (subst (λ (n : ℕ). i < n) (sym written_long) l))
+      subst (λ (M : ℕ). List-as-Memᴰ M (take r after)) (there i l) (member_get_or (take r after) i (subst (λ (n : ℕ). i < n) (sym written_long) l))
 
   -- the first words are the least with Q
   pub written_leasts : Leasts Q (length before) (take r after)

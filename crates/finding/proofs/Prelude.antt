@@ -5,9 +5,9 @@ pub use Rattle.atoms.proofs.HighParts.{high_at, high_mono, high_same, high_with,
 pub use Rattle.atoms.proofs.Kit.{Bool, In, List, List-as-Memᴰ, Memᴰ-cases_cons, Memᴰ-head, Memᴰ-not-nil, Memᴰ-tail, Measures, [], ◌*◌, ◌++◌}
 pub use Rattle.atoms.proofs.Kit.{◌+◌, ◌-◌, ◌<◌, ◌^◌, ◌∙◌, ◌∷◌, ◌≡◌, ◌≤◌, ◌⊎◌, and, ap, arith, dec_lt, drop, ext_get_or, falls, false, false≢true, get_or}
 pub use Rattle.atoms.proofs.Kit.{get_or-drop, get_or-set_other, get_or-set_same, get_or-take, inl, inr, is, length, length-drop, length-replicate, length-set}
-pub use Rattle.atoms.proofs.Kit.{length-take, lt-ltb, ltb, ltb-true, min, needs, not, not-false, not-true, now, ones, pow_pos, refl, replicate, set, subst}
+pub use Rattle.atoms.proofs.Kit.{length-take, lt-ltb, ltb, ltb-true, min, needs, not, not-false, not-true, ones, pow_pos, refl, replicate, set, subst}
 pub use Rattle.atoms.proofs.Kit.{suc, sym, take, take-append-drop, true, true≢false, zero, ℕ, ℕ_discrete}
-pub use Rattle.atoms.proofs.Lists.{index_of, member_get_d}
+pub use Rattle.atoms.proofs.Lists.{index_of, member_get_or}
 pub use Rattle.atoms.proofs.Rising.{above_at, rising_by}
 pub use Rattle.atoms.proofs.Sets.{atom_only, below_lt, cut_left, cut_right, decides_apart, decides_subset, ext, has_atom, has_below, has_cut, has_dec}
 pub use Rattle.atoms.proofs.Sets.{has_left, has_lt, has_none, has_outside, has_right, has_without, outside_lacks, outside_lt, subset_antisym, subset_le}

@@ -3,7 +3,7 @@ use Rattle.finding.proofs.Prelude.{◌≡◌, refl, sym, ◌∙◌, subst, Bool,
 use Rattle.finding.proofs.Prelude.{◌+◌, ◌^◌, ◌≤◌, ◌<◌, arith, dec_lt, ones, length, get_or, set, ltb, not-true, not-false, ltb-true, lt-ltb, ATOMS, Has}
 use Rattle.finding.proofs.Prelude.{◌⊆◌, subset, apart, high, ◌∪◌, ◌∖◌, outside, Highest, Decides, decides, has_dec, has_lt, has_none, has_left}
 use Rattle.finding.proofs.Prelude.{has_right, union_cases, has_without, without_left, without_right, has_atom, has_outside, subset_le, subset_antisym}
-use Rattle.finding.proofs.Prelude.{subset_trans, subset_refl, decides_apart, decides_subset, member_get_d, index_of, high_same, high_with, high_without}
+use Rattle.finding.proofs.Prelude.{subset_trans, subset_refl, decides_apart, decides_subset, member_get_or, index_of, high_same, high_with, high_without}
 use Rattle.finding.proofs.Prelude.{high_mono, AnswerSet, lent, Completes, undecided, Narrows, branch_of, State, completes_back, Remembers, Wired, Job}
 use Rattle.finding.proofs.Prelude.{Witnessed, met, Witness, Member, Nothing, no_lists, unit_of, hidden_of, Unpiloted, Standing, Rooted, Behind}
 use Rattle.finding.proofs.Prelude.{from_start, above, Added, Sought, Due, OfferedNext, AllPassed, dark_of, Likely, Hinted, known, unknown, Looked, seen}
@@ -19,7 +19,7 @@ use Rattle.finding.proofs.Wholes.{fits_settled, fits_answers, answers_fit}
 -- ---- what is sought
 
 pub among_here : (words : List ℕ) {i m : ℕ} → i < length words → get_or words i 0 ≡ m → Decides (List-as-Memᴰ m words) true
-among_here words {i} l e = decides true (λ _. subst (λ (x : ℕ). List-as-Memᴰ x words) e (member_get_d words i l)) (λ _. refl)
+among_here words {i} l e = decides true (λ _. subst (λ (x : ℕ). List-as-Memᴰ x words) e (member_get_or words i l)) (λ _. refl)
 
 pub among_not : (words : List ℕ) {i m : ℕ} → length words ≤ i → ((j : ℕ) → j < i → ¬ (get_or words j 0 ≡ m)) → Decides (List-as-Memᴰ m words) false
 among_not words {m = m} l f =

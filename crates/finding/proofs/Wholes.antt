@@ -7,7 +7,7 @@ use Rattle.finding.proofs.Prelude.{Prepared, Wired, Job, joins_none, Witnessed, 
 use Rattle.finding.proofs.Prelude.{Settled, Unpiloted, Serves, Standing, Rooted, Darkened, member, nothing}
 use Rattle.plan.specs.Limits.{MAX_UNITS}
 use Rattle.answer_sets.specs.Test.{answer_set}
-use Rattle.answer_sets.proofs.Judged.{decides_answer_set}
+use Rattle.answer_sets.proofs.JudgedSets.{decides_answer_set}
 use Rattle.answer_sets.proofs.Lent.{answer_word}
 use Rattle.narrowing.specs.Inputs.{AnswersInputs}
 use Rattle.propagating.specs.Job.{Belongs, Searchable}

@@ -25,7 +25,7 @@ use searching::witness::Witness;
 use states::{State, decide, undecided};
 
 // What is asked: the program as one unit, its facts, and the place behind which answer sets are sought.
-#[derive(Drop)]
+#[derive(Clone, Copy)]
 pub struct Query {
     pub unit: Job,
     pub facts: u64,
@@ -33,7 +33,7 @@ pub struct Query {
 }
 
 // A node of the tree: where propagation stands, and a position that completes its state, if one is known: an answer set, or one that is passed.
-#[derive(Drop)]
+#[derive(Clone, Copy)]
 pub struct WalkNode {
     pub front: Front,
     pub known: Witness,

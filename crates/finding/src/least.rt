@@ -6,7 +6,7 @@ ghost use Rattle.finding.specs.Least.{Behind};
 ghost use Rattle.finding.specs.Gather.{Added, Sought, OfferedNext};
 
 // From the start, or above a position.
-#[derive(Drop)]
+#[derive(Clone, Copy)]
 pub enum From {
     Start,
     Above(u64),

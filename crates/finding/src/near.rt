@@ -14,7 +14,7 @@ use searching::witness::Witness;
 use states::{State, undecided};
 
 // Where the tree begins, a place that completes its state, and the atom from which on positions are to be like the place.
-#[derive(Drop)]
+#[derive(Clone, Copy)]
 pub struct Near {
     pub front: Front,
     pub place: u64,
@@ -22,7 +22,7 @@ pub struct Near {
 }
 
 // The place behind which the rest is sought, and how many words are filled.
-#[derive(Drop)]
+#[derive(Clone, Copy)]
 pub struct Reached {
     pub from: From,
     pub count: usize,

@@ -3,7 +3,7 @@ pub use Rattle.atoms.proofs.Bounded.{all_in_at, all_in_fails, all_in_intro, all_
 pub use Rattle.atoms.proofs.Counts.{taken_less}
 pub use Rattle.atoms.proofs.Kit.{Bool, List, ◌%◌, ◌*◌, ◌+◌, ◌-◌, ◌/◌, ◌<◌, ◌^◌, ◌∙◌, ◌≡◌, ◌≤◌, ◌⊎◌, ap, ap₂, arith, below_more, below_none, eq-eqb, eqb}
 pub use Rattle.atoms.proofs.Kit.{eqb-true, false, false≢true, get_or, get_or-set_other, get_or-set_same, inl, inr, length, length-set, min, needs, not, not-false}
-pub use Rattle.atoms.proofs.Kit.{not-true, now, ones, refl, set, subst, sym, true, ℕ, ℕ_discrete}
+pub use Rattle.atoms.proofs.Kit.{not-true, ones, refl, set, subst, sym, true, ℕ, ℕ_discrete}
 pub use Rattle.atoms.proofs.Sets.{atom_only, below_lt, cut_left, cut_right, decides_subset, ext, has_atom, has_below, has_cut, has_left, has_lt, has_right}
 pub use Rattle.atoms.proofs.Sets.{has_without, lt_of_has, subset_le, subset_refl, subset_trans, union_cases, without_fits, without_left, without_right}
 pub use Rattle.atoms.proofs.TakenNumbers.{Carrying, Taking, carrying_next, carrying_start, taken_lent, taken_lt, taking_end, taking_more, taking_next}

@@ -1,4 +1,6 @@
 // The lists of a unit's direct predecessors: the exact join, and what their entries tell of a half-decided position.
+#![tactic(auto)]
+
 pub mod filter;
 pub mod join;
 mod listed;

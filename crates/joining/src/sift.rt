@@ -14,7 +14,7 @@ use states::{State, clash};
 pub const BLOCKS: usize = LIST_WORDS / ATOMS;
 
 // Of the entries that agree: the atoms in all of them and those in some; and the bits of one word that are kept.
-#[derive(Drop)]
+#[derive(Clone, Copy)]
 pub struct Sifted {
     pub all: u64,
     pub some: u64,

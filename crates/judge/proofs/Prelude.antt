@@ -3,7 +3,7 @@ pub use Rattle.answer_sets.specs.Lent.{Lent, lent}
 pub use Rattle.answer_sets.specs.Test.{answer_set}
 pub use Rattle.atoms.proofs.Kit.{Bool, List, Option, [], ◌%◌, ◌*◌, ◌++◌, ◌+◌, ◌-◌, ◌/◌, ◌<◌, ◌∙◌, ◌∷◌, ◌≡◌, ◌≤◌, ◌⊎◌, ap, ap₂, arith, dec_lt, drop}
 pub use Rattle.atoms.proofs.Kit.{drop-append-add, eqb, eqb-false, eqb-true, false, get_or, inl, inr, le-ltb, length, length-drop, length-take, lt-ltb, min}
-pub use Rattle.atoms.proofs.Kit.{needs, none, not, not-false, not-true, now, refl, some, subst, suc, sym, take, take-append-drop, true, true≢false, zero, ℕ}
+pub use Rattle.atoms.proofs.Kit.{needs, none, not, not-false, not-true, refl, some, subst, suc, sym, take, take-append-drop, true, true≢false, zero, ℕ}
 pub use Rattle.atoms.proofs.Kit.{ℕ_discrete}
 unfoldable pub use Rattle.atoms.proofs.Kit.{flat_map}
 pub use Rattle.atoms.proofs.Tests.{decided_false, decided_true, not_both}

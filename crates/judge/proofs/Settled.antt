@@ -4,7 +4,7 @@ use Rattle.judge.proofs.Prelude.{◌≡◌, refl, ap, sym, ◌∙◌, Bool, true
 use Rattle.judge.proofs.Prelude.{Decides, decided_true, decided_false, lent, Lent, Fitting, reading, record_fits, asked_accepted, accepted_answered}
 use Rattle.judge.proofs.Prelude.{read_fits, Plan, Accepted, ReadPlan, Settles, settled, yes_no, is_yes, settled_in, judged, Judged, Settled, NotSettled}
 use Rattle.atoms.proofs.Sets.{below_lt, lt_of_has}
-use Rattle.answer_sets.proofs.Judged.{decides_answer_set}
+use Rattle.answer_sets.proofs.JudgedSets.{decides_answer_set}
 use Rattle.answer_sets.proofs.Support.{Supported, supported}
 use Rattle.plan.specs.Limits.{MAX_RULES, PROGRAM_WORDS}
 use Rattle.judge.specs.declared.Answer.{Answer}

@@ -1,4 +1,6 @@
 // The single-position question: whether a position is settled for a plan, or why the plan is refused; and the same of a whole sheet.
+#![tactic(auto)]
+
 mod sheet;
 
 ghost use Rattle.std.specs.Prelude.{◌≡◌};
@@ -10,7 +12,7 @@ use plan::{Fault, Outcome, Plan, refusal_code};
 pub use sheet::{BAD_SHEET, MAX_POSITIONS, SheetAnswer, is_bad_sheet, judge_sheet, sheet_code};
 
 // What the question is answered: yes, no, or the fault for which the plan is refused.
-#[derive(Drop)]
+#[derive(Clone, Copy)]
 pub enum Answer {
     Settled,
     NotSettled,

@@ -12,7 +12,7 @@ use reading::{WORD_BYTES, read_word};
 pub const MAX_POSITIONS: usize = 256;
 
 // All positions are settled, or not the one at this place from 0, the first of those; or the plan is refused; or the bytes are no sheet.
-#[derive(Drop)]
+#[derive(Clone, Copy)]
 pub enum SheetAnswer {
     AllSettled,
     NotSettledAt(usize),

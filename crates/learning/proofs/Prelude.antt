@@ -1,7 +1,7 @@
 -- What the proofs of this crate name of the kit, of the crates below and of its own definitions, each with its home.
 pub use Rattle.atoms.proofs.Kit.{Bool, List, get_or-append, ◌%◌, ◌*◌, ◌++◌, ◌+◌, ◌-◌, ◌<◌, ◌∙◌, ◌≡◌, ◌≤◌, ◌⊎◌, ap, arith, drop, drop_at, drop_put, false}
-pub use Rattle.atoms.proofs.Kit.{false≢true, get_or, get_or-drop, get_d_replicate, get_or-set_other, get_or-set_same, get_or-take, inl, inr, le-ltb, length}
-pub use Rattle.atoms.proofs.Kit.{length-replicate, length-set, length-take-le, lt-ltb, ltb, mid_len, mid_of, needs, not, not-false, not-true, now, post_of}
+pub use Rattle.atoms.proofs.Kit.{false≢true, get_or, get_or-drop, get_or-replicate, get_or-set_other, get_or-set_same, get_or-take, inl, inr, le-ltb, length}
+pub use Rattle.atoms.proofs.Kit.{length-replicate, length-set, length-take-le, lt-ltb, ltb, mid_len, mid_of, needs, not, not-false, not-true, post_of}
 pub use Rattle.atoms.proofs.Kit.{put_mid, refl, replicate, same_len_mid, set, subst, sym, take, take_at, true, true≢false, ℕ, ℕ_discrete}
 pub use Rattle.atoms.proofs.Sets.{apart_of_cut, atom_only, decides_apart, has_cut, has_dec, has_left, has_none, has_right, has_without, shared_atom}
 pub use Rattle.atoms.proofs.Sets.{some_atom, without_left, without_right}

@@ -1,6 +1,6 @@
 -- The store: what it is at first, and what a write changes.
 use Rattle.learning.proofs.Prelude.{◌≡◌, refl, sym, ap, subst, ◌∙◌, Bool, true, false, not, true≢false, false≢true, List, ◌++◌, ℕ, ◌+◌, ◌*◌, ◌%◌, ◌≤◌}
-use Rattle.learning.proofs.Prelude.{◌<◌, arith, ℕ_discrete, ltb, length, get_or, set, take, replicate, length-set, length-replicate, get_d_replicate}
+use Rattle.learning.proofs.Prelude.{◌<◌, arith, ℕ_discrete, ltb, length, get_or, set, take, replicate, length-set, length-replicate, get_or-replicate}
 use Rattle.learning.proofs.Prelude.{get_or-append, get_or-set_same, get_or-set_other, get_or-take, length-take-le, mid_of, post_of, put_mid, same_len_mid}
 use Rattle.learning.proofs.Prelude.{lt-ltb, le-ltb, not-true, not-false, Has, AtMostOne, Apart, apart, ◌∪◌, ◌∖◌, Decides, decides_apart, decides_iff}
 use Rattle.learning.proofs.Prelude.{State, Avoids, Overlaps, RING, PAIRS, PLACE, MEMORY_WORDS, pair_at, AvoidsAll, Empty, Keeps, SamePairs, PairWritten}
@@ -24,7 +24,7 @@ empty_of {w} h = record {
 }
   where
     at_first : (k : ℕ) → k < MEMORY_WORDS → get_or (replicate MEMORY_WORDS w) k 0 ≡ w
-    at_first k l = get_d_replicate MEMORY_WORDS k w 0 l
+    at_first k l = get_or-replicate MEMORY_WORDS k w 0 l
 
 -- ---- writing
 

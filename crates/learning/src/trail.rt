@@ -10,7 +10,7 @@ use atoms::tally::{count_atoms, most};
 use states::State;
 
 // A step by its number, and the state before it.
-#[derive(Drop)]
+#[derive(Clone, Copy)]
 pub struct Recorded {
     pub before: State,
     pub step: usize,

@@ -11,7 +11,7 @@ pub use Rattle.answer_sets.specs.declared.truth.Truth.{Truth}
 pub use Rattle.answer_sets.specs.declared.truth.Truth.TheVariants.{Fails, Holds, Open}
 pub use Rattle.atoms.proofs.Counts.{count_proper, taken_less, taken_within}
 pub use Rattle.atoms.proofs.Kit.{Bool, List, ◌&&◌, ◌+◌, ◌-◌, ◌<◌, ◌^◌, ◌↔◌, ◌∙◌, ◌≡◌, ◌≤◌, ◌⊎◌, ap, arith, false, false≢true, get_or, get_or-set_other}
-pub use Rattle.atoms.proofs.Kit.{get_or-set_same, inl, inr, le-leb, leb, leb-true, length, length-set, needs, not, not-false, not-true, now, ones, refl}
+pub use Rattle.atoms.proofs.Kit.{get_or-set_same, inl, inr, le-leb, leb, leb-true, length, length-set, needs, not, not-false, not-true, ones, refl}
 pub use Rattle.atoms.proofs.Kit.{replicate, set, subst, suc, sym, true, true≢false, zero, zero-add, ℕ, ℕ_discrete}
 pub use Rattle.atoms.proofs.Sets.{apart_of_cut, atom_only, cut_left, cut_right, decides_apart, decides_has, decides_subset, has_atom, has_below, has_cut}
 pub use Rattle.atoms.proofs.Sets.{has_left, has_lt, has_none, has_right, has_without, shared_atom, subset_refl, subset_trans, union_cases, without_left}

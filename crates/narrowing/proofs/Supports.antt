@@ -6,7 +6,7 @@ use Rattle.narrowing.proofs.Prelude.{Supports}
 use Rattle.atoms.proofs.Bounded.{some_at, some_intro}
 use Rattle.plan.specs.Limits.{MAX_RULES}
 use Rattle.answer_sets.specs.Test.{kept, satisfies}
-use Rattle.answer_sets.proofs.Judged.{decides_body, decides_satisfies, kept_has, kept_at, kept_fits}
+use Rattle.answer_sets.proofs.JudgedSets.{decides_body, decides_satisfies, kept_has, kept_at, kept_fits}
 
 -- ---- an answer set's atom is supported
 

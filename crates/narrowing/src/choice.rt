@@ -19,7 +19,7 @@ const PLACES: usize = 7;
 
 // Where a rule stands: it has nothing more to ask for, since a head atom is up or its body fails; its body holds and all its head atoms are dropped, so
 // that no completion satisfies it; or it is live.
-#[derive(Drop)]
+#[derive(Clone, Copy)]
 pub enum Standing {
     Spent,
     Stopped,
@@ -27,7 +27,7 @@ pub enum Standing {
 }
 
 // What comes next: an atom to decide, or nothing, since this rule is at a stop.
-#[derive(Drop)]
+#[derive(Clone, Copy)]
 pub enum Choice {
     Atom(usize),
     Stop(usize),

@@ -14,7 +14,7 @@ use atoms::ATOMS;
 use states::State;
 
 // The founded atoms so far; the up head atoms of rules that wait, of which one is taken in at a standstill; and the rules that may still add atoms.
-#[derive(Drop)]
+#[derive(Clone, Copy)]
 pub struct Closure {
     pub found: u64,
     pub waiting: u64,

@@ -6,14 +6,14 @@ use crate::meter::{NOT_MEASURED, Reading, is_reading, says};
 use crate::refusal::Refusal;
 
 // What a word says as a reading, or its refusal.
-#[derive(Drop)]
+#[derive(Clone, Copy)]
 pub enum Number {
     Says(Reading),
     Refused(Refusal),
 }
 
 // The word of a reading, or the refusal of a number that none says.
-#[derive(Drop)]
+#[derive(Clone, Copy)]
 pub enum Packed {
     Word(u16),
     Refused(Refusal),

@@ -9,14 +9,14 @@ use crate::meter::{NOT_MEASURED, is_reading};
 use crate::refusal::Refusal;
 
 // What a run of readings has: the word of its largest measured one with its lowest place, counted in readings from 0; or none measured.
-#[derive(Drop)]
+#[derive(Clone, Copy)]
 pub enum LargestFound {
     At { word: u16, place: usize },
     NoneMeasured,
 }
 
 // What a run of bytes has, or its refusal.
-#[derive(Drop)]
+#[derive(Clone, Copy)]
 pub enum Largest {
     Is(LargestFound),
     Refused(Refusal),

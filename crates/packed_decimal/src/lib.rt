@@ -1,4 +1,6 @@
 // Drop-away readings of the panel meter in packed decimal (document 02, S-5). A reading is a word of 16 bits: its two bytes, the first the high one.
+#![tactic(auto)]
+
 mod convert;
 mod digits;
 mod largest;

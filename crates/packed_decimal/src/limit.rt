@@ -9,7 +9,7 @@ use crate::pair::{PAIR, first_bad};
 use crate::refusal::Refusal;
 
 // How a reading stands to its limit.
-#[derive(Drop)]
+#[derive(Clone, Copy)]
 pub enum Order {
     Below,
     Equal,
@@ -18,7 +18,7 @@ pub enum Order {
 }
 
 // How a reading stands to its limit, or their refusal.
-#[derive(Drop)]
+#[derive(Clone, Copy)]
 pub enum Compared {
     Is(Order),
     Refused(Refusal),

@@ -5,7 +5,7 @@ ghost use Rattle.packed_decimal.specs.PackedReading.{is_reading, says as says_of
 use crate::digits::{is_decimal, unpack};
 
 // What a reading says: tenths of a millisecond as a whole number, or that nothing was measured.
-#[derive(Drop)]
+#[derive(Clone, Copy)]
 pub enum Reading {
     Measured(u64),
     NotMeasured,

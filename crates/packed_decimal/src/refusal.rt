@@ -3,7 +3,7 @@ ghost use Rattle.std.specs.Prelude.{◌≡◌};
 ghost use Rattle.packed_decimal.specs.ReadingRefusals.{refusal_number, refusal_spot};
 
 // What is refused: a bad reading, by its number from 0 among those given; or a whole number above 9999.
-#[derive(Drop)]
+#[derive(Clone, Copy)]
 pub enum Refusal {
     BadReading(usize),
     LargeNumber,

@@ -11,14 +11,14 @@ use crate::pair::{PAIR, first_bad};
 use crate::refusal::Refusal;
 
 // A sum: its word, and 1 where it went past 9999.
-#[derive(Drop)]
+#[derive(Clone, Copy)]
 pub struct Sum {
     pub reading: u16,
     pub carry: u8,
 }
 
 // The sum of two readings, or their refusal.
-#[derive(Drop)]
+#[derive(Clone, Copy)]
 pub enum Added {
     Is(Sum),
     Refused(Refusal),

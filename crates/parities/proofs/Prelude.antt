@@ -7,7 +7,7 @@ pub use Rattle.atoms.proofs.Counts.{counts_small, taken_less, taken_within}
 pub use Rattle.atoms.proofs.Digits.{and_at, digit_low, digit_lt, digit_next, digit_zero, no_digit, or_at, sub_at}
 pub use Rattle.atoms.proofs.GatheredWords.{Gathers, gathers_end, gathers_next}
 pub use Rattle.atoms.proofs.Kit.{Bool, List, ◌%◌, ◌*◌, ◌+◌, ◌-◌, ◌/◌, ◌<◌, ◌^◌, ◌∙◌, ◌≡◌, ◌≤◌, ◌⊎◌, ap, ap₂, arith, bin_ind, dec_lt, eqb, eqb-true, false}
-pub use Rattle.atoms.proofs.Kit.{false≢true, get_or, get_d_replicate, get_or-set_other, get_or-set_same, inl, inr, length, length-set, needs, not, not-false}
+pub use Rattle.atoms.proofs.Kit.{false≢true, get_or, get_or-replicate, get_or-set_other, get_or-set_same, inl, inr, length, length-set, needs, not, not-false}
 pub use Rattle.atoms.proofs.Kit.{not-true, ones_step, pow_mono, pow-suc, refl, replicate, set, subst, suc, sym, true, true≢false, zero, ℕ, ℕ_discrete}
 unfoldable pub use Rattle.atoms.proofs.Kit.{ones}
 pub use Rattle.atoms.proofs.Sets.{atom_only, below_lt, cut_fits, cut_left, cut_of_apart, cut_right, decides_has, decides_subset, empty, ext, has_atom}

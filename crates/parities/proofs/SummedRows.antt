@@ -1,6 +1,6 @@
 -- Rows of parities: what is put where, what is added to what, and what a row says of a state.
 use Rattle.parities.proofs.Prelude.{◌≡◌, refl, sym, ap, ap₂, ◌∙◌, subst, Bool, true, false, ◌⊎◌, inl, inr, List, ℕ, ◌+◌, ◌%◌, ◌^◌, ◌<◌, arith}
-use Rattle.parities.proofs.Prelude.{ℕ_discrete, ones, length, get_or, set, replicate, length-set, get_d_replicate, get_or-set_same, get_or-set_other, ATOMS}
+use Rattle.parities.proofs.Prelude.{ℕ_discrete, ones, length, get_or, set, replicate, length-set, get_or-replicate, get_or-set_same, get_or-set_other, ATOMS}
 use Rattle.parities.proofs.Prelude.{digit, Has, Apart, apart, ◌∩◌, ◌∪◌, ◌∖◌, atom, AtMostOne, digit_lt, digit_zero, or_at, sub_at, has_dec, has_lt}
 use Rattle.parities.proofs.Prelude.{has_cut, cut_left, cut_right, has_left, has_right, union_cases, has_atom, atom_only, has_none, some_atom, ext}
 use Rattle.parities.proofs.Prelude.{empty, union_fits, without_fits, numbered_by, lacked_by, Completes, undecided, Narrows, SomeUp, State}
@@ -52,7 +52,7 @@ unfolding odd
 none_holds N = record { parity = omega (arith, ap ones (empty (N ∩ 0) (λ i h. has_none (cut_right N 0 h))), count_none) }
 
 pub rows_none : (N : ℕ) → RowsHold (replicate SUM_ROWS 0) 0 N
-rows_none N = record { each = λ i l. rw (get_d_replicate {A = ℕ} SUM_ROWS i 0 0 l, digit_zero i) (none_holds N) }
+rows_none N = record { each = λ i l. rw (get_or-replicate {A = ℕ} SUM_ROWS i 0 0 l, digit_zero i) (none_holds N) }
 
 pub gathered_refl : {K : ℕ → Type 0} {s : State} {words : List ℕ} {bits : ℕ} → RowsGathered K s words bits words bits
 gathered_refl = record { same_length = refl; right = λ N k c h. h }

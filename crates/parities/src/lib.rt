@@ -1,4 +1,6 @@
 // Sums of parities: contact tables that say whether an odd number of their inputs is up, as rows with their pilots, and the step that sums them.
+#![tactic(auto)]
+
 mod rows;
 mod sums;
 mod tables;

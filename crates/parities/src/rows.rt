@@ -13,7 +13,7 @@ use states::{State, one_up};
 pub const ROWS: usize = MAX_TABLES;
 
 // A row by itself: its atoms, and 1 where an odd number of them is up.
-#[derive(Drop)]
+#[derive(Clone, Copy)]
 pub struct Row {
     pub word: u64,
     pub bit: usize,

@@ -5,7 +5,7 @@ unfoldable pub use Rattle.answer_sets.specs.Lent.{lent, use_holds}
 pub use Rattle.atoms.proofs.Bounded.{union_at, union_has}
 pub use Rattle.atoms.proofs.Kit.{Bool, List, get_or-eq_default, ◌*◌, ◌+◌, ◌-◌, ◌/◌, ◌<◌, ◌^◌, ◌↔◌, ◌∙◌, ◌≡◌, ◌≤◌, ◌⊎◌, ap, ap₂, arith, dec_lt, eqb, false}
 pub use Rattle.atoms.proofs.Kit.{false≢true, get_or, get_or-set_other, get_or-set_same, get_or-take, inl, inr, length, length-set, length-take-le, needs, not}
-pub use Rattle.atoms.proofs.Kit.{not-false, not-true, now, ones, paste, refl, set, subst, sym, take, true, true≢false, ℕ, ℕ_discrete}
+pub use Rattle.atoms.proofs.Kit.{not-false, not-true, ones, paste, refl, set, subst, sym, take, true, true≢false, ℕ, ℕ_discrete}
 pub use Rattle.atoms.proofs.Sets.{atom_only, cut_left, decides_apart, decides_has, decides_subset, empty, ext, has_cut, has_dec, has_left, has_lt, has_none}
 pub use Rattle.atoms.proofs.Sets.{has_outside, has_right, has_without, outside_lacks, some_atom, subset_refl, union_cases, union_none_right, without_left}
 pub use Rattle.atoms.proofs.Sets.{without_right}

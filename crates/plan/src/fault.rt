@@ -3,7 +3,7 @@ ghost use Rattle.std.specs.Prelude.{◌≡◌, ◌<◌};
 ghost use Rattle.plan.specs.Faults.{number, spot, CODE_STEP as Faults-as-CODE_STEP, code_of, refusal_code};
 
 // A refusal: what is wrong, and its spot (document 01, "Faults, by where they are found"; document 02).
-#[derive(Drop)]
+#[derive(Clone, Copy)]
 pub enum Fault {
     TableShort(usize),
     Truncated(usize),
@@ -28,7 +28,7 @@ pub enum Fault {
 }
 
 // A plan is accepted, or refused with its first fault.
-#[derive(Drop)]
+#[derive(Clone, Copy)]
 pub enum Outcome {
     Accepted,
     Refused(Fault),

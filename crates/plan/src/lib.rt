@@ -1,4 +1,6 @@
 // What a plan is, apart from how its bytes are read: its limits, its record, and the faults for which it is refused.
+#![tactic(auto)]
+
 mod fault;
 mod limits;
 mod record;

@@ -10,7 +10,7 @@ use crate::limits::{
 const PROGRAM_WORDS: usize = FIRST_RULE + RULE_WORDS * MAX_RULES;
 
 // The sizes that a plan declares: how many COUNTs were read, none or one, and the numbers of rules, units and edges that it names.
-#[derive(Drop)]
+#[derive(Clone, Copy)]
 pub struct Declared {
     pub count: usize,
     pub rules: usize,
@@ -19,14 +19,14 @@ pub struct Declared {
 }
 
 // A word that may stand once: how many were read, none or one, and the word, or what holds without it.
-#[derive(Drop)]
+#[derive(Clone, Copy)]
 pub struct OnceWord {
     pub count: usize,
     pub word: u64,
 }
 
 // What may stand once in a plan: the sizes that its COUNT declares, the atoms of its GIVEN, and those of its SHOW.
-#[derive(Drop)]
+#[derive(Clone, Copy)]
 pub struct Once {
     pub declared: Declared,
     pub given: OnceWord,
@@ -37,7 +37,7 @@ pub struct Once {
 // its rules (four words each: head, positive, negative, uses), its units and edges, zeros behind. Bit t of a rule's uses says that table t must be true, bit
 // MAX_TABLES + t that it must be false; bit v of predecessors[u] is the edge (u, v). The counts say how many commands of each kind
 // were read.
-#[derive(Drop)]
+#[derive(Clone, Copy)]
 pub struct Plan {
     pub once: Once,
     pub rules: [u64; PROGRAM_WORDS],

@@ -35,9 +35,9 @@ pub number_listed : {A : Type 0} (P : A → Type 0) {xs : List A} {i : ℕ} {x :
 number_listed P a first = a.0
 number_listed P a (later n) = number_listed P a.1 n
 
-number_get_d : {xs : List ℕ} {i x : ℕ} → Number xs i x → get_or xs i 0 ≡ x
-number_get_d first = refl
-number_get_d (later n) = number_get_d n
+number_get_or : {xs : List ℕ} {i x : ℕ} → Number xs i x → get_or xs i 0 ≡ x
+number_get_or first = refl
+number_get_or (later n) = number_get_or n
 
 -- ---- the words of a table, and of a rule
 
@@ -52,6 +52,7 @@ module _ (c : Contents) (within : WithinLimits c) where
       → (get_or (flat_map two_words tables) (CONTACT_WORDS * i) 0 ≡ t.inputs) × (get_or (flat_map two_words tables) (CONTACT_WORDS * i + 1) 0 ≡ t.truth)
       × (CONTACT_WORDS * i + 1 < length (flat_map two_words tables))
   unfolding flat_map
+  two_words_lem [] n = elim n [ ]
   two_words_lem (t ∷ ts) first = (refl, refl, omega arith)
   two_words_lem (t ∷ ts) (later {i = i} n) =
       let w = two_words_lem ts n in
@@ -77,6 +78,7 @@ module _ (c : Contents) (within : WithinLimits c) where
       → (get_or (rule_words c.uses n rules) (RULE_WORDS * i) 0 ≡ w.head) × (get_or (rule_words c.uses n rules) (RULE_WORDS * i + 1) 0 ≡ w.positive)
       × (get_or (rule_words c.uses n rules) (RULE_WORDS * i + 2) 0 ≡ w.negative) × (RULE_WORDS * i + 2 < length (rule_words c.uses n rules))
   unfolding rule_words
+  four_words n [] m = elim m [ ]
   four_words n (r ∷ rs) first = (refl, refl, refl, omega arith)
   four_words n (r ∷ rs) (later {i = i} m) =
       let w = four_words (suc n) rs m in
@@ -264,7 +266,7 @@ module _ (c : Contents) (within : WithinLimits c) where
 
   unit_means : (u word : ℕ) → Number c.units u word → get_or (record_of c).units u 0 ≡ word
   unfolding record_of
-  unit_means u word n = padded_at MAX_UNITS c.units u (number_lt n) ∙ number_get_d n
+  unit_means u word n = padded_at MAX_UNITS c.units u (number_lt n) ∙ number_get_or n
 
   edge_means : (u v : ℕ) → u < length c.units
       → Has (get_or (record_of c).predecessors u 0) v ↔ ((e : UnitPair) × List-as-Memᴰ e c.edges × (e.u ≡ u) × (e.v ≡ v))

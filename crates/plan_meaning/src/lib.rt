@@ -1,1 +1,2 @@
 // What the lists of a plan mean: a crate without code.
+#![tactic(auto)]

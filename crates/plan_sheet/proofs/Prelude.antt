@@ -1,6 +1,6 @@
 -- What the proofs of this crate name of the kit, of the crates below and of its own definitions, each with its home.
 pub use Rattle.atoms.proofs.Kit.{List, ◌++◌, ◌-◌, ◌<◌, ◌^◌, ◌∙◌, ◌≡◌, ◌≤◌, ap, ap₂, arith, dec_le, dec_lt, drop, drop_at, get_or, le-leb, length, length-append}
-pub use Rattle.atoms.proofs.Kit.{length-drop, length-replicate, length-take, min, needs, now, refl, replicate, subst, suc, sym, take, take_all, take_at, zero}
+pub use Rattle.atoms.proofs.Kit.{length-drop, length-replicate, length-take, min, needs, refl, replicate, subst, suc, sym, take, take_all, take_at, zero}
 pub use Rattle.atoms.proofs.Kit.{ℕ}
 pub use Rattle.demands.specs.Answer.{Answer}
 unfoldable pub use Rattle.demands.specs.Answer.{answer}

@@ -1,4 +1,6 @@
 // A plan's sheet in a lent buffer.
+#![tactic(auto)]
+
 ghost use Rattle.std.specs.Prelude.{min, ◌≡◌, length};
 ghost use Rattle.plan_sheet.specs.PlanSheets.{SHEET_BYTES, Printed, written_bytes, KEPT_BYTES as Sheets-as-KEPT_BYTES, SheetKept};
 
@@ -29,7 +31,7 @@ pub fn write_plan_sheet(plan: &[u8], table: &mut [u64], sheet: &mut [u8]) -> Wri
 pub const KEPT_BYTES: usize = 4096;
 
 // A sheet by value: its first `length` bytes, and zeros behind them.
-#[derive(Drop)]
+#[derive(Clone, Copy)]
 pub struct Sheet {
     pub bytes: [u8; SHEET_BYTES],
     pub length: usize,

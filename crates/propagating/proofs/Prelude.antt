@@ -4,7 +4,7 @@ pub use Rattle.atoms.proofs.Collected.{collects_has, collects_iff, collects_same
 pub use Rattle.atoms.proofs.Counts.{count_proper, counts_small, taken_less}
 pub use Rattle.atoms.proofs.Kit.{Bool, List, [], ◌*◌, ◌++◌, ◌+◌, ◌-◌, ◌<◌, ◌^◌, ◌∙◌, ◌≡◌, ◌≤◌, ◌⊎◌, ap, append_assoc, append-nil, ap₂, arith, drop, eqb}
 pub use Rattle.atoms.proofs.Kit.{false, false≢true, get_or, get_or-drop, get_or-take, inl, inr, length, length-drop, length-paste, length-take-le, needs, not}
-pub use Rattle.atoms.proofs.Kit.{not-true, now, paste, refl, subst, sym, take, take_all, true, ℕ, ℕ_discrete}
+pub use Rattle.atoms.proofs.Kit.{not-true, paste, refl, subst, sym, take, take_all, true, ℕ, ℕ_discrete}
 unfoldable pub use Rattle.atoms.proofs.Kit.{ones}
 pub use Rattle.atoms.proofs.Sets.{atom_only, cut_left, decides_apart, has_atom, has_none, some_atom, without_left, without_right}
 pub use Rattle.atoms.proofs.TakenNumbers.{taken_lent, taken_lt}

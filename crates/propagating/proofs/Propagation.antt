@@ -2,7 +2,7 @@
 use Rattle.propagating.proofs.Prelude.{◌≡◌, List, ℕ, ◌^◌, ◌<◌, ATOMS, ◌∩◌, get_or, MAX_TABLES, lent, Narrows, State, narrows_for, Summed, Belongs}
 use Rattle.propagating.proofs.Prelude.{pilots_of, linked_of, Prepared, Wired, JoinsAll, Job, joins_some}
 use Rattle.answer_sets.specs.Program.{SatisfiesAll}
-use Rattle.answer_sets.proofs.Judged.{decides_answer_set}
+use Rattle.answer_sets.proofs.JudgedSets.{decides_answer_set}
 use Rattle.narrowing.specs.Inputs.{AnswersInputs}
 use Rattle.narrowing.proofs.NumberedSteps.{satisfying_narrow}
 use Rattle.pilots.specs.Pilots.{FollowsTable, FollowAll}

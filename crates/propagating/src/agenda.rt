@@ -36,7 +36,7 @@ const OTHERS: usize = WOKEN_WORDS;
 pub const INDEX_WORDS: usize = WOKEN_WORDS + ATOMS;
 
 // The rules, the atoms whose support, and the lists that are to be looked at; behind these the founded step, the tables and their sums.
-#[derive(Drop)]
+#[derive(Clone, Copy)]
 pub struct Agenda {
     pub rules: u64,
     pub supports: u64,
@@ -44,7 +44,7 @@ pub struct Agenda {
 }
 
 // A step taken from an agenda, and the rest.
-#[derive(Drop)]
+#[derive(Clone, Copy)]
 pub struct Taken {
     pub step: usize,
     pub rest: Agenda,

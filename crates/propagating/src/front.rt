@@ -11,7 +11,7 @@ use crate::unit::Job;
 use states::{State, decide};
 
 // The state, the steps that may have something new to say of it, and where the next step is noted in the trail.
-#[derive(Drop)]
+#[derive(Clone, Copy)]
 pub struct Front {
     pub state: State,
     pub agenda: Agenda,

@@ -1,4 +1,6 @@
 // Propagation: a unit's steps by an agenda, until none has anything new to say.
+#![tactic(auto)]
+
 pub mod agenda;
 pub mod desk;
 pub mod front;

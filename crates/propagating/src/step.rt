@@ -21,7 +21,7 @@ pub const PAIR_STEPS: usize = SUM_STEP + 1;
 pub const UNFOUNDED_STEP: usize = PAIR_STEPS + PAIRS;
 
 // A step: a rule, an atom's support, a list, the founded step, a table, the sums of parity tables, a pair of the memory, or that given atoms are unfounded.
-#[derive(Drop)]
+#[derive(Clone, Copy)]
 pub enum Step {
     Rule(usize),
     Support(usize),

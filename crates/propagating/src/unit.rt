@@ -1,7 +1,7 @@
 // What is asked of a unit.
 
 // Its rules, the head atoms that an input may have, its direct predecessors, and those of them whose lists the search looks at.
-#[derive(Drop)]
+#[derive(Clone, Copy)]
 pub struct Job {
     pub rules: u64,
     pub inputs: u64,

@@ -1,7 +1,7 @@
 -- Counts kept while the list is gone through: one position held against question after question, and position after position.
 use Rattle.questions.proofs.Prelude.{◌≡◌, sym, ap, ap₂, ◌∙◌, Bool, true, false, List, [], ℕ, ◌+◌, ◌^◌, ◌≤◌, ◌<◌, arith, add-one, dec_lt, length, get_or}
 use Rattle.questions.proofs.Prelude.{set, take, replicate, length-take, take_all, ext_get_or, lt-ltb, le-ltb, tabulate, tabulate_long, tabulate_same}
-use Rattle.questions.proofs.Prelude.{tabulate_zero, get_d_tabulate, set_tabulate, MAX_QUESTIONS, fits, one, fitting_count, up_to, counts_of, held}
+use Rattle.questions.proofs.Prelude.{tabulate_zero, get_or_tabulate, set_tabulate, MAX_QUESTIONS, fits, one, fitting_count, up_to, counts_of, held}
 use Rattle.questions.specs.Counting.{Holdable}
 use Rattle.questions.proofs.QuestionCounts.{count_more, count-le, one-le}
 
@@ -42,7 +42,7 @@ module _ (position : ℕ) (up dropped before : List ℕ) where
 
   held_at : (n i : ℕ) → i < length before → get_or (held position n up dropped before) i 0 ≡ get_or before i 0 + up_to n adds i
   unfolding held
-  held_at n i l = get_d_tabulate (length before) (λ j. get_or before j 0 + up_to n adds j) i l
+  held_at n i l = get_or_tabulate (length before) (λ j. get_or before j 0 + up_to n adds j) i l
 
   -- a question that the position was not yet held against has its old count
   held_behind : (n i : ℕ) → n ≤ i → i < length before → get_or (held position n up dropped before) i 0 ≡ get_or before i 0
@@ -108,7 +108,7 @@ module _ (list : List ℕ) (n : ℕ) (up dropped : List ℕ) where
 
   counts_at : (i : ℕ) → i < MAX_QUESTIONS → get_or (counts_of list n up dropped) i 0 ≡ up_to n (count_at list up dropped) i
   unfolding counts_of
-  counts_at i l = get_d_tabulate MAX_QUESTIONS (up_to n (count_at list up dropped)) i l
+  counts_at i l = get_or_tabulate MAX_QUESTIONS (up_to n (count_at list up dropped)) i l
 
   -- the count of one of the first n questions
   pub count_is : (i : ℕ) → i < n → n ≤ MAX_QUESTIONS → get_or (counts_of list n up dropped) i 0 ≡ fitting_count list (get_or up i 0) (get_or dropped i 0)

@@ -16,14 +16,14 @@ pub use Rattle.atoms.proofs.Kit.{length-drop, length-map, length-replicate, leng
 pub use Rattle.atoms.proofs.Kit.{look, look_in, look_raw, looks_slice, loops, lt-ltb, ltb→lt, map, map-id, mean, mem, move, mut, mut_slice_Tells, named}
 pub use Rattle.atoms.proofs.Kit.{needs, nltb→le, no_more, not, nothing, nth, of_opd, on_entry, only, opens_slice, others, owned, owns, params1, part_at, pass0}
 pub use Rattle.atoms.proofs.Kit.{pass1, peeks, pick, place, place_is, plain, pointee, post, pure_i, pure_l, put, qed, raw, refl, rep, replicate, returns}
-pub use Rattle.atoms.proofs.Kit.{returns_within, rewrite, row, runs, says, sem, sep, seq, set, set_at, set_v, shadow, shares, shows, shr_slice_Tells}
+pub use Rattle.atoms.proofs.Kit.{returns_within, rewrite, row, runs, says, sep, seq, set, set_at, set_v, shadow, shares, shows, shr_slice_Tells}
 pub use Rattle.atoms.proofs.Kit.{shuts_slice, skip, skips, slice_back, slice-vals, slice_ty, slice_val, split, spot_of, stay_dropped, stay_slice, stays, step}
 pub use Rattle.atoms.proofs.Kit.{stop, store, store_in, sub, subst, suc, suffices, sym, tables, take, take_all, take-suc, triple_of, true, ty_array, ty_bool}
 pub use Rattle.atoms.proofs.Kit.{ty_int, ty_ptr, ty_ref, ty_struct, ty_unit, u64, uint_Lawful, uint_Makes, uint_Tells, uint_vals, unit, unit_lit, use1, use2, use3}
 pub use Rattle.atoms.proofs.Kit.{usize, vbool, vcons, via, vint, vnil, vptr, vstruct, vunit, w64, walk_Meets, walk_of, walked, whole, whole_in, whole_out, yes}
 pub use Rattle.atoms.proofs.Kit.{zero, ‵, ℕ, ⋆}
 unfoldable pub use Rattle.atoms.proofs.Kit.{after_turn, part_of, tables_of}
-pub use Rattle.atoms.proofs.Lists.{get_d_tabulate, padded_at, padded_long, padded_nil, padded_snoc, set_tabulate, tabulate_long, tabulate_same, tabulate_zero}
+pub use Rattle.atoms.proofs.Lists.{get_or_tabulate, padded_at, padded_long, padded_nil, padded_snoc, set_tabulate, tabulate_long, tabulate_same, tabulate_zero}
 pub use Rattle.atoms.proofs.Sets.{cut_left, cut_right, decides_apart, decides_subset, empty, has_cut, has_dec, has_left, has_none, has_right, has_without}
 pub use Rattle.atoms.proofs.Sets.{union_cases, without_left, without_right}
 pub use Rattle.atoms.specs.Lists.{padded, tabulate}

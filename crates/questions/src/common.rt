@@ -1,7 +1,7 @@
 // The atoms up in all positions of a list, and those up in some.
 ghost use Rattle.questions.specs.Common.{CommonAtoms};
 
-#[derive(Drop)]
+#[derive(Clone, Copy)]
 pub struct Common {
     pub all: u64,
     pub some: u64,

@@ -9,7 +9,7 @@ use atoms::{cut, union, without};
 pub const MAX_QUESTIONS: usize = 64;
 
 // The words of up to MAX_QUESTIONS questions, zeros behind the last.
-#[derive(Drop)]
+#[derive(Clone, Copy)]
 pub struct Asked {
     pub up: [u64; MAX_QUESTIONS],
     pub dropped: [u64; MAX_QUESTIONS],

@@ -1,4 +1,6 @@
 // Questions over a list of positions: how many positions fit each question; and the atoms up in all positions and in some.
+#![tactic(auto)]
+
 mod common;
 mod counter;
 mod question;

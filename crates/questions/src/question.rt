@@ -8,7 +8,7 @@ use crate::counter::{Asked, MAX_QUESTIONS, counts_of};
 use plan::CODE_STEP;
 
 // Which positions are asked for: those with every up atom and no dropped one. The count is filled in.
-#[derive(Drop)]
+#[derive(Clone, Copy)]
 pub struct Question {
     pub up: u64,
     pub dropped: u64,
@@ -16,7 +16,7 @@ pub struct Question {
 }
 
 // The counts are filled in, or nothing is.
-#[derive(Drop)]
+#[derive(Clone, Copy)]
 pub enum Counted {
     Filled,
     TooManyQuestions,

@@ -1,7 +1,7 @@
 -- Whenever reading accepts bytes they are the layout of lists within the limits, and the record is theirs.
 -- What each command keeps: the bytes read so far are the commands of lists within the limits, and the record is theirs.
 use Rattle.reading.proofs.Prelude.{◌≡◌, refl, ap, sym, ◌∙◌, subst, List, [], ◌∷◌, ◌++◌, flat_map, Bool, true, false, true≢false, ℕ, ◌+◌, ◌*◌, ◌^◌, ◌≤◌}
-use Rattle.reading.proofs.Prelude.{◌<◌, arith, length, drop, get_or, Has, get_d_tabulate, MAX_UNITS, empty_plan, Single, Kind, single, table, rule, usage}
+use Rattle.reading.proofs.Prelude.{◌<◌, arith, length, drop, get_or, Has, get_or_tabulate, MAX_UNITS, empty_plan, Single, Kind, single, table, rule, usage}
 use Rattle.reading.proofs.Prelude.{unit, edge, end, kind_discrete, byte_of, operand_bytes, miscounted, reading, command_bytes, Contents, Element}
 use Rattle.reading.proofs.Prelude.{end_bytes, commands, predecessors_of, record_of, IsByte, All, GoodOnce, GoodTable, GoodRule, WithinLimits, IsPlan}
 use Rattle.reading.proofs.Prelude.{Plan, Outcome, Accepted, Refused}
@@ -166,6 +166,6 @@ predecessors_there bytes small o u v l h =
     let few = (record_fits bytes).units_fit in
     let count = ap (λ (q : Plan). q.unit_count) p.record_is in
     let row : get_or (reading bytes).plan.predecessors u 0 ≡ predecessors_of edges u =
-    ap (λ (q : Plan). get_or q.predecessors u 0) p.record_is ∙ get_d_tabulate MAX_UNITS (predecessors_of edges) u (omega arith) in
+    ap (λ (q : Plan). get_or q.predecessors u 0) p.record_is ∙ get_or_tabulate MAX_UNITS (predecessors_of edges) u (omega arith) in
     let good = all_member _ edges (pair u v) p.within.good_edges (has_member edges (pair u v) (rw row at h)) in
     omega (arith, good.to_there)

@@ -3,7 +3,7 @@
 use Rattle.reading.proofs.Prelude.{◌≡◌, refl, ap, sym, ◌∙◌, subst, List, [], ◌∷◌, ◌++◌, append_assoc, append-nil, flat_map, List-as-Memᴰ, Bool, true}
 use Rattle.reading.proofs.Prelude.{false, true≢false, ℕ, suc, ◌+◌, ◌*◌, ◌^◌, ◌≤◌, ◌<◌, arith, add-one, ones, length, take, drop, get_or, length-append}
 use Rattle.reading.proofs.Prelude.{take-append-drop, drop-drop, ltb, leb-false, ltb-true, lt-leb, le-ltb, ne_eqb, not-false, padded, tabulate, Decides}
-use Rattle.reading.proofs.Prelude.{Has, has, Apart, padded_snoc, get_d_tabulate, decides_has, decides_apart, decided_true, decided_false, not_both}
+use Rattle.reading.proofs.Prelude.{Has, has, Apart, padded_snoc, get_or_tabulate, decides_has, decides_apart, decided_true, decided_false, not_both}
 use Rattle.reading.proofs.Prelude.{decides_and, decides_not, decides_equal, MAX_TABLES, MAX_RULES, MAX_USES, MAX_UNITS, MAX_EDGES, MAX_INPUTS, uses_at}
 use Rattle.reading.proofs.Prelude.{empty_plan, with_count, with_given, with_table, with_rule, with_use, with_unit, with_edge, with_show, WORD_BYTES}
 use Rattle.reading.proofs.Prelude.{WORD_VALUES, word_at, Single, sizes, given, show, Kind, single, table, rule, usage, unit, edge, end, byte_of}
@@ -227,7 +227,7 @@ none_shared b n e = (decides_apart b n).yes (not-false _ e)
 
 module _ (c : Contents) (few : Few c) where
   pub row_is : (u : ℕ) → u < length c.units → get_or (tabulate MAX_UNITS (predecessors_of c.edges)) u 0 ≡ predecessors_of c.edges u
-  row_is u l = get_d_tabulate MAX_UNITS (predecessors_of c.edges) u (omega (arith, few.under unit))
+  row_is u l = get_or_tabulate MAX_UNITS (predecessors_of c.edges) u (omega (arith, few.under unit))
 
   -- the word of a rule's uses, and the use that a bit stands for
   pub uses_are : (r : ℕ) → r < length c.rules → get_or (record_of c).rules (uses_at r) 0 ≡ uses_of c.uses r

@@ -1,5 +1,5 @@
 -- The rows of predecessors, from the list of edges: v is in the row of u exactly if the edge (u,v) is in the list.
-use Rattle.reading.proofs.Prelude.{◌≡◌, ap, ◌∙◌, subst, List, ◌∷◌, [], ◌++◌, List-as-Memᴰ, ℕ, ◌<◌, get_or, set, tabulate, Has, ◌∪◌, atom, get_d_tabulate}
+use Rattle.reading.proofs.Prelude.{◌≡◌, ap, ◌∙◌, subst, List, ◌∷◌, [], ◌++◌, List-as-Memᴰ, ℕ, ◌<◌, get_or, set, tabulate, Has, ◌∪◌, atom, get_or_tabulate}
 use Rattle.reading.proofs.Prelude.{set_tabulate, MAX_UNITS, UnitPair, predecessors_of}
 use Rattle.reading.proofs.KeyedWords.{has_entry, entry_has, word_same, word_other}
 
@@ -28,5 +28,5 @@ module _ (edges : List UnitPair) (x : UnitPair) where
   unfolding predecessors_of
   rows_snoc h =
       set_tabulate MAX_UNITS (predecessors_of edges) (predecessors_of (edges ++ (x ∷ []))) x.u _ h
-      (ap (λ (w : ℕ). w ∪ atom x.v) (get_d_tabulate MAX_UNITS (predecessors_of edges) x.u h) ∙ word_same (λ d. d.u) (λ d. d.v) edges x)
+      (ap (λ (w : ℕ). w ∪ atom x.v) (get_or_tabulate MAX_UNITS (predecessors_of edges) x.u h) ∙ word_same (λ d. d.u) (λ d. d.v) edges x)
       (word_other (λ d. d.u) (λ d. d.v) edges x)

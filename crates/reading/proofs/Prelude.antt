@@ -4,12 +4,12 @@ pub use Rattle.atoms.proofs.Kit.{Memᴰ-not-nil, Memᴰ-tail, Memᴰ-append_left
 pub use Rattle.atoms.proofs.Kit.{◌/◌, ◌<◌, ◌^◌, ◌||◌, ◌∙◌, ◌∷◌, ◌≡◌, ◌≤◌, ◌⊎◌, add-one, ap, append_assoc, append-nil, ap₂, arith, dec_lt, drop, drop_at}
 pub use Rattle.atoms.proofs.Kit.{drop-cons, drop-drop, drop_of_length-le, eq-eqb, eqb, eqb-false, eqb-true, false, get_or, get_or-append-add, get_or-take, has_key}
 pub use Rattle.atoms.proofs.Kit.{inl, inr, le-leb, le-ltb, leb, leb-false, leb-true, leb-suc-zero, length, length-append, length-drop, length-take}
-pub use Rattle.atoms.proofs.Kit.{length-take-le, lt-leb, lt-ltb, ltb, ltb-false, ltb-true, max, min, miss, mul-suc, ne_eqb, needs, none, not, not-false, now}
+pub use Rattle.atoms.proofs.Kit.{length-take-le, lt-leb, lt-ltb, ltb, ltb-false, ltb-true, max, min, miss, mul-suc, ne_eqb, needs, none, not, not-false}
 pub use Rattle.atoms.proofs.Kit.{ones, ones-le, or_assoc, or-false, pow-le-pow_right, pow_mono, pow-succ', pow-zero, refl, replicate, set, set-append_left}
 pub use Rattle.atoms.proofs.Kit.{some, subst, suc, suc_ones, sym, tag_of, take, take_all, take-append-drop, take_at, take-nil, take-take, true, true≢false}
 pub use Rattle.atoms.proofs.Kit.{zero, ℕ, ℕ_discrete}
 unfoldable pub use Rattle.atoms.proofs.Kit.{flat_map}
-pub use Rattle.atoms.proofs.Lists.{get_d_tabulate, padded_at, padded_long, padded_snoc, set_tabulate}
+pub use Rattle.atoms.proofs.Lists.{get_or_tabulate, padded_at, padded_long, padded_snoc, set_tabulate}
 pub use Rattle.atoms.proofs.Sets.{atom_only, below_lt, cut_left, cut_right, decides_apart, decides_has, decides_subset, ext, has_atom, has_below, has_cut}
 pub use Rattle.atoms.proofs.Sets.{has_left, has_lt, has_none, has_right, has_without, lt_of_has, some_atom, union_cases, without_left, without_right}
 pub use Rattle.atoms.proofs.Tests.{and-true, bool_ext, decided, decided_false, decided_true, decides_and, decides_equal, decides_iff, decides_not, decides_or}

@@ -19,8 +19,8 @@ module _ (front back : List ℕ) (i j : ℕ) (there : j ≡ length front + i) wh
   set_second : (v : ℕ) → set (front ++ back) j v ≡ front ++ set back i v
   set_second v = ap (λ (m : ℕ). set (front ++ back) m v) there ∙ set_behind front back i v
 
-  get_d_second : get_or (front ++ back) j 0 ≡ get_or back i 0
-  get_d_second = ap (λ (m : ℕ). get_or (front ++ back) m 0) there ∙ get_or-append-add front back i 0
+  get_or_second : get_or (front ++ back) j 0 ≡ get_or back i 0
+  get_or_second = ap (λ (m : ℕ). get_or (front ++ back) m 0) there ∙ get_or-append-add front back i 0
 
 -- a zero at the end is one of those that fill up
 padded_zero : (size : ℕ) (xs : List ℕ) → length xs < size → padded size (xs ++ (0 ∷ [])) ≡ padded size xs
@@ -169,7 +169,7 @@ module _ (uses : List TableUse) where
       let k : ℕ = RULE_WORDS * i + USES in
       let there : uses_at i ≡ length front + k = omega arith in
       let zero-first : 0 + i ≡ i = omega arith in
-      get_d_second front (bodies uses rules) k (uses_at i) there
+      get_or_second front (bodies uses rules) k (uses_at i) there
       ∙ padded_at rule_space (rule_words uses 0 rules) k (omega (arith, words_long uses 0 rules)) ∙ words_at 0 rules i l ∙ ap (uses_of uses) zero-first
 
   module _ (x : TableUse) where

@@ -2,7 +2,7 @@
 use plan::Fault;
 
 // "A command is one of four kinds carrying its operands", of nine with COUNT, GIVEN, TABLE, USE and SHOW, or the fault that stopped it.
-#[derive(Drop)]
+#[derive(Clone, Copy)]
 pub enum Command {
     Count {
         rules: u8,

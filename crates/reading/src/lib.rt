@@ -1,5 +1,7 @@
 // Reading a plan: from its bytes to the record of its declared sizes, given atoms, contact tables, rules, uses, units, edges and shown atoms, or the first
 // fault.
+#![tactic(auto)]
+
 mod command;
 mod count;
 mod dispatch;

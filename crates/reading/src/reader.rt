@@ -19,14 +19,14 @@ use plan::{
 };
 
 // What reading gives: the outcome and the record, which is empty on a refusal.
-#[derive(Drop)]
+#[derive(Clone, Copy)]
 pub struct ReadPlan {
     pub outcome: Outcome,
     pub plan: Plan,
 }
 
 // How far reading has come: the record of what is taken, and the command at byte `at`, which is not.
-#[derive(Drop)]
+#[derive(Clone, Copy)]
 struct Progress {
     plan: Plan,
     at: usize,

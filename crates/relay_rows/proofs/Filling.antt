@@ -71,10 +71,10 @@ filling_end {f = f} {before} {after} h l =
 
 -- ---- a block that is read
 
-get_d_replicate : (n i : ℕ) → get_or (replicate {A = ℕ} n 0) i 0 ≡ 0
-get_d_replicate zero i = refl
-get_d_replicate (suc n) zero = refl
-get_d_replicate (suc n) (suc i) = get_d_replicate n i
+get_or-replicate : (n i : ℕ) → get_or (replicate {A = ℕ} n 0) i 0 ≡ 0
+get_or-replicate zero i = refl
+get_or-replicate (suc n) zero = refl
+get_or-replicate (suc n) (suc i) = get_or-replicate n i
 
 -- the first k words are read
 pub record Reading (area : List ℕ) (at stride mask n : ℕ) (block : List ℕ) (k : ℕ) : Type 0 where
@@ -94,5 +94,5 @@ reading_end {k = k} h l =
     let r = h.reached in
     record {
       front = λ j m. h.so_far.filled j (omega arith);
-      behind = λ j m. h.so_far.untouched j (omega arith) ∙ get_d_replicate ATOMS j;
+      behind = λ j m. h.so_far.untouched j (omega arith) ∙ get_or-replicate ATOMS j;
     }

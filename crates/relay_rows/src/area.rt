@@ -16,7 +16,7 @@ pub const ROW_WORDS: usize = 4;
 const MAX_COUNT: u64 = AREA_WORDS as u64;
 
 // The area is written, or nothing is.
-#[derive(Drop)]
+#[derive(Clone, Copy)]
 pub enum Rearranged {
     Written,
     Refused,

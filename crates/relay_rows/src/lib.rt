@@ -1,4 +1,6 @@
 // A sheet by relay (document 02, S-9): a list of 256 positions becomes 64 rows of 256 bits, and back.
+#![tactic(auto)]
+
 mod area;
 mod block;
 mod positions;

@@ -1,6 +1,6 @@
 -- What the proofs of this crate name of the kit, of the crates below and of its own definitions, each with its home.
 pub use Rattle.answer_sets.proofs.Between.{finds_none, lent_part, passed_confines, tested_passed}
-pub use Rattle.answer_sets.proofs.Judged.{decides_all_satisfied, decides_answer_set}
+pub use Rattle.answer_sets.proofs.JudgedSets.{decides_all_satisfied, decides_answer_set}
 pub use Rattle.answer_sets.proofs.Lent.{lent_kept, lent_within}
 pub use Rattle.answer_sets.specs.AnswerSet.{AnswerSet, Kept, ReductModel}
 pub use Rattle.answer_sets.specs.Lent.{Lent, inputs, lent, looks, truth}
@@ -15,8 +15,8 @@ pub use Rattle.atoms.proofs.Kit.{Bool, In, List, List-as-Memᴰ, Memᴰ-append_c
 pub use Rattle.atoms.proofs.Kit.{Memᴰ-not-nil, Memᴰ-tail, Measures, Memᴰ-append_left, Memᴰ-append_right, [], ◌*◌, ◌++◌, ◌+◌, ◌-◌, ◌<◌, ◌^◌, ◌↔◌}
 pub use Rattle.atoms.proofs.Kit.{◌∙◌, ◌∷◌, ◌≡◌, ◌≤◌, ◌⊎◌, add-one, add-zero, and, ap, append_assoc, ap₂, arith, dec_lt, drop, drop-append-le, drop_at}
 pub use Rattle.atoms.proofs.Kit.{drop-cons, drop-drop, drop_of_length-le, drop-set-lt, eqb, eqb-true, falls, false, false≢true, get_or, get_or-drop}
-pub use Rattle.atoms.proofs.Kit.{get_d_replicate, get_or-take, inl, inr, is, length, length-append, length-drop, length-replicate, length-set, length-take}
-pub use Rattle.atoms.proofs.Kit.{length-take-le, lt_of_le_of_lt, min, needs, not, not-false, not-true, now, ones, refl, replicate, set, set_split, subst}
+pub use Rattle.atoms.proofs.Kit.{get_or-replicate, get_or-take, inl, inr, is, length, length-append, length-drop, length-replicate, length-set, length-take}
+pub use Rattle.atoms.proofs.Kit.{length-take-le, lt_of_le_of_lt, min, needs, not, not-false, not-true, ones, refl, replicate, set, set_split, subst}
 pub use Rattle.atoms.proofs.Kit.{subst₂, suc, sym, take, take_all, take-append-drop, take_at, take-suc, take-suc-set, true, true≢false, zero, ℕ, ℕ_discrete}
 pub use Rattle.atoms.proofs.Kit.{⊎_elim}
 pub use Rattle.atoms.proofs.Sets.{cut_left, cut_right, decides_apart, decides_subset, empty, ext, has_atom, has_below, has_cut, has_dec, has_left, has_lt}

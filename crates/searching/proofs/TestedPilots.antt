@@ -1,6 +1,6 @@
 -- Pilots that were tested: spare atoms, each of one table.
 use Rattle.searching.proofs.Prelude.{◌≡◌, refl, sym, ap, subst, ◌∙◌, Bool, true, false, not, ◌⊎◌, inl, inr, List, ℕ, ◌+◌, ◌^◌, ◌≤◌, ◌<◌, arith}
-use Rattle.searching.proofs.Prelude.{ℕ_discrete, dec_lt, not-false, get_or, replicate, get_d_replicate, Has, Lowest, ◌⊆◌, subset, Apart, apart, ◌∪◌, ◌∖◌}
+use Rattle.searching.proofs.Prelude.{ℕ_discrete, dec_lt, not-false, get_or, replicate, get_or-replicate, Has, Lowest, ◌⊆◌, subset, Apart, apart, ◌∪◌, ◌∖◌}
 use Rattle.searching.proofs.Prelude.{atom, below, union_in, has_none, has_left, has_right, has_lt, has_below, union_cases, decides_apart}
 use Rattle.searching.proofs.Prelude.{decides_subset, union_has, union_at, Taking, taking_next, taking_end, MAX_TABLES, MAX_UNITS, lent, looks, inputs}
 use Rattle.searching.proofs.Prelude.{InRule, in_head, in_positive, in_looks, State, PilotsWithin, Job, Spare, NoInputs, DistinctPilots, Piloted}
@@ -102,7 +102,7 @@ tested_pilots {rules} {heads} {pilots} {unit} {s} {x} {w} {a} {b} {c} few e ea f
 -- ---- none
 
 nothing : (t : ℕ) → t < MAX_TABLES → get_or (replicate {A = ℕ} MAX_TABLES 0) t 0 ≡ 0
-nothing t l = get_d_replicate MAX_TABLES t 0 0 l
+nothing t l = get_or-replicate MAX_TABLES t 0 0 l
 
 all_nothing : (i : ℕ) → ¬ Has (all_pilots (replicate MAX_TABLES 0)) i
 all_nothing i h =

@@ -1,4 +1,6 @@
 // The search for the list of one unit.
+#![tactic(auto)]
+
 pub mod begin;
 mod dive;
 mod enter;

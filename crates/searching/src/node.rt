@@ -19,7 +19,7 @@ use states::State;
 
 // A way into the search: its unit, the atoms that show, how many positions are listed so far, where propagation stands, and the state in which the
 // atom was decided.
-#[derive(Drop)]
+#[derive(Clone, Copy)]
 pub struct Branch {
     pub unit: Job,
     pub shown: u64,
@@ -29,7 +29,7 @@ pub struct Branch {
 }
 
 // A node of the search: a branch with its steps taken, the way that they went, and what the state then leaves to search.
-#[derive(Drop)]
+#[derive(Clone, Copy)]
 pub struct Node {
     pub unit: Job,
     pub shown: u64,
@@ -40,7 +40,7 @@ pub struct Node {
 }
 
 // What was found below a node: how many positions are listed now, a pair that no member completes, and a member there.
-#[derive(Drop)]
+#[derive(Clone, Copy)]
 pub struct Found {
     pub count: usize,
     pub nogood: State,

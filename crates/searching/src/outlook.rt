@@ -17,7 +17,7 @@ use propagating::desk::{DESK_WORDS, LINKED, backing};
 use states::{State, undecided};
 
 // What a state leaves to search: nothing, since no member completes it; one full position; or two branches on this atom.
-#[derive(Drop)]
+#[derive(Clone, Copy)]
 pub enum Outlook {
     Stop,
     Leaf,

@@ -35,7 +35,7 @@ use states::{State, decide};
 const FEW: u64 = 16;
 
 // What is answered to a question for an atom: a set without it, or what is known of all sets where there is none.
-#[derive(Drop)]
+#[derive(Clone, Copy)]
 pub struct WithoutAtom {
     pub found: bool,
     pub set: u64,

@@ -3,7 +3,7 @@ ghost use Rattle.std.specs.Prelude.{◌≡◌};
 ghost use Rattle.searching.specs.Witness.{either_of, enough};
 
 // A member that was met, or that there is none.
-#[derive(Drop)]
+#[derive(Clone, Copy)]
 pub enum Witness {
     Member(u64),
     Nothing,

@@ -1,4 +1,6 @@
 // settle: reads a plan from standard input and writes its sheet.
+#![tactic(auto)]
+
 use libc::{STDERR_FILENO, STDIN_FILENO, STDOUT_FILENO};
 use plan_sheet::kept_sheet;
 

@@ -1,10 +1,12 @@
 // The sheet that `settle` prints (document 01, "The sheet it prints"), written into a lent buffer.
+#![tactic(auto)]
+
 ghost use Rattle.std.specs.Prelude.{◌+◌, ◌*◌, ◌≤◌, ◌≡◌, length, take};
 ghost use Rattle.sheet.specs.Sheet.{decimal, hexadecimal, line_length, position_line, position_lines, positions_sheet, refusal_sheet};
 ghost use Rattle.sheet.specs.LentSheet.{Put, bytes_written, filled};
 
 // How many bytes were written; or that the buffer is too short for the sheet, which leaves it as it was.
-#[derive(Drop)]
+#[derive(Clone, Copy)]
 pub enum Written {
     Bytes(usize),
     TooShort,

@@ -1,4 +1,6 @@
 // Half-decided positions and the positions that complete them. Nothing here knows of rules.
+#![tactic(auto)]
+
 mod one_atom;
 mod state;
 

@@ -8,7 +8,7 @@ ghost use Rattle.states.specs.Narrowing.{Overlaps, Within, clashed, branch_of};
 use atoms::EVERY_ATOM;
 
 // A half-decided position: atoms known up and atoms known dropped. The others are undecided.
-#[derive(Drop)]
+#[derive(Clone, Copy)]
 pub struct State {
     pub up: u64,
     pub dropped: u64,

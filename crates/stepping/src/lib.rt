@@ -1,4 +1,6 @@
 // One position after the other: the least answer set of a plan from the start, or above a position.
+#![tactic(auto)]
+
 ghost use Rattle.plan.specs.Record.{Fitting};
 ghost use Rattle.plan_meaning.specs.Settled.{Settles};
 ghost use Rattle.finding.specs.Least.{LeastOf, Behind};
@@ -13,7 +15,7 @@ use plan::{Fault, Outcome, Plan};
 use searching::witness::Witness;
 
 // The next position, that none is left, or the fault for which the plan is refused.
-#[derive(Drop)]
+#[derive(Clone, Copy)]
 pub enum Next {
     Position(u64),
     NoneLeft,
@@ -21,7 +23,7 @@ pub enum Next {
 }
 
 // How many positions were written, or the fault for which the plan is refused.
-#[derive(Drop)]
+#[derive(Clone, Copy)]
 pub enum Batch {
     Written(usize),
     Refused(Fault),

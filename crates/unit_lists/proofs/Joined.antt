@@ -5,10 +5,10 @@ use Rattle.unit_lists.proofs.Prelude.{outside_lacks, subset_le, cut_right, below
 use Rattle.unit_lists.proofs.Prelude.{MAX_RULES, MAX_UNITS, LIST_WORDS, Units, Edge, Passes, heads, input_heads, Listed, unit_list_of, numbers_fit}
 use Rattle.unit_lists.proofs.Prelude.{unit_list_at, unit_list_has, UnitTold, start_within, ListStored, MembersStored, Stored, ListsThere}
 use Rattle.atoms.specs.Cuts.{CutOf, cut_list}
-use Rattle.atoms.proofs.Lists.{member_get_d, index_of}
+use Rattle.atoms.proofs.Lists.{member_get_or, index_of}
 use Rattle.atoms.proofs.Cuts.{cut_rising, cut_at, cut_has, cut_whole}
 use Rattle.states.specs.State.{Completes}
-use Rattle.answer_sets.proofs.Judged.{decides_answer_set}
+use Rattle.answer_sets.proofs.JudgedSets.{decides_answer_set}
 use Rattle.splitting.proofs.Form.{listed_member}
 use Rattle.propagating.specs.Job.{Belongs, Searchable}
 use Rattle.joining.specs.Joins.{is_listed, joins}
@@ -26,7 +26,7 @@ stored_at {T} {table} {counts} {v} x s e =
     let f = some_at (get_or counts v 0) (λ i. eqb (get_or table (LIST_WORDS * v + i) 0) x) e in
     let l : f.0 < length (unit_list_of T v) = omega (arith, f.1, s.counted) in
     subst (λ (y : ℕ). List-as-Memᴰ y (unit_list_of T v)) (sym (s.words f.0 l) ∙ eqb-true (get_or table (LIST_WORDS * v + f.0) 0) x f.2)
-    (member_get_d (unit_list_of T v) f.0 l)
+    (member_get_or (unit_list_of T v) f.0 l)
 
 stored_has : {T : Units} {table counts : List ℕ} {v : ℕ} (x : ℕ) → Stored T table counts v → List-as-Memᴰ x (unit_list_of T v)
     → is_listed table (LIST_WORDS * v) (get_or counts v 0) x ≡ true

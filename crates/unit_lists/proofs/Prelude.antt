@@ -3,7 +3,7 @@ pub use Rattle.answer_sets.specs.Lent.{lent, rule_at}
 pub use Rattle.atoms.proofs.Bounded.{all_in_at, all_in_intro, some_at, some_intro, union_at, union_has}
 pub use Rattle.atoms.proofs.Kit.{Bool, List, List-as-Memᴰ, Memᴰ-cases_cons, Memᴰ-head, Memᴰ-not-nil, Memᴰ-tail, [], ◌*◌, ◌++◌, ◌+◌, ◌-◌, ◌<◌}
 pub use Rattle.atoms.proofs.Kit.{◌^◌, ◌∙◌, ◌∷◌, ◌≡◌, ◌≤◌, ◌⊎◌, ap, arith, dec_lt, drop, eq-eqb, eqb, eqb-true, false, false≢true, fill_more, get_or, inl, inr}
-pub use Rattle.atoms.proofs.Kit.{le-ltb, length, length-replicate, length-set, length-take, lt-ltb, needs, not-false, not-true, now, paste, refl, replicate}
+pub use Rattle.atoms.proofs.Kit.{le-ltb, length, length-replicate, length-set, length-take, lt-ltb, needs, not-false, not-true, paste, refl, replicate}
 pub use Rattle.atoms.proofs.Kit.{set, subst, suc, sym, take, take-append-drop, true, true≢false, zero, ℕ}
 pub use Rattle.atoms.proofs.Rising.{above_at, members_same, rising_ext}
 pub use Rattle.atoms.proofs.Sets.{atom_only, below_lt, cut_left, cut_right, decides_has, empty, ext, has_atom, has_below, has_dec, has_left, has_lt, has_none}

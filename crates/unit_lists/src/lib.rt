@@ -1,4 +1,6 @@
 // Every settled position of a plan, listed in the lent table.
+#![tactic(auto)]
+
 mod positions;
 mod table;
 mod work;

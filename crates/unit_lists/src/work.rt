@@ -27,7 +27,7 @@ use searching::search::search;
 use states::State;
 
 // Whether all lists fit, or the first unit whose list does not.
-#[derive(Drop)]
+#[derive(Clone, Copy)]
 pub enum Work {
     Fits,
     Long(usize),
