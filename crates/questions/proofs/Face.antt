@@ -1,11 +1,7 @@
 -- The laws of this crate that the proofs of its functions name, each with its home.
 pub use Rattle.questions.proofs.Held.{Holding, Tally, holding_end, holding_fits, holding_long, holding_more, holding_start, tally_end, tally_holdable}
 pub use Rattle.questions.proofs.Held.{tally_long, tally_more, tally_start, within_now}
-pub use Rattle.questions.proofs.QuestionWalks.{Lies, Upto, array, field_array, nearer, nearer_wf, unless, word, words, words_apart, words_join}
-pub use Rattle.questions.proofs.QuestionWalks.{words_typed, zeros_apart, zeros_are}
 pub use Rattle.questions.proofs.QuestionWords.{Putting, Taken, dropped_long, filled_words, putting_end, putting_long, putting_more, putting_start}
 pub use Rattle.questions.proofs.QuestionWords.{refused_words, taken_end, taken_more, taken_start, up_long, whole_third, words_within}
 pub use Rattle.questions.proofs.Questions.{blank, filled, filling, filling_end, filling_long, filling_more, refused, taking, taking_end, taking_long}
 pub use Rattle.questions.proofs.Questions.{taking_more, taking_start, with_counts_long}
-pub use Rattle.questions.proofs.WalkSteps.{alloc4, behind, deaths, field, frees, here, just_made, returned, rooms, sets, stores, value, word_out}
-pub use Rattle.questions.proofs.WalkSteps.{word_put}

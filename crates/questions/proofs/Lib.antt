@@ -8,13 +8,7 @@ pub mod QuestionCounts
 pub mod Held
 -- The atoms up in all positions and in some, position after position
 pub mod CommonAtoms
--- What the walks over lent questions share: the row of a question, an array of words that lies in a local, and a loop's number
-pub mod QuestionWalks
--- The steps that a walk of MIR takes again and again, over those of `types.Run`
-pub mod WalkSteps
 -- The laws of questions: counts filled in one by one, words taken out one by one, and the answer put together
 pub mod Questions
--- A `&κ mut [T]` that is lent for a lifetime κ' of a call, and comes back
-pub mod LentAgain
 -- The laws of questions as words: what stands where, a count written, and the whole put together again
 pub mod QuestionWords
