@@ -1,0 +1,14 @@
+-- By the two cases of the answer: its code is the one that the definition gives.
+use Rattle.exports.proofs.Prelude.{sym, ap, ◌∙◌, added_code}
+use Rattle.exports.proofs.Face.{sum_handed}
+use Rattle.exports.proofs.readings.lucarnecress_reading_sum.Goals as goal
+
+pub returns-in-Is : goal.returns-in-Is
+returns-in-Is c =
+    sum_handed c.add.ensures
+    (c.sum_code.ensures ∙ ap added_code (sym c.in-Is.is))
+
+pub returns-in-Refused : goal.returns-in-Refused
+returns-in-Refused c =
+    sum_handed c.add.ensures
+    (c.refused_code.ensures ∙ ap added_code (sym c.in-Refused.is))

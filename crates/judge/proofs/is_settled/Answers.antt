@@ -1,0 +1,10 @@
+-- The test over all rules of the record, whose words are all there and are lent where they stand.
+use Rattle.judge.proofs.Prelude.{ap, ◌∙◌, ℕ, lent, answer_set, needs}
+use Rattle.judge.proofs.Face.{whole_lent}
+use Rattle.judge.proofs.is_settled.Goals as goal
+
+pub is_answer_set-requires : goal.is_answer_set-requires
+is_answer_set-requires c = search (whole_lent, needs)
+
+pub returns : goal.returns
+returns c = c.is_answer_set.ensures ∙ ap (λ (w : ℕ). answer_set (lent c.args.plan.rules) w c.args.plan.once.given.word c.args.position) c.first-whole_program.ensures

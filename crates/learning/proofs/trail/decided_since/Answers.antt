@@ -1,0 +1,9 @@
+-- What the step has is what its words have.
+use Rattle.learning.proofs.Prelude.{◌≡◌, ap, ◌∙◌, subst, ℕ, ◌∖◌}
+use Rattle.learning.specs.declared.trail.Recorded.{Recorded}
+use Rattle.learning.proofs.trail.decided_since.Goals as goal
+
+pub returns : goal.returns
+returns c =
+    subst (λ (s : Recorded). c.without-2.result ≡ (c.args.which ∖ s.before.up) ∖ s.before.dropped) step.Read-step.ensures
+    (c.without-2.ensures ∙ ap (λ (w : ℕ). w ∖ step.Read-step.result.before.dropped) c.without.ensures)

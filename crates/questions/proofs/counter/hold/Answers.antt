@@ -1,0 +1,24 @@
+use Rattle.questions.proofs.Prelude.{needs}
+use Rattle.questions.proofs.Face.{holding_start, within_now, holding_long, holding_fits, holding_more, holding_end}
+use Rattle.questions.proofs.counter.hold.Goals as goal
+
+pub loop-i-init : goal.loop-i-init
+loop-i-init c = search (holding_start, needs)
+
+pub bounds-counts-i : goal.bounds-counts-i
+bounds-counts-i c = search (within_now, needs)
+
+pub overflow_add-counts : goal.overflow_add-counts
+overflow_add-counts c = search (holding_fits, needs)
+
+pub bounds-counts-i-in-loop-i : goal.bounds-counts-i-in-loop-i
+bounds-counts-i-in-loop-i c = search (within_now, needs)
+
+pub loop-i-smaller : goal.loop-i-smaller
+loop-i-smaller c = search (holding_more, needs)
+
+pub loop-i-preserved : goal.loop-i-preserved
+loop-i-preserved c = search (holding_long, needs)
+
+pub returns : goal.returns
+returns c = search (holding_end, needs)

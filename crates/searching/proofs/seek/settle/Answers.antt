@@ -1,0 +1,27 @@
+-- A full position is met where it satisfies the rules.
+use Rattle.searching.proofs.Prelude.{◌<◌, ◌^◌, arith, ATOMS, overlap_nogood}
+use Rattle.searching.proofs.Face.{settled_one, settled_none}
+use Rattle.searching.proofs.seek.settle.Goals as goal
+
+pub all_satisfied-requires : goal.all_satisfied-requires
+all_satisfied-requires c = c.requires.0.searchable.rules_lent
+
+pub returns-then-all_satisfied : goal.returns-then-all_satisfied
+returns-then-all_satisfied c =
+    let fits : c.args.node.unit.rules < 2 ^ ATOMS = omega arith in
+    let word : c.args.node.front.state.up < 2 ^ ATOMS = omega arith in
+    rw c.found_of.ensures (
+      settled_one c.requires.1 fits word c.all_satisfied.ensures c.if-all_satisfied.true,
+      overlap_nogood
+          c.everything.ensures.overlaps,
+    )
+
+pub returns : goal.returns
+returns c =
+    let fits : c.args.node.unit.rules < 2 ^ ATOMS = omega arith in
+    let word : c.args.node.front.state.up < 2 ^ ATOMS = omega arith in
+    rw c.found_of-2.ensures (
+      settled_none c.requires.1 fits word c.all_satisfied.ensures c.if-all_satisfied.false,
+      overlap_nogood
+          c.everything-2.ensures.overlaps,
+    )

@@ -1,0 +1,6 @@
+-- Nothing is found, and what is left of the stop is a nogood.
+use Rattle.searching.proofs.Prelude.{refl}
+use Rattle.searching.proofs.stop.halt.Goals as goal
+
+pub returns : goal.returns
+returns c = rw c.found_of.ensures (refl, c.stop-nogood.ensures)

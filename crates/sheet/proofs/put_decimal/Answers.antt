@@ -1,0 +1,10 @@
+-- `put_decimal` meets its contract: the kit's digits are those of the definition.
+use Rattle.sheet.proofs.Prelude.{ap, arith, length}
+use Rattle.sheet.proofs.Face.{decimal_made}
+use Rattle.sheet.proofs.put_decimal.Goals as goal
+
+pub put-requires : goal.put-requires
+put-requires c = omega (arith, ap length (decimal_made c.args.n _ _ c.decimal-digits.ensures.1.0 c.decimal-digits.ensures.1.1))
+
+pub returns : goal.returns
+returns c = rw (decimal_made _ _ _ c.decimal-digits.ensures.1.0 c.decimal-digits.ensures.1.1) at c.put.ensures

@@ -1,0 +1,21 @@
+-- No rules, and an edge to every unit.
+use Rattle.unit_lists.proofs.Prelude.{◌≡◌, arith, needs, length, MAX_UNITS}
+use Rattle.unit_lists.proofs.Face.{last_told}
+use Rattle.unit_lists.proofs.work.last_unit.Goals as goal
+
+pub union_of-requires : goal.union_of-requires
+union_of-requires c =
+    let long : length c.args.head_atoms_lem.heads ≡ MAX_UNITS = search needs in
+    (omega arith, omega arith)
+
+pub nearest-requires : goal.nearest-requires
+nearest-requires c =
+    let long : length c.args.head_atoms_lem.heads ≡ MAX_UNITS = search needs in
+    omega arith
+
+pub returns : goal.returns
+returns c =
+    let all = rw c.first-every.ensures at c.union_of.ensures in
+    rw c.first-every.ensures
+    (last_told c.requires c.union.result c.nearest.result (rw all at c.union.ensures)
+    (rw c.first-every.ensures at c.nearest.ensures))
