@@ -3,7 +3,7 @@ ghost use Rattle.std.specs.Prelude.{◌≡◌, ◌<◌};
 ghost use Rattle.answer_sets.specs.Lent.{lent, IsLent, Lent};
 ghost use Rattle.plan.specs.Limits.{MAX_RULES};
 ghost use Rattle.answer_sets.specs.SubsetTest.{Unsatisfied};
-ghost use Rattle.answer_sets.specs.Test.{satisfies as satisfiesAt, satisfies_all, kept, kept_if};
+ghost use Rattle.answer_sets.specs.Test.{satisfies as satisfies_at, satisfies_all, kept, kept_if};
 
 use crate::known::body_holds;
 use crate::rule::head;
@@ -18,7 +18,7 @@ pub enum FoundRule {
 // Whether the position satisfies the rule: its body fails, or a head atom is up.
 fn satisfies(rules: &[u64], rule: usize, position: u64) -> bool
     requires { IsLent rules.now rule }
-    ensures { result ≡ satisfiesAt (lent rules.now) rule position }
+    ensures { result ≡ satisfies_at (lent rules.now) rule position }
 {
     if !body_holds(rules, rule, position) {
         return true;

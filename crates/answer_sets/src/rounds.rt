@@ -2,7 +2,7 @@
 ghost use Rattle.std.specs.Prelude.{◌≡◌, true};
 ghost use Rattle.answer_sets.specs.Lent.{lent, Lent};
 ghost use Rattle.answer_sets.specs.RulePass.{Sifted};
-ghost use Rattle.states.specs.State.{undecided as undecidedOf};
+ghost use Rattle.states.specs.State.{undecided as undecided_of};
 
 use crate::rule_pass::{Passed, rule_pass};
 use states::{State, undecided};
@@ -10,7 +10,7 @@ use states::{State, undecided};
 // Whether another round may have something to say: something may still complete the state, it is not the whole position, and the last round, which
 // began from `before`, decided something.
 fn is_moving(position: u64, before: State, t: State) -> bool
-    ensures { result ≡ true → undecidedOf t.up t.dropped ≡ undecidedOf before.up before.dropped → ⊥ }
+    ensures { result ≡ true → undecided_of t.up t.dropped ≡ undecided_of before.up before.dropped → ⊥ }
 {
     if !atoms::are_apart(t.up, t.dropped) {
         return false;

@@ -2,7 +2,7 @@
 ghost use Rattle.std.specs.Prelude.{◌≡◌, true, ◌↔◌};
 ghost use Rattle.answer_sets.specs.declared.truth.Truth.TheVariants.{Holds, Fails};
 ghost use Rattle.atoms.specs.Word.{Apart};
-ghost use Rattle.answer_sets.specs.Known.{both as both_of, opposite as oppositeOf, WordSays, RowsSay};
+ghost use Rattle.answer_sets.specs.Known.{both as both_of, opposite as opposite_of, WordSays, RowsSay};
 
 // What is known of a test at a half-decided position.
 #[derive(Clone, Copy)]
@@ -29,7 +29,7 @@ pub fn both(a: Truth, b: Truth) -> Truth
 
 // Of the test that holds where this one fails.
 pub fn opposite(t: Truth) -> Truth
-    ensures { result ≡ oppositeOf t }
+    ensures { result ≡ opposite_of t }
 {
     match t {
         Truth::Holds => Truth::Fails,

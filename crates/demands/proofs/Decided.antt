@@ -16,10 +16,10 @@ numbers_fit S u small =
     lt_of_has (S.unit u ∩ below S.rules) 64
     (λ r h. let l : r < S.rules = below_lt S.rules (cut_right (S.unit u) (below S.rules) h) in omega arith)
 
-decides_input : (S : Units) (u J : ℕ) (inListOf : ℕ → ℕ → Bool) → u < S.units
-    → ((v M : ℕ) → Edge S u v → Decides (Listed S v M) (inListOf v M)) → Decides (Input S u J) (is_input S inListOf u J)
+decides_input : (S : Units) (u J : ℕ) (in_list_of : ℕ → ℕ → Bool) → u < S.units
+    → ((v M : ℕ) → Edge S u v → Decides (Listed S v M) (in_list_of v M)) → Decides (Input S u J) (is_input S in_list_of u J)
 unfolding is_input
-decides_input S u J inListOf l d =
+decides_input S u J in_list_of l d =
     decides_iff into from
     (decides_and (decides_subset S.given J) (decides_and (decides_subset J (input_heads S u)) each))
   where
@@ -27,7 +27,7 @@ decides_input S u J inListOf l d =
     to k h = record { is_unit = l; is_predecessor = k; edge = h }
 
     test : ℕ → Bool
-    test v = inListOf v (J ∩ heads S v)
+    test v = in_list_of v (J ∩ heads S v)
 
     each : Decides ((v : ℕ) → v < S.units → Has (S.predecessors u) v → Listed S v (J ∩ heads S v)) (all_in S.units (S.predecessors u) test)
     each =
@@ -45,17 +45,17 @@ decides_input S u J inListOf l d =
 
 -- one step of the definition: M is an answer set for the input J
 abbrev from_input : Units → (ℕ → ℕ → Bool) → ℕ → ℕ → ℕ → Bool
-from_input S inListOf u M J =
-    elim (answer_set S.program (S.unit u ∩ below S.rules) J M) [ true ↦ is_input S inListOf u J | false ↦ false ]
+from_input S in_list_of u M J =
+    elim (answer_set S.program (S.unit u ∩ below S.rules) J M) [ true ↦ is_input S in_list_of u J | false ↦ false ]
 
-decides_step : (S : Units) (u M : ℕ) (inListOf : ℕ → ℕ → Bool) → S.rules ≤ MAX_RULES → u < S.units
-    → ((v N : ℕ) → Edge S u v → Decides (Listed S v N) (inListOf v N))
-    → Decides (Listed S u M) (some_below (suc (input_heads S u)) (from_input S inListOf u M))
-decides_step S u M inListOf small l d =
+decides_step : (S : Units) (u M : ℕ) (in_list_of : ℕ → ℕ → Bool) → S.rules ≤ MAX_RULES → u < S.units
+    → ((v N : ℕ) → Edge S u v → Decides (Listed S v N) (in_list_of v N))
+    → Decides (Listed S u M) (some_below (suc (input_heads S u)) (from_input S in_list_of u M))
+decides_step S u M in_list_of small l d =
     decides_iff into from
-    (decides_some (suc (input_heads S u)) (from_input S inListOf u M)
+    (decides_some (suc (input_heads S u)) (from_input S in_list_of u M)
     (λ J k.
-    lazily (decides_answer_set S.program (S.unit u ∩ below S.rules) J M (numbers_fit S u small)) (decides_input S u J inListOf l d)))
+    lazily (decides_answer_set S.program (S.unit u ∩ below S.rules) J M (numbers_fit S u small)) (decides_input S u J in_list_of l d)))
   where
     lazily : {P Q : Type 0} {a b : Bool} → Decides P a → Decides Q b → Decides (P × Q) (elim a [ true ↦ b | false ↦ false ])
     lazily {a = true} p q = decides_iff (λ y. (p.yes refl, y)) (λ h. h.1) q

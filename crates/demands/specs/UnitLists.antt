@@ -11,9 +11,9 @@ use Rattle.splitting.specs.UnitList.{with_last}
 
 -- "A position J is an input of u if J has only atoms of H(v) for direct predecessors v, and J cut to H(v) is in v's list for each such v."
 unfoldable pub is_input : Units → (ℕ → ℕ → Bool) → ℕ → ℕ → Bool
-is_input S inListOf u J =
+is_input S in_list_of u J =
     subset S.given J
-    && (subset J (input_heads S u) && all_in S.units (S.predecessors u) (λ v. inListOf v (J ∩ heads S v)))
+    && (subset J (input_heads S u) && all_in S.units (S.predecessors u) (λ v. in_list_of v (J ∩ heads S v)))
 
 -- "The list of u holds M exactly if, for some input J, M is an answer set of u's rules with J's atoms added as facts."
 -- The first number bounds how deep the predecessors go.

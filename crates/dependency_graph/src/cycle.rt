@@ -4,7 +4,7 @@ ghost use Rattle.atoms.specs.Word.{ATOMS, has};
 ghost use Rattle.atoms.specs.Bounded.{word_below};
 ghost use Rattle.plan.specs.Record.{Fitting};
 ghost use Rattle.dependency_graph.specs.PlanUnits.{units_of};
-ghost use Rattle.dependency_graph.specs.Offenders.{cycle as cycleOf};
+ghost use Rattle.dependency_graph.specs.Offenders.{cycle as cycle_of};
 
 use crate::reach::fill_reach;
 use plan::{MAX_UNITS, Plan};
@@ -27,7 +27,7 @@ fn own_members(words: &[u64], n: usize) -> u64
 // The units on a cycle.
 pub fn cycle(plan: Plan) -> u64
     requires { Fitting plan }
-    ensures { result ≡ cycleOf (units_of plan) }
+    ensures { result ≡ cycle_of (units_of plan) }
 {
     let mut reached = [0u64; MAX_UNITS];
     fill_reach(plan, &mut reached);

@@ -3,7 +3,7 @@ ghost use Rattle.std.specs.Prelude.{◌≤◌, ◌<◌, length, get_or};
 ghost use Rattle.atoms.specs.Word.{ATOMS, ◌∪◌};
 ghost use Rattle.atoms.specs.Bounded.{union_in};
 ghost use Rattle.plan.specs.Record.{Fitting};
-ghost use Rattle.dependency_graph.specs.Heads.{own as own_of, heads as headsOf};
+ghost use Rattle.dependency_graph.specs.Heads.{own as own_of, heads as heads_from};
 ghost use Rattle.dependency_graph.specs.PlanUnits.{units_of, HeadsOf};
 ghost use Rattle.dependency_graph.specs.Filled.{FilledFirst};
 
@@ -60,7 +60,7 @@ fn add_words(words: &[u64], unit_count: usize, table: &mut [u64])
 // Fills the table with H(u) for each unit u.
 fn fill_heads(plan: Plan, table: &mut [u64])
     requires { Fitting plan × (plan.unit_count ≤ length table.old) }
-    ensures { FilledFirst plan.unit_count (headsOf (units_of plan)) table.old table.new }
+    ensures { FilledFirst plan.unit_count (heads_from (units_of plan)) table.old table.new }
 {
     let unit_count = plan.unit_count;
     let mut own = [0u64; MAX_UNITS];

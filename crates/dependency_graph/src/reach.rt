@@ -2,7 +2,7 @@
 ghost use Rattle.std.specs.Prelude.{◌≡◌, ◌≤◌, ◌<◌, length, get_or};
 ghost use Rattle.atoms.specs.Word.{ATOMS};
 ghost use Rattle.plan.specs.Record.{Fitting};
-ghost use Rattle.dependency_graph.specs.Heads.{reach_via, reach as reachOf, through as throughUnit};
+ghost use Rattle.dependency_graph.specs.Heads.{reach_via, reach as reach_of, through as through_unit};
 ghost use Rattle.dependency_graph.specs.PlanUnits.{units_of};
 ghost use Rattle.dependency_graph.specs.Filled.{FilledFirst};
 
@@ -11,7 +11,7 @@ use plan::Plan;
 // What a unit reaches once its paths may lead through unit k, which reaches `middle`.
 fn through(reached: u64, k: usize, middle: u64) -> u64
     requires { k < ATOMS }
-    ensures { result ≡ throughUnit reached k middle }
+    ensures { result ≡ through_unit reached k middle }
 {
     if atoms::are_apart(reached, atoms::single(k)) {
         return reached;
@@ -35,7 +35,7 @@ fn fill_direct(plan: Plan, table: &mut [u64])
 // Lets the paths in the table lead through unit k.
 fn open_middle(unit_count: usize, k: usize, table: &mut [u64])
     requires { (unit_count ≤ ATOMS) × (k < unit_count) × (unit_count ≤ length table.old) }
-    ensures { FilledFirst unit_count (λ u. throughUnit (get_or table.old u 0) k (get_or table.old k 0))
+    ensures { FilledFirst unit_count (λ u. through_unit (get_or table.old u 0) k (get_or table.old k 0))
         table.old table.new }
 {
     let middle = table[k];
@@ -49,7 +49,7 @@ fn open_middle(unit_count: usize, k: usize, table: &mut [u64])
 // Fills the table with what each unit reaches.
 pub fn fill_reach(plan: Plan, table: &mut [u64])
     requires { Fitting plan × (plan.unit_count ≤ length table.old) }
-    ensures { FilledFirst plan.unit_count (reachOf (units_of plan)) table.old table.new }
+    ensures { FilledFirst plan.unit_count (reach_of (units_of plan)) table.old table.new }
 {
     fill_direct(plan, table);
     let mut k = 0;

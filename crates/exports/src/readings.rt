@@ -1,6 +1,6 @@
 // Readings in packed decimal: a reading passes as 16 bits, its first byte the high one; not measured is 65,535.
 ghost use Rattle.std.specs.Prelude.{◌≡◌};
-ghost use Rattle.exports.specs.Readings.{refused_code, said_code, reading_asked as askedFor, sum_code, order_code, found_code, found_words};
+ghost use Rattle.exports.specs.Readings.{refused_code, said_code, reading_asked as asked_for, sum_code, order_code, found_code, found_words};
 ghost use Rattle.exports.specs.Readings.{NumberHanded, ReadingHanded, SumHanded, CompareHanded, LargestHanded};
 
 use crate::pair::write_pair;
@@ -32,7 +32,7 @@ fn said_code(said: Reading) -> u64
 
 // What a host asks to be said: a whole number, or with 65,535 that nothing was measured.
 fn asked(number: u64) -> Reading
-    ensures { result ≡ askedFor number }
+    ensures { result ≡ asked_for number }
 {
     if number == NO_NUMBER {
         return Reading::NotMeasured;

@@ -1,6 +1,6 @@
 // The exact join: whether a position agrees with the lists of the direct predecessors.
 ghost use Rattle.std.specs.Prelude.{◌≡◌};
-ghost use Rattle.joining.specs.Joins.{Joinable, joins as joinsOf};
+ghost use Rattle.joining.specs.Joins.{Joinable, joins as joins_of};
 
 use crate::listed::contains;
 use plan::LIST_WORDS;
@@ -14,7 +14,7 @@ pub fn joins(
     position: u64,
 ) -> bool
     requires { Joinable table.now counts.now heads.now predecessors }
-    ensures { result ≡ joinsOf table.now counts.now heads.now predecessors position }
+    ensures { result ≡ joins_of table.now counts.now heads.now predecessors position }
 {
     let mut rest = predecessors;
     while rest != 0 {

@@ -2,7 +2,7 @@
 ghost use Rattle.std.specs.Prelude.{◌≡◌, ◌+◌, ◌*◌, ◌<◌, length, true};
 ghost use Rattle.packed_decimal.specs.PackedReading.{is_reading, says};
 ghost use Rattle.packed_decimal.specs.MeasuredWord.{MeasuredFound};
-ghost use Rattle.packed_decimal.specs.Largest.{larger as largerOf, READING_BYTES as Largest-as-READING_BYTES, reading_at};
+ghost use Rattle.packed_decimal.specs.Largest.{larger as larger_of, READING_BYTES as Largest-as-READING_BYTES, reading_at};
 ghost use Rattle.packed_decimal.specs.ReadingPromises.{LargestSought};
 
 use crate::meter::{NOT_MEASURED, is_reading};
@@ -50,7 +50,7 @@ pub fn find_largest(bytes: &[u8]) -> Largest
 // What was found with one reading more.
 fn larger(found: LargestFound, word: u16, place: usize) -> LargestFound
     requires { (MeasuredFound found) × (is_reading word ≡ true) }
-    ensures { result ≡ largerOf found (says word) word place }
+    ensures { result ≡ larger_of found (says word) word place }
 {
     if word == NOT_MEASURED {
         return found;

@@ -1,6 +1,6 @@
 // Two readings given together.
 ghost use Rattle.std.specs.Prelude.{◌≡◌, [], ◌∷◌};
-ghost use Rattle.packed_decimal.specs.ReadingRefusals.{first_bad as firstBadOf};
+ghost use Rattle.packed_decimal.specs.ReadingRefusals.{first_bad as first_bad_of};
 
 use crate::meter::is_reading;
 
@@ -9,7 +9,7 @@ pub const PAIR: usize = 2;
 
 // The number, from 0, of the first of the two that is bad; PAIR if neither is.
 pub fn first_bad(a: u16, b: u16) -> usize
-    ensures { result ≡ firstBadOf (a ∷ b ∷ []) }
+    ensures { result ≡ first_bad_of (a ∷ b ∷ []) }
 {
     if !is_reading(a) {
         return 0;

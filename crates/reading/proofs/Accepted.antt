@@ -1,6 +1,6 @@
 -- Whenever reading accepts bytes they are the layout of lists within the limits, and the record is theirs.
 -- What each command keeps: the bytes read so far are the commands of lists within the limits, and the record is theirs.
-use Rattle.reading.proofs.Prelude.{◌≡◌, refl, ap, sym, ◌∙◌, subst, List, [], ◌∷◌, ◌++◌, flat_map, Bool, true, false, true≢false, ℕ, ◌+◌, ◌*◌, ◌^◌, ◌≤◌}
+use Rattle.reading.proofs.Prelude.{◌≡◌, refl, ap, sym, ◌∙◌, subst, List, [], ◌∷◌, ◌++◌, flat_map, Bool, true, false, true≢false, ℕ, ◌+◌, ◌^◌}
 use Rattle.reading.proofs.Prelude.{◌<◌, arith, length, drop, get_or, Has, get_or_tabulate, MAX_UNITS, empty_plan, Single, Kind, single, table, rule, usage}
 use Rattle.reading.proofs.Prelude.{unit, edge, end, kind_discrete, byte_of, operand_bytes, miscounted, reading, command_bytes, Contents, Element}
 use Rattle.reading.proofs.Prelude.{end_bytes, commands, predecessors_of, record_of, IsByte, All, GoodOnce, GoodTable, GoodRule, WithinLimits, IsPlan}

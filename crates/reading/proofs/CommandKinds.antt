@@ -1,7 +1,7 @@
 -- Kinds of commands: their bytes, and the order of their groups. Kinds are gone through as a list, so that no law speaks of pairs of kinds.
 use Rattle.reading.proofs.Prelude.{◌≡◌, refl, ap, sym, ◌∙◌, subst, List, [], ◌∷◌, List-as-Memᴰ, Memᴰ-head, Memᴰ-tail, Memᴰ-not-nil}
 use Rattle.reading.proofs.Prelude.{Memᴰ-cases_cons, Bool, true, false, ◌&&◌, ◌||◌, ◌⊎◌, inl, inr, some, none, ℕ, zero, suc, ◌+◌, ◌≤◌, ◌<◌, arith}
-use Rattle.reading.proofs.Prelude.{dec_lt, eqb, ltb, leb, leb-true, eqb-true, ne_eqb, ltb-true, ltb-false, lt-ltb, le-ltb, bool_ext, and-true, Kind}
+use Rattle.reading.proofs.Prelude.{dec_lt, eqb, ltb, leb, leb-true, eqb-true, ne_eqb, ltb-true, ltb-false, lt-ltb, and-true, Kind}
 use Rattle.reading.proofs.Prelude.{single, sizes, given, show, table, rule, usage, unit, edge, end, byte_of, kind_among, kinds, kind_of, order_of}
 use Rattle.reading.proofs.Prelude.{earliest_behind, count, some_behind, late, Plan}
 

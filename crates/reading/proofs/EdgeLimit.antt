@@ -1,6 +1,6 @@
 -- "every reading fault, a 241st EDGE .. included": behind MAX_EDGES edges, and nothing that comes behind EDGEs, none is new, so a further EDGE is 8, or 2
 -- where it is cut short.
-use Rattle.reading.proofs.Prelude.{◌≡◌, refl, ap, ◌∙◌, List, [], ◌∷◌, ◌++◌, true, false, ℕ, ◌≤◌, ◌<◌, arith, dec_lt, length, get_or, lt-ltb, le-ltb}
+use Rattle.reading.proofs.Prelude.{◌≡◌, refl, ap, ◌∙◌, List, ◌∷◌, ◌++◌, true, false, ℕ, ◌≤◌, ◌<◌, arith, dec_lt, length, get_or, lt-ltb, le-ltb}
 use Rattle.reading.proofs.Prelude.{decided, decided_true, MAX_EDGES, RefusedBy, single, table, rule, usage, unit, edge, byte_of, kinds, operand_bytes}
 use Rattle.reading.proofs.Prelude.{order_of, late, bad_edge, of_kind, command_at, step_of, reading, refused, UnitPair, Contents, commands, record_of}
 use Rattle.reading.proofs.Prelude.{GoodEdge, WithinLimits, behind_edges, NoNewEdge, no_such_u, no_such_v, to_itself, repeated, Truncated, BadEdge}

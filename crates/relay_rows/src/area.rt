@@ -1,7 +1,7 @@
 // The two lent areas: a list of positions, one word each, and rows of four words. Refusal 22.
 ghost use Rattle.std.specs.Prelude.{◌≡◌};
 ghost use Rattle.atoms.specs.Bounded.{Decides};
-ghost use Rattle.relay_rows.specs.Columns.{kept_from as keptOf};
+ghost use Rattle.relay_rows.specs.Columns.{kept_from as kept_of};
 ghost use Rattle.relay_rows.specs.RowAnswers.{rows_code, Suits};
 
 use atoms::ATOMS;
@@ -53,7 +53,7 @@ pub fn suits(read: usize, written: usize, count: u64) -> bool
 
 // How many of the 64 positions from `from` on are below the count.
 pub fn kept(count: usize, from: usize) -> usize
-    ensures { result ≡ keptOf count from }
+    ensures { result ≡ kept_of count from }
 {
     if count <= from {
         return 0;

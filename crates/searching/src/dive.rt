@@ -2,7 +2,7 @@
 // learnt. They list nothing.
 ghost use Rattle.std.specs.Prelude.{◌≡◌, ◌<◌};
 ghost use Rattle.std.specs.Int.Count.{ones};
-ghost use Rattle.states.specs.State.{undecided as undecidedOf};
+ghost use Rattle.states.specs.State.{undecided as undecided_of};
 ghost use Rattle.states.specs.Narrowing.{Overlaps};
 ghost use Rattle.learning.specs.Reason.{Remembers};
 ghost use Rattle.joining.specs.Filter.{Filtered};
@@ -26,7 +26,7 @@ const WAYS: usize = 16;
 
 // The undecided atoms of a state that something completes.
 fn free_atoms(s: State) -> u64
-    ensures { (result ≡ 0 → ⊥) → result ≡ undecidedOf s.up s.dropped }
+    ensures { (result ≡ 0 → ⊥) → result ≡ undecided_of s.up s.dropped }
 {
     if !atoms::are_apart(s.up, s.dropped) {
         return 0;
@@ -37,7 +37,7 @@ fn free_atoms(s: State) -> u64
 // The front at a stop: nothing completes its state, and nothing is left to decide.
 fn halted(f: Front) -> Front
     ensures overlaps { Overlaps result.state }
-    ensures decided { undecidedOf result.state.up result.state.dropped ≡ 0 }
+    ensures decided { undecided_of result.state.up result.state.dropped ≡ 0 }
 {
     let agenda = f.agenda;
     Front {
@@ -62,12 +62,12 @@ fn descend(
     requires { Prepared rules.now table.now counts.now desk.now unit
         × Remembers (Wired rules.now table.now counts.now desk.now unit) memory.old
         × Filtered table.now counts.now desk.now unit.nearest f.state filter.old
-        × (undecidedOf f.state.up f.state.dropped ≡ 0 → ⊥) }
+        × (undecided_of f.state.up f.state.dropped ≡ 0 → ⊥) }
     ensures filtered { Filtered table.now counts.now desk.now unit.nearest result.state filter.new }
     ensures remembers { Remembers (Wired rules.now table.now counts.now desk.now unit)
         memory.new }
     ensures onward { WentDown rules.now unit.rules f.state result.state }
-    ensures falls { ones (undecidedOf result.state.up result.state.dropped) < ones (undecidedOf f.state.up f.state.dropped) }
+    ensures falls { ones (undecided_of result.state.up result.state.dropped) < ones (undecided_of f.state.up f.state.dropped) }
 {
     let s = f.state;
     let next = outlook_of(rules, desk, unit, memory, s, s.up);

@@ -2,7 +2,7 @@
 ghost use Rattle.std.specs.Prelude.{◌≡◌, ◌<◌};
 ghost use Rattle.atoms.specs.Word.{ATOMS, EVERY_ATOM};
 ghost use Rattle.atoms.specs.Bounded.{Decides};
-ghost use Rattle.states.specs.State.{undecided as undecidedOf};
+ghost use Rattle.states.specs.State.{undecided as undecided_of};
 ghost use Rattle.states.specs.Narrowing.{Overlaps, Within, clashed, branch_of};
 
 use atoms::EVERY_ATOM;
@@ -16,7 +16,7 @@ pub struct State {
 
 // The atoms that are neither up nor dropped.
 pub fn undecided(up: u64, dropped: u64) -> u64
-    ensures { result ≡ undecidedOf up dropped }
+    ensures { result ≡ undecided_of up dropped }
 {
     atoms::without(atoms::outside(up), dropped)
 }
@@ -34,7 +34,7 @@ pub fn clash(s: State) -> State
 // The state with every atom up and dropped, which nothing completes.
 pub fn everything() -> State
     ensures overlaps { Overlaps result }
-    ensures decided { undecidedOf result.up result.dropped ≡ 0 }
+    ensures decided { undecided_of result.up result.dropped ≡ 0 }
     ensures is { result ≡ record { up = EVERY_ATOM; dropped = EVERY_ATOM } }
 {
     State {

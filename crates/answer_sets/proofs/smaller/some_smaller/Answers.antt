@@ -10,29 +10,28 @@ is_told-requires c = (lent_part c.requires.0 c.open_test-p.ensures.part, c.requi
 pub returns-then-is_told : goal.returns-then-is_told
 returns-then-is_told c =
     let t = tested_passed c.ranges.which.fits c.open_test-p.ensures (c.is_told.ensures.told c.if-is_told.true) in
-    rw c.none_smaller.ensures (t.0, (t.1, c.requires.1))
+    rw c.none_smaller.ensures (record { tested = t.0; set = t.1; memo = c.requires.1 })
 
 pub some_between-smaller-requires : goal.some_between-smaller-requires
 some_between-smaller-requires c = (lent_part c.requires.0 c.open_test-p.ensures.part, passed_confines c.open_test-p.ensures)
 
 pub returns-then-smaller : goal.returns-then-smaller
 returns-then-smaller c =
-    let finds : Finds (lent ((start (goal.at.returns-then-smaller c).After-open_test-p).now.args.rules)) c.open_test-p.result.left (start (goal.at.returns-then-smaller c).After-open_test-p).args.position c.open_test-p.result.state c.some_between-smaller.result.found c.some_between-smaller.result.set = tries_unbounded c.some_between-smaller.ensures in
-    let t = tested_passed c.ranges.which.fits c.open_test-p.ensures finds in
-    (t.0, (t.1, c.requires.1))
+    let t = tested_passed c.ranges.which.fits c.open_test-p.ensures (tries_unbounded c.some_between-smaller.ensures) in
+    record { tested = t.0; set = t.1; memo = c.requires.1 }
 
 pub write_memo-requires : goal.write_memo-requires
-write_memo-requires c = (start (goal.at.write_memo-requires c).After-open_test-p).requires.1.long
+write_memo-requires c = c.requires.1.long
 
 pub returns : goal.returns
 returns c =
-    let finds : Finds (lent ((start (goal.at.returns c).After-open_test-p).now.args.rules)) c.open_test-p.result.left (start (goal.at.returns c).After-open_test-p).args.position c.open_test-p.result.state c.some_between-smaller.result.found c.some_between-smaller.result.set = tries_unbounded c.some_between-smaller.ensures in
-    let t = tested_passed c.ranges.which.fits c.open_test-p.ensures finds in (
-      t.0,
-      (
-        t.1,
-        memo_written c.write_memo.ensures
-            (memo_whole c.is_told.ensures.word (passed_confines c.open_test-p.ensures) finds.exactly
-            c.if-smaller.false),
-      ),
-    )
+    let finds : Finds (lent c.args.rules.now) c.open_test-p.result.left c.args.position c.open_test-p.result.state c.some_between-smaller.result.found c.some_between-smaller.result.set =
+        tries_unbounded c.some_between-smaller.ensures in
+    let t = tested_passed c.ranges.which.fits c.open_test-p.ensures finds in
+    record {
+      tested = t.0;
+      set = t.1;
+      memo =
+          memo_written c.write_memo.ensures
+          (memo_whole c.is_told.ensures.word (passed_confines c.open_test-p.ensures) finds.exactly c.if-smaller.false);
+    }

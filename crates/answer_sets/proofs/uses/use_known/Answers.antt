@@ -6,24 +6,19 @@ use Rattle.answer_sets.proofs.uses.use_known.Goals as goal
 pub rows_known-said-requires : goal.rows_known-said-requires
 rows_known-said-requires c = search (rows_some, needs)
 
+-- what is known of the table
 pub returns-then-i-lt-MAX_TABLES : goal.returns-then-i-lt-MAX_TABLES
 returns-then-i-lt-MAX_TABLES c =
-    let told :  = λ (c : tie.After-rows-known) → let at. c.before.before.before.before.before.before in
-    Says (λ N. said at.args.rules.now at.args.i N ≡ true) (half_decided at.args.up at.args.dropped) c.rows-known.result
-told c =
-    let rows = c.before.before in
-    let table = rows.before.before.table_of.ensures.0 in
-    table_says _ _ (rw (rows.before.table-inputs.ensures, table) at rows.agreeing-rows.ensures)
-    (rw (c.before.table-truth.ensures, table) at c.rows-known.ensures) in
+    let table = c.table_of-table.ensures.0 in
+    let told : Says (λ N. said c.args.rules.now c.args.i N ≡ true) (half_decided c.args.up c.args.dropped) c.rows_known-said.result =
+        table_says _ _ (rw (c.table_inputs.ensures, table) at c.agreeing_rows-rows.ensures)
+        (rw (c.table_truth.ensures, table) at c.rows_known-said.ensures) in
     says_same _ _ (λ N. wanted_true _ _ N c.if-i-lt-MAX_TABLES.true) told
 
 pub returns-else-i-lt-MAX_TABLES : goal.returns-else-i-lt-MAX_TABLES
 returns-else-i-lt-MAX_TABLES c =
-    let told :  = λ (c : tie.After-rows-known) → let at. c.before.before.before.before.before.before in
-    Says (λ N. said at.args.rules.now at.args.i N ≡ true) (half_decided at.args.up at.args.dropped) c.rows-known.result
-told c =
-    let rows = c.before.before in
-    let table = rows.before.before.table_of.ensures.0 in
-    table_says _ _ (rw (rows.before.table-inputs.ensures, table) at rows.agreeing-rows.ensures)
-    (rw (c.before.table-truth.ensures, table) at c.rows-known.ensures) in
+    let table = c.table_of-table.ensures.0 in
+    let told : Says (λ N. said c.args.rules.now c.args.i N ≡ true) (half_decided c.args.up c.args.dropped) c.rows_known-said.result =
+        table_says _ _ (rw (c.table_inputs.ensures, table) at c.agreeing_rows-rows.ensures)
+        (rw (c.table_truth.ensures, table) at c.rows_known-said.ensures) in
     says_same _ _ (λ N. wanted_false _ _ N c.if-i-lt-MAX_TABLES.false) (says_opposite _ c.opposite.ensures told)

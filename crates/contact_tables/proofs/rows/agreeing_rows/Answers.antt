@@ -25,5 +25,5 @@ pub returns : goal.returns
 unfolding atom
 returns c =
     sifting_end c.ranges.inputs.fits c.loop-rest.invariant
-    (elim c.loop-rest-test.branch [ inl q ↦ inr (ltb-false _ _ q.1.left) | inr q ↦ inl q.left ])
+    (elim c.loop-rest-test.branch [ goal.then-loop-rest-test+else-k-lt-MAX_INPUTS w ↦ inr (omega arith) | goal.else-loop-rest-test w ↦ inl (omega arith) ])
     (c.cut.ensures ∙ ap (λ (w : ℕ). c.loop-rest.rows ∩ w) (c.first.ensures ∙ ap below c.single.ensures))

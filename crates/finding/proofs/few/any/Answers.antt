@@ -13,5 +13,5 @@ ask-requires c = c.root_of-root.ensures.stands
 
 pub returns : goal.returns
 returns c =
-    any_asked c.args.rules.now (λ i. (c.shared_slice_known-1.given i).fits) c.ranges.facts.fits c.ranges.which.fits
+    any_asked c.args.rules.now (λ i. (c.type_inv.rules i).fits) c.ranges.facts.fits c.ranges.which.fits
     c.unit_of-unit.ensures c.root_of-root.ensures.stands c.root_of-root.ensures.rooted c.ask.ensures.witnessed

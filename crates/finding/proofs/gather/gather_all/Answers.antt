@@ -17,13 +17,13 @@ gather-requires c =
     (
       record {
         stands = c.gather_nearest-near.ensures.stands;
-        hinted = hinted_place (rw c.without.ensures at c.dark_of-dark.ensures) c.gather_nearest-near.ensures.reaches.further placed.IsPlace-in.ensures;
+        hinted = hinted_place (rw c.without.ensures at c.dark_of-dark.ensures) c.gather_nearest-near.ensures.reaches.further c.place_in.ensures;
       },
       omega (arith, c.gather_nearest-near.ensures.reaches.added.room, c.gather_nearest-near.ensures.reaches.added.long),
     )
 
 pub returns : goal.returns
 returns c =
-    gather_root c.args.rules.now (λ i. (c.shared_slice_known-1.given i).fits) c.ranges.facts.fits c.ranges.which.fits
+    gather_root c.args.rules.now (λ i. (c.type_inv.rules i).fits) c.ranges.facts.fits c.ranges.which.fits
     c.unit_of-unit.ensures c.root_of-front.ensures.stands c.root_of-front.ensures.rooted
     (between_rest c.gather_nearest-near.ensures.reaches.further c.gather_nearest-near.ensures.reaches.added c.gather.ensures.added)

@@ -18,6 +18,4 @@ propagate-requires c =
     )
 
 pub returns : goal.returns
-returns c =
-    let told = rw (c.onward-g.ensures, c.decide-t.ensures) at c.propagate.ensures in
-    record { narrows = told.0; remembers = told.1.1 }
+returns c = record { narrows = rw (c.onward-g.ensures, c.decide-t.ensures) at c.propagate.ensures.narrows; remembers = c.propagate.ensures.remembers }

@@ -24,4 +24,4 @@ gather-count-requires c =
     )
 
 pub returns : goal.returns
-returns c = record { reaches = reaches_near c.args.near.bound c.requires.0 c.requires.1 (rw (c.high_free-high.ensures, c.without-hidden.ensures) at c.last_like-last.ensures) c.is_behind.ensures c.if-not-is_behind.false-raw (rw (c.onward.ensures, c.like_place-t.ensures, c.high_free-high.ensures, c.without-hidden.ensures) at c.gather-count.ensures.added); stands = stands_still c.requires.0 c.gather-count.ensures.stands.remembers }
+returns c = record { reaches = reaches_near c.args.near.bound c.requires.0 c.requires.1 (rw (c.high_free-high.ensures, c.without-hidden.ensures) at c.last_like-last.ensures) c.is_behind.ensures (rw c.if-not-is_behind.false refl) (rw (c.onward.ensures, c.like_place-t.ensures, c.high_free-high.ensures, c.without-hidden.ensures) at c.gather-count.ensures.added); stands = stands_still c.requires.0 c.gather-count.ensures.stands.remembers }

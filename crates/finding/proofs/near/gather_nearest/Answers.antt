@@ -13,7 +13,7 @@ pub gather_wider-requires : goal.gather_wider-requires
 gather_wider-requires c =
     (
       c.requires,
-      place_at_lem (rw c.without.ensures at c.dark_of-dark.ensures) c.in-Member.is placed.IsPlace-in.ensures,
+      place_at_lem (rw c.without.ensures at c.dark_of-dark.ensures) c.in-Member.is c.place_in-inside.ensures,
       omega (arith, c.lowest.ensures.1),
     )
 

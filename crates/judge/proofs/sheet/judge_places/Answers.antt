@@ -1,4 +1,4 @@
-use Rattle.judge.proofs.Prelude.{◌≡◌, sym, ◌∙◌, arith, needs, settled, position_at}
+use Rattle.judge.proofs.Prelude.{sym, ◌∙◌, arith, needs, not-true, not-false}
 use Rattle.judge.proofs.Face.{whole_lent, tested_at, passed_more, places_first, places_all}
 use Rattle.judge.proofs.sheet.judge_places.Goals as goal
 
@@ -10,15 +10,13 @@ judge_set-judged-requires c = search (whole_lent, needs)
 
 pub returns-then-not-judged : goal.returns-then-not-judged
 returns-then-not-judged c =
-    let told : c.judge_set-judged.result.answers ≡ settled c.args.plan (position_at c.args.positions.now c.loop-place.place) = tested_at c.args.plan _ c.loop-place.place c.judge_set-judged.ensures.answers c.first-whole_program.ensures c.read_word-position.ensures in
-    sym (places_first c.args.plan _ _ c.loop-place-test.true c.loop-place.invariant.0
-    (sym told ∙ c.if-not-judged.true))
+    let told = tested_at c.args.plan _ c.loop-place.place c.judge_set-judged.ensures.answers c.first-whole_program.ensures c.read_word-position.ensures in
+    sym (places_first c.args.plan _ _ c.loop-place-test.true c.loop-place.invariant.0 (sym told ∙ not-true _ c.if-not-judged.true))
 
 pub loop-place-preserved : goal.loop-place-preserved
 loop-place-preserved c =
-    let told : c.judge_set-judged.result.answers ≡ settled c.args.plan (position_at c.args.positions.now c.loop-place.place) = tested_at c.args.plan _ c.loop-place.place c.judge_set-judged.ensures.answers c.first-whole_program.ensures c.read_word-position.ensures in
-    (
-      passed_more c.args.plan _ _ c.loop-place.invariant.0 (sym told ∙ c.if-not-judged.false),
+    let told = tested_at c.args.plan _ c.loop-place.place c.judge_set-judged.ensures.answers c.first-whole_program.ensures c.read_word-position.ensures in (
+      passed_more c.args.plan _ _ c.loop-place.invariant.0 (sym told ∙ not-false _ c.if-not-judged.false),
       search needs,
     )
 

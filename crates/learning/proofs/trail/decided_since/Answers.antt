@@ -5,5 +5,5 @@ use Rattle.learning.proofs.trail.decided_since.Goals as goal
 
 pub returns : goal.returns
 returns c =
-    subst (λ (s : Recorded). c.without-2.result ≡ (c.args.which ∖ s.before.up) ∖ s.before.dropped) step.Read-step.ensures
-    (c.without-2.ensures ∙ ap (λ (w : ℕ). w ∖ step.Read-step.result.before.dropped) c.without.ensures)
+    subst (λ (r : Recorded). c.without-2.result ≡ (c.args.which ∖ r.before.up) ∖ r.before.dropped) c.read_step.ensures
+    (c.without-2.ensures ∙ ap (λ (w : ℕ). w ∖ c.read_step.result.before.dropped) c.without.ensures)

@@ -35,20 +35,20 @@ table_step-requires c = search (decoded_table, needs)
 pub sum_step-requires : goal.sum_step-requires
 sum_step-requires c = search (pilots_long, needs)
 
+pub returns-in-Rule : goal.returns-in-Rule
+returns-in-Rule c = search (satisfying_wired, filtered_narrows, needs)
+
+pub returns-in-Support : goal.returns-in-Support
+returns-in-Support c = search (linked_narrow, filtered_narrows, needs)
+
 pub returns-in-List : goal.returns-in-List
-returns-in-List c = search (satisfying_wired, filtered_narrows, needs)
+returns-in-List c = search (lists_narrow, needs)
 
 pub returns-in-Founded : goal.returns-in-Founded
-returns-in-Founded c = search (linked_narrow, filtered_narrows, needs)
+returns-in-Founded c = search (rules_narrow, filtered_narrows, needs)
 
 pub returns-in-Table : goal.returns-in-Table
-returns-in-Table c = search (lists_narrow, needs)
+returns-in-Table c = search (table_narrows, pilot_at, filtered_narrows, decoded_table, needs)
 
 pub returns-in-Sums : goal.returns-in-Sums
-returns-in-Sums c = search (rules_narrow, filtered_narrows, needs)
-
-pub returns-in-Pair : goal.returns-in-Pair
-returns-in-Pair c = search (table_narrows, pilot_at, filtered_narrows, decoded_table, needs)
-
-pub returns-in-Unfounded : goal.returns-in-Unfounded
-returns-in-Unfounded c = search (sums_narrow, filtered_narrows, needs)
+returns-in-Sums c = search (sums_narrow, filtered_narrows, needs)

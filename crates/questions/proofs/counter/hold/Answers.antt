@@ -1,5 +1,5 @@
 use Rattle.questions.proofs.Prelude.{needs}
-use Rattle.questions.proofs.Face.{holding_start, within_now, holding_long, holding_fits, holding_more, holding_end}
+use Rattle.questions.proofs.Face.{holding_start, within_now, holding_fits, holding_more, holding_end}
 use Rattle.questions.proofs.counter.hold.Goals as goal
 
 pub loop-i-init : goal.loop-i-init
@@ -14,11 +14,8 @@ overflow_add-counts c = search (holding_fits, needs)
 pub bounds-counts-i-in-loop-i : goal.bounds-counts-i-in-loop-i
 bounds-counts-i-in-loop-i c = search (within_now, needs)
 
-pub loop-i-smaller : goal.loop-i-smaller
-loop-i-smaller c = search (holding_more, needs)
-
 pub loop-i-preserved : goal.loop-i-preserved
-loop-i-preserved c = search (holding_long, needs)
+loop-i-preserved c = search (holding_more, needs)
 
 pub returns : goal.returns
 returns c = search (holding_end, needs)

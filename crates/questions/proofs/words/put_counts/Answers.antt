@@ -8,11 +8,8 @@ loop-i-init c = search (putting_start, needs)
 pub bounds-words-i : goal.bounds-words-i
 bounds-words-i c = search (putting_long, words_within, needs)
 
-pub loop-i-smaller : goal.loop-i-smaller
-loop-i-smaller c = search (putting_more, needs)
-
 pub loop-i-preserved : goal.loop-i-preserved
-loop-i-preserved c = search (putting_long, needs)
+loop-i-preserved c = search (putting_more, needs)
 
 pub returns : goal.returns
 returns c = search (putting_end, needs)

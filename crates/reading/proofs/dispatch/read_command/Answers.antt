@@ -37,13 +37,13 @@ pub returns-in_default : goal.returns-in_default
 returns-in_default c =
     no_kind_there _ _ _ c.if-plan-at.false
     (elim [
-      | single sizes ↦ c.in_default.rest.0.0.0.0.0.0.0.0.1
-      | single given ↦ c.in_default.rest.0.0.0.0.0.0.0.1
-      | table ↦ c.in_default.rest.0.0.0.0.0.0.1
-      | rule ↦ c.in_default.rest.0.0.0.0.0.1
-      | usage ↦ c.in_default.rest.0.0.0.0.1
-      | unit ↦ c.in_default.rest.0.0.0.1
-      | edge ↦ c.in_default.rest.0.0.1
-      | single show ↦ c.in_default.rest.0.1
-      | end ↦ c.in_default.rest.1
+      | single sizes ↦ search needs
+      | single given ↦ search needs
+      | table ↦ search needs
+      | rule ↦ search needs
+      | usage ↦ search needs
+      | unit ↦ search needs
+      | edge ↦ search needs
+      | single show ↦ search needs
+      | end ↦ search needs
     ])

@@ -1,5 +1,5 @@
 -- `read_counts` meets its contract: behind a COUNT comes no second one, so one look is enough.
-use Rattle.reading.proofs.Prelude.{refl, arith, single, sizes, given, Reached}
+use Rattle.reading.proofs.Prelude.{refl, arith, single, sizes, given, Reached, needs}
 use Rattle.reading.proofs.Face.{start, Turn, taken, taken_fits, taken_there, passed_by, empty_fits}
 use Rattle.reading.proofs.reader.read_counts.Goals as goal
 
@@ -9,7 +9,7 @@ place-progress-requires c = rw c.empty_plan.ensures empty_fits
 pub returns-in_default : goal.returns-in_default
 returns-in_default c =
     let first : Reached (single sizes) c.args.bytes.now c.place-progress.result = start _ _ _ c.empty_plan.ensures c.place-progress.ensures in
-    passed_by (single sizes) (single given) _ _ first c.in_default.keys2 refl
+    passed_by (single sizes) (single given) _ _ first (search needs) refl
 
 pub overflow_add-at : goal.overflow_add-at
 overflow_add-at c =

@@ -1,5 +1,5 @@
 -- `read_rule` meets its contract: at each return the tests that led there say which row of the fault table fits.
-use Rattle.reading.proofs.Prelude.{le-leb, lt-leb, le-ltb, needs, sym, ap, ◌∙◌, not, of_kind, contradictory, carrying}
+use Rattle.reading.proofs.Prelude.{le-leb, lt-leb, le-ltb, needs, sym, ◌∙◌, of_kind, contradictory, carrying}
 use Rattle.reading.proofs.Face.{late_row, full_row, short_row, empty_refused, contradictory_refused}
 use Rattle.reading.proofs.rule.read_rule.Goals as goal
 
@@ -29,5 +29,5 @@ returns c =
       ← c.read_word-positive.ensures,
       ← c.read_word-negative.ensures,
       sym c.is_empty_rule.ensures ∙ c.if-is_empty_rule.false,
-      ap not (sym c.are_apart.ensures) ∙ c.if-not-are_apart.false-raw,
+      sym c.are_apart.ensures ∙ c.if-not-are_apart.false,
     )

@@ -10,12 +10,12 @@ overflow_mul-word c = record { fits = omega (arith, built_fits 0 c.loop-i.invari
 
 pub overflow_add-word : goal.overflow_add-word
 overflow_add-word c =
-    let byte = c.shared_slice_known-in-loop-i-1.given (c.args.at + (c.loop-i.i - 1)) in
+    let byte = c.type_inv.operands (c.args.at + (c.loop-i.i - 1)) in
     record { fits = built_fits _ c.loop-i.invariant c.loop-i-test.true (omega (arith, c.wide.ensures, byte)) }
 
 pub loop-i-preserved : goal.loop-i-preserved
 loop-i-preserved c =
-    let byte = c.shared_slice_known-in-loop-i-1.given (c.args.at + (c.loop-i.i - 1)) in
+    let byte = c.type_inv.operands (c.args.at + (c.loop-i.i - 1)) in
     built_more c.loop-i.i _ c.loop-i.invariant c.loop-i-test.true c.requires (omega (arith, c.wide.ensures, byte)) c.wide.ensures
 
 pub returns : goal.returns

@@ -10,18 +10,16 @@ pub returns-then-all_satisfied : goal.returns-then-all_satisfied
 returns-then-all_satisfied c =
     let fits : c.args.node.unit.rules < 2 ^ ATOMS = omega arith in
     let word : c.args.node.front.state.up < 2 ^ ATOMS = omega arith in
-    rw c.found_of.ensures (
-      settled_one c.requires.1 fits word c.all_satisfied.ensures c.if-all_satisfied.true,
-      overlap_nogood
-          c.everything.ensures.overlaps,
-    )
+    rw c.found_of.ensures (record {
+      witnessed = settled_one c.requires.1 fits word c.all_satisfied.ensures c.if-all_satisfied.true;
+      nogood = overlap_nogood c.everything.ensures.overlaps;
+    })
 
 pub returns : goal.returns
 returns c =
     let fits : c.args.node.unit.rules < 2 ^ ATOMS = omega arith in
     let word : c.args.node.front.state.up < 2 ^ ATOMS = omega arith in
-    rw c.found_of-2.ensures (
-      settled_none c.requires.1 fits word c.all_satisfied.ensures c.if-all_satisfied.false,
-      overlap_nogood
-          c.everything-2.ensures.overlaps,
-    )
+    rw c.found_of-2.ensures (record {
+      witnessed = settled_none c.requires.1 fits word c.all_satisfied.ensures c.if-all_satisfied.false;
+      nogood = overlap_nogood c.everything-2.ensures.overlaps;
+    })

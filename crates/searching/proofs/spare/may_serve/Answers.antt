@@ -5,7 +5,7 @@ use Rattle.searching.proofs.spare.may_serve.Goals as goal
 pub returns : goal.returns
 returns c e =
     rw c.all_of-x.ensures at
-    (tested_pilots {rules = c.args.rules}.now {heads = c.args.heads}.now {pilots = c.args.pilots}.now
+    (tested_pilots {rules = c.args.rules.now} {heads = c.args.heads.now} {pilots = c.args.pilots.now}
     {unit = c.args.unit} {s = c.args.s}
     c.requires.3
     c.all_of-x.ensures

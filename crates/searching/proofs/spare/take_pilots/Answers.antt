@@ -5,8 +5,5 @@ use Rattle.searching.proofs.spare.take_pilots.Goals as goal
 pub returns-then-tables-eq0 : goal.returns-then-tables-eq0
 returns-then-tables-eq0 c = record { piloted = no_pilots; down = none_down }
 
-pub returns-then-may_serve : goal.returns-then-may_serve
-returns-then-may_serve c = c.may_serve.ensures c.if-may_serve.true
-
 pub returns : goal.returns
 returns c = record { piloted = no_pilots; down = none_down }

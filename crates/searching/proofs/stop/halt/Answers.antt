@@ -3,4 +3,4 @@ use Rattle.searching.proofs.Prelude.{refl}
 use Rattle.searching.proofs.stop.halt.Goals as goal
 
 pub returns : goal.returns
-returns c = rw c.found_of.ensures (refl, c.stop-nogood.ensures)
+returns c = rw c.found_of.ensures (record { is = refl; remembers = c.stop-nogood.ensures.remembers; nogood = c.stop-nogood.ensures.nogood })

@@ -1,42 +1,34 @@
 -- The facts, the kept rules, and no smaller model of them: the three parts of the definition.
-use Rattle.searching.proofs.Prelude.{Lent, lent_kept}
+use Rattle.searching.proofs.Prelude.{lent_kept}
 use Rattle.answer_sets.proofs.Cases.{no_facts, no_model, model_judged, refuted_facts, refuted_model, refuted_smaller}
 use Rattle.searching.proofs.subsets.judge_leaf.Goals as goal
 
 pub returns-then-not-is_subset : goal.returns-then-not-is_subset
-returns-then-not-is_subset c =
-     (
-  no_facts _ _ _ _ c.is_subset.ensures c.if-not-is_subset.true-raw,
-  (refuted_facts _ _ _ _ c.is_subset.ensures c.if-not-is_subset.true-raw, c.requires.1),
-)
-
-pub kept_rules-kept-requires : goal.kept_rules-kept-requires
-kept_rules-kept-requires c = c.requires.0
+returns-then-not-is_subset c = record {
+  answers = no_facts _ _ _ _ c.is_subset.ensures c.if-not-is_subset.true-raw;
+  refuted = refuted_facts _ _ _ _ c.is_subset.ensures c.if-not-is_subset.true-raw;
+  memo = c.requires.1;
+}
 
 pub all_satisfied-requires : goal.all_satisfied-requires
-all_satisfied-requires c =
-    let kept_lent : Lent c.args.rules.now c.kept_rules-kept.result = lent_kept c.args.position c.kept_rules-kept.ensures c.requires.0 in
-    kept_lent
+all_satisfied-requires c = lent_kept c.args.position c.kept_rules-kept.ensures c.requires.0
 
 pub returns-then-not-all_satisfied : goal.returns-then-not-all_satisfied
-returns-then-not-all_satisfied c =
-    (
-      no_model _ _ _ _ c.is_subset.ensures c.if-not-is_subset.false-raw c.kept_rules-kept.ensures c.all_satisfied.ensures c.if-not-all_satisfied.true-raw,
-      (
-        refuted_model _ _ _ _ c.is_subset.ensures c.if-not-is_subset.false-raw c.kept_rules-kept.ensures c.all_satisfied.ensures c.if-not-all_satisfied.true-raw,
-        c.requires.1,
-      ),
-    )
+returns-then-not-all_satisfied c = record {
+  answers =
+      no_model _ _ _ _ c.is_subset.ensures c.if-not-is_subset.false-raw c.kept_rules-kept.ensures c.all_satisfied.ensures c.if-not-all_satisfied.true-raw;
+  refuted = refuted_model _ _ _ _ c.is_subset.ensures c.if-not-is_subset.false-raw c.kept_rules-kept.ensures c.all_satisfied.ensures
+      c.if-not-all_satisfied.true-raw;
+  memo = c.requires.1;
+}
 
 pub some_smaller-smaller-requires : goal.some_smaller-smaller-requires
-some_smaller-smaller-requires c =
-    let kept_lent : Lent c.args.rules.now c.kept_rules-kept.result = lent_kept c.args.position c.kept_rules-kept.ensures c.requires.0 in
-    (kept_lent, c.requires.1)
+some_smaller-smaller-requires c = (lent_kept c.args.position c.kept_rules-kept.ensures c.requires.0, c.requires.1)
 
 pub returns : goal.returns
-returns c =
-    (
-      model_judged _ _ _ _ c.is_subset.ensures c.if-not-is_subset.false-raw c.kept_rules-kept.ensures
-          c.all_satisfied.ensures c.if-not-all_satisfied.false-raw c.some_smaller-smaller.ensures.tested.computed,
-      (refuted_smaller c.kept_rules-kept.ensures c.some_smaller-smaller.ensures.set, c.some_smaller-smaller.ensures.memo),
-    )
+returns c = record {
+  answers = model_judged _ _ _ _ c.is_subset.ensures c.if-not-is_subset.false-raw c.kept_rules-kept.ensures
+      c.all_satisfied.ensures c.if-not-all_satisfied.false-raw c.some_smaller-smaller.ensures.tested.computed;
+  refuted = refuted_smaller c.kept_rules-kept.ensures c.some_smaller-smaller.ensures.set;
+  memo = c.some_smaller-smaller.ensures.memo;
+}

@@ -10,7 +10,7 @@ is_told-requires c = (lent_part c.requires.0 c.open_test-p.ensures.part, c.requi
 pub returns-then-is_told : goal.returns-then-is_told
 returns-then-is_told c =
     let t = tested_passed c.ranges.which.fits c.open_test-p.ensures (c.is_told.ensures.told c.if-is_told.true) in
-    rw c.none_smaller.ensures (t.0, (t.1, c.requires.1))
+    rw c.none_smaller.ensures (record { tested = t.0; set = t.1; memo = c.requires.1 })
 
 pub smaller_between-smaller-requires : goal.smaller_between-smaller-requires
 smaller_between-smaller-requires c = (lent_part c.requires.0 c.open_test-p.ensures.part, passed_confines c.open_test-p.ensures)
@@ -18,20 +18,14 @@ smaller_between-smaller-requires c = (lent_part c.requires.0 c.open_test-p.ensur
 pub returns-then-smaller : goal.returns-then-smaller
 returns-then-smaller c =
     let t = tested_passed c.ranges.which.fits c.open_test-p.ensures c.smaller_between-smaller.ensures in
-    (t.0, (t.1, c.requires.1))
-
-pub write_memo-requires : goal.write_memo-requires
-write_memo-requires c = (start (goal.at.write_memo-requires c).After-open_test-p).requires.1.long
+    record { tested = t.0; set = t.1; memo = c.requires.1 }
 
 pub returns : goal.returns
 returns c =
-    let t = tested_passed c.ranges.which.fits c.open_test-p.ensures c.smaller_between-smaller.ensures in (
-      t.0,
-      (
-        t.1,
-        memo_written c.write_memo.ensures
-            (memo_whole c.is_told.ensures.word (passed_confines c.open_test-p.ensures)
-            c.smaller_between-smaller.ensures.exactly
-            c.if-smaller.false),
-      ),
-    )
+    let t = tested_passed c.ranges.which.fits c.open_test-p.ensures c.smaller_between-smaller.ensures in
+    record {
+      tested = t.0;
+      set = t.1;
+      memo = memo_written c.write_memo.ensures
+          (memo_whole c.is_told.ensures.word (passed_confines c.open_test-p.ensures) c.smaller_between-smaller.ensures.exactly c.if-smaller.false);
+    }

@@ -4,4 +4,8 @@ use Rattle.states.proofs.Face.{all_decided}
 use Rattle.states.proofs.state.everything.Goals as goal
 
 pub returns : goal.returns
-returns c = (record { overlap = λ a. a.none 0 (record { bit = refl }) (record { bit = refl }) }, (all_decided, refl))
+returns c = record {
+  overlaps = record { overlap = λ a. a.none 0 (record { bit = refl }) (record { bit = refl }) };
+  decided = all_decided;
+  is = refl;
+}

@@ -6,8 +6,8 @@ use Rattle.unit_lists.proofs.work.list_last.Goals as goal
 pub list_one-requires : goal.list_one-requires
 list_one-requires c =
     let rules_long : length c.args.plan.rules ≡ PROGRAM_WORDS = search needs in
-    let heads_long : length c.args.head_atoms_lem.heads ≡ MAX_UNITS = search needs in
-    let listable : ReadyToList (with_last (units_of c.args.plan)) c.args.plan.unit_count c.args.plan.rules c.args.head_atoms_lem.heads c.args.table.now c.args.counts.now = let rules = rules_long in
+    let heads_long : length c.args.head_atoms.heads ≡ MAX_UNITS = search needs in
+    let listable : ReadyToList (with_last (units_of c.args.plan)) c.args.plan.unit_count c.args.plan.rules c.args.head_atoms.heads c.args.table.now c.args.counts.now = let rules = rules_long in
     let heads = heads_long in
     last_listable c.requires.0 (omega (arith, c.requires.0.workable.fits.rules_fit)) (omega arith) c.requires.1 in
     (
@@ -20,8 +20,8 @@ pub returns : goal.returns
 unfolding last_list_of units_of with_last
 returns c =
     let rules_long : length c.args.plan.rules ≡ PROGRAM_WORDS = search needs in
-    let heads_long : length c.args.head_atoms_lem.heads ≡ MAX_UNITS = search needs in
-    let listable : ReadyToList (with_last (units_of c.args.plan)) c.args.plan.unit_count c.args.plan.rules c.args.head_atoms_lem.heads c.args.table.now c.args.counts.now = let rules = rules_long in
+    let heads_long : length c.args.head_atoms.heads ≡ MAX_UNITS = search needs in
+    let listable : ReadyToList (with_last (units_of c.args.plan)) c.args.plan.unit_count c.args.plan.rules c.args.head_atoms.heads c.args.table.now c.args.counts.now = let rules = rules_long in
     let heads = heads_long in
     last_listable c.requires.0 (omega (arith, c.requires.0.workable.fits.rules_fit)) (omega arith) c.requires.1 in
     let from = rw (c.last_unit-unit.ensures.inputs_are ∙ heads_of_last (units_of c.args.plan)) at c.start_within-start.ensures in

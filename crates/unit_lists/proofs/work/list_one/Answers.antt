@@ -20,7 +20,7 @@ returns-then-count-gt-LIST_WORDS c =
 pub returns : goal.returns
 returns c =
     record {
-      c.search-count.new.list = c.search-count.new.list;
+      list = c.search-count.new.list;
       count = search needs;
       gathered = search needs;
       when_fits = λ e. (

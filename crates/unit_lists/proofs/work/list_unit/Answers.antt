@@ -5,14 +5,14 @@ use Rattle.unit_lists.proofs.work.list_unit.Goals as goal
 
 pub slice_bounds-list_one-end-2 : goal.slice_bounds-list_one-end-2
 slice_bounds-list_one-end-2 c =
-    let heads_long : length c.args.head_atoms_lem.heads ≡ MAX_UNITS = search needs in
+    let heads_long : length c.args.head_atoms.heads ≡ MAX_UNITS = search needs in
     search (heads_long, needs)
 
 pub list_one-requires : goal.list_one-requires
 list_one-requires c =
     let rules_long : length c.args.plan.rules ≡ PROGRAM_WORDS = search needs in
-    let heads_long : length c.args.head_atoms_lem.heads ≡ MAX_UNITS = search needs in
-    let listable : ReadyToList (units_of c.args.plan) c.args.u c.args.plan.rules c.args.head_atoms_lem.heads c.args.table.now c.args.counts.now = let rules = rules_long in
+    let heads_long : length c.args.head_atoms.heads ≡ MAX_UNITS = search needs in
+    let listable : ReadyToList (units_of c.args.plan) c.args.u c.args.plan.rules c.args.head_atoms.heads c.args.table.now c.args.counts.now = let rules = rules_long in
     let heads = heads_long in
     unit_listable c.requires.0 c.args.u (omega (arith, c.requires.0.workable.fits.rules_fit)) (omega arith) c.requires.1 c.requires.2 in
     search (searchable, listable, needs)
@@ -21,9 +21,9 @@ pub returns : goal.returns
 unfolding units_of
 returns c =
     let rules_long : length c.args.plan.rules ≡ PROGRAM_WORDS = search needs in
-    let heads_long : length c.args.head_atoms_lem.heads ≡ MAX_UNITS = search needs in
-    let listable : ReadyToList (units_of c.args.plan) c.args.u c.args.plan.rules c.args.head_atoms_lem.heads c.args.table.now c.args.counts.now = let rules = rules_long in
+    let heads_long : length c.args.head_atoms.heads ≡ MAX_UNITS = search needs in
+    let listable : ReadyToList (units_of c.args.plan) c.args.u c.args.plan.rules c.args.head_atoms.heads c.args.table.now c.args.counts.now = let rules = rules_long in
     let heads = heads_long in
     unit_listable c.requires.0 c.args.u (omega (arith, c.requires.0.workable.fits.rules_fit)) (omega arith) c.requires.1 c.requires.2 in
-    let from = rw (c.requires.0.heads_of.heads_are c.args.u c.requires.1) c.args c.start_within-start.ensures in
+    let from = rw (c.requires.0.heads_of.heads_are c.args.u c.requires.1) at c.start_within-start.ensures in
     unit_stored listable c.unit_at-unit.ensures c.args.u from.1 from.0 c.list_one.ensures

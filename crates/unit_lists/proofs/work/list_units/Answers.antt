@@ -1,4 +1,4 @@
-use Rattle.unit_lists.proofs.Prelude.{◌<◌, arith, needs, not-true, units_of, held_long}
+use Rattle.unit_lists.proofs.Prelude.{◌<◌, arith, needs, units_of, held_long}
 use Rattle.unit_lists.proofs.WorkOrder.{turn_start, turn_there, turn_next, turn_too_long, turn_stop}
 use Rattle.unit_lists.proofs.work.list_units.Goals as goal
 
@@ -19,16 +19,14 @@ list_unit-requires c = search (turn_there, needs)
 
 pub returns-then-not-list_unit : goal.returns-then-not-list_unit
 unfolding units_of
-returns-then-not-list_unit c = search (turn_too_long, not-true, needs)
+returns-then-not-list_unit c = search (turn_too_long, needs)
 
 pub loop-left-preserved : goal.loop-left-preserved
 unfolding units_of
 loop-left-preserved c =
-    let there : c.next_unit-u.result < (start (turn (goal.at.loop-left-preserved c).After-next_unit-u)).args.plan.unit_count = omega arith in
-    let next = found (goal.at.loop-left-preserved c).Else-plan-u in
+    let there : c.next_unit-u.result < c.args.plan.unit_count = omega arith in
     rw (c.union-done.ensures, c.single.ensures)
-    (turn_next (turn next).loop.inv next.before.loop-test.taken next.next-unit.ensures there c.list_unit.ensures
-    c.if-not-list_unit.false)
+    (turn_next c.loop-left.invariant c.loop-left-test.true c.next_unit-u.ensures there c.list_unit.ensures c.if-not-list_unit.false)
 
 pub returns : goal.returns
 returns c = search (held_long, needs)
