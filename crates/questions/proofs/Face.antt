@@ -3,5 +3,4 @@ pub use Rattle.questions.proofs.Held.{Holding, Tally, holding_end, holding_fits,
 pub use Rattle.questions.proofs.Held.{tally_long, tally_more, tally_start, within_now}
 pub use Rattle.questions.proofs.QuestionWords.{Putting, Taken, dropped_long, filled_words, putting_end, putting_long, putting_more, putting_start}
 pub use Rattle.questions.proofs.QuestionWords.{refused_words, taken_end, taken_more, taken_start, up_long, whole_third, words_within}
-pub use Rattle.questions.proofs.Questions.{blank, filled, filling, filling_end, filling_long, filling_more, refused, taking, taking_end, taking_long}
-pub use Rattle.questions.proofs.Questions.{taking_more, taking_start, with_counts_long}
+pub use Rattle.questions.proofs.Questions.{FilledIn, TakenOut, filled, filled_end, filled_more, refused, taken_out_end, taken_out_more, taken_out_start}

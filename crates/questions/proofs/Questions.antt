@@ -74,6 +74,31 @@ module _ (qs : List Question) (cs : List ℕ) (few : length qs ≤ length cs) wh
   pub filling_end : (i : ℕ) → length qs ≤ i → filling qs cs i ≡ with_counts qs cs
   filling_end i l = over_all (with_counts qs cs) qs i (omega (arith, with_counts_long qs cs)) l
 
+-- the first i counts are filled in, of as many as there may be
+pub record FilledIn (before : List Question) (counts : List ℕ) (after : List Question) (i : ℕ) : Type 0 where
+  pub few : length before ≤ MAX_QUESTIONS
+  pub all_counts : length counts ≡ MAX_QUESTIONS
+  pub reached : i ≤ length before
+  pub so_far : after ≡ filling before counts i
+
+module _ {before after : List Question} {counts : List ℕ} {i : ℕ} (f : FilledIn before counts after i) where
+  enough : length before ≤ length counts
+  enough = omega (arith, f.few, f.all_counts)
+
+  pub filled_more : i < length before → FilledIn before counts (set after i (with_its_count (get_or after i blank) (get_or counts i 0))) (i + 1)
+  filled_more l =
+      record {
+        few = f.few;
+        all_counts = f.all_counts;
+        reached = omega arith;
+        so_far =
+            ap (λ (qs : List Question). set qs i (with_its_count (get_or qs i blank) (get_or counts i 0))) f.so_far
+            ∙ filling_more before counts enough i l;
+      }
+
+  pub filled_end : length before ≤ i → after ≡ with_counts before counts
+  filled_end l = f.so_far ∙ filling_end before counts enough i l
+
 -- ---- words taken out
 
 -- the words that f takes from the first i questions, zeros behind them
@@ -102,6 +127,36 @@ module _ (f : Question → ℕ) (qs : List Question) (few : length qs ≤ MAX_QU
 
   pub taking_end : (i : ℕ) → length qs ≤ i → taking f qs i ≡ padded MAX_QUESTIONS (map f qs)
   taking_end i l = ap (λ (l : List Question). padded MAX_QUESTIONS (map f l)) (take_all i qs l)
+
+-- the words of the first i questions are taken out, of as many as there may be
+pub record TakenOut (qs : List Question) (up dropped : List ℕ) (i : ℕ) : Type 0 where
+  pub few : length qs ≤ MAX_QUESTIONS
+  pub reached : i ≤ length qs
+  pub up_is : up ≡ taking (λ q. q.up) qs i
+  pub dropped_is : dropped ≡ taking (λ q. q.dropped) qs i
+
+module _ {qs : List Question} where
+  pub taken_out_start : length qs ≤ MAX_QUESTIONS → TakenOut qs (replicate MAX_QUESTIONS 0) (replicate MAX_QUESTIONS 0) 0
+  taken_out_start l =
+      record { few = l; reached = omega arith; up_is = taking_start (λ q. q.up) qs l; dropped_is = taking_start (λ q. q.dropped) qs l }
+
+  module _ {up dropped : List ℕ} {i : ℕ} (t : TakenOut qs up dropped i) where
+    pub taken_out_more : i < length qs → TakenOut qs (set up i (get_or qs i blank).up) (set dropped i (get_or qs i blank).dropped) (i + 1)
+    taken_out_more l =
+        record {
+          few = t.few;
+          reached = omega arith;
+          up_is = ap (λ (xs : List ℕ). set xs i (get_or qs i blank).up) t.up_is ∙ taking_more (λ q. q.up) qs t.few i l;
+          dropped_is =
+              ap (λ (xs : List ℕ). set xs i (get_or qs i blank).dropped) t.dropped_is ∙ taking_more (λ q. q.dropped) qs t.few i l;
+        }
+
+    pub taken_out_end : length qs ≤ i → ◌≡◌ {A = Asked} (record { up = up; dropped = dropped }) (asked_of qs)
+    unfolding asked_of
+    taken_out_end l = λ j. record {
+      up = (t.up_is ∙ taking_end (λ q. q.up) qs t.few i l) j;
+      dropped = (t.dropped_is ∙ taking_end (λ q. q.dropped) qs t.few i l) j;
+    }
 
 -- ---- the answer
 

@@ -6,5 +6,5 @@ use Rattle.exports.proofs.lucarnecress_judge.Goals as goal
 pub returns : goal.returns
 returns c =
     judge_handed c.args.plan.now c.args.position
-    (all_bytes c.args.plan.now (λ i. (c.shared_slice_known-1.given i).fits))
+    (all_bytes c.args.plan.now (λ i. (c.type_inv.plan i).fits))
     (c.answer_code.ensures ∙ ap judge_code c.judge.ensures.is)

@@ -5,14 +5,14 @@ use Rattle.exports.proofs.lucarnecress_list.Goals as goal
 
 pub returns : goal.returns
 returns c =
-    let small = all_bytes c.args.plan.now (λ i. (c.shared_slice_known-1.given i).fits) in
+    let small = all_bytes c.args.plan.now (λ i. (c.type_inv.plan i).fits) in
     record {
       code_is = c.outcome_code.ensures ∙ ap outcome_code c.list_positions-listing.ensures.answered.outcome_is;
       table_is = c.list_positions-listing.ensures.answered.table_is;
       counts_are = rw c.list_positions-listing.ensures.answered.counts_are at c.copy_counts.ensures;
       listing = c.list_positions-listing.result;
       listing_is = (c.outcome_code.ensures, c.copy_counts.ensures);
-      c.list_positions-listing.ensures.promised = c.list_positions-listing.ensures.promised;
+      promised = c.list_positions-listing.ensures.promised;
       listed = listed_code c.list_positions-listing.result c.outcome_code.ensures;
       refused = refused_code_lem c.list_positions-listing.result c.outcome_code.ensures small c.list_positions-listing.ensures.promised;
     }

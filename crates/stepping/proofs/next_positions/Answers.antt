@@ -3,8 +3,8 @@ use Rattle.stepping.proofs.Prelude.{read_fits, needs}
 use Rattle.stepping.proofs.Face.{refused_stepped, written_stepped}
 use Rattle.stepping.proofs.next_positions.Goals as goal
 
-pub slice_bounds-gather_of-end : goal.slice_bounds-gather_of-end
-slice_bounds-gather_of-end c = search (refused_stepped, needs)
+pub returns-in-Refused : goal.returns-in-Refused
+returns-in-Refused c = search (refused_stepped, needs)
 
 pub gather_of-requires : goal.gather_of-requires
 gather_of-requires c = search (read_fits, needs)

@@ -31,7 +31,7 @@ returns-then-left-eq0 t c = rw c.none_smaller-then-left-eq0.ensures (tries_spent
 pub some_between-raised-requires : goal.some_between-raised-requires
 some_between-raised-requires t c =
     let undecided_atom : Has (undecided c.args.s.up c.args.s.dropped) c.lowest-atom.result =
-        rw c.undecided-free.ensures at (c.tried_next-tried.ensures.within.each c.lowest-atom.result c.lowest-atom.ensures.0.here) in
+    rw c.undecided-free.ensures at (c.tried_next-tried.ensures.within.each c.lowest-atom.result c.lowest-atom.ensures.0.here) in
     let e = c.decide.ensures in (
       rw c.decreases at (decided_falls c.args.s true undecided_atom e c.rounds-up.ensures.narrows),
       (
@@ -50,7 +50,7 @@ returns-then-raised-eq0 t c = tries_spent (lasts_trans c.spend.ensures c.some_be
 pub some_between-requires : goal.some_between-requires
 some_between-requires t c =
     let undecided_atom : Has (undecided c.args.s.up c.args.s.dropped) c.lowest-atom.result =
-        rw c.undecided-free.ensures at (c.tried_next-tried.ensures.within.each c.lowest-atom.result c.lowest-atom.ensures.0.here) in
+    rw c.undecided-free.ensures at (c.tried_next-tried.ensures.within.each c.lowest-atom.result c.lowest-atom.ensures.0.here) in
     let e = c.decide-2.ensures in (
       rw c.decreases at (decided_falls c.args.s false undecided_atom e c.rounds-down.ensures.narrows),
       (

@@ -26,7 +26,7 @@ write_memo-requires c = c.requires.1.long
 pub returns : goal.returns
 returns c =
     let finds : Finds (lent c.args.rules.now) c.open_test-p.result.left c.args.position c.open_test-p.result.state c.some_between-smaller.result.found c.some_between-smaller.result.set =
-        tries_unbounded c.some_between-smaller.ensures in
+    tries_unbounded c.some_between-smaller.ensures in
     let t = tested_passed c.ranges.which.fits c.open_test-p.ensures finds in
     record {
       tested = t.0;

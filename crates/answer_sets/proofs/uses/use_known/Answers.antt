@@ -11,14 +11,14 @@ pub returns-then-i-lt-MAX_TABLES : goal.returns-then-i-lt-MAX_TABLES
 returns-then-i-lt-MAX_TABLES c =
     let table = c.table_of-table.ensures.0 in
     let told : Says (λ N. said c.args.rules.now c.args.i N ≡ true) (half_decided c.args.up c.args.dropped) c.rows_known-said.result =
-        table_says _ _ (rw (c.table_inputs.ensures, table) at c.agreeing_rows-rows.ensures)
-        (rw (c.table_truth.ensures, table) at c.rows_known-said.ensures) in
+    table_says _ _ (rw (c.table_inputs.ensures, table) at c.agreeing_rows-rows.ensures)
+    (rw (c.table_truth.ensures, table) at c.rows_known-said.ensures) in
     says_same _ _ (λ N. wanted_true _ _ N c.if-i-lt-MAX_TABLES.true) told
 
 pub returns-else-i-lt-MAX_TABLES : goal.returns-else-i-lt-MAX_TABLES
 returns-else-i-lt-MAX_TABLES c =
     let table = c.table_of-table.ensures.0 in
     let told : Says (λ N. said c.args.rules.now c.args.i N ≡ true) (half_decided c.args.up c.args.dropped) c.rows_known-said.result =
-        table_says _ _ (rw (c.table_inputs.ensures, table) at c.agreeing_rows-rows.ensures)
-        (rw (c.table_truth.ensures, table) at c.rows_known-said.ensures) in
+    table_says _ _ (rw (c.table_inputs.ensures, table) at c.agreeing_rows-rows.ensures)
+    (rw (c.table_truth.ensures, table) at c.rows_known-said.ensures) in
     says_same _ _ (λ N. wanted_false _ _ N c.if-i-lt-MAX_TABLES.false) (says_opposite _ c.opposite.ensures told)

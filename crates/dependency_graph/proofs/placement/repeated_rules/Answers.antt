@@ -6,11 +6,10 @@ pub loop-u-init : goal.loop-u-init
 loop-u-init c = search (union_start, twice_start, needs)
 
 pub loop-u-preserved : goal.loop-u-preserved
-loop-u-preserved c =
-    (
-      union_more _ c.loop-u.invariant.0 c.loop-u-test.true refl c.union-once.ensures,
-      twice_more _ c.loop-u.invariant.0 c.loop-u.invariant.1 c.loop-u-test.true c.cut.ensures c.union-twice.ensures,
-    )
+loop-u-preserved c = (
+  union_more _ c.loop-u.invariant.0 c.loop-u-test.true refl c.union-once.ensures,
+  twice_more _ c.loop-u.invariant.0 c.loop-u.invariant.1 c.loop-u-test.true c.cut.ensures c.union-twice.ensures,
+)
 
 pub returns : goal.returns
 unfolding units_of

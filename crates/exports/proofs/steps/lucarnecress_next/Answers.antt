@@ -5,5 +5,5 @@ use Rattle.exports.proofs.steps.lucarnecress_next.Goals as goal
 
 pub returns : goal.returns
 returns c =
-    let small : All IsByte c.args.plan.now = all_bytes c.args.plan.now (λ i. (c.shared_slice_known-1.given i).fits) in
+    let small : All IsByte c.args.plan.now = all_bytes c.args.plan.now (λ i. (c.type_inv.plan i).fits) in
     search (next_handed, small, needs)

@@ -8,9 +8,9 @@ loop-rest-init c = carrying_start subset_refl
 pub without_covered-near-requires : goal.without_covered-near-requires
 without_covered-near-requires c =
     let started : (i : ℕ) → Has c.cut-near.result i → Has (c.args.predecessors ∩ below MAX_UNITS) i = λ i h. subst (λ (w : ℕ). Has w i)
-        (c.cut-near.ensures ∙ ap (λ (w : ℕ). c.args.predecessors ∩ w) c.first.ensures) h in
+    (c.cut-near.ensures ∙ ap (λ (w : ℕ). c.args.predecessors ∩ w) c.first.ensures) h in
     let inside : (i : ℕ) → Has c.cut-near.result i → i < MAX_UNITS =
-        λ i h. below_lt MAX_UNITS (cut_right c.args.predecessors (below MAX_UNITS) (started i h)) in (
+    λ i h. below_lt MAX_UNITS (cut_right c.args.predecessors (below MAX_UNITS) (started i h)) in (
       c.requires,
       lt_of_has c.loop-rest.near MAX_UNITS (λ i h. inside i (c.loop-rest.invariant.fact.each i h)),
       inside _ (taken_lent c.loop-rest.invariant.within c.lowest-v.ensures.0),
@@ -25,5 +25,5 @@ loop-rest-preserved c = search (carrying_next, subset_trans, needs)
 pub returns : goal.returns
 returns c =
     let started : (i : ℕ) → Has c.cut-near.result i → Has (c.args.predecessors ∩ below MAX_UNITS) i = λ i h. subst (λ (w : ℕ). Has w i)
-        (c.cut-near.ensures ∙ ap (λ (w : ℕ). c.args.predecessors ∩ w) c.first.ensures) h in
+    (c.cut-near.ensures ∙ ap (λ (w : ℕ). c.args.predecessors ∩ w) c.first.ensures) h in
     record { each = λ i h. cut_left c.args.predecessors (below MAX_UNITS) (started i (c.loop-rest.invariant.fact.each i h)) }

@@ -11,8 +11,8 @@ pub returns-then-count-gt-LIST_WORDS : goal.returns-then-count-gt-LIST_WORDS
 returns-then-count-gt-LIST_WORDS c =
     record {
       list = c.search-count.new.list;
-      count = search needs;
-      gathered = search needs;
+      count = c.search-count.result;
+      gathered = c.search-count.ensures;
       when_fits = λ e. absurd (false≢true e);
       when_long = λ e. (c.if-count-gt-LIST_WORDS.true, refl, refl);
     }
@@ -21,8 +21,8 @@ pub returns : goal.returns
 returns c =
     record {
       list = c.search-count.new.list;
-      count = search needs;
-      gathered = search needs;
+      count = c.search-count.result;
+      gathered = c.search-count.ensures;
       when_fits = λ e. (
         c.if-count-gt-LIST_WORDS.false,
         c.store.ensures ∙ ap (paste c.args.table.now (LIST_WORDS * c.args.place) c.search-count.new.list)

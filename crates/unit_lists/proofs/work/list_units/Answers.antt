@@ -1,5 +1,5 @@
 use Rattle.unit_lists.proofs.Prelude.{◌<◌, arith, needs, units_of, held_long}
-use Rattle.unit_lists.proofs.WorkOrder.{turn_start, turn_there, turn_next, turn_too_long, turn_stop}
+use Rattle.unit_lists.proofs.WorkOrder.{turn_start, turn_there, turn_next, turn_too_long, turn_stop, turn_end}
 use Rattle.unit_lists.proofs.work.list_units.Goals as goal
 
 pub loop-left-init : goal.loop-left-init
@@ -29,4 +29,4 @@ loop-left-preserved c =
     (turn_next c.loop-left.invariant c.loop-left-test.true c.next_unit-u.ensures there c.list_unit.ensures c.if-not-list_unit.false)
 
 pub returns : goal.returns
-returns c = search (held_long, needs)
+returns c = turn_end c.loop-left.invariant c.loop-left-test.false

@@ -5,8 +5,8 @@ use Rattle.unit_lists.proofs.WorkedUnits.{working_start, working_there, working_
 use Rattle.unit_lists.proofs.work.unit_work.Goals as goal
 
 -- unit work says the same of the cleared table
-same_work : (S : Units) {table cleaned : List ℕ} → cleaned ≡ cleared table → unit_work S table ≡ unit_work S cleaned
-same_work S {table} e = sym (ap (unit_work S) e ∙ work_cleared S table (working_order S))
+same_work : (S : Units) (table : List ℕ) {cleaned : List ℕ} → cleaned ≡ cleared table → unit_work S table ≡ unit_work S cleaned
+same_work S table e = sym (ap (unit_work S) e ∙ work_cleared S table (working_order S))
 
 pub list_units-worked-requires : goal.list_units-worked-requires
 unfolding units_of no_counts_of
@@ -19,7 +19,7 @@ list_units-worked-requires c =
 pub returns-in-Long : goal.returns-in-Long
 returns-in-Long c =
     handed_refused (LongList c.in-Long.u)
-    (same_work _ c.clear.ensures ∙ c.list_units-worked.ensures.answer_is ∙ ap (after_units _ _) c.in-Long.is) c.refuse_long.ensures.refused
+    (same_work _ c.args.table.now c.clear.ensures ∙ c.list_units-worked.ensures.answer_is ∙ ap (after_units _ _) c.in-Long.is) c.refuse_long.ensures.refused
     (c.refuse_long.ensures.emptied ∙ held_cleared c.list_units-worked.ensures.working.holding)
 
 pub list_last-requires : goal.list_last-requires
@@ -36,7 +36,7 @@ returns-then-not-list_last c =
     let w = c.list_units-worked.ensures in
     let long = c.list_last.ensures.when_long c.if-not-list_last.true in
     handed_refused (LongList c.args.plan.unit_count)
-    (same_work _ c.clear.ensures ∙ w.answer_is ∙ ap (after_units _ _) c.in_default.is ∙ last_long _ _ long.0)
+    (same_work _ c.args.table.now c.clear.ensures ∙ w.answer_is ∙ ap (after_units _ _) c.in_default.is ∙ last_long _ _ long.0)
     c.refuse_long-then-not-list_last.ensures.refused
     (c.refuse_long-then-not-list_last.ensures.emptied ∙ ap cleared long.1 ∙ held_cleared w.working.holding)
 
@@ -45,6 +45,6 @@ unfolding units_of
 returns c =
     let w = c.list_units-worked.ensures in
     let yes = c.if-not-list_last.false in
-    let e = same_work _ c.clear.ensures ∙ w.answer_is ∙ ap (after_units _ _) c.in_default.is ∙ last_fits _ _ (c.list_last.ensures.when_fits yes).0 in
+    let e = same_work _ c.args.table.now c.clear.ensures ∙ w.answer_is ∙ ap (after_units _ _) c.in_default.is ∙ last_fits _ _ (c.list_last.ensures.when_fits yes).0 in
     let held = working_last w.working (w.all_done c.in_default.is) c.list_last.ensures yes in
     rw e (record { outcome_is = refl; counts_are = held.counts_are; table_is = held.table_is })
