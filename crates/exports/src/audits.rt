@@ -21,8 +21,7 @@ fn hand_audit(said: Audit, found: &mut [u64]) -> u64
 }
 
 // What a sheet lacks: 0 if every position of the plan is on it, 1 with the least one that is not in the first lent word, else the code of the refusal.
-#[unsafe(no_mangle)]
-pub extern "C" fn lucarnecress_missing(plan: &[u8], positions: &[u8], found: &mut [u64]) -> u64
+pub fn lucarnecress_missing(plan: &[u8], positions: &[u8], found: &mut [u64]) -> u64
     ensures { MissingHanded plan.now positions.now found.old found.new result }
 {
     hand_audit(first_missing(plan, positions), found)

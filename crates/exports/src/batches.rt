@@ -19,20 +19,14 @@ fn hand_batch(batch: Batch, count: &mut [u64]) -> u64
 }
 
 // The least positions of a plan, rising, in the lent words: 0 with their number in the first word of the count, else the code of the refusal.
-#[unsafe(no_mangle)]
-pub extern "C" fn lucarnecress_first_positions(
-    plan: &[u8],
-    found: &mut [u64],
-    count: &mut [u64],
-) -> u64
+pub fn lucarnecress_first_positions(plan: &[u8], found: &mut [u64], count: &mut [u64]) -> u64
     ensures { BatchHanded plan.now Start found.old found.new count.old count.new result }
 {
     hand_batch(next_positions(plan, From::Start, found), count)
 }
 
 // The least positions of a plan above the given one, in the same way.
-#[unsafe(no_mangle)]
-pub extern "C" fn lucarnecress_next_positions(
+pub fn lucarnecress_next_positions(
     plan: &[u8],
     position: u64,
     found: &mut [u64],

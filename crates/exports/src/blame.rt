@@ -20,8 +20,7 @@ fn hand_blame(said: Blame, found: &mut [u64]) -> u64
 
 // What a plan is blamed on: 1 with its least position in the first lent word, 0 with the word of held constraints there if it has no position, else
 // the code of the refusal.
-#[unsafe(no_mangle)]
-pub extern "C" fn lucarnecress_blame(plan: &[u8], found: &mut [u64]) -> u64
+pub fn lucarnecress_blame(plan: &[u8], found: &mut [u64]) -> u64
     ensures { BlameHanded plan.now found.old found.new result }
 {
     hand_blame(blame_plan(plan), found)

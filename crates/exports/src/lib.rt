@@ -14,10 +14,20 @@ ghost use Rattle.std.specs.Prelude.{◌≡◌};
 ghost use Rattle.exports.specs.HandedOut.{outcome_code, copied, ListHanded, JudgeHanded, SheetHanded, CountHanded, CommonHanded};
 
 use crate::pair::write_pair;
+pub use audits::lucarnecress_missing;
+pub use batches::{lucarnecress_first_positions, lucarnecress_next_positions};
+pub use blame::lucarnecress_blame;
 use judge::answer_code;
 use plan::{COUNTS, Outcome, TABLE_WORDS, refusal_code};
 use plan_sheet::{write_plan_sheet, written_bytes};
 use questions::{common_atoms, count_words, counted_code};
+pub use readings::{
+    lucarnecress_reading_compare, lucarnecress_reading_largest, lucarnecress_reading_number,
+    lucarnecress_reading_of, lucarnecress_reading_sum,
+};
+pub use rows::{lucarnecress_positions_of_rows, lucarnecress_rows};
+pub use sheets::lucarnecress_judge_sheet;
+pub use steps::{lucarnecress_first, lucarnecress_next};
 use unit_lists::list_positions;
 
 // 0 for a plan that is listed, and 65536 times the number plus the spot for a refusal.
@@ -42,8 +52,7 @@ fn copy_counts(from: [usize; COUNTS], counts: &mut [u64])
 }
 
 // Lists a plan in the lent table; the counts go into the lent counts. The code of the outcome.
-#[unsafe(no_mangle)]
-pub extern "C" fn lucarnecress_list(plan: &[u8], table: &mut [u64], counts: &mut [u64]) -> u64
+pub fn lucarnecress_list(plan: &[u8], table: &mut [u64], counts: &mut [u64]) -> u64
     ensures { ListHanded plan.now table.old table.new counts.old counts.new result }
 {
     let listing = list_positions(plan, table);
@@ -54,16 +63,14 @@ pub extern "C" fn lucarnecress_list(plan: &[u8], table: &mut [u64], counts: &mut
 }
 
 // Judges one position: 1 settled, 0 not settled, else the code of the refusal.
-#[unsafe(no_mangle)]
-pub extern "C" fn lucarnecress_judge(plan: &[u8], position: u64) -> u64
+pub fn lucarnecress_judge(plan: &[u8], position: u64) -> u64
     ensures { JudgeHanded plan.now position result }
 {
     answer_code(judge::judge(plan, position))
 }
 
 // Writes a plan's sheet: its length in bytes, or 0 where the buffer is too short.
-#[unsafe(no_mangle)]
-pub extern "C" fn lucarnecress_sheet(plan: &[u8], sheet: &mut [u8]) -> u64
+pub fn lucarnecress_sheet(plan: &[u8], sheet: &mut [u8]) -> u64
     ensures { SheetHanded plan.now sheet.old sheet.new result }
 {
     let mut table = [0u64; TABLE_WORDS];
@@ -71,16 +78,14 @@ pub extern "C" fn lucarnecress_sheet(plan: &[u8], sheet: &mut [u8]) -> u64
 }
 
 // How many listed positions fit each question, three words to a question: up, dropped, count. 0, or the code of the refusal.
-#[unsafe(no_mangle)]
-pub extern "C" fn lucarnecress_count(list: &[u64], questions: &mut [u64]) -> u64
+pub fn lucarnecress_count(list: &[u64], questions: &mut [u64]) -> u64
     ensures { CountHanded list.now questions.old questions.new result }
 {
     counted_code(count_words(list, questions))
 }
 
 // The atoms up in all listed positions, and those up in some, as far as there is room. 0.
-#[unsafe(no_mangle)]
-pub extern "C" fn lucarnecress_common(list: &[u64], atoms: &mut [u64]) -> u64
+pub fn lucarnecress_common(list: &[u64], atoms: &mut [u64]) -> u64
     ensures { CommonHanded list.now atoms.old atoms.new result }
 {
     let found = common_atoms(list);

@@ -72,8 +72,7 @@ fn hand_found(what: LargestFound, found: &mut [u64]) -> u64
 }
 
 // The whole number that a reading says: 65,535 where nothing was measured, else the code of the refusal.
-#[unsafe(no_mangle)]
-pub extern "C" fn lucarnecress_reading_number(reading: u16) -> u64
+pub fn lucarnecress_reading_number(reading: u16) -> u64
     ensures { NumberHanded reading result }
 {
     match to_number(reading) {
@@ -83,8 +82,7 @@ pub extern "C" fn lucarnecress_reading_number(reading: u16) -> u64
 }
 
 // The reading that says a whole number, and 65,535 for 65,535; else the code of the refusal.
-#[unsafe(no_mangle)]
-pub extern "C" fn lucarnecress_reading_of(number: u64) -> u64
+pub fn lucarnecress_reading_of(number: u64) -> u64
     ensures { ReadingHanded number result }
 {
     match to_reading(asked(number)) {
@@ -94,8 +92,7 @@ pub extern "C" fn lucarnecress_reading_of(number: u64) -> u64
 }
 
 // The sum of two readings modulo 10,000: 65,536 times the carry plus the reading, else the code of the refusal.
-#[unsafe(no_mangle)]
-pub extern "C" fn lucarnecress_reading_sum(a: u16, b: u16) -> u64
+pub fn lucarnecress_reading_sum(a: u16, b: u16) -> u64
     ensures { SumHanded a b result }
 {
     match add(a, b) {
@@ -105,8 +102,7 @@ pub extern "C" fn lucarnecress_reading_sum(a: u16, b: u16) -> u64
 }
 
 // A reading against a limit: 0 below, 1 equal, 2 above, 65,535 not measured, else the code of the refusal.
-#[unsafe(no_mangle)]
-pub extern "C" fn lucarnecress_reading_compare(reading: u16, limit: u16) -> u64
+pub fn lucarnecress_reading_compare(reading: u16, limit: u16) -> u64
     ensures { CompareHanded reading limit result }
 {
     match compare(reading, limit) {
@@ -117,8 +113,7 @@ pub extern "C" fn lucarnecress_reading_compare(reading: u16, limit: u16) -> u64
 
 // The largest measured reading of a run of bytes: 1 with its word and place in the lent words, 0 where none was measured, else the code of
 // the refusal.
-#[unsafe(no_mangle)]
-pub extern "C" fn lucarnecress_reading_largest(bytes: &[u8], found: &mut [u64]) -> u64
+pub fn lucarnecress_reading_largest(bytes: &[u8], found: &mut [u64]) -> u64
     ensures { LargestHanded bytes.now found.old found.new result }
 {
     match find_largest(bytes) {

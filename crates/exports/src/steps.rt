@@ -33,16 +33,14 @@ fn hand_over(next: Next, found: &mut [u64]) -> u64
 }
 
 // The least position of a plan: 1 with the position in the first lent word, 0 if there is none, else the code of the refusal.
-#[unsafe(no_mangle)]
-pub extern "C" fn lucarnecress_first(plan: &[u8], found: &mut [u64]) -> u64
+pub fn lucarnecress_first(plan: &[u8], found: &mut [u64]) -> u64
     ensures { NextHanded plan.now Start found.old found.new result }
 {
     hand_over(next_position(plan, From::Start), found)
 }
 
 // The least position of a plan above the given one: 1 with the position in the first lent word, 0 if none is left, else the code of the refusal.
-#[unsafe(no_mangle)]
-pub extern "C" fn lucarnecress_next(plan: &[u8], position: u64, found: &mut [u64]) -> u64
+pub fn lucarnecress_next(plan: &[u8], position: u64, found: &mut [u64]) -> u64
     ensures { NextHanded plan.now (Above position) found.old found.new result }
 {
     hand_over(next_position(plan, From::Above(position)), found)
