@@ -1,6 +1,6 @@
 -- Pilots that were tested: spare atoms, each of one table.
-use Rattle.searching.proofs.Prelude.{◌≡◌, refl, sym, ap, subst, ◌∙◌, Bool, true, false, not, ◌⊎◌, inl, inr, List, ℕ, ◌+◌, ◌^◌, ◌≤◌, ◌<◌, arith}
-use Rattle.searching.proofs.Prelude.{ℕ_discrete, dec_lt, not-false, get_or, replicate, get_or-replicate, Has, Lowest, ◌⊆◌, subset, Apart, apart, ◌∪◌, ◌∖◌}
+use Rattle.searching.proofs.Prelude.{◌≡◌, refl, sym, ap, subst, ◌∙◌, Bool, true, ◌⊎◌, inl, inr, List, ℕ, ◌+◌, ◌^◌, ◌≤◌, ◌<◌, arith}
+use Rattle.searching.proofs.Prelude.{ℕ_discrete, dec_lt, get_or, replicate, get_or-replicate, Has, Lowest, ◌⊆◌, subset, Apart, apart, ◌∪◌, ◌∖◌}
 use Rattle.searching.proofs.Prelude.{atom, below, union_in, has_none, has_left, has_right, has_lt, has_below, union_cases, decides_apart}
 use Rattle.searching.proofs.Prelude.{decides_subset, union_has, union_at, Taking, taking_next, taking_end, MAX_TABLES, MAX_UNITS, lent, looks, inputs}
 use Rattle.searching.proofs.Prelude.{InRule, in_head, in_positive, in_looks, State, PilotsWithin, Job, Spare, NoInputs, DistinctPilots, Piloted}
@@ -12,10 +12,10 @@ use Rattle.searching.proofs.Prelude.{AllDown, all_pilots, with_inputs}
 abbrev pub Clear : List ℕ → ℕ → ℕ → Type 0
 Clear rules x r = (i : ℕ) → InRule rules r i → ¬ Has x i
 
-pub rule_clear : {rules : List ℕ} {x w r : ℕ} {t : Bool} → w ≡ (lent rules).head r ∪ ((lent rules).positive r ∪ looks rules r) → t ≡ apart w x → not t ≡ false
+pub rule_clear : {rules : List ℕ} {x w r : ℕ} {t : Bool} → w ≡ (lent rules).head r ∪ ((lent rules).positive r ∪ looks rules r) → t ≡ apart w x → t ≡ true
     → Clear rules x r
 rule_clear {rules} {x} {w} {r} {t} e f g i k h =
-    ((decides_apart w x).yes (sym f ∙ not-false t g)).none i (rw e (go k)) h
+    ((decides_apart w x).yes (sym f ∙ g)).none i (rw e (go k)) h
   where
     go : InRule rules r i → Has ((lent rules).head r ∪ ((lent rules).positive r ∪ looks rules r)) i
     go (in_head q) = has_left ((lent rules).head r) ((lent rules).positive r ∪ looks rules r) q
@@ -30,11 +30,11 @@ all_clear t e = record { in_no_rule = λ r i h k. taking_end t e r h i k }
 pub no_table : {rules : List ℕ} {x : ℕ} → NoInputs rules x 0
 no_table = record { each = λ t l. absurd (omega (arith, l)) }
 
-pub next_table : {rules : List ℕ} {x t w : ℕ} {b : Bool} → NoInputs rules x t → w ≡ inputs rules t → b ≡ apart w x → not b ≡ false → NoInputs rules x (t + 1)
+pub next_table : {rules : List ℕ} {x t w : ℕ} {b : Bool} → NoInputs rules x t → w ≡ inputs rules t → b ≡ apart w x → b ≡ true → NoInputs rules x (t + 1)
 next_table {rules} {x} {t} {w} {b} k e f g = record { each = λ u l. go u l (ℕ_discrete t u) }
   where
     go : (u : ℕ) → u < t + 1 → Dec (t ≡ u) → Apart (inputs rules u) x
-    go u l (yes q) = subst (λ (v : ℕ). Apart (inputs rules v) x) q (rw e at ((decides_apart w x).yes (sym f ∙ not-false b g)))
+    go u l (yes q) = subst (λ (v : ℕ). Apart (inputs rules v) x) q (rw e at ((decides_apart w x).yes (sym f ∙ g)))
     go u l (no n) = k.each u (omega (arith, l, n))
 
 pub all_tables : {rules : List ℕ} {x t : ℕ} → NoInputs rules x t → MAX_TABLES ≤ t → NoInputs rules x MAX_TABLES
@@ -50,7 +50,7 @@ pub record DistinctBelow (pilots : List ℕ) (all t : ℕ) : Type 0 where
 pub distinct_start : {pilots : List ℕ} → DistinctBelow pilots 0 0
 distinct_start = record { in_all = λ u l. absurd (omega (arith, l)); same = λ u v a l. absurd (omega (arith, l)) }
 
-pub distinct_next : {pilots : List ℕ} {all all' t : ℕ} {b : Bool} → DistinctBelow pilots all t → b ≡ apart all (get_or pilots t 0) → not b ≡ false
+pub distinct_next : {pilots : List ℕ} {all all' t : ℕ} {b : Bool} → DistinctBelow pilots all t → b ≡ apart all (get_or pilots t 0) → b ≡ true
     → all' ≡ all ∪ get_or pilots t 0 → DistinctBelow pilots all' (t + 1)
 distinct_next {pilots} {all} {all'} {t} {b} k f g e = record {
   in_all = λ u l. rw e (grown u l (ℕ_discrete t u));
@@ -58,7 +58,7 @@ distinct_next {pilots} {all} {all'} {t} {b} k f g e = record {
 }
   where
     off : Apart all (get_or pilots t 0)
-    off = (decides_apart all (get_or pilots t 0)).yes (sym f ∙ not-false b g)
+    off = (decides_apart all (get_or pilots t 0)).yes (sym f ∙ g)
 
     grown : (u : ℕ) → u < t + 1 → Dec (t ≡ u) → get_or pilots u 0 ⊆ all ∪ get_or pilots t 0
     grown u l (yes q) = record { each = λ a h. has_right all (get_or pilots t 0) (subst (λ (v : ℕ). Has (get_or pilots v 0) a) (sym q) h) }
@@ -78,8 +78,8 @@ distinct_end k l = record { same = λ u v a m n. k.same u v a (omega (arith, l, 
 -- ---- all together
 
 pub tested_pilots : {rules heads pilots : List ℕ} {unit : Job} {s : State} {x w : ℕ} {a b c : Bool} → unit.predecessors < 2 ^ MAX_UNITS
-    → x ≡ all_pilots pilots → a ≡ subset x s.dropped → not a ≡ false → b ≡ apart s.up x → not b ≡ false
-    → w ≡ union_in MAX_UNITS unit.predecessors (λ v. get_or heads v 0) → c ≡ apart w x → not c ≡ false → DistinctPilots pilots → NoInputs rules x MAX_TABLES
+    → x ≡ all_pilots pilots → a ≡ subset x s.dropped → a ≡ true → b ≡ apart s.up x → b ≡ true
+    → w ≡ union_in MAX_UNITS unit.predecessors (λ v. get_or heads v 0) → c ≡ apart w x → c ≡ true → DistinctPilots pilots → NoInputs rules x MAX_TABLES
     → Spare rules unit.rules x → Piloted rules heads pilots unit x × AllDown x s
 tested_pilots {rules} {heads} {pilots} {unit} {s} {x} {w} {a} {b} {c} few e ea fa eb fb ew ec fc d n sp = (
   record {
@@ -87,15 +87,15 @@ tested_pilots {rules} {heads} {pilots} {unit} {s} {x} {w} {a} {b} {c} few e ea f
     no_inputs = n;
     no_heads = λ v h. record {
       none = λ i k.
-          ((decides_apart w x).yes (sym ec ∙ not-false c fc)).none i
+          ((decides_apart w x).yes (sym ec ∙ fc)).none i
           (rw ew (union_has MAX_UNITS unit.predecessors (λ v. get_or heads v 0) v i (has_lt unit.predecessors MAX_UNITS few h) h k));
     };
     within = λ t l. record { each = λ i h. rw e (union_has MAX_TABLES (below MAX_TABLES) (λ t. get_or pilots t 0) t i l (has_below MAX_TABLES t l) h) };
     distinct = d;
   },
   record {
-    dropped = (decides_subset x s.dropped).yes (sym ea ∙ not-false a fa);
-    not_up = (decides_apart s.up x).yes (sym eb ∙ not-false b fb);
+    dropped = (decides_subset x s.dropped).yes (sym ea ∙ fa);
+    not_up = (decides_apart s.up x).yes (sym eb ∙ fb);
   },
 )
 

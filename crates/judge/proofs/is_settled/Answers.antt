@@ -5,6 +5,3 @@ use Rattle.judge.proofs.is_settled.Goals as goal
 
 pub is_answer_set-requires : goal.is_answer_set-requires
 is_answer_set-requires c = search (whole_lent, needs)
-
-pub returns : goal.returns
-returns c = c.is_answer_set.ensures ∙ ap (λ (w : ℕ). answer_set (lent c.args.plan.rules) w c.args.plan.once.given.word c.args.position) c.first-whole_program.ensures

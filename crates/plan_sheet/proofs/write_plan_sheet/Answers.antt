@@ -1,8 +1,8 @@
 -- The outcome picks the sheet.
-use Rattle.plan_sheet.proofs.Prelude.{◌≡◌, ap₂, sym, ◌∙◌, arith, refusal_sheet, answer, sheet_of}
+use Rattle.plan_sheet.proofs.Prelude.{◌≡◌, ap₂, sym, ◌∙◌, refusal_sheet, answer, sheet_of}
 use Rattle.reading.proofs.Limits.{all_bytes}
 use Rattle.plan_sheet.proofs.Said.{sheet_says}
-use Rattle.plan_sheet.proofs.PlanSheets.{sheet_refused, sheet_of_part, accepted_long, refused_at_most, listed_at_most}
+use Rattle.plan_sheet.proofs.PlanSheets.{sheet_refused, sheet_of_part, refused_at_most, listed_at_most}
 use Rattle.plan_sheet.proofs.write_plan_sheet.Goals as goal
 
 pub returns-in-Refused : goal.returns-in-Refused
@@ -17,12 +17,6 @@ returns-in-Refused c =
       at_most = refused_at_most _ _ _ c.fault_number.type_inv c.fault_spot.type_inv e;
       says = sheet_says c.args.plan.now c.args.table.now (all_bytes c.args.plan.now (λ i. (c.type_inv.plan i).fits));
     }
-
--- a plan that is listed came with a long enough table
-pub slice_bounds-write_positions-start : goal.slice_bounds-write_positions-start
-slice_bounds-write_positions-start c =
-    let accepted = sym c.list_positions-listing.ensures.answered.outcome_is ∙ c.in_default.is in
-    omega (arith, accepted_long c.args.plan.now c.args.table.now accepted, c.list_positions-listing.auto.table)
 
 pub returns : goal.returns
 returns c =

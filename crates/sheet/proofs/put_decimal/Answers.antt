@@ -4,7 +4,7 @@ use Rattle.sheet.proofs.Face.{decimal_made}
 use Rattle.sheet.proofs.put_decimal.Goals as goal
 
 pub put-requires : goal.put-requires
-put-requires c = omega (arith, ap length (decimal_made c.args.n _ _ c.decimal-digits.ensures.1.0 c.decimal-digits.ensures.1.1))
+put-requires c = omega (arith, ap length (decimal_made c.args.n _ _ c.decimal-digits.ensures.len c.decimal-digits.ensures.digits))
 
 pub returns : goal.returns
-returns c = rw (decimal_made _ _ _ c.decimal-digits.ensures.1.0 c.decimal-digits.ensures.1.1) at c.put.ensures
+returns c = rw (decimal_made _ _ _ c.decimal-digits.ensures.len c.decimal-digits.ensures.digits) at c.put.ensures

@@ -4,7 +4,7 @@ use Rattle.sheet.proofs.Face.{hexadecimal_made}
 use Rattle.sheet.proofs.put_hexadecimal.Goals as goal
 
 pub put-requires : goal.put-requires
-put-requires c = omega (arith, ap length (hexadecimal_made c.args.word _ _ c.ranges.word.fits c.hex-digits.ensures.1.0 c.hex-digits.ensures.1.1))
+put-requires c = omega (arith, ap length (hexadecimal_made c.args.word _ _ c.ranges.word.fits c.hex-digits.ensures.len c.hex-digits.ensures.digits))
 
 pub returns : goal.returns
-returns c = rw (hexadecimal_made _ _ _ c.ranges.word.fits c.hex-digits.ensures.1.0 c.hex-digits.ensures.1.1) at c.put.ensures
+returns c = rw (hexadecimal_made _ _ _ c.ranges.word.fits c.hex-digits.ensures.len c.hex-digits.ensures.digits) at c.put.ensures

@@ -1,5 +1,5 @@
 -- `put_line` meets its contract: the line end stands behind the sixteen digits.
-use Rattle.sheet.proofs.Prelude.{arith, needs, line_end}
+use Rattle.sheet.proofs.Prelude.{arith, rules, line_end}
 use Rattle.sheet.proofs.Face.{length_hexadecimal, put_position_line}
 use Rattle.sheet.proofs.put_line.Goals as goal
 
@@ -11,4 +11,4 @@ put-requires c = omega (arith, simp length_hexadecimal at c.put_hexadecimal-end_
 
 pub returns : goal.returns
 unfolding line_end
-returns c = search (put_position_line, needs)
+returns c = search (put_position_line, rules)

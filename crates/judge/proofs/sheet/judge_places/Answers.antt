@@ -13,12 +13,5 @@ returns-then-not-judged c =
     let told = tested_at c.args.plan _ c.loop-place.place c.judge_set-judged.ensures.answers c.first-whole_program.ensures c.read_word-position.ensures in
     sym (places_first c.args.plan _ _ c.loop-place-test.true c.loop-place.invariant.0 (sym told ∙ not-true _ c.if-not-judged.true))
 
-pub loop-place-preserved : goal.loop-place-preserved
-loop-place-preserved c =
-    let told = tested_at c.args.plan _ c.loop-place.place c.judge_set-judged.ensures.answers c.first-whole_program.ensures c.read_word-position.ensures in (
-      passed_more c.args.plan _ _ c.loop-place.invariant.0 (sym told ∙ not-false _ c.if-not-judged.false),
-      search needs,
-    )
-
 pub returns : goal.returns
 returns c = sym (places_all _ _ (λ q l. c.loop-place.invariant.0 q (omega (arith, c.loop-place-test.false))))

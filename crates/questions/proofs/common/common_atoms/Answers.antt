@@ -7,6 +7,3 @@ loop-at-init c = search (common_start, needs)
 
 pub loop-at-preserved : goal.loop-at-preserved
 loop-at-preserved c = search (common_more, needs)
-
-pub returns : goal.returns
-returns c = search (common_end, needs)

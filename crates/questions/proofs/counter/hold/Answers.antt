@@ -5,17 +5,8 @@ use Rattle.questions.proofs.counter.hold.Goals as goal
 pub loop-i-init : goal.loop-i-init
 loop-i-init c = search (holding_start, needs)
 
-pub bounds-counts-i : goal.bounds-counts-i
-bounds-counts-i c = search (within_now, needs)
-
 pub overflow_add-counts : goal.overflow_add-counts
 overflow_add-counts c = search (holding_fits, needs)
 
-pub bounds-counts-i-in-loop-i : goal.bounds-counts-i-in-loop-i
-bounds-counts-i-in-loop-i c = search (within_now, needs)
-
 pub loop-i-preserved : goal.loop-i-preserved
 loop-i-preserved c = search (holding_more, needs)
-
-pub returns : goal.returns
-returns c = search (holding_end, needs)

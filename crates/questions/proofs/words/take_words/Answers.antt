@@ -8,14 +8,8 @@ loop-i-init c = taken_start c.requires
 pub bounds-words-i : goal.bounds-words-i
 bounds-words-i c = omega (arith, words_within c.loop-i.invariant.whole c.loop-i-test.true)
 
-pub bounds-up-i : goal.bounds-up-i
-bounds-up-i c = search (up_long, needs)
-
 pub bounds-words-i-in-loop-i : goal.bounds-words-i-in-loop-i
 bounds-words-i-in-loop-i c = omega (arith, words_within c.loop-i.invariant.whole c.loop-i-test.true)
-
-pub bounds-dropped-i : goal.bounds-dropped-i
-bounds-dropped-i c = search (dropped_long, needs)
 
 pub loop-i-preserved : goal.loop-i-preserved
 loop-i-preserved c = search (taken_more, needs)

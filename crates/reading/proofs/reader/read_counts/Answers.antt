@@ -11,12 +11,6 @@ returns-in_default c =
     let first : Reached (single sizes) c.args.bytes.now c.place-progress.result = start _ _ _ c.empty_plan.ensures c.place-progress.ensures in
     passed_by (single sizes) (single given) _ _ first (search needs) refl
 
-pub overflow_add-at : goal.overflow_add-at
-overflow_add-at c =
-    let first : Reached (single sizes) c.args.bytes.now c.place-progress.result = start _ _ _ c.empty_plan.ensures c.place-progress.ensures in
-    let took : Turn first = (_, taken (single sizes) _ _ _ _ first c.in-Count.is refl) in
-    omega (arith, took.1.inside)
-
 pub place-requires : goal.place-requires
 place-requires c =
     let first : Reached (single sizes) c.args.bytes.now c.place-progress.result = start _ _ _ c.empty_plan.ensures c.place-progress.ensures in

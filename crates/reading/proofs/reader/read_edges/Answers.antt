@@ -2,9 +2,6 @@ use Rattle.reading.proofs.Prelude.{refl, sym, ◌∙◌, arith, edge, needs}
 use Rattle.reading.proofs.Face.{Turn, taken, passed_by, edge_there, next_fits, next_there, next_less}
 use Rattle.reading.proofs.reader.read_edges.Goals as goal
 
-pub returns-in_default : goal.returns-in_default
-returns-in_default c = search (passed_by, needs)
-
 pub with_edge-taken-requires : goal.with_edge-taken-requires
 with_edge-taken-requires c =
     let took : Turn c.loop-u.invariant = (_, taken edge _ _ _ _ c.loop-u.invariant c.in-Edge.is refl) in

@@ -3,9 +3,6 @@ use Rattle.reading.proofs.Prelude.{single, given, needs}
 use Rattle.reading.proofs.Face.{passed_by, next_fits, next_there}
 use Rattle.reading.proofs.reader.read_givens.Goals as goal
 
-pub returns-in_default : goal.returns-in_default
-returns-in_default c = search (passed_by, needs)
-
 pub place-requires : goal.place-requires
 place-requires c = search (next_fits (single given), needs)
 

@@ -2,9 +2,6 @@ use Rattle.reading.proofs.Prelude.{refl, rule, needs}
 use Rattle.reading.proofs.Face.{room_left, Turn, taken, passed_by, next_fits, next_there, next_less}
 use Rattle.reading.proofs.reader.read_rules.Goals as goal
 
-pub returns-in_default : goal.returns-in_default
-returns-in_default c = search (passed_by, needs)
-
 pub with_rule-taken-requires : goal.with_rule-taken-requires
 with_rule-taken-requires c =
     let took : Turn c.loop-head.invariant = (_, taken rule _ _ _ _ c.loop-head.invariant c.in-Rule.is refl) in

@@ -2,9 +2,6 @@ use Rattle.reading.proofs.Prelude.{refl, table, needs}
 use Rattle.reading.proofs.Face.{room_left, Turn, taken, passed_by, next_fits, next_there, next_less}
 use Rattle.reading.proofs.reader.read_tables.Goals as goal
 
-pub returns-in_default : goal.returns-in_default
-returns-in_default c = search (passed_by, needs)
-
 pub with_table-taken-requires : goal.with_table-taken-requires
 with_table-taken-requires c =
     let took : Turn c.loop-inputs.invariant = (_, taken table _ _ _ _ c.loop-inputs.invariant c.in-Table.is refl) in

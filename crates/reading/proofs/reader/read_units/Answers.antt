@@ -2,9 +2,6 @@ use Rattle.reading.proofs.Prelude.{refl, unit, needs}
 use Rattle.reading.proofs.Face.{room_left, Turn, taken, passed_by, next_fits, next_there, next_less}
 use Rattle.reading.proofs.reader.read_units.Goals as goal
 
-pub returns-in_default : goal.returns-in_default
-returns-in_default c = search (passed_by, needs)
-
 pub with_unit-taken-requires : goal.with_unit-taken-requires
 with_unit-taken-requires c =
     let took : Turn c.loop-word.invariant = (_, taken unit _ _ _ _ c.loop-word.invariant c.in-Unit.is refl) in

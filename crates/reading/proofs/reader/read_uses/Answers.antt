@@ -2,9 +2,6 @@ use Rattle.reading.proofs.Prelude.{refl, sym, ◌∙◌, arith, usage, needs}
 use Rattle.reading.proofs.Face.{room_left, Turn, taken, passed_by, use_there, next_fits, next_there, next_less}
 use Rattle.reading.proofs.reader.read_uses.Goals as goal
 
-pub returns-in_default : goal.returns-in_default
-returns-in_default c = search (passed_by, needs)
-
 pub with_use-taken-requires : goal.with_use-taken-requires
 with_use-taken-requires c =
     let took : Turn c.loop-rule.invariant = (_, taken usage _ _ _ _ c.loop-rule.invariant c.in-Use.is refl) in

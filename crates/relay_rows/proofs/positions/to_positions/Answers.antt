@@ -3,12 +3,6 @@ use Rattle.relay_rows.proofs.Prelude.{needs}
 use Rattle.relay_rows.proofs.Face.{answer_refused, answer_written, positions_written}
 use Rattle.relay_rows.proofs.positions.to_positions.Goals as goal
 
-pub returns-then-not-suits : goal.returns-then-not-suits
-returns-then-not-suits c = answer_refused (c.suits.ensures.no c.if-not-suits.true)
-
-pub write_positions-requires : goal.write_positions-requires
-write_positions-requires c = let s = c.suits.ensures.yes c.if-not-suits.false in (s.read_long, s.written_long)
-
 pub returns : goal.returns
 returns c =
     let s = c.suits.ensures.yes c.if-not-suits.false in

@@ -2,11 +2,5 @@ use Rattle.relay_rows.proofs.Prelude.{needs}
 use Rattle.relay_rows.proofs.Face.{list_parts_start, list_parts_more, list_parts_end}
 use Rattle.relay_rows.proofs.positions.write_positions.Goals as goal
 
-pub loop-q-init : goal.loop-q-init
-loop-q-init c = search (list_parts_start, needs)
-
 pub loop-q-preserved : goal.loop-q-preserved
 loop-q-preserved c = search (list_parts_more, needs)
-
-pub returns : goal.returns
-returns c = search (list_parts_end, needs)

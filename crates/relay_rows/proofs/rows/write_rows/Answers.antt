@@ -2,11 +2,5 @@ use Rattle.relay_rows.proofs.Prelude.{needs}
 use Rattle.relay_rows.proofs.Face.{row_parts_start, row_parts_more, row_parts_end}
 use Rattle.relay_rows.proofs.rows.write_rows.Goals as goal
 
-pub loop-q-init : goal.loop-q-init
-loop-q-init c = search (row_parts_start, needs)
-
 pub loop-q-preserved : goal.loop-q-preserved
 loop-q-preserved c = search (row_parts_more, needs)
-
-pub returns : goal.returns
-returns c = search (row_parts_end, needs)

@@ -1,5 +1,5 @@
 -- Nothing shows, so the list holds one cut at most, and the witness says whether a member was met.
-use Rattle.searching.proofs.Prelude.{sym, [], joinable_some, full_filtered}
+use Rattle.searching.proofs.Prelude.{joinable_some, full_filtered}
 use Rattle.searching.proofs.Face.{hidden_few, zeros_ordered, explored_witnessed, entered_ready, explored_branch}
 use Rattle.searching.proofs.find.find.Goals as goal
 
@@ -11,11 +11,10 @@ enter-node-requires c =
       full_filtered _ _ _ _ _ _ (joinable_some c.requires.0.searchable.near c.requires.0.searchable.joinable) c.full_filter-filter.ensures,
     )
 
-pub slice_bounds-explore-end-2 : goal.slice_bounds-explore-end-2
-slice_bounds-explore-end-2 c = sym (c.blank_memo-memo.ensures.memo []).long
-
 pub explore-found-requires : goal.explore-found-requires
 explore-found-requires c = entered_ready c.root-branch.ensures c.enter-node.ensures c.requires.0 zeros_ordered (c.blank_memo-memo.ensures.memo _)
 
-pub returns : goal.returns
-returns c = let told = explored_branch c.root-branch.ensures c.enter-node.ensures c.explore-found.ensures.explored in record { witnessed = rw (c.moved.ensures, c.union.ensures, c.union-2.ensures) at (explored_witnessed (λ M w. w.belongs.word) told (hidden_few told.gathered)); remembers = told.sought.remembers }
+pub returns-clause-witnessed : goal.returns-clause-witnessed
+returns-clause-witnessed c =
+    let told = explored_branch c.root-branch.ensures c.enter-node.ensures c.explore-found.ensures.explored in
+    rw (c.moved.ensures, c.union.ensures, c.union-2.ensures) at (explored_witnessed (λ M w. w.belongs.word) told (hidden_few told.gathered))

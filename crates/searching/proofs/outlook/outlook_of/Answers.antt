@@ -12,9 +12,6 @@ returns-then-free-eq0 c =
       sym c.undecided-free.ensures ∙ c.if-free-eq0.true,
     )
 
-pub returns-in-Atom : goal.returns-in-Atom
-returns-in-Atom c = rw c.undecided-free.ensures at (rw c.in-Atom.is at c.pick-choice.ensures)
-
 pub returns-in-Stop : goal.returns-in-Stop
 returns-in-Stop c =
     let told = rw c.in-Stop.is at c.pick-choice.ensures in

@@ -3,9 +3,6 @@ use Rattle.searching.proofs.Prelude.{◌<◌, ◌^◌, arith, ATOMS, overlap_nog
 use Rattle.searching.proofs.Face.{settled_one, settled_none}
 use Rattle.searching.proofs.seek.settle.Goals as goal
 
-pub all_satisfied-requires : goal.all_satisfied-requires
-all_satisfied-requires c = c.requires.0.searchable.rules_lent
-
 pub returns-then-all_satisfied : goal.returns-then-all_satisfied
 returns-then-all_satisfied c =
     let fits : c.args.node.unit.rules < 2 ^ ATOMS = omega arith in

@@ -2,8 +2,5 @@
 use Rattle.searching.proofs.Prelude.{◌-◌, MAX_TABLES}
 use Rattle.searching.proofs.spare.all_inputs.Given as goal
 
-abbrev pub invariant-loop-t : goal.invariant-loop-t
-invariant-loop-t l = Unit {0}
-
 abbrev pub decreases-loop-t : goal.decreases-loop-t
 decreases-loop-t l = MAX_TABLES - l.t

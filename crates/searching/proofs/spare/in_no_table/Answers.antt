@@ -2,14 +2,5 @@ use Rattle.searching.proofs.Prelude.{arith}
 use Rattle.searching.proofs.Face.{no_table, next_table, all_tables}
 use Rattle.searching.proofs.spare.in_no_table.Goals as goal
 
-pub loop-t-init : goal.loop-t-init
-loop-t-init c = no_table
-
-pub overflow_add-t : goal.overflow_add-t
-overflow_add-t c = omega (arith, c.loop-t-test.true)
-
 pub loop-t-preserved : goal.loop-t-preserved
-loop-t-preserved c = next_table c.loop-t.invariant c.word_at.ensures c.are_apart.ensures c.if-not-are_apart.false-raw
-
-pub returns : goal.returns
-returns c e = all_tables c.loop-t.invariant (omega (arith, c.loop-t-test.false))
+loop-t-preserved c = next_table c.loop-t.invariant c.word_at.ensures c.are_apart.ensures c.if-not-are_apart.false

@@ -2,8 +2,5 @@
 use Rattle.searching.proofs.Prelude.{ones}
 use Rattle.searching.proofs.spare.propose.Given as goal
 
-abbrev pub invariant-loop-left : goal.invariant-loop-left
-invariant-loop-left l = Unit {0}
-
 abbrev pub decreases-loop-left : goal.decreases-loop-left
 decreases-loop-left l = ones l.left

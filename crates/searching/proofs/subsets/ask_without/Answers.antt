@@ -2,20 +2,10 @@
 use Rattle.searching.proofs.Face.{asks_found, asks_none}
 use Rattle.searching.proofs.subsets.ask_without.Goals as goal
 
-pub decide-lowered-requires : goal.decide-lowered-requires
-decide-lowered-requires c = c.requires.3
+pub returns-in-Member-clause-asks : goal.returns-in-Member-clause-asks
+returns-in-Member-clause-asks c = asks_found c.args.i c.decide-lowered.ensures (rw c.in-Member.is at c.find_model-met.ensures.witnessed)
 
-pub find_model-met-requires : goal.find_model-met-requires
-find_model-met-requires c = (c.requires.0, c.requires.1, c.requires.2)
-
-pub decide-raised-requires : goal.decide-raised-requires
-decide-raised-requires c = c.requires.3
-
-pub settled-state-requires : goal.settled-state-requires
-settled-state-requires c = (c.requires.0, c.requires.1, c.find_model-met.ensures.remembers)
-
-pub returns-in-Member : goal.returns-in-Member
-returns-in-Member c = record { asks = asks_found c.args.i c.decide-lowered.ensures (rw c.in-Member.is at c.find_model-met.ensures.witnessed); remembers = c.find_model-met.ensures.remembers }
-
-pub returns-in-Nothing : goal.returns-in-Nothing
-returns-in-Nothing c = record { asks = asks_none c.args.i c.decide-lowered.ensures (rw c.in-Nothing.is at c.find_model-met.ensures.witnessed) c.decide-raised.ensures c.settled-state.ensures.narrows; remembers = c.settled-state.ensures.remembers }
+pub returns-in-Nothing-clause-asks : goal.returns-in-Nothing-clause-asks
+returns-in-Nothing-clause-asks c =
+    asks_none c.args.i c.decide-lowered.ensures (rw c.in-Nothing.is at c.find_model-met.ensures.witnessed) c.decide-raised.ensures
+    c.settled-state.ensures.narrows

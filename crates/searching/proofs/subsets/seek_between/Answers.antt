@@ -2,12 +2,6 @@ use Rattle.searching.proofs.Prelude.{narrows_refl, narrows_trans, remembers_empt
 use Rattle.searching.proofs.Face.{models_lent, models_prepared, models_job, asked_found, asked_none, asked_less}
 use Rattle.searching.proofs.subsets.seek_between.Goals as goal
 
-pub lay_out-desk-requires : goal.lay_out-desk-requires
-lay_out-desk-requires c = models_lent c.models_of-job.ensures c.requires.0
-
-pub loop-rest-init : goal.loop-rest-init
-loop-rest-init c = (narrows_refl, remembers_empty c.empty_store-memory.ensures, c.without-rest.ensures)
-
 pub ask_without-asked-requires : goal.ask_without-asked-requires
 ask_without-asked-requires c = (
   models_prepared c.models_of-job.ensures c.lay_out-desk.ensures c.requires.0,

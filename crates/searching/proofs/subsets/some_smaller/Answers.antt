@@ -4,9 +4,6 @@ use Rattle.searching.proofs.Prelude.{lent_part, passed_confines, tested_passed}
 use Rattle.answer_sets.proofs.Memos.{memo_whole, memo_written}
 use Rattle.searching.proofs.subsets.some_smaller.Goals as goal
 
-pub is_told-requires : goal.is_told-requires
-is_told-requires c = (lent_part c.requires.0 c.open_test-p.ensures.part, c.requires.1)
-
 pub returns-then-is_told : goal.returns-then-is_told
 returns-then-is_told c =
     let t = tested_passed c.ranges.which.fits c.open_test-p.ensures (c.is_told.ensures.told c.if-is_told.true) in
