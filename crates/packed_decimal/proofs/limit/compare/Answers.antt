@@ -8,7 +8,7 @@ pub returns-then-bad-lt-PAIR : goal.returns-then-bad-lt-PAIR
 returns-then-bad-lt-PAIR c = held _ _ (sym (compared_refused c.args.word c.args.limit c.first_bad-bad.ensures c.if-bad-lt-PAIR.true))
 
 pub order_of-requires : goal.order_of-requires
-order_of-requires c = pair_good (search needs) c.args.limit (search needs)
+order_of-requires c = pair_good c.args.word c.args.limit (search needs)
 
 pub returns : goal.returns
 returns c =
