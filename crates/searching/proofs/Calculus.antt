@@ -1,5 +1,5 @@
 -- The theorem of the search: what was met is wanted, and where the search was whole, what shows of it is all that shows of what is wanted.
-use Rattle.searching.proofs.Prelude.{◌≡◌, refl, sym, ap, ◌∙◌, subst, Bool, true, false, not, false≢true, ◌⊎◌, inl, inr, List, [], ◌∷◌, ◌++◌, List-as-Memᴰ}
+use Rattle.searching.proofs.Prelude.{◌≡◌, refl, sym, subst, Bool, true, not, false≢true, ◌⊎◌, inl, inr, List, ◌++◌, List-as-Memᴰ}
 use Rattle.searching.proofs.Prelude.{Memᴰ-head, Memᴰ-not-nil, Memᴰ-append_cases, Memᴰ-eq_of_singleton, Memᴰ-append_left}
 use Rattle.searching.proofs.Prelude.{Memᴰ-append_right, ℕ, ◌<◌, ◌^◌, ATOMS, Has, Apart, ◌∩◌, CutOf, has_lt, has_none, subset_antisym, cut_for}
 use Rattle.searching.proofs.Prelude.{Completes, undecided, Wanted, branch_of, State, decided_cases, wanted_back, wanted_after, without_branch}

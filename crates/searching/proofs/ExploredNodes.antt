@@ -1,5 +1,5 @@
 -- The cases of the calculus with all that is said of a node: its pair, its memory, and the list. `explore` and `seek` go by these cases.
-use Rattle.searching.proofs.Prelude.{◌≡◌, refl, sym, ◌∙◌, subst, Bool, true, false, not, false≢true, ◌⊎◌, inl, inr, List, [], ◌∷◌, ◌++◌, List-as-Memᴰ}
+use Rattle.searching.proofs.Prelude.{◌≡◌, refl, sym, ◌∙◌, subst, Bool, true, false, not, ◌⊎◌, inl, inr, List, [], ◌∷◌, ◌++◌, List-as-Memᴰ}
 use Rattle.searching.proofs.Prelude.{Memᴰ-head, Memᴰ-not-nil, Memᴰ-append_cases, Memᴰ-eq_of_singleton, Memᴰ-append_left}
 use Rattle.searching.proofs.Prelude.{Memᴰ-append_right, ℕ, ◌<◌, ◌≤◌, ◌^◌, arith, ATOMS, Has, Apart, ◌∩◌, CutOf, empty, cut_right, has_none, cut_for}
 use Rattle.searching.proofs.Prelude.{LIST_WORDS, undecided, Overlaps, Narrows, Within, Wanted, branch_of, State, overlap_none, AnswersInputs, NoStop}

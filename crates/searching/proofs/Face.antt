@@ -4,10 +4,9 @@ pub use Rattle.searching.proofs.ExploredNodes.{explored_leaf, explored_narrowed,
 pub use Rattle.searching.proofs.ExploredNodes.{is_stop, nothing_wanted, sought_both, sought_branch, sought_handed, sought_leaf, sought_met}
 pub use Rattle.searching.proofs.ExploredNodes.{sought_skip, sought_stop}
 pub use Rattle.searching.proofs.Gathered.{gathered_ordered, zeros_ordered}
-pub use Rattle.searching.proofs.Models.{asked_found, asked_less, asked_none, asks_found, asks_none, models_job, models_lent, models_prepared}
-pub use Rattle.searching.proofs.Models.{settled_none, settled_one, unfiltered}
-pub use Rattle.searching.proofs.Nodes.{finished, finishes_met, handed_up}
-pub use Rattle.searching.proofs.SearchSteps.{belongs_answers, joined_answers, not_joined, offer_none, offer_one}
-pub use Rattle.searching.proofs.TestedPilots.{Clear, DistinctBelow, all_clear, all_tables, distinct_end, distinct_next, distinct_start, more_inputs}
-pub use Rattle.searching.proofs.TestedPilots.{next_table, no_pilots, no_table, none_down, rule_clear, tested_pilots}
-pub use Rattle.searching.proofs.Witnesses.{enough_is, enough_met, hidden_few}
+pub use Rattle.searching.proofs.Models.{asked_found, asked_less, asked_none, asks_found, asks_none, models_job, models_prepared}
+pub use Rattle.searching.proofs.Models.{settled_none, settled_one}
+pub use Rattle.searching.proofs.SearchSteps.{belongs_answers, offer_none, offer_one}
+pub use Rattle.searching.proofs.TestedPilots.{Clear, DistinctBelow, distinct_next}
+pub use Rattle.searching.proofs.TestedPilots.{next_table, no_pilots, none_down, rule_clear, tested_pilots}
+pub use Rattle.searching.proofs.Witnesses.{enough_met, hidden_few}

@@ -1,12 +1,12 @@
 -- The job of the subset test: with every atom an input all of a position are facts, so that who is wired is who satisfies the rules; and what one question
 -- after the other says of the proper subsets of a position.
-use Rattle.searching.proofs.Prelude.{◌≡◌, refl, sym, ◌∙◌, subst, Bool, true, false, true≢false, false≢true, ◌⊎◌, inl, inr, List, [], ℕ, zero, suc, ◌<◌}
-use Rattle.searching.proofs.Prelude.{◌≤◌, ◌^◌, lt_of_le_of_lt, arith, ones, length, get_or, replicate, ATOMS, EVERY_ATOM, Has, ◌⊆◌, ◌∩◌, ◌∖◌, atom}
+use Rattle.searching.proofs.Prelude.{◌≡◌, refl, sym, ◌∙◌, subst, Bool, true, false, true≢false, false≢true, List, [], ℕ, zero, suc, ◌<◌}
+use Rattle.searching.proofs.Prelude.{◌≤◌, ◌^◌, lt_of_le_of_lt, arith, ones, length, get_or, replicate, ATOMS, Has, ◌⊆◌, ◌∩◌, ◌∖◌, atom}
 use Rattle.searching.proofs.Prelude.{count_lt, cut_all, has_dec, has_lt, has_none, has_left, has_right, has_atom, has_without, without_left}
-use Rattle.searching.proofs.Prelude.{without_right, subset_refl, subset_trans, subset_le, decided_true, MAX_UNITS, MAX_TABLES, AnswerSet, lent, Lent}
+use Rattle.searching.proofs.Prelude.{without_right, subset_refl, subset_le, decided_true, MAX_UNITS, MAX_TABLES, AnswerSet, lent, Lent}
 use Rattle.searching.proofs.Prelude.{SatisfiesAll, Between, Confines, Finds, finds_none, satisfies_all, decides_answer_set, decides_all_satisfied}
 use Rattle.searching.proofs.Prelude.{Narrows, Wanted, branch_of, Completes, State, completes_back, narrows_trans, with_up_lem, with_dropped_lem}
-use Rattle.searching.proofs.Prelude.{without_dropped, FILTER_WORDS, Filtered, joins_none, NoPilots, LaidOut, Prepared, Wired, pilots_of, Searchable}
+use Rattle.searching.proofs.Prelude.{without_dropped, FILTER_WORDS, Filtered, joins_none, LaidOut, Prepared, Wired}
 use Rattle.searching.proofs.Prelude.{Job, prepared, Offered, ModelJob, models_of, Asks, Witnessed, met, none, Member, Nothing}
 use Rattle.answer_sets.proofs.Support.{satisfied}
 use Rattle.searching.specs.declared.subsets.WithoutAtom.{WithoutAtom}

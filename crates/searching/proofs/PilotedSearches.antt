@@ -1,5 +1,5 @@
 -- Searches with pilots: the cuts of what is wired are those of what belongs to the list.
-use Rattle.searching.proofs.Prelude.{◌≡◌, sym, subst, ◌∙◌, true, List, ℕ, ◌*◌, ◌^◌, ◌<◌, arith, lt_of_le_of_lt, get_or, ATOMS, Has, ◌⊆◌, Apart, ◌∩◌, ◌∪◌}
+use Rattle.searching.proofs.Prelude.{◌≡◌, sym, subst, ◌∙◌, true, List, ℕ, ◌*◌, ◌^◌, ◌<◌, lt_of_le_of_lt, get_or, ATOMS, Has, Apart, ◌∩◌, ◌∪◌}
 use Rattle.searching.proofs.Prelude.{◌∖◌, CutOf, ext, has_cut, cut_left, cut_right, has_lt, subset_le, union_fits, without_fits, decided_true}
 use Rattle.searching.proofs.Prelude.{MAX_UNITS, LIST_WORDS, lent, decides_answer_set, Wanted, State, AnswersInputs, is_listed, joins, joins_each}
 use Rattle.searching.proofs.Prelude.{joins_one, Belongs, Searchable, LaidOut, Prepared, Wired, Job, prepared, belongs_desk, desk_belongs, FollowAll}

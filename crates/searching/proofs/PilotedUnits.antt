@@ -1,11 +1,11 @@
 -- A unit with pilots: what is wanted of it, apart from its pilots, is what is wanted of the unit.
-use Rattle.searching.proofs.Prelude.{◌≡◌, refl, sym, ap, subst, ◌∙◌, Bool, true, false, true≢false, ◌↔◌, ◌⊎◌, inl, inr, List, ℕ, ◌^◌, ◌<◌, arith, get_or}
-use Rattle.searching.proofs.Prelude.{ATOMS, Has, ◌⊆◌, Apart, ◌∩◌, ◌∪◌, ◌∖◌, union_in, word_below, CutOf, ext, has_cut, cut_left, cut_right, has_left}
-use Rattle.searching.proofs.Prelude.{has_right, has_without, without_left, without_right, union_cases, union_fits, without_fits, union_has, union_at}
-use Rattle.searching.proofs.Prelude.{word_has, word_at, MAX_TABLES, lent, inputs, truth, Completes, State, FollowAll, Job, AlikeBut, Piloted, AllDown}
+use Rattle.searching.proofs.Prelude.{◌≡◌, sym, subst, ◌∙◌, Bool, true, false, true≢false, ◌⊎◌, inl, inr, List, ℕ, ◌<◌, get_or}
+use Rattle.searching.proofs.Prelude.{Has, ◌⊆◌, Apart, ◌∩◌, ◌∪◌, ◌∖◌, union_in, word_below, ext, has_cut, cut_left, cut_right, has_left}
+use Rattle.searching.proofs.Prelude.{has_right, has_without, without_left, without_right, union_cases, union_has, union_at}
+use Rattle.searching.proofs.Prelude.{word_has, word_at, MAX_TABLES, inputs, truth, Completes, State, FollowAll, Job, AlikeBut, Piloted, AllDown}
 use Rattle.contact_tables.specs.ContactTable.{table_answer}
 use Rattle.contact_tables.proofs.RowBits.{answer_same}
-use Rattle.searching.proofs.SpareAtoms.{alike_sym, alike_with, alike_without}
+use Rattle.searching.proofs.SpareAtoms.{alike_with}
 
 -- the pilots of the tables that are true at N
 unfoldable pub lit_at : List ℕ → List ℕ → ℕ → ℕ

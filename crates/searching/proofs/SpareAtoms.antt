@@ -1,8 +1,8 @@
 -- Spare atoms: bodies and answer sets do not look at them.
-use Rattle.searching.proofs.Prelude.{◌≡◌, refl, sym, ap, subst, ◌∙◌, Bool, true, false, true≢false, ◌↔◌, ◌⊎◌, inl, inr, List, ℕ, ◌<◌, get_or, Has, ◌⊆◌}
-use Rattle.searching.proofs.Prelude.{◌⊂◌, Apart, ◌∩◌, ◌∪◌, ◌∖◌, union_in, word_below, ext, has_dec, has_cut, cut_left, cut_right, has_left, has_right}
-use Rattle.searching.proofs.Prelude.{has_without, without_left, without_right, union_cases, union_has, union_at, MAX_TABLES, Body, Satisfies}
-use Rattle.searching.proofs.Prelude.{AnswerSet, ReductModel, Kept, lent, inputs, truth, InRule, in_head, in_positive, in_looks, AnswersInputs}
+use Rattle.searching.proofs.Prelude.{sym, ◌∙◌, ◌⊎◌, inl, inr, List, ℕ, Has, ◌⊆◌}
+use Rattle.searching.proofs.Prelude.{◌⊂◌, Apart, ◌∩◌, ◌∪◌, ◌∖◌, has_dec, has_cut, cut_left, cut_right, has_left, has_right}
+use Rattle.searching.proofs.Prelude.{has_without, without_left, without_right, union_cases, Body, Satisfies}
+use Rattle.searching.proofs.Prelude.{ReductModel, Kept, lent, in_head, in_positive, in_looks, AnswersInputs}
 use Rattle.searching.proofs.Prelude.{AlikeBut, Spare}
 use Rattle.answer_sets.proofs.Bodies.{rest_same}
 

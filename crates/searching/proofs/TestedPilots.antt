@@ -1,8 +1,8 @@
 -- Pilots that were tested: spare atoms, each of one table.
-use Rattle.searching.proofs.Prelude.{◌≡◌, refl, sym, ap, subst, ◌∙◌, Bool, true, ◌⊎◌, inl, inr, List, ℕ, ◌+◌, ◌^◌, ◌≤◌, ◌<◌, arith}
-use Rattle.searching.proofs.Prelude.{ℕ_discrete, dec_lt, get_or, replicate, get_or-replicate, Has, Lowest, ◌⊆◌, subset, Apart, apart, ◌∪◌, ◌∖◌}
-use Rattle.searching.proofs.Prelude.{atom, below, union_in, has_none, has_left, has_right, has_lt, has_below, union_cases, decides_apart}
-use Rattle.searching.proofs.Prelude.{decides_subset, union_has, union_at, Taking, taking_next, taking_end, MAX_TABLES, MAX_UNITS, lent, looks, inputs}
+use Rattle.searching.proofs.Prelude.{◌≡◌, refl, sym, subst, ◌∙◌, Bool, true, List, ℕ, ◌+◌, ◌^◌, ◌≤◌, ◌<◌, arith}
+use Rattle.searching.proofs.Prelude.{ℕ_discrete, get_or, replicate, get_or-replicate, Has, ◌⊆◌, subset, Apart, apart, ◌∪◌}
+use Rattle.searching.proofs.Prelude.{below, union_in, has_none, has_left, has_right, has_lt, has_below, decides_apart}
+use Rattle.searching.proofs.Prelude.{decides_subset, union_has, union_at, Taking, taking_end, MAX_TABLES, MAX_UNITS, lent, looks, inputs}
 use Rattle.searching.proofs.Prelude.{InRule, in_head, in_positive, in_looks, State, PilotsWithin, Job, Spare, NoInputs, DistinctPilots, Piloted}
 use Rattle.searching.proofs.Prelude.{AllDown, all_pilots, with_inputs}
 

@@ -1,5 +1,5 @@
 -- What is wired: what belongs to the list, where the pilots follow their tables.
-use Rattle.searching.proofs.Prelude.{◌≡◌, Bool, true, false, false≢true, List, ℕ, Decides, FollowAll, pilots_of, Wired, Belongs, Job}
+use Rattle.searching.proofs.Prelude.{Bool, false, false≢true, List, ℕ, Decides, FollowAll, pilots_of, Wired, Belongs, Job}
 
 module _ {rules table counts desk : List ℕ} {unit : Job} {M : ℕ} where
   pub wired_if : {r : Bool} → FollowAll rules (pilots_of desk) M → Decides (Belongs rules table counts desk unit M) r

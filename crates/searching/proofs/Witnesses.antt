@@ -1,5 +1,5 @@
 -- Cuts of wanted positions, and members that were met.
-use Rattle.searching.proofs.Prelude.{◌≡◌, refl, sym, ◌∙◌, subst, true, false, false≢true, ◌⊎◌, inl, inr, List, [], ◌∷◌, List-as-Memᴰ, Memᴰ-head}
+use Rattle.searching.proofs.Prelude.{◌≡◌, refl, sym, ◌∙◌, subst, true, false≢true, ◌⊎◌, inl, inr, List, [], ◌∷◌, List-as-Memᴰ, Memᴰ-head}
 use Rattle.searching.proofs.Prelude.{Memᴰ-tail, Memᴰ-not-nil, ℕ, ◌≤◌, ◌<◌, ◌^◌, arith, eqb, length, replicate, eqb-true, ATOMS, Has, ◌∩◌}
 use Rattle.searching.proofs.Prelude.{ext, empty, has_cut, cut_left, cut_right, has_lt, has_none, above_cons, Rising, rising_cons, CutOf, LIST_WORDS}
 use Rattle.searching.proofs.Prelude.{OVERFULL, Completes, undecided, State, decided_cases, Gathered, fits, over, Grown, Witnessed, met, none, Met}

@@ -11,10 +11,10 @@ returns-then-carried-here c =
 pub loop-i-preserved : goal.loop-i-preserved
 loop-i-preserved c =
     elim c.if-carried-here-2.branch [
-      then-carried-here-2 w ↦ rw (w.list-is, w.carried-is)
+      | then-carried-here-2 w ↦ rw (w.list-is, w.carried-is)
           (pass_below c.args.list.now c.args.count c.args.value (omega arith) c.loop-i.list c.loop-i.carried c.loop-i.i c.loop-i.invariant
           c.loop-i-test.true w.if-carried-here-2.true)
-    | else-carried-here-2 w ↦ rw (w.list-is, w.carried-is)
+      | else-carried-here-2 w ↦ rw (w.list-is, w.carried-is)
           (pass_above c.args.list.now c.args.count c.args.value (omega arith) c.loop-i.list c.loop-i.carried c.loop-i.i c.loop-i.invariant
           c.loop-i-test.true c.if-carried-here.false w.if-carried-here-2.false)
     ]

@@ -6,11 +6,10 @@ pub returns-then-not-are_apart : goal.returns-then-not-are_apart
 returns-then-not-are_apart c = inl (record { overlap = (decides_apart _ _).no (sym c.are_apart.ensures ∙ c.if-not-are_apart.true) })
 
 pub returns-then-free-eq0 : goal.returns-then-free-eq0
-returns-then-free-eq0 c =
-    (
-      (decides_apart _ _).yes (sym c.are_apart.ensures ∙ c.if-not-are_apart.false),
-      sym c.undecided-free.ensures ∙ c.if-free-eq0.true,
-    )
+returns-then-free-eq0 c = (
+  (decides_apart _ _).yes (sym c.are_apart.ensures ∙ c.if-not-are_apart.false),
+  sym c.undecided-free.ensures ∙ c.if-free-eq0.true,
+)
 
 pub returns-in-Stop : goal.returns-in-Stop
 returns-in-Stop c =

@@ -1,5 +1,5 @@
 -- Much was learnt, or the rules that may back the atom tell: they are some of the unit's.
-use Rattle.searching.proofs.Prelude.{false≢true, arith, decides_iff, lent_within}
+use Rattle.searching.proofs.Prelude.{arith, decides_iff}
 use Rattle.searching.proofs.outlook.phase_of.Goals as goal
 
 pub returns : goal.returns

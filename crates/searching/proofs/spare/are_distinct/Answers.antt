@@ -1,5 +1,4 @@
-use Rattle.searching.proofs.Prelude.{arith}
-use Rattle.searching.proofs.Face.{distinct_start, distinct_next, distinct_end}
+use Rattle.searching.proofs.Face.{distinct_next}
 use Rattle.searching.proofs.spare.are_distinct.Goals as goal
 
 pub loop-t-preserved : goal.loop-t-preserved

@@ -1,5 +1,5 @@
-use Rattle.searching.proofs.Prelude.{taken_less, taking_start, taking_next, taken_lent}
-use Rattle.searching.proofs.Face.{rule_clear, all_clear}
+use Rattle.searching.proofs.Prelude.{taken_less, taking_next}
+use Rattle.searching.proofs.Face.{rule_clear}
 use Rattle.searching.proofs.spare.in_no_rule.Goals as goal
 
 pub loop-rest-smaller : goal.loop-rest-smaller

@@ -1,5 +1,4 @@
-use Rattle.searching.proofs.Prelude.{arith}
-use Rattle.searching.proofs.Face.{no_table, next_table, all_tables}
+use Rattle.searching.proofs.Face.{next_table}
 use Rattle.searching.proofs.spare.in_no_table.Goals as goal
 
 pub loop-t-preserved : goal.loop-t-preserved

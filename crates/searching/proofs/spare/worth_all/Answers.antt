@@ -1,4 +1,4 @@
-use Rattle.searching.proofs.Prelude.{subset_refl, taken_less, taken_within, taken_lent}
+use Rattle.searching.proofs.Prelude.{taken_less, taken_within}
 use Rattle.searching.proofs.spare.worth_all.Goals as goal
 
 pub loop-rest-smaller : goal.loop-rest-smaller

@@ -1,5 +1,5 @@
-use Rattle.searching.proofs.Prelude.{narrows_refl, narrows_trans, remembers_empty}
-use Rattle.searching.proofs.Face.{models_lent, models_prepared, models_job, asked_found, asked_none, asked_less}
+use Rattle.searching.proofs.Prelude.{narrows_trans}
+use Rattle.searching.proofs.Face.{models_prepared, models_job, asked_found, asked_none, asked_less}
 use Rattle.searching.proofs.subsets.seek_between.Goals as goal
 
 pub ask_without-asked-requires : goal.ask_without-asked-requires
