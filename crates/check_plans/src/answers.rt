@@ -1,7 +1,13 @@
 // A plan of data/ read, and judged at one position: one line.
+use crate::files;
 use judge::Answer;
-use libc::STDOUT_FILENO;
 use plan::{Fault, Outcome};
+use std::fs::File;
+use std::os::fd::AsRawFd;
+use std::rt::Files;
+
+// The descriptor of standard output.
+const STDOUT_FILENO: i32 = 1;
 
 // Writes bytes to standard output.
 fn write(text: &[u8]) {
@@ -69,16 +75,14 @@ fn write_answer(plan: &[u8], position: u64) {
 }
 
 // Writes one line: the plan's name, what reading the plan of that name gives, and the answer at the position.
-pub fn ask_position(name: &[u8], position: u64) {
+pub fn ask_position(rt: &(impl Files<File = File> + Eprint), name: &[u8], position: u64) {
     write(name);
-    let file = os::open_read(name);
-    if file < 0 {
-        os::fail(name);
+    let Some(file) = files::open(rt, name) else {
         return;
-    }
+    };
     let mut plan = io::large_buffer();
-    let length = io::read_full(file, &mut plan);
-    libc::close(file);
+    let length = io::read_full(file.as_raw_fd(), &mut plan);
+    drop(file);
     write_counts(&plan[..length]);
     write_answer(&plan[..length], position);
 }

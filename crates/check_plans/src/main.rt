@@ -3,18 +3,18 @@
 #![tactic(auto)]
 
 mod answers;
+mod files;
 mod questions;
 
+use std::os::fd::AsRawFd;
+
 // All questions in order.
-fn main() {
-    let name = b"asked.txt";
-    let file = os::open_read(name);
-    if file < 0 {
-        os::fail(name);
+fn main(rt: HostRuntime) {
+    let Some(file) = files::open(&rt, b"asked.txt") else {
         return;
-    }
+    };
     let mut text = io::large_buffer();
-    let length = io::read_full(file, &mut text);
-    libc::close(file);
-    questions::ask_all(&text[..length]);
+    let length = io::read_full(file.as_raw_fd(), &mut text);
+    drop(file);
+    questions::ask_all(&rt, &text[..length]);
 }

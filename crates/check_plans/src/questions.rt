@@ -3,6 +3,8 @@
 ghost use Rattle.std.specs.Prelude.{◌≤◌, length};
 
 use crate::answers::ask_position;
+use std::fs::File;
+use std::rt::Files;
 
 const DIGITS: usize = 16;
 
@@ -49,22 +51,22 @@ fn line_length(text: &[u8]) -> usize
 }
 
 // Asks the question of one line.
-fn ask_line(line: &[u8]) {
+fn ask_line(rt: &(impl Files<File = File> + Eprint), line: &[u8]) {
     if line.len() <= NAME {
         return;
     }
     if line[0] == 35 {
         return;
     }
-    ask_position(&line[NAME..], position_of(line));
+    ask_position(rt, &line[NAME..], position_of(line));
 }
 
 // Asks the questions of all lines.
-pub fn ask_all(text: &[u8]) {
+pub fn ask_all(rt: &(impl Files<File = File> + Eprint), text: &[u8]) {
     let mut start = 0;
     while start < text.len() {
         let length = line_length(&text[start..]);
-        ask_line(&text[start..start + length]);
+        ask_line(rt, &text[start..start + length]);
         start += length + 1;
     }
 }

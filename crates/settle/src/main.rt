@@ -1,8 +1,14 @@
 // settle: reads a plan from standard input and writes its sheet.
 #![tactic(auto)]
 
-use libc::{STDERR_FILENO, STDIN_FILENO, STDOUT_FILENO};
 use plan_sheet::kept_sheet;
+
+// The descriptors of the three standard streams.
+const STDIN_FILENO: i32 = 0;
+
+const STDOUT_FILENO: i32 = 1;
+
+const STDERR_FILENO: i32 = 2;
 
 fn main() {
     let mut plan = io::buffer();
