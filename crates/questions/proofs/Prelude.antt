@@ -26,7 +26,7 @@ pub use Rattle.atoms.specs.Lists.{padded, tabulate}
 pub use Rattle.atoms.specs.Word.{ATOMS, Has, ◌∖◌, ◌∩◌, ◌∪◌, below}
 pub use Rattle.questions.specs.Counts.{CountsMean, FitsQuestion, MAX_QUESTIONS, Places, one}
 unfoldable pub use Rattle.questions.specs.Counts.{counts_of, fits, fitting_count, held, up_to}
-pub use Rattle.questions.specs.Questions.{QuestionsAnswered, count_code, with_its_count}
+pub use Rattle.questions.specs.Questions.{QuestionsAnswered, with_its_count}
 unfoldable pub use Rattle.questions.specs.Questions.{answered, asked_of, counted, outcome, with_counts}
 pub use Rattle.questions.specs.declared.counter.Asked.{Asked}
 pub use Rattle.questions.specs.declared.question.Counted.TheVariants.{Filled, TooManyQuestions}

@@ -1,5 +1,4 @@
-// Questions as the caller lends them: a slice of structs. Each function over the slice is proved by a walk of its MIR, by hand; so there are
-// three of them, and they only take the words out, call the counter and fill the counts in.
+// Questions as the caller lends them: a slice of structs. Three functions take the words out, call the counter and fill the counts in.
 ghost use Rattle.std.specs.Prelude.{◌≡◌, ◌≤◌, length};
 ghost use Rattle.questions.specs.Counts.{MAX_QUESTIONS as Counts-as-MAX_QUESTIONS};
 ghost use Rattle.questions.specs.Questions.{count_code, asked_of, with_counts, QuestionsAnswered};

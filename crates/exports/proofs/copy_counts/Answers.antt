@@ -1,9 +1,6 @@
 use Rattle.exports.proofs.Prelude.{needs}
-use Rattle.exports.proofs.CopiedCounts.{copying_start, copying_more, copying_all, copying_full}
+use Rattle.exports.proofs.CopiedCounts.{copying_more, copying_all, copying_full}
 use Rattle.exports.proofs.copy_counts.Goals as goal
-
-pub loop-i-init : goal.loop-i-init
-loop-i-init c = copying_start (search needs)
 
 pub loop-i-preserved : goal.loop-i-preserved
 loop-i-preserved c = search (copying_more, needs)

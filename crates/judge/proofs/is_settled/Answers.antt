@@ -1,5 +1,5 @@
 -- The test over all rules of the record, whose words are all there and are lent where they stand.
-use Rattle.judge.proofs.Prelude.{ap, ◌∙◌, ℕ, lent, answer_set, needs}
+use Rattle.judge.proofs.Prelude.{needs}
 use Rattle.judge.proofs.Face.{whole_lent}
 use Rattle.judge.proofs.is_settled.Goals as goal
 

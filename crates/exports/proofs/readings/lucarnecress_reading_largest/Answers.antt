@@ -8,9 +8,3 @@ returns-in-Is c =
     let told = sym c.in-Is.is in
     largest_handed c.find_largest.ensures (c.hand_found.ensures.value ∙ ap largest_code told)
     (c.hand_found.ensures.found_after ∙ ap (λ (l : Largest). largest_words l c.args.found.now) told)
-
-pub returns-in-Refused : goal.returns-in-Refused
-returns-in-Refused c =
-    let told = sym c.in-Refused.is in
-    largest_handed c.find_largest.ensures (c.refused_code.ensures ∙ ap largest_code told)
-    (ap (λ (l : Largest). largest_words l c.args.found.now) told)

@@ -1,5 +1,5 @@
-use Rattle.judge.proofs.Prelude.{sym, ◌∙◌, arith, needs, not-true, not-false}
-use Rattle.judge.proofs.Face.{whole_lent, tested_at, passed_more, places_first, places_all}
+use Rattle.judge.proofs.Prelude.{sym, ◌∙◌, arith, needs, not-true}
+use Rattle.judge.proofs.Face.{whole_lent, tested_at, places_first, places_all}
 use Rattle.judge.proofs.sheet.judge_places.Goals as goal
 
 pub loop-place-init : goal.loop-place-init

@@ -1,5 +1,5 @@
 use Rattle.questions.proofs.Prelude.{needs}
-use Rattle.questions.proofs.CommonAtoms.{common_start, common_more, common_end}
+use Rattle.questions.proofs.CommonAtoms.{common_start, common_more}
 use Rattle.questions.proofs.common.common_atoms.Goals as goal
 
 pub loop-at-init : goal.loop-at-init

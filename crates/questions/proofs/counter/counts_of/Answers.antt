@@ -1,5 +1,5 @@
 use Rattle.questions.proofs.Prelude.{needs}
-use Rattle.questions.proofs.Face.{tally_start, tally_long, tally_holdable, tally_more, tally_end}
+use Rattle.questions.proofs.Face.{tally_start, tally_holdable, tally_more}
 use Rattle.questions.proofs.counter.counts_of.Goals as goal
 
 pub loop-at-init : goal.loop-at-init

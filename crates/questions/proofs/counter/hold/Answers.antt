@@ -1,5 +1,5 @@
 use Rattle.questions.proofs.Prelude.{needs}
-use Rattle.questions.proofs.Face.{holding_start, within_now, holding_fits, holding_more, holding_end}
+use Rattle.questions.proofs.Face.{holding_start, holding_fits, holding_more}
 use Rattle.questions.proofs.counter.hold.Goals as goal
 
 pub loop-i-init : goal.loop-i-init

@@ -1,5 +1,5 @@
 use Rattle.questions.proofs.Prelude.{arith, needs}
-use Rattle.questions.proofs.Face.{taken_start, taken_more, taken_end, up_long, dropped_long, words_within}
+use Rattle.questions.proofs.Face.{taken_start, taken_more, taken_end, words_within}
 use Rattle.questions.proofs.words.take_words.Goals as goal
 
 pub loop-i-init : goal.loop-i-init

@@ -1,5 +1,5 @@
 -- `read_counts` meets its contract: behind a COUNT comes no second one, so one look is enough.
-use Rattle.reading.proofs.Prelude.{refl, arith, single, sizes, given, Reached, needs}
+use Rattle.reading.proofs.Prelude.{refl, single, sizes, given, Reached, needs}
 use Rattle.reading.proofs.Face.{start, Turn, taken, taken_fits, taken_there, passed_by, empty_fits}
 use Rattle.reading.proofs.reader.read_counts.Goals as goal
 

@@ -1,5 +1,5 @@
 use Rattle.reading.proofs.Prelude.{refl, sym, ◌∙◌, arith, edge, needs}
-use Rattle.reading.proofs.Face.{Turn, taken, passed_by, edge_there, next_fits, next_there, next_less}
+use Rattle.reading.proofs.Face.{Turn, taken, edge_there, next_fits, next_there, next_less}
 use Rattle.reading.proofs.reader.read_edges.Goals as goal
 
 pub with_edge-taken-requires : goal.with_edge-taken-requires

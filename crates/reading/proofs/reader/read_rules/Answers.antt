@@ -1,5 +1,5 @@
 use Rattle.reading.proofs.Prelude.{refl, rule, needs}
-use Rattle.reading.proofs.Face.{room_left, Turn, taken, passed_by, next_fits, next_there, next_less}
+use Rattle.reading.proofs.Face.{room_left, Turn, taken, next_fits, next_there, next_less}
 use Rattle.reading.proofs.reader.read_rules.Goals as goal
 
 pub with_rule-taken-requires : goal.with_rule-taken-requires

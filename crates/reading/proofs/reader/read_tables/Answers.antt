@@ -1,5 +1,5 @@
 use Rattle.reading.proofs.Prelude.{refl, table, needs}
-use Rattle.reading.proofs.Face.{room_left, Turn, taken, passed_by, next_fits, next_there, next_less}
+use Rattle.reading.proofs.Face.{room_left, Turn, taken, next_fits, next_there, next_less}
 use Rattle.reading.proofs.reader.read_tables.Goals as goal
 
 pub with_table-taken-requires : goal.with_table-taken-requires

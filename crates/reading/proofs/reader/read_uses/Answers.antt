@@ -1,5 +1,5 @@
 use Rattle.reading.proofs.Prelude.{refl, sym, ◌∙◌, arith, usage, needs}
-use Rattle.reading.proofs.Face.{room_left, Turn, taken, passed_by, use_there, next_fits, next_there, next_less}
+use Rattle.reading.proofs.Face.{room_left, Turn, taken, use_there, next_fits, next_there, next_less}
 use Rattle.reading.proofs.reader.read_uses.Goals as goal
 
 pub with_use-taken-requires : goal.with_use-taken-requires

@@ -1,5 +1,5 @@
 use Rattle.relay_rows.proofs.Prelude.{needs}
-use Rattle.relay_rows.proofs.Face.{list_parts_start, list_parts_more, list_parts_end}
+use Rattle.relay_rows.proofs.Face.{list_parts_more}
 use Rattle.relay_rows.proofs.positions.write_positions.Goals as goal
 
 pub loop-q-preserved : goal.loop-q-preserved

@@ -1,6 +1,6 @@
 -- Refused where the areas and the count do not suit; else the area is written.
 use Rattle.relay_rows.proofs.Prelude.{needs}
-use Rattle.relay_rows.proofs.Face.{answer_refused, answer_written, rows_written}
+use Rattle.relay_rows.proofs.Face.{answer_written, rows_written}
 use Rattle.relay_rows.proofs.rows.to_rows.Goals as goal
 
 pub returns : goal.returns

@@ -1,5 +1,5 @@
 use Rattle.relay_rows.proofs.Prelude.{needs}
-use Rattle.relay_rows.proofs.Face.{row_parts_start, row_parts_more, row_parts_end}
+use Rattle.relay_rows.proofs.Face.{row_parts_more}
 use Rattle.relay_rows.proofs.rows.write_rows.Goals as goal
 
 pub loop-q-preserved : goal.loop-q-preserved

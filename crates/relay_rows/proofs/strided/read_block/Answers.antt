@@ -1,5 +1,5 @@
-use Rattle.relay_rows.proofs.Prelude.{◌+◌, ◌*◌, ◌<◌, arith, length, needs}
-use Rattle.relay_rows.proofs.Face.{reading_start, reading_more, reading_end}
+use Rattle.relay_rows.proofs.Prelude.{needs}
+use Rattle.relay_rows.proofs.Face.{reading_end}
 use Rattle.relay_rows.proofs.strided.read_block.Goals as goal
 
 pub returns : goal.returns

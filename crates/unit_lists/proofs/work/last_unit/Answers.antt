@@ -1,17 +1,6 @@
 -- No rules, and an edge to every unit.
-use Rattle.unit_lists.proofs.Prelude.{◌≡◌, arith, needs, length, MAX_UNITS}
 use Rattle.unit_lists.proofs.Face.{last_told}
 use Rattle.unit_lists.proofs.work.last_unit.Goals as goal
-
-pub union_of-requires : goal.union_of-requires
-union_of-requires c =
-    let long : length c.args.head_atoms.heads ≡ MAX_UNITS = search needs in
-    (omega arith, omega arith)
-
-pub nearest-requires : goal.nearest-requires
-nearest-requires c =
-    let long : length c.args.head_atoms.heads ≡ MAX_UNITS = search needs in
-    omega arith
 
 pub returns : goal.returns
 returns c =

@@ -3,11 +3,6 @@ use Rattle.unit_lists.proofs.Prelude.{◌≡◌, arith, needs, length, MAX_UNITS
 use Rattle.unit_lists.proofs.Face.{ReadyToList, searchable, unit_stored, unit_listable}
 use Rattle.unit_lists.proofs.work.list_unit.Goals as goal
 
-pub slice_bounds-list_one-end-2 : goal.slice_bounds-list_one-end-2
-slice_bounds-list_one-end-2 c =
-    let heads_long : length c.args.head_atoms.heads ≡ MAX_UNITS = search needs in
-    search (heads_long, needs)
-
 pub list_one-requires : goal.list_one-requires
 list_one-requires c =
     let rules_long : length c.args.plan.rules ≡ PROGRAM_WORDS = search needs in

@@ -1,13 +1,10 @@
-use Rattle.unit_lists.proofs.Prelude.{◌<◌, arith, needs, units_of, held_long}
+use Rattle.unit_lists.proofs.Prelude.{◌<◌, arith, needs, units_of}
 use Rattle.unit_lists.proofs.WorkOrder.{turn_start, turn_there, turn_next, turn_too_long, turn_stop, turn_end}
 use Rattle.unit_lists.proofs.work.list_units.Goals as goal
 
 pub loop-left-init : goal.loop-left-init
 unfolding units_of
 loop-left-init c = search (turn_start, needs)
-
-pub next_unit-u-requires : goal.next_unit-u-requires
-next_unit-u-requires c = search (held_long, needs)
 
 pub returns-then-plan-u : goal.returns-then-plan-u
 unfolding units_of

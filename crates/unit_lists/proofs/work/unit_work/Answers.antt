@@ -1,6 +1,6 @@
 -- A cleared table, the units, the last list: each way out hands back what the definition says.
-use Rattle.unit_lists.proofs.Prelude.{◌≡◌, refl, sym, ap, ◌∙◌, List, [], ℕ, needs, LongList, working_order, Units, units_of, cleared, no_counts_of}
-use Rattle.unit_lists.proofs.Prelude.{unit_work, work_from, Setting, after_units, handed_refused, last_fits, last_long, work_cleared, held_cleared}
+use Rattle.unit_lists.proofs.Prelude.{◌≡◌, refl, sym, ap, ◌∙◌, List, ℕ, LongList, working_order, Units, units_of, cleared, no_counts_of}
+use Rattle.unit_lists.proofs.Prelude.{unit_work, after_units, handed_refused, last_fits, last_long, work_cleared, held_cleared}
 use Rattle.unit_lists.proofs.WorkedUnits.{working_start, working_there, working_last}
 use Rattle.unit_lists.proofs.work.unit_work.Goals as goal
 
