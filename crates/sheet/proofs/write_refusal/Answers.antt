@@ -12,7 +12,7 @@ pub returns : goal.returns
 unfolding refused_word at_word line_end
 returns c =
     let told =
-        put_fills (simp length_refusal_sheet (omega arith))
-        (put_refusal_sheet c.args.number c.args.spot c.put-number_at.ensures c.put_decimal-word_at.ensures c.put-spot_at.ensures
-        c.put_decimal-end_at.ensures c.put.ensures) in
+    put_fills (simp length_refusal_sheet (omega arith))
+    (put_refusal_sheet c.args.number c.args.spot c.put-number_at.ensures c.put_decimal-word_at.ensures c.put-spot_at.ensures
+    c.put_decimal-end_at.ensures c.put.ensures) in
     record { value = told.0; sheet_after = told.1 }

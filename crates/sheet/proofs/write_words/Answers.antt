@@ -17,6 +17,6 @@ pub returns : goal.returns
 unfolding positions_word line_end
 returns c =
     let told =
-        put_fills (simp length_positions_sheet (omega arith))
-        (put_positions_sheet c.args.words.now c.put-count_at.ensures c.put_decimal-end_at.ensures c.put-lines_at.ensures c.put_lines.ensures) in
+    put_fills (simp length_positions_sheet (omega arith))
+    (put_positions_sheet c.args.words.now c.put-count_at.ensures c.put_decimal-end_at.ensures c.put-lines_at.ensures c.put_lines.ensures) in
     record { value = told.0; sheet_after = told.1 }

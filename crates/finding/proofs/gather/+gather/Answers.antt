@@ -31,8 +31,7 @@ returns-then-out-mid-clause-added t c =
 
 pub descend-up-requires : goal.descend-up-requires
 descend-up-requires t c =
-    let k = rw (c.undecided-free.ensures, c.dark_of-dark.ensures, c.without.ensures) at c.highest-k.ensures in
-    (
+    let k = rw (c.undecided-free.ensures, c.dark_of-dark.ensures, c.without.ensures) at c.highest-k.ensures in (
       stands_still c.look-seen.ensures.stands c.gather-mid.ensures.stands.remembers,
       looked_seen c.in-Member.is c.look-seen.ensures.looked,
       k.1,

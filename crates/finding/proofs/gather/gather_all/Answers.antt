@@ -13,14 +13,13 @@ pub gather_nearest-near-requires : goal.gather_nearest-near-requires
 gather_nearest-near-requires c = c.root_of-front.ensures.stands
 
 pub gather-requires : goal.gather-requires
-gather-requires c =
-    (
-      record {
-        stands = c.gather_nearest-near.ensures.stands;
-        hinted = hinted_place (rw c.without.ensures at c.dark_of-dark.ensures) c.gather_nearest-near.ensures.reaches.further c.place_in.ensures;
-      },
-      omega (arith, c.gather_nearest-near.ensures.reaches.added.room, c.gather_nearest-near.ensures.reaches.added.long),
-    )
+gather-requires c = (
+  record {
+    stands = c.gather_nearest-near.ensures.stands;
+    hinted = hinted_place (rw c.without.ensures at c.dark_of-dark.ensures) c.gather_nearest-near.ensures.reaches.further c.place_in.ensures;
+  },
+  omega (arith, c.gather_nearest-near.ensures.reaches.added.room, c.gather_nearest-near.ensures.reaches.added.long),
+)
 
 pub returns : goal.returns
 returns c =

@@ -10,12 +10,11 @@ pub onward-g-requires : goal.onward-g-requires
 onward-g-requires c = c.requires.0.serves.prepared.long
 
 pub propagate-requires : goal.propagate-requires
-propagate-requires c =
-    (
-      c.requires.0.serves.prepared,
-      c.requires.0.remembers,
-      full_filtered _ _ _ _ _ _ (joinable_some c.requires.0.serves.prepared.searchable.near c.requires.0.serves.prepared.searchable.joinable) no_lists_full,
-    )
+propagate-requires c = (
+  c.requires.0.serves.prepared,
+  c.requires.0.remembers,
+  full_filtered _ _ _ _ _ _ (joinable_some c.requires.0.serves.prepared.searchable.near c.requires.0.serves.prepared.searchable.joinable) no_lists_full,
+)
 
 pub returns : goal.returns
 returns c = record { narrows = rw (c.onward-g.ensures, c.decide-t.ensures) at c.propagate.ensures.narrows; remembers = c.propagate.ensures.remembers }

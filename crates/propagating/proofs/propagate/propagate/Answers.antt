@@ -6,11 +6,10 @@ pub loop-i-init : goal.loop-i-init
 loop-i-init c = search (narrows_refl, needs)
 
 pub take_pair-f-requires : goal.take_pair-f-requires
-take_pair-f-requires c =
-    (
-      c.requires.0.long,
-      search needs,
-    )
+take_pair-f-requires c = (
+  c.requires.0.long,
+  search needs,
+)
 
 pub loop-i-preserved : goal.loop-i-preserved
 loop-i-preserved c =

@@ -15,8 +15,8 @@ pub returns-then-length-lt-TABLE_WORDS : goal.returns-then-length-lt-TABLE_WORDS
 returns-then-length-lt-TABLE_WORDS c =
     let bytes = all_bytes c.args.plan.now (λ i. (c.type_inv.plan i).fits) in
     let h =
-        handed_refused (TableShort (length c.args.table.now)) (short_answer c.args.plan.now c.args.table.now c.if-length-lt-TABLE_WORDS.true)
-        c.refuse.ensures refl in
+    handed_refused (TableShort (length c.args.table.now)) (short_answer c.args.plan.now c.args.table.now c.if-length-lt-TABLE_WORDS.true)
+    c.refuse.ensures refl in
     record { answered = h; promised = promised bytes h }
 
 pub returns-in-Refused : goal.returns-in-Refused
@@ -24,8 +24,8 @@ returns-in-Refused c =
     let bytes = all_bytes c.args.plan.now (λ i. (c.type_inv.plan i).fits) in
     let said = outcome_is c.args.plan.now c.read_plan-reading.ensures.read c.in-Refused.is in
     let h =
-        handed_refused c.in-Refused.fault
-        (refused_answer c.args.plan.now c.args.table.now c.in-Refused.fault c.if-length-lt-TABLE_WORDS.false said) c.refuse-in-Refused.ensures refl in
+    handed_refused c.in-Refused.fault
+    (refused_answer c.args.plan.now c.args.table.now c.in-Refused.fault c.if-length-lt-TABLE_WORDS.false said) c.refuse-in-Refused.ensures refl in
     record { answered = h; promised = promised bytes h }
 
 pub list_read_plan-requires : goal.list_read_plan-requires
@@ -39,6 +39,6 @@ returns c =
     let bytes = all_bytes c.args.plan.now (λ i. (c.type_inv.plan i).fits) in
     let said = outcome_is c.args.plan.now c.read_plan-reading.ensures.read c.in_default.is in
     let h =
-        rw (← read_answer c.args.plan.now c.args.table.now c.if-length-lt-TABLE_WORDS.false said) at
-        (rw c.read_plan-reading.ensures.read at c.list_read_plan.ensures) in
+    rw (← read_answer c.args.plan.now c.args.table.now c.if-length-lt-TABLE_WORDS.false said) at
+    (rw c.read_plan-reading.ensures.read at c.list_read_plan.ensures) in
     record { answered = h; promised = promised bytes h }

@@ -11,15 +11,14 @@ returns-in-Refused c =
     (sym c.check_graph-verdict.ensures ∙ c.in-Refused.is)) c.refuse.ensures refl
 
 pub unit_work-requires : goal.unit_work-requires
-unit_work-requires c =
-    (
-      record {
-        fits = c.requires.0;
-        passes = passes_of_verdict (units_of c.args.plan) (sym c.check_graph-verdict.ensures ∙ c.in_default.is);
-        clean = c.requires.1;
-      },
-      c.requires.2,
-    )
+unit_work-requires c = (
+  record {
+    fits = c.requires.0;
+    passes = passes_of_verdict (units_of c.args.plan) (sym c.check_graph-verdict.ensures ∙ c.in_default.is);
+    clean = c.requires.1;
+  },
+  c.requires.2,
+)
 
 pub returns : goal.returns
 returns c =

@@ -9,8 +9,7 @@ list_one-requires c =
     let heads_long : length c.args.head_atoms.heads ≡ MAX_UNITS = search needs in
     let listable : ReadyToList (with_last (units_of c.args.plan)) c.args.plan.unit_count c.args.plan.rules c.args.head_atoms.heads c.args.table.now c.args.counts.now = let rules = rules_long in
     let heads = heads_long in
-    last_listable c.requires.0 (omega (arith, c.requires.0.workable.fits.rules_fit)) (omega arith) c.requires.1 in
-    (
+    last_listable c.requires.0 (omega (arith, c.requires.0.workable.fits.rules_fit)) (omega arith) c.requires.1 in (
       searchable listable c.last_unit-unit.ensures,
       search needs,
       search needs,

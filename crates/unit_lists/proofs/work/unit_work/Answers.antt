@@ -10,11 +10,10 @@ same_work S table e = sym (ap (unit_work S) e ∙ work_cleared S table (working_
 
 pub list_units-worked-requires : goal.list_units-worked-requires
 unfolding units_of no_counts_of
-list_units-worked-requires c =
-    (
-      record { workable = c.requires.0; heads_of = c.head_atoms-head_atoms.ensures },
-      rw c.clear.ensures (working_start (units_of c.args.plan) c.args.table.now c.requires.0.fits.units_fit c.requires.1),
-    )
+list_units-worked-requires c = (
+  record { workable = c.requires.0; heads_of = c.head_atoms-head_atoms.ensures },
+  rw c.clear.ensures (working_start (units_of c.args.plan) c.args.table.now c.requires.0.fits.units_fit c.requires.1),
+)
 
 pub returns-in-Long : goal.returns-in-Long
 returns-in-Long c =
@@ -24,11 +23,10 @@ returns-in-Long c =
 
 pub list_last-requires : goal.list_last-requires
 unfolding units_of
-list_last-requires c =
-    (
-      record { workable = c.requires.0; heads_of = c.head_atoms-head_atoms.ensures },
-      working_there c.list_units-worked.ensures.working _ (c.list_units-worked.ensures.all_done c.in_default.is),
-    )
+list_last-requires c = (
+  record { workable = c.requires.0; heads_of = c.head_atoms-head_atoms.ensures },
+  working_there c.list_units-worked.ensures.working _ (c.list_units-worked.ensures.all_done c.in_default.is),
+)
 
 pub returns-then-not-list_last : goal.returns-then-not-list_last
 unfolding units_of
