@@ -2,7 +2,8 @@
 """docs/promises.py [--check]: writes the contracts of all functions that a crate hands to others, from the sources.
 
 docs/PROMISES.md has the entry points, which have no `requires`; docs/PROMISES-INNER.md has the functions that crates call in each other. With --check
-nothing is written: the status is 1 where a page is not what would be written. In both cases the status is 1 where an entry point has a `requires` or is gone.
+nothing is written: the status is 1 where a page is not what would be written. In both cases the status is 1 where an entry point has a `requires` or is gone,
+and where a function for C has another contract than the one that it calls.
 """
 import re
 import sys
@@ -27,13 +28,14 @@ ENTRY_POINTS = {  # by crate; "*" stands for every function that other languages
     "packed_decimal": ["to_number", "to_reading", "add", "compare", "find_largest"],
     "exports": ["*"],
 }
+FOR_C, CALLED = "exports_c", "exports"  # the crate whose functions C calls, and the one whose functions these call, under the same names
 ENTRY_HEAD = """# What every entry point promises
 
 An entry point takes any bytes, words and numbers: it has no `requires`. Its contract says all that it hands back. Here are the entry points with their
 contracts, crate by crate from the bottom up; [PROMISES-INNER.md](PROMISES-INNER.md) has the functions that crates call in each other. `docs/promises.py`
 writes both pages from the sources, and the gate compares them. The names in a contract are defined in the crates' `specs/`;
-[PROOF.md](PROOF.md) says in which order to read them. In a contract `r` is what the function returns, `now (x .entry)` is what the lent x
-holds at the call, and `now (x .exit)` what it holds at the return.
+[PROOF.md](PROOF.md) says in which order to read them. In a contract `result` is what the function returns and `x.now` what the lent x holds. Where x is
+lent to be written, `x.old` is what it holds at the call and `x.new` what it holds at the return.
 """
 INNER_HEAD = """# What functions between crates promise
 
@@ -52,7 +54,7 @@ def crates():
         elif line.startswith("#"):
             words.append(line[1:].strip())
         else:
-            yield line.split(":")[0], " ".join(words)
+            yield line.split(":")[0].split()[0], " ".join(words)
 
 
 def signature_of(lines, start):
@@ -86,7 +88,10 @@ def functions_of(source):
 def handed_out(folder):
     """The modules that a crate opens, and the names that it hands on from closed ones."""
     root = (folder / "lib.rt").read_text()
-    return set(re.findall(r"^pub mod (\w+);", root, re.M)), set(re.findall(r"^pub use (\w+)::(\w+);", root, re.M))
+    handed = set(re.findall(r"^pub use (\w+)::(\w+);", root, re.M))
+    for module, names in re.findall(r"^pub use (\w+)::\{([^}]*)\};", root, re.M):
+        handed |= {(module, name) for name in re.findall(r"\w+", names)}
+    return set(re.findall(r"^pub mod (\w+);", root, re.M)), handed
 
 
 def public_functions(crate):
@@ -98,14 +103,28 @@ def public_functions(crate):
     for source in sorted(folder.glob("*.rt"), key=lambda file: (file.stem != "lib", file.stem)):
         module = source.stem
         for name, comment, signature in functions_of(source):
-            foreign = signature[0].startswith('pub extern "C"')
-            if module == "lib" or foreign or module in opened or (module, name) in handed:
+            if module == "lib" or module in opened or (module, name) in handed:
                 yield name, comment, signature
 
 
 def is_entry_point(crate, name):
     names = ENTRY_POINTS.get(crate, [])
     return "*" in names or name in names
+
+
+def contract_of(signature):
+    """A function's signature and contract without its layout and calling convention."""
+    text = re.sub(r"\s+", " ", " ".join(signature)).replace('pub extern "C" fn', "pub fn")
+    return text.replace("( ", "(").replace(", )", ")")
+
+
+def differences_for_c():
+    """What is wrong with the functions for C: those that do not promise what the function of that name promises, which they call."""
+    called = {name: contract_of(signature) for name, _, signature in public_functions(CALLED)}
+    for_c = {name: contract_of(signature) for name, _, signature in public_functions(FOR_C)}
+    for name in sorted({*called, *for_c}):
+        if called.get(name) != for_c.get(name):
+            yield f"{FOR_C}::{name} has another contract than {CALLED}::{name}, or one of them is not there"
 
 
 def section(crate, words, functions):
@@ -120,6 +139,9 @@ def pages():
     """Both pages, and what is wrong with the entry points."""
     entry, inner, wrong = ENTRY_HEAD.splitlines(), INNER_HEAD.splitlines(), []
     for crate, words in crates():
+        if crate == FOR_C:
+            entry += ["", f"## {crate}", "", *textwrap.wrap(f"{words} Names and contracts are the same.", 150)]
+            continue
         functions = list(public_functions(crate))
         outer = [one for one in functions if is_entry_point(crate, one[0])]
         entry += section(crate, words, outer)
@@ -127,6 +149,7 @@ def pages():
         names = [name for name, _, _ in outer]
         wrong += [f"{crate}::{name} is not public any more" for name in ENTRY_POINTS.get(crate, []) if name != "*" and name not in names]
         wrong += [f"{crate}::{name} has a requires" for name, _, signature in outer if any(line.strip().startswith("requires") for line in signature)]
+    wrong += differences_for_c()
     return {ENTRY_PAGE: "\n".join(entry) + "\n", INNER_PAGE: "\n".join(inner) + "\n"}, wrong
 
 

@@ -1,6 +1,7 @@
 #!/usr/bin/env python3
 """senses.py: one sense for a name. Says each name of `specs/` that has several homes, in the definitions of all crates together, each file name of `specs/` and
-`proofs/` that several crates have, and each public function and type that several crates have; fails if there is one."""
+`proofs/` that several crates have, and each public function and type that several crates have; fails if there is one. A function for C has the name of the one
+that it calls, in the same sense: docs/promises.py holds their contracts against each other."""
 import glob, os, re, sys
 from collections import defaultdict
 
@@ -26,7 +27,7 @@ def homes():
         if module not in MODULES: found[f'{path.split("/")[2]} file ' + module].add(path)
     for path in glob.glob('crates/*/src/**/*.rt', recursive=True):
         text = open(path, encoding='utf-8').read()
-        for name in re.findall(r'^pub (?:extern "C" )?(?:fn|struct|enum|const) (\w+)', text, re.M): found['item ' + name].add(path)
+        for name in re.findall(r'^pub (?:fn|struct|enum|const) (\w+)', text, re.M): found['item ' + name].add(path)
     return {name: paths for name, paths in found.items() if len(paths) > 1}
 
 
