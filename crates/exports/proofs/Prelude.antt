@@ -8,7 +8,7 @@ pub use Rattle.exports.specs.ExportedSheets.{SheetJudgeHanded}
 pub use Rattle.exports.specs.HandedOut.{JudgeHanded, outcome_code}
 unfoldable pub use Rattle.exports.specs.HandedOut.{copied}
 pub use Rattle.exports.specs.Readings.{CompareHanded, LargestHanded, NumberHanded, ReadingHanded, SumHanded, added_code, compared_code, found_code}
-pub use Rattle.exports.specs.Readings.{found_words, largest_code, largest_words, number_code, order_code, reading_code, refused_code, said_code, sum_code}
+pub use Rattle.exports.specs.Readings.{largest_code, largest_words, number_code, order_code, reading_code, refused_code, said_code, sum_code}
 unfoldable pub use Rattle.exports.specs.Readings.{reading_asked}
 pub use Rattle.exports.specs.Replies.{Replied, Reply}
 pub use Rattle.finding.specs.declared.least.From.{From}

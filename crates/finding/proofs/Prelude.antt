@@ -2,9 +2,9 @@
 pub use Rattle.answer_sets.specs.AnswerSet.{AnswerSet}
 pub use Rattle.answer_sets.specs.Lent.{Lent, lent}
 pub use Rattle.atoms.proofs.HighParts.{high_at, high_mono, high_same, high_with, high_without}
-pub use Rattle.atoms.proofs.Kit.{Bool, In, List, List-as-Memᴰ, Memᴰ-cases_cons, Memᴰ-head, Memᴰ-not-nil, Memᴰ-tail, Measures, [], ◌*◌, ◌++◌}
-pub use Rattle.atoms.proofs.Kit.{◌+◌, ◌-◌, ◌<◌, ◌^◌, ◌∙◌, ◌∷◌, ◌≡◌, ◌≤◌, ◌⊎◌, and, ap, arith, dec_lt, drop, ext_get_or, falls, false, false≢true, get_or}
-pub use Rattle.atoms.proofs.Kit.{get_or-drop, get_or-set_other, get_or-set_same, get_or-take, inl, inr, is, length, length-drop, length-replicate, length-set}
+pub use Rattle.atoms.proofs.Kit.{Bool, List, List-as-Memᴰ, Memᴰ-cases_cons, Memᴰ-head, Memᴰ-not-nil, Memᴰ-tail, [], ◌*◌, ◌++◌}
+pub use Rattle.atoms.proofs.Kit.{◌+◌, ◌-◌, ◌<◌, ◌^◌, ◌∙◌, ◌∷◌, ◌≡◌, ◌≤◌, ◌⊎◌, ap, arith, dec_lt, drop, ext_get_or, false, false≢true, get_or}
+pub use Rattle.atoms.proofs.Kit.{get_or-drop, get_or-set_other, get_or-set_same, get_or-take, inl, inr, length, length-drop, length-replicate, length-set}
 pub use Rattle.atoms.proofs.Kit.{length-take, lt-ltb, ltb, ltb-true, min, needs, not, not-false, not-true, ones, pow_pos, refl, replicate, set, subst}
 pub use Rattle.atoms.proofs.Kit.{suc, sym, take, take-append-drop, true, true≢false, zero, ℕ, ℕ_discrete}
 pub use Rattle.atoms.proofs.Lists.{index_of, member_get_or}
@@ -32,7 +32,7 @@ pub use Rattle.propagating.specs.declared.unit.Job.{Job}
 pub use Rattle.searching.specs.Witness.{Witnessed, met}
 pub use Rattle.searching.specs.declared.witness.Witness.{Witness}
 pub use Rattle.searching.specs.declared.witness.Witness.TheVariants.{Member, Nothing}
-pub use Rattle.states.proofs.Narrows.{completes_back, narrows_refl}
+pub use Rattle.states.proofs.Narrows.{completes_back}
 pub use Rattle.states.specs.Narrowing.{Narrows, Wanted, both_of, branch_of}
 pub use Rattle.states.specs.State.{Completes, undecided}
 pub use Rattle.states.specs.declared.state.State.{State}

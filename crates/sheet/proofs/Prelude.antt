@@ -9,11 +9,11 @@ pub use borrow.Author.Rules.{rules}
 pub use borrow.Author.Tests.{le-leb, le-ltb, leb-false, leb-true, lt-leb, lt-ltb}
 pub use lib.Dec.{leb, lit<, lit≤}
 pub use lib.ListN.{get_or, length, length-append, set, take}
-pub use lib.Seq.{length-take-le, sets, sets-eq, take_all, take-suc}
+pub use lib.Seq.{sets, sets-eq, take-suc}
 pub use mathlib.Core.Bool.{Bool, false, true}
 pub use mathlib.Core.List.{List, [], ◌++◌, ◌∷◌, append_assoc, append-nil}
 pub use mathlib.Core.Path.{◌∙◌, ◌≡◌, ap, refl, sym}
 pub use native.Mathlib.Decide.{dec_lt}
-pub use native.Mathlib.Nat.{add_assoc, add-suc, add-zero, le_of_lt, lt_of_le_of_lt, lt_trans, pow-le-pow_right, pow-suc, suc-add, zero-add}
+pub use native.Mathlib.Nat.{add_assoc, add-suc, add-zero, lt_of_le_of_lt, lt_trans, pow-le-pow_right, pow-suc, suc-add, zero-add}
 pub use native.Mathlib.Numerals.{add-one}
 pub use native.Mathlib.Omega.{arith}

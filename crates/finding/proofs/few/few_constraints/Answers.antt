@@ -1,10 +1,7 @@
 use Rattle.finding.proofs.Prelude.{needs}
-use Rattle.finding.proofs.Face.{held_start, held_step, held_end, lent_some}
+use Rattle.finding.proofs.Face.{held_step, held_end, lent_some}
 use Rattle.atoms.proofs.Counts.{taken_less}
 use Rattle.finding.proofs.few.few_constraints.Goals as goal
-
-pub loop-rest-init : goal.loop-rest-init
-loop-rest-init c = search (held_start, needs)
 
 pub try_without-held-requires : goal.try_without-held-requires
 try_without-held-requires c = search (lent_some, needs)

@@ -1,5 +1,5 @@
 -- Each return says what its node adds to the words; both branches have fewer undecided atoms.
-use Rattle.finding.proofs.Prelude.{arith, true, false, ATOMS, Highest, undecided, hidden_of, dark_of, Likely}
+use Rattle.finding.proofs.Prelude.{arith, true, false}
 use Rattle.finding.proofs.Face.{looked_seen, dark_free, gather_full, gather_none, gather_leaf, gather_low, gather_both, descended_falls, stands_still}
 use Rattle.finding.proofs.gather.+gather.Goals as goal
 

@@ -2,9 +2,6 @@
 use Rattle.finding.proofs.Face.{descended}
 use Rattle.finding.proofs.gather.descend.Goals as goal
 
-pub step_down-front-requires : goal.step_down-front-requires
-step_down-front-requires c = (c.requires.0, c.requires.2)
-
 pub returns : goal.returns
 returns c =
     descended c.args.f.state c.args.k c.args.phase c.requires.0 c.requires.1 c.requires.3 c.step_down-front.ensures.narrows

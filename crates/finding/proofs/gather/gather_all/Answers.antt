@@ -3,15 +3,6 @@ use Rattle.finding.proofs.Prelude.{arith}
 use Rattle.finding.proofs.Face.{hinted_place, gather_root, between_rest}
 use Rattle.finding.proofs.gather.gather_all.Goals as goal
 
-pub unit_of-unit-requires : goal.unit_of-unit-requires
-unit_of-unit-requires c = c.desk_of-desk.ensures.long
-
-pub root_of-front-requires : goal.root_of-front-requires
-root_of-front-requires c = (rw c.unit_of-unit.ensures c.desk_of-desk.ensures.serves, c.empty_store-memory.ensures)
-
-pub gather_nearest-near-requires : goal.gather_nearest-near-requires
-gather_nearest-near-requires c = c.root_of-front.ensures.stands
-
 pub gather-requires : goal.gather-requires
 gather-requires c = (
   record {

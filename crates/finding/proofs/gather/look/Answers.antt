@@ -3,11 +3,9 @@ use Rattle.finding.proofs.Prelude.{needs}
 use Rattle.finding.proofs.Face.{looked_passed, looked_known, looked_asked}
 use Rattle.finding.proofs.gather.look.Goals as goal
 
-pub returns-then-is_passed : goal.returns-then-is_passed
-returns-then-is_passed c = record { looked = looked_passed c.requires.stands (rw c.without.ensures at c.dark_of-dark.ensures) (c.is_passed.ensures c.if-is_passed.true); stands = c.requires.stands }
-
-pub ask-requires : goal.ask-requires
-ask-requires c = c.requires.stands
+pub returns-then-is_passed-clause-looked : goal.returns-then-is_passed-clause-looked
+returns-then-is_passed-clause-looked c =
+    looked_passed c.requires.stands (rw c.without.ensures at c.dark_of-dark.ensures) (c.is_passed.ensures c.if-is_passed.true)
 
 pub returns-in-Member : goal.returns-in-Member
 returns-in-Member c = search (looked_known, needs)

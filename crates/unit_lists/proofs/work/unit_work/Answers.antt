@@ -43,6 +43,7 @@ unfolding units_of
 returns c =
     let w = c.list_units-worked.ensures in
     let yes = c.if-not-list_last.false in
-    let e = same_work _ c.args.table.now c.clear.ensures ∙ w.answer_is ∙ ap (after_units _ _) c.in_default.is ∙ last_fits _ _ (c.list_last.ensures.when_fits yes).0 in
+    let left = same_work _ c.args.table.now c.clear.ensures ∙ w.answer_is ∙ ap (after_units _ _) c.in_default.is in
+    let e = left ∙ last_fits _ _ (c.list_last.ensures.when_fits yes).0 in
     let held = working_last w.working (w.all_done c.in_default.is) c.list_last.ensures yes in
     rw e (record { outcome_is = refl; counts_are = held.counts_are; table_is = held.table_is })
