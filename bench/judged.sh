@@ -11,7 +11,7 @@ need_clingo
 
 folder=${EXPORTS_DIR:-target/staticlib}
 if [ -z "${EXPORTS_DIR:-}" ] && command -v rt >/dev/null; then
-    rt staticlib exports >&2
+    build_library >&2
 fi
 [ $# -gt 0 ] || set -- bench/plans bench/tables
 mkdir -p target/bench

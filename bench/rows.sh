@@ -8,7 +8,7 @@ need_cc
 
 folder=${EXPORTS_DIR:-target/staticlib}
 if [ -z "${EXPORTS_DIR:-}" ] && command -v rt >/dev/null; then
-    rt staticlib exports
+    build_library
 fi
 mkdir -p target/bench
 cc -std=c11 -O2 -Wall -Wextra -Werror -Iinclude bench/rows.c -L"$folder" -lexports -o target/bench/rows

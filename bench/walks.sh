@@ -12,7 +12,7 @@ need_clingo
 
 folder=${EXPORTS_DIR:-target/staticlib}
 if [ -z "${EXPORTS_DIR:-}" ] && command -v rt >/dev/null; then
-    rt staticlib exports
+    build_library
 fi
 output=${1:-target/bench/walks.md}
 [ $# -gt 1 ] && shift || {

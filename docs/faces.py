@@ -2,12 +2,13 @@
 """faces.py [--check] [--kit] [CRATE ..]: a crate's proofs take the names of the kit, of crates below and of their own definitions from its `Prelude`, and
 function proofs take the crate's own laws from its `Face`. Write a plain `use HOME.{name}` line where a proof needs a name, then run this: it moves the names of
 homes that several files use to the two modules, and takes those away that no file uses. The kit's names come through `atoms.proofs.Kit`, which stays as it is,
-since every crate stands on it: --kit writes it anew. --check writes nothing, and says which files would change."""
+since every crate stands on it: --kit writes it anew. A file that names what it should stays as it is. --check writes nothing, and says which files would
+change."""
 import glob, os, re, sys
 from collections import Counter, defaultdict
 
 WIDTH = 158
-KIT, KIT_HOME = 'crates/atoms/proofs/Kit.antt', 'Rattle·atoms.proofs.Kit'
+KIT, KIT_HOME = 'crates/atoms/proofs/Kit.antt', 'Rattle.atoms.proofs.Kit'
 COMMENTS = {
     'Kit': '-- The names of the kit that proofs use, each with its home.',
     'Prelude': '-- What the proofs of this crate name of the kit, of the crates below and of its own definitions, each with its home.',
@@ -16,11 +17,16 @@ COMMENTS = {
 USE = re.compile(r'^use (\S+?)\.\{(.*)\}$')
 PASS = re.compile(r'^(?:unfoldable )?pub use (\S+?)\.\{(.*)\}$')
 WORD = r'[^\s(){},;]+'
+OF_FUNCTIONS = ('Answers.antt', 'Invariants.antt', 'Proof.antt')  # the files of a function's own proof
 
 
 def read(path):
     if not os.path.exists(path): return ''
     with open(path, encoding='utf-8') as f: return f.read()
+
+
+# The crates of crates.txt, each with what it stands on.
+LISTED = {m[1]: m[2].split() for m in re.finditer(r'^(\w+)(?: staticlib)?:(.*)$', read('crates.txt'), re.M)}
 
 
 def names(group):
@@ -29,6 +35,17 @@ def names(group):
 
 def plain(name):
     return name.split(' as ')[0]
+
+
+def in_order(group):
+    """Names as they stand in a line: capitals, operators, small letters."""
+    return sorted(group, key=lambda n: n.replace('◌', '_'))
+
+
+def is_ours(home):
+    """Whether a home is one of this repository's crates, and not the kit's. What `Kit` has under a name of its own is at home there, and is the kit's."""
+    found = re.match(r'Rattle\.(\w+)\.', home)
+    return bool(found) and found[1] in LISTED and home != KIT_HOME
 
 
 def packed(start, home, group):
@@ -51,18 +68,18 @@ def face(module, chosen, unfolded, through=lambda n, h: h):
     homes, out = defaultdict(list), [COMMENTS[module]]
     for n, h in chosen.items(): homes[through(n, h)].append(n)
     for h in sorted(homes):
-        opened = [n for n in sorted(homes[h]) if (chosen[n], n) in unfolded]
-        out += packed('pub ', h, [n for n in sorted(homes[h]) if n not in opened]) + packed('unfoldable pub ', h, opened)
+        opened = [n for n in in_order(homes[h]) if (chosen[n], n) in unfolded]
+        out += packed('pub ', h, [n for n in in_order(homes[h]) if n not in opened]) + packed('unfoldable pub ', h, opened)
     return '\n'.join(out) + '\n'
 
 
 class Crate:
     def __init__(self, name, deps):
-        self.name, self.base, self.root = name, f'crates/{name}/proofs', f'Rattle·{name}·proofs.proofs'
-        self.kit_home = self.root + '.Kit' if name == 'atoms' else KIT_HOME if 'atoms' in deps else None
+        self.name, self.base, self.root = name, f'crates/{name}/proofs', f'Rattle.{name}.proofs'
+        self.kit_home = KIT_HOME if name == 'atoms' or 'atoms' in deps else None
         kit, self.homes = passed(KIT), {}
         for module in ('Prelude', 'Face'):
-            for n, home in passed(f'{self.base}/{module}.antt').items(): self.homes[module, n] = kit[n] if home == self.kit_home else home
+            for n, home in passed(f'{self.base}/{module}.antt').items(): self.homes[module, n] = kit.get(n, home) if home == self.kit_home else home
         own = [f'{self.base}/{m}.antt' for m in ('Lib', 'Kit', 'Prelude', 'Face')]
         self.texts = {p: read(p) for p in sorted(glob.glob(self.base + '/**/*.antt', recursive=True)) if p not in own}
 
@@ -74,10 +91,10 @@ class Crate:
 
     def module_of(self, path, home, name):
         """The module that may pass the name on to this file, or none."""
-        if home.endswith('.Statement') or '.' in plain(name).strip('._'): return None
-        if not home.startswith(self.root): return 'Prelude'
+        if '.' in plain(name): return None
+        if home == KIT_HOME or not home.startswith(self.root + '.'): return 'Prelude'
         law = re.fullmatch(re.escape(self.root) + r'\.[A-Z][^.]*', home)
-        return 'Face' if law and os.path.basename(path) == 'Proof.antt' else None
+        return 'Face' if law and os.path.basename(path) in OF_FUNCTIONS else None
 
     def choose(self):
         """For each of the two modules the names that it passes on: those of homes that two files use, each from the home that most files mean by it."""
@@ -87,9 +104,9 @@ class Crate:
                 module = self.module_of(p, home, n)
                 if not module: continue
                 users[module][plain(n)][home] += 1
-                files[module, home if home.startswith('Rattle') else 'kit'].add(p)
+                files[module, home if is_ours(home) else 'kit'].add(p)
         best = {m: {n: by.most_common(1)[0][0] for n, by in found.items()} for m, found in users.items()}
-        return {m: {n: h for n, h in found.items() if len(files[m, h if h.startswith('Rattle') else 'kit']) > 1} for m, found in best.items()}
+        return {m: {n: h for n, h in found.items() if len(files[m, h if is_ours(h) else 'kit']) > 1} for m, found in best.items()}
 
     def unfolded(self):
         """The imported names that some file unfolds, with their homes."""
@@ -124,27 +141,33 @@ class Crate:
         return {**out, f'{self.base}/Lib.antt': lib}
 
 
-def kit_of(chosen):
-    """The kit's names that preludes pass on, each from the home that most of them mean."""
-    homes = defaultdict(Counter)
+def kit_of(chosen, kit):
+    """The kit's names that preludes pass on, each from the home that most of them mean, and those that `kit` has under another name."""
+    homes, others = defaultdict(Counter), {n.split(' as ')[1]: n for n in kit if ' as ' in n}
     for modules in chosen.values():
         for n, h in modules['Prelude'].items():
-            if not h.startswith('Rattle·'): homes[n][h] += 1
+            if h == KIT_HOME: homes[others[n]][kit[others[n]]] += 1
+            elif not is_ours(h): homes[n][h] += 1
     return {n: by.most_common(1)[0][0] for n, by in homes.items()}
+
+
+def spoken(text):
+    """What a file names: its imports, what it passes on and its modules, in whatever lines."""
+    found = [re.match(r'((?:unfoldable )?(?:pub )?(?:use|mod)) ([^{]*)(?:\{(.*)\})?$', line) for line in text.split('\n')]
+    return {(m[1], m[2], n) for m in found if m for n in names(m[3] or '') or ['']}
 
 
 def main():
     check, named = '--check' in sys.argv, [a for a in sys.argv[1:] if not a.startswith('--')]
-    listed = dict(line.split(':') for line in read('crates.txt').split('\n') if re.match(r'\w+:', line))
-    crates = [Crate(name, deps.split()) for name, deps in listed.items() if os.path.isdir(f'crates/{name}/proofs')]
+    crates = [Crate(name, deps) for name, deps in LISTED.items() if os.path.isdir(f'crates/{name}/proofs')]
     chosen = {c.name: c.choose() for c in crates}
     kit, results = passed(KIT), {}
     if '--kit' in sys.argv:
-        kit = kit_of(chosen)
+        kit = kit_of(chosen, kit)
         results[KIT] = face('Kit', kit, set().union(*(c.unfolded() for c in crates)))
     for c in crates:
         if not named or c.name in named: results.update(c.results(chosen[c.name], kit))
-    stale = [p for p, text in results.items() if read(p) != text]
+    stale = [p for p, text in results.items() if spoken(read(p)) != spoken(text)]
     if check: sys.exit('docs/faces.py: out of date: ' + ', '.join(stale) if stale else 0)
     for p in stale:
         with open(p, 'w', encoding='utf-8') as f: f.write(results[p])

@@ -1,6 +1,6 @@
 #!/bin/sh
-# host/build.sh [FOLDER]: builds the library for hosts in this folder (default target/host): liblucarnecress.a, and liblucarnecress.so.VERSION with its
-# links. Both have the proved functions as `rt staticlib exports` leaves them, and beside them the two of host/lucarnecress.c, which are plain C.
+# host/build.sh [FOLDER]: builds the library for hosts in this folder (default target/host): liblucarnecress.a and liblucarnecress.so.VERSION, whose links
+# host/install.sh makes. Both have the proved functions as tests/programs.sh leaves them, and beside them the two of host/lucarnecress.c, which are plain C.
 #
 # The proved library is taken from the folder EXPORTS_DIR (default target/staticlib). The last line is the version.
 set -e
@@ -10,10 +10,10 @@ need_cc
 
 folder=${1:-target/host} proved=${EXPORTS_DIR:-target/staticlib}
 if [ -z "${EXPORTS_DIR:-}" ] && command -v rt >/dev/null; then
-    rt staticlib exports # what stands below it and is proved already is not proved again
+    build_library
 fi
 if [ ! -e "$proved/libexports.a" ]; then
-    echo "$proved/libexports.a is missing: build it first with: rt staticlib exports" >&2
+    echo "$proved/libexports.a is missing: build it first with: tests/programs.sh library" >&2
     exit 2
 fi
 version=$(sed -n 's/^#define LUCARNECRESS_VERSION "\(.*\)"$/\1/p' include/lucarnecress.h)
@@ -27,6 +27,4 @@ ar rcD "$folder/$name.a" "$folder/lucarnecress.o"
 cc -shared -nostartfiles -Wl,-soname,"$soname" -Wl,--version-script=host/lucarnecress.map -Wl,-z,now -Wl,-z,relro -Wl,-z,text -Wl,-z,defs -Wl,-z,noexecstack \
     -Wl,--whole-archive "$folder/$name.a" -Wl,--no-whole-archive -o "$folder/$name.so.$version"
 rm "$folder/lucarnecress.o"
-ln -s "$name.so.$version" "$folder/$soname"
-ln -s "$soname" "$folder/$name.so"
 echo "$version"

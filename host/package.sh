@@ -6,9 +6,11 @@ cd "$(dirname "$0")/.."
 folder=${1:-target}
 architecture=$(dpkg --print-architecture)
 libdir=/usr/lib/$(dpkg-architecture -qDEB_HOST_MULTIARCH 2>/dev/null || cc -print-multiarch)
-dev=target/package-dev run=target/package-run
-rm -rf "$dev" "$run" && mkdir -p "$folder"
-DESTDIR=$PWD/$dev LIBDIR=$libdir host/install.sh /usr
+work=$(mktemp -d)
+trap 'rm -rf "$work"' EXIT
+dev=$work/dev run=$work/run
+mkdir -p "$folder"
+DESTDIR=$dev LIBDIR=$libdir host/install.sh /usr
 version=$(sed -n 's/^Version: //p' "$dev$libdir/pkgconfig/lucarnecress.pc")
 soname=so.${version%%.*}
 runtime=liblucarnecress${soname#so.}

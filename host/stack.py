@@ -6,7 +6,7 @@ function is printed, its name and its bytes.
 
 A frame is followed through the control flow of its function: pushes, pops, changes of rsp, the loop that touches each page of a large frame, and what a
 leaf writes below rsp. Calls are taken from the relocations. A function that calls itself is as deep as its proof says: the measure of its recursion must
-be the count of a word's bits, in crates/CRATE/proofs/MODULE/+FUNCTION/Proof.antt, so at most 64 calls are nested in the first. What the script does not
+be the count of a word's bits, in crates/CRATE/proofs/MODULE/+FUNCTION/Invariants.antt, so at most 64 calls are nested in the first. What the script does not
 understand, as another way to change rsp, a call by pointer or a recursion with another measure, ends it with a word and status 2: then nothing is told."""
 
 import pathlib
@@ -25,7 +25,7 @@ SPARE = 8  # a constant has an eighth to spare
 INSTRUCTION = re.compile(r"^\s*([0-9a-f]+):\t(\S+)\s*(.*?)\s*$")
 FUNCTION = re.compile(r"^[0-9a-f]+ <(.*)>:$")
 RELOCATION = re.compile(r"^\s+([0-9a-f]+): (R_X86_64_\w+)\t(\S+?)([-+]0x[0-9a-f]+)?$")
-MEASURE = re.compile(r"^μ-\S+ κs a =\s+ones \(", re.MULTILINE)
+MEASURE = re.compile(r"^decreases-(\S+) \w+ =\s+ones \(", re.MULTILINE)
 
 
 class Unclear(Exception):
@@ -53,7 +53,7 @@ def functions(archive):
             current = found.setdefault(match.group(1), [])
         elif match := RELOCATION.match(line):
             if current and current[-1].name.startswith(("call", "j")):
-                current[-1].symbol = match.group(3).removeprefix(".text.")
+                current[-1].symbol = re.sub(r"^\.text\.(unlikely\.)?", "", match.group(3))
         elif match := INSTRUCTION.match(line):
             current.append(Instruction(int(match.group(1), 16), match.group(2), match.group(3)))
     if not found:
@@ -191,10 +191,10 @@ class Frame:
 def nested_calls(function):
     """How many calls of a function may be nested in its first one: what the measure of its recursion is at most."""
     crate, *modules, name = function.split("::")
-    proof = pathlib.Path("crates", crate, "proofs", *modules, "+" + name, "Proof.antt")
+    proof = pathlib.Path("crates", crate, "proofs", *modules, "+" + name, "Invariants.antt")
     if not proof.is_file():
         raise Unclear(f"{function} calls itself, and {proof} is not there")
-    if not MEASURE.search(proof.read_text()):
+    if name not in MEASURE.findall(proof.read_text()):
         raise Unclear(f"{function} calls itself, and the measure in {proof} is not the count of a word's bits")
     return BITS
 

@@ -12,7 +12,8 @@
  * Words have 64 bits; a position is a word in which bit i is atom i. Words are handed over in the machine's order. In areas of bytes, plans and
  * sheets, the lowest byte of a word comes first, and in runs of readings the highest.
  *
- * Machine. x86-64 with the System V calling convention, as on Linux.
+ * Machine. x86-64-v2, that is x86-64 with SSE4.2 and POPCNT, with the System V calling convention, as on Linux. No function looks whether the processor
+ * has them.
  *
  * Threads. No function has a state of its own, takes memory from a heap, opens, locks or waits for anything, or calls back: of the C library memcpy and
  * memset alone are called. So any number of threads may call at the same time, each with areas of its own to write; what is only read may be shared.

@@ -1,4 +1,26 @@
-# Functions that build the test programs; read by the scripts of this folder and of bench/.
+# Functions that build the proved library and program and the test programs; read by the scripts of this folder, host/, bench/ and tools/.
+
+# build_library: proves the functions that other languages call, and leaves them as target/staticlib/libexports.a. What is proved already, here or in another
+# checkout on this machine, is not proved again.
+build_library() {
+    (cd crates/exports_c && rt lib) || return
+    mkdir -p target/staticlib
+    put_if_new crates/exports_c/out/libexports_c.a target/staticlib/libexports.a
+}
+
+# build_settle: proves the program settle, runs it once on nothing, and leaves it as target/bin/settle, with the object file that it was linked from as
+# target/obj/settle.o.
+build_settle() {
+    (cd crates/settle && rt run </dev/null >/dev/null) || return
+    mkdir -p target/bin target/obj
+    put_if_new crates/settle/out/settle target/bin/settle
+    put_if_new crates/settle/out/settle.o target/obj/settle.o
+}
+
+# put_if_new FILE COPY: copies a file, unless the copy is the same already: so it keeps its time, and nothing is built over it again.
+put_if_new() {
+    cmp -s "$1" "$2" || cp -f "$1" "$2"
+}
 
 # Finds a rustc that works. It may stand in the folder of the user's cargo, off the path.
 find_rustc() {

@@ -61,7 +61,7 @@ cite_wrong README.md 's/(docs\/HOST.md)/(docs\/HOSTS.md)/'                    # 
 cite_wrong README.md 's/#refusals/#refusal/'                                  # a heading that is not there
 cite_wrong README.md 's/`plans\/clingo-default-misses-one`/`plans\/clingo-misses-one`/' # a sample that is not there
 cite_wrong README.md 's/docs\/page-asked.png/docs\/page-asks.png/'            # a picture that is not there
-cite_wrong docs/THEOREMS.md 's/`last-list`/`last-lists`/'                     # a theorem that is not there
+cite_wrong docs/THEOREMS.md 's/`last_list`/`last_lists`/'                     # a theorem that is not there
 cite_wrong docs/THEOREMS.md 's/`judge\/proofs\/Settled`/`judge\/proofs\/Settle`/' # a file that is not there
 cite_wrong docs/THEOREMS.md 's/list_positions/list_position/'                 # a function that is not there
 cite_wrong docs/THEOREMS.md '1s/$/'"$(printf 'x%.0s' {1..4400})"'/'           # a page that is too long

@@ -10,7 +10,7 @@ need_cc
 
 folder=${EXPORTS_DIR:-target/staticlib}
 if [ -z "${EXPORTS_DIR:-}" ] && command -v rt >/dev/null; then
-    rt staticlib exports # what stands below it and is proved already is not proved again
+    build_library
 fi
 need_python
 tests/told.py

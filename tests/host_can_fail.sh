@@ -6,10 +6,10 @@
 cd "$(dirname "$0")/.." || exit 2
 EXPORTS_DIR=$(realpath "${EXPORTS_DIR:-target/staticlib}")
 export EXPORTS_DIR
-named=${1:-} tried=0 unnoticed=0 room=$PWD/target/host-room
+named=${1:-} tried=0 unnoticed=0 room=$(mktemp -d)
+trap 'rm -rf "$room"' EXIT
 
-# A room of its own: links to all files but those of target/ and .git.
-rm -rf "$room" && mkdir -p "$room"
+# A room of its own outside the checkout, where rt takes no links and no second crates: links to all files but those of target/ and .git.
 for entry in *; do
     [ "$entry" = target ] || cp -rs "$PWD/$entry" "$room/$entry"
 done
@@ -70,7 +70,7 @@ with_mistake painted "a recursion is a quarter as deep" host/stack.py 'BITS = 64
 with_mistake painted "a recursion is no call" host/stack.py 'max(own) * nested_calls(name) if own else 0' '0'
 with_mistake painted "the loop over pages is one page" host/stack.py 'return [(i + 1, (state[1], None))]' 'return [(i + 1, state)]'
 with_mistake frames "pushes are not counted" host/stack.py 'return depth + 8, probe' 'return depth, probe'
-with_mistake frames "a recursion has another measure" crates/searching/proofs/search/+explore/Proof.antt 'ones (undecided' 'rank (undecided'
+with_mistake frames "a recursion has another measure" crates/searching/proofs/search/+explore/Invariants.antt 'ones (undecided' 'rank (undecided'
 with_mistake told "a refusal has other words than the tool's" host/lucarnecress.c 'a RULE has neither head nor body' 'a RULE is empty'
 with_mistake told "the tool has other words than the library" tools/lucarne/src/plan/words.rs '"rule {} is in no unit"' '"rule {} has no unit"'
 with_mistake told "a refusal has no words" host/lucarnecress.c '    case LUCARNECRESS_CYCLE:

@@ -1,5 +1,5 @@
 #!/bin/bash
-# tests/installed.sh [PART..]: installs the library for hosts under target/prefix and tries it there, all parts or those that are named: what header and
+# tests/installed.sh [PART..]: installs the library for hosts in a temporary folder and tries it there, all parts or those that are named: what header and
 # libraries have (contents), a host built by pkg-config (pkg_config), the examples and C++ (examples), and the packages (packages). What asks for
 # pkg-config, a C++ compiler, groff or dpkg-deb is skipped with a word where they are not installed. The last line is 'N passed, M failed, S skipped'.
 #
@@ -9,7 +9,10 @@ cd "$(dirname "$0")/.." || exit 2
 need_cc
 need_python
 want_pkg_config
-work=$PWD/target/tests/installed prefix=$PWD/target/prefix proved=${EXPORTS_DIR:-target/staticlib}/libexports.a
+proved=${EXPORTS_DIR:-target/staticlib}/libexports.a
+work=$(mktemp -d)
+trap 'rm -rf "$work"' EXIT
+prefix=$work/prefix
 passed=0 failed=0 skipped=0
 
 # result STATUS WHAT: counts one comparison.
@@ -37,9 +40,9 @@ declared() {
 
 # What the libraries have: the proved code as it was, the functions of the header and no other, and nothing that could hold a state.
 try_contents() {
-    local so=$prefix/lib/liblucarnecress.so object=$work/exports.o
-    ar p "$proved" exports.o >"$object"
-    ar p "$prefix/lib/liblucarnecress.a" exports.o | cmp -s - "$object"
+    local so=$prefix/lib/liblucarnecress.so object=$work/exports_c.o
+    ar p "$proved" exports_c.o >"$object"
+    ar p "$prefix/lib/liblucarnecress.a" exports_c.o | cmp -s - "$object"
     result $? "the proved code is not in liblucarnecress.a as it was"
     diff <(declared) <(nm -D --defined-only "$so" | awk '$2 == "T" {sub("@.*", "", $3); print $3}' | sort)
     result $? "liblucarnecress.so has other functions than the header"
@@ -117,7 +120,6 @@ try_packages() {
     result $? "the package's pkg-config file"
 }
 
-rm -rf "$work" "$prefix" && mkdir -p "$work"
 tools/lucarne/install.sh --host "$prefix" >"$work/install.log" 2>&1 || { cat "$work/install.log" && exit 1; }
 version=$(sed -n 's/^version = "\(.*\)"$/\1/p' tools/lucarne/Cargo.toml)
 export PKG_CONFIG_PATH=$prefix/lib/pkgconfig LD_LIBRARY_PATH=$prefix/lib

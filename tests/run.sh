@@ -15,10 +15,10 @@ if [ "$folder" = stand-in ]; then
     export LIBRARY_BY_FORCE=1 # a sample that is too large for the lister is not asked of it
 fi
 if [ -z "${EXPORTS_DIR:-}" ] && command -v rt >/dev/null; then
-    rt staticlib exports # what stands below it and is proved already is not proved again
+    build_library
 fi
 if [ ! -e "$folder/libexports.a" ]; then
-    echo "$folder/libexports.a is missing: build it first with: rt staticlib exports" >&2
+    echo "$folder/libexports.a is missing: build it first with: tests/programs.sh library" >&2
     exit 2
 fi
 

@@ -14,7 +14,7 @@ need_rustc
 archive=${EXPORTS_DIR:-target/staticlib}/libexports.a work=target/tests
 mkdir -p "$work"
 if [ -z "${EXPORTS_DIR:-}" ] && command -v rt >/dev/null; then
-    rt staticlib exports # what stands below it and is proved already is not proved again
+    build_library
 fi
 host/stack.py "$archive"
 host/stack.py --table "$archive" >"$work/stacks.table"

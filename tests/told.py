@@ -74,7 +74,7 @@ def check_words():
 
 
 def check_functions():
-    exported = re.findall(r'^pub extern "C" fn (lucarnecress_\w+)', "".join(text(path) for path in pathlib.Path("crates/exports/src").glob("*.rt")), re.M)
+    exported = re.findall(r'^pub extern "C" fn (lucarnecress_\w+)', "".join(text(path) for path in pathlib.Path("crates/exports_c/src").glob("*.rt")), re.M)
     plain_c = re.findall(r"^const char \*(lucarnecress_\w+)\(", text("host/lucarnecress.c"), re.MULTILINE)
     declared = re.findall(r"^(?:uint64_t |const char \*)(lucarnecress_\w+)\(", text(HEADER), re.MULTILINE)
     expect(sorted(exported + plain_c) == sorted(declared), f"exported and declared differ: {sorted(set(exported + plain_c) ^ set(declared))}")

@@ -1,5 +1,5 @@
 #!/bin/sh
-# tools/settle-static.sh [OBJECT] [OUTPUT]: links the proved object file of settle (default target/obj/settle.o, as `rt check settle` leaves it)
+# tools/settle-static.sh [OBJECT] [OUTPUT]: links the proved object file of settle (default target/obj/settle.o, as `tests/programs.sh settle` leaves it)
 # without a C library and without a loader, into target/bin/settle-static. A process of it starts in a fraction of the time.
 set -e
 cd "$(dirname "$0")/.."
@@ -9,7 +9,7 @@ need_cc
 object=${1:-target/obj/settle.o}
 output=${2:-target/bin/settle-static}
 if [ ! -e "$object" ]; then
-    echo "$object is missing: prove and build the program first with: rt check settle" >&2
+    echo "$object is missing: prove and build the program first with: tests/programs.sh settle" >&2
     exit 2
 fi
 cc -O2 -Wall -ffreestanding -fno-stack-protector -fno-pie -fno-tree-loop-distribute-patterns -fno-asynchronous-unwind-tables \

@@ -1,4 +1,4 @@
-//! Links the proved library, libexports.a in the folder EXPORTS_DIR (default: target/staticlib of the repository, where `rt staticlib exports` puts it).
+//! Links the proved library, libexports.a in the folder EXPORTS_DIR (default: target/staticlib of the repository, where `tests/programs.sh library` puts it).
 
 use std::path::PathBuf;
 

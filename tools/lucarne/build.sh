@@ -2,7 +2,7 @@
 # tools/lucarne/build.sh [OUTPUT]: builds the tool (default target/lucarne/lucarne) by cargo, the proved library linked in: one static program. Beside
 # it stands liblucarne.rlib, which the tests link with what cargo leaves in CARGO_TARGET_DIR (default target/lucarne/cargo).
 #
-# The proved library is taken from the folder EXPORTS_DIR; without it `rt staticlib exports` builds target/staticlib. The libraries of others come from
+# The proved library is taken from the folder EXPORTS_DIR; without it tests/programs.sh builds target/staticlib. The libraries of others come from
 # Debian's packages where these are there or can be installed, else from crates.io. The environment's LUCARNE_SOURCE may name another folder of
 # sources, LUCARNE_PROFILE another profile of cargo's (dev is quick to build), RUSTC another compiler, and CARGO another cargo.
 set -e
@@ -12,10 +12,10 @@ need_crates
 
 folder=${EXPORTS_DIR:-target/staticlib}
 if [ -z "${EXPORTS_DIR:-}" ] && command -v rt >/dev/null; then
-    rt staticlib exports # what stands below it and is proved already is not proved again
+    build_library
 fi
 if [ ! -e "$folder/libexports.a" ]; then
-    echo "$folder/libexports.a is missing: build it first with: rt staticlib exports" >&2
+    echo "$folder/libexports.a is missing: build it first with: tests/programs.sh library" >&2
     exit 2
 fi
 output=${1:-target/lucarne/lucarne} profile=${LUCARNE_PROFILE:-release}
@@ -30,7 +30,7 @@ package=$(dirname "$output")/copy
 rm -rf "$package" && mkdir -p "$package"
 cp "$here/Cargo.toml" "$here/Cargo.lock" "$here/build.rs" "$package/"
 cp -r "$here/.cargo" "$package/.cargo"
-ln -s "$source" "$package/src"
+cp -rp "$source" "$package/src"
 from=
 if have_crates; then from="--offline --config $here/debian.toml"; fi
 # A program at fixed addresses starts sooner: there is nothing to relocate. The tests' own programs are linked otherwise.

@@ -6,12 +6,13 @@ cd "$(dirname "$0")/../../.." || exit 2
 . tests/build.sh
 . tools/lucarne/tests/parts.sh
 
-# A room of its own, with links to all but target/: other tests may run at the same time, and sessions write there.
-[ -n "${EXPORTS_DIR:-}" ] || rt staticlib exports || exit 2
+# A room of its own outside the checkout, with links to all but target/: other tests may run at the same time, and sessions write there.
+[ -n "${EXPORTS_DIR:-}" ] || build_library || exit 2
 EXPORTS_DIR=$(realpath "${EXPORTS_DIR:-target/staticlib}")
 export EXPORTS_DIR
-room=$PWD/target/lucarne-room
-rm -rf "$room" && mkdir -p "$room/target"
+room=$(mktemp -d)
+trap 'rm -rf "$room"' EXIT
+mkdir -p "$room/target"
 for entry in *; do
     [ "$entry" = target ] || ln -s "$PWD/$entry" "$room/$entry"
 done

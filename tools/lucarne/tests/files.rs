@@ -20,6 +20,7 @@ fn main() {
     taken_names(folder, &mut tally);
     kept(folder, &mut tally);
     tally.must_have("taken names");
+    drop(fs::remove_dir_all(folder));
     std::process::exit(tally.end());
 }
 

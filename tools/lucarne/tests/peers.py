@@ -39,7 +39,7 @@ def fetch():
     for name in sorted(os.listdir(folder)):
         if name.endswith(".orig.tar.gz"):
             with tarfile.open(f"{folder}/{name}") as archive:
-                archive.extractall(folder)
+                archive.extractall(folder, [member for member in archive if not member.issym()])  # rt takes no links in the checkout
     return sorted(entry.path for entry in os.scandir(folder) if re.match(r"(clingo|clasp)-", entry.name))
 
 
