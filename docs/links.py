@@ -9,6 +9,7 @@
 - No page of SIZES is larger than its bytes there.
 
 The status is 1 where one of these does not hold, and each such place is printed."""
+import os
 import re
 import sys
 from functools import lru_cache
@@ -36,7 +37,7 @@ SIZES = {
     "bench/TUNING.md": 19_800,
 }
 PAST = {"docs/LANDINGS.md"}  # tells of files that are gone
-SKIPPED = {"target", ".git"}  # folders whose files are nobody's documents
+SKIPPED = {"target", ".git", "out"}  # folders whose files are nobody's documents
 LINK = re.compile(r"\[[^\]]*\]\(([^)\s]+)\)|<img src=\"([^\"]+)\"")
 TICKED = re.compile(r"`([^`\n]+)`")
 PATH = re.compile(r"^[\w.-]+(?:/[\w.*-]+)*/?$")
@@ -50,9 +51,11 @@ wrong = []
 
 
 def pages():
-    for page in sorted(ROOT.rglob("*.md")):
-        if not SKIPPED & set(page.relative_to(ROOT).parts):
-            yield page
+    found = []
+    for folder, folders, names in os.walk(ROOT):
+        folders[:] = [name for name in folders if name not in SKIPPED]
+        found += [Path(folder) / name for name in names if name.endswith(".md")]
+    yield from sorted(found)
 
 
 def lines_of(page):

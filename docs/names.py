@@ -8,6 +8,7 @@ crate, and the names behind it, up to the next path or semicolon, must stand in 
 that the gate tries, and the patches of tests/bent. In these and the other DOCUMENTS each name in backquotes must stand somewhere in the sources. The status is
 1 where one of these does not hold, and each such place is printed.
 """
+import os
 import re
 import sys
 from functools import lru_cache
@@ -179,15 +180,19 @@ def hold_wrong_programs():
 def words_of_sources():
     """Every word of the sources, and every path."""
     words, paths = set(), set()
-    for folder in SOURCES:
-        for file in (ROOT / folder).rglob("*"):
-            if "target" in file.parts or not file.is_file():
-                continue
-            paths.add(file.stem)
-            paths.update(file.relative_to(ROOT).parts)
-            if file.suffix in ENDINGS and file.stat().st_size < 400_000:
-                words.update(re.findall(r"[A-Za-z][\w'-]*", file.read_text(errors="ignore")))
+    for file in (file for folder in SOURCES for file in files_below(ROOT / folder)):
+        paths.add(file.stem)
+        paths.update(file.relative_to(ROOT).parts)
+        if file.suffix in ENDINGS and file.stat().st_size < 400_000:
+            words.update(re.findall(r"[A-Za-z][\w'-]*", file.read_text(errors="ignore")))
     return words, paths
+
+
+def files_below(top):
+    """The files below a folder, but for what is made: target/, and out/ of a crate."""
+    for folder, folders, names in os.walk(top):
+        folders[:] = [name for name in folders if name != "target" and not (name == "out" and Path(folder).parent == CRATES)]
+        yield from (Path(folder) / name for name in names)
 
 
 def hold_documents():

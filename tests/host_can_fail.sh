@@ -9,9 +9,12 @@ export EXPORTS_DIR
 named=${1:-} tried=0 unnoticed=0 room=$(mktemp -d)
 trap 'rm -rf "$room"' EXIT
 
-# A room of its own outside the checkout, where rt takes no links and no second crates: links to all files but those of target/ and .git.
-for entry in *; do
-    [ "$entry" = target ] || cp -rs "$PWD/$entry" "$room/$entry"
+# A room of its own outside the checkout, where rt takes no links and no second crates: links to all files but those of .git and what is made.
+for entry in * crates/*/*; do
+    case $entry in
+    target | crates | crates/*/out) ;;
+    *) mkdir -p "$room/$(dirname "$entry")" && cp -rs "$PWD/$entry" "$room/$entry" ;;
+    esac
 done
 cd "$room" || exit 2
 
