@@ -4,7 +4,7 @@ import pathlib
 import sys
 
 HERE = pathlib.Path(__file__).resolve().parent
-sys.path.insert(0, str(HERE.parents[3] / "tests"))
+sys.path.insert(0, str(next(top / "tests" for top in HERE.parents if (top / "tests/commands.py").exists())))
 sys.dont_write_bytecode = True
 
 from commands import END, count, edge, given, rule, show, table, unit, use, word
