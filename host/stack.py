@@ -4,10 +4,11 @@ machine code of ARCHIVE (default target/staticlib/libexports.a), and whether the
 include/lucarnecress.h) are enough. With --write the constants are written into the header, with room to spare; with --table a line for each
 function is printed, its name and its bytes.
 
-A frame is followed through the control flow of its function: pushes, pops, changes of rsp, the loop that touches each page of a large frame, and what a
-leaf writes below rsp. Calls are taken from the relocations. A function that calls itself is as deep as its proof says: the measure of its recursion must
-be the count of a word's bits, in crates/CRATE/proofs/MODULE/+FUNCTION/Invariants.antt, so at most 64 calls are nested in the first. What the script does not
-understand, as another way to change rsp, a call by pointer or a recursion with another measure, ends it with a word and status 2: then nothing is told."""
+A frame is followed through the control flow of its function: pushes, pops, changes of rsp, the loop that touches each page of a large frame, in steps of at
+most a page, and what a leaf writes below rsp. Calls are taken from the relocations. A function that calls itself is as deep as its proof says: the measure of
+its recursion must be the count of a word's bits, in crates/CRATE/proofs/MODULE/+FUNCTION/Invariants.antt, so at most 64 calls are nested in the first. What the
+script does not understand, as another way to change rsp, a call by pointer or a recursion with another measure, ends it with a word and status 2: then nothing
+is told."""
 
 import pathlib
 import re
@@ -148,7 +149,9 @@ class Frame:
         """A branch goes on both ways; the one that closes the loop over the pages of a frame ends at the depth that r11 holds."""
         instruction, before = self.code[i], self.code[i - 1]
         if before.name == "cmp" and before.operands == "%r11,%rsp":
-            if instruction.name != "jne" or state[1] is None or (state[1] - state[0]) % PAGE != 0:
+            step = re.match(r"^\$0x([0-9a-f]+),%rsp$", self.code[self.at(instruction)].operands)
+            size = int(step.group(1), 16) if step and self.code[self.at(instruction)].name in ("sub", "subq") else 0
+            if instruction.name != "jne" or state[1] is None or not 0 < size <= PAGE or (state[1] - state[0]) % size != 0:
                 raise self.unclear(instruction, "no loop over pages")
             self.most = max(self.most, state[1])
             return [(i + 1, (state[1], None))]
