@@ -3,5 +3,5 @@ pub use Rattle.atoms.proofs.Counts.{counts_small, leading_highest, taken_less, t
 pub use Rattle.atoms.proofs.Digits.{shifted_one}
 pub use Rattle.atoms.proofs.Sets.{cut_left, has_lt, subset_refl, subset_trans}
 pub use Rattle.atoms.proofs.Singles.{at_most_none, decides_at_most_one, single_if_false, single_if_true}
-pub use Rattle.atoms.proofs.Tallies.{Counting, counting_end, counting_next, counting_none, counting_start, most_end, most_next, most_start}
+pub use Rattle.atoms.proofs.Tallies.{Counting, counting_end, counting_next, counting_none, counting_start, most_end, most_start, most_turn}
 pub use Rattle.atoms.proofs.Tallies.{preferred_both, preferred_word}

@@ -11,7 +11,6 @@ pub use borrow.Rule.Slice.PartMut.{drop_put, mid_len, mid_of, post_of, put_mid, 
 pub use denote.Array.{each}
 pub use denote.Enum.Declared.{tag_of}
 pub use denote.Exit.{yes}
-pub use denote.Lend.{Held}
 pub use lib.Arith.{bin_ind, digits_div, digits_lt, digits_mod}
 pub use lib.Bits.{and_le_l, and_le_r, and_shifted, and_shr, and_step, bit_and, bit_or, bit_xor, or_lt, or_shr, or_step, xor_add_and, xor_shr}
 pub use lib.Count.{leading_le, leading_top, count_leading_zeros, ones-le, ones_step, trailing_le, under}
@@ -21,8 +20,8 @@ pub use lib.ListN.{get_or-append, get_or-eq_default, drop, drop_of_length-le, ge
 pub use lib.ListN.{length-replicate, length-set, length-take, replicate, replicate-append-replicate, set, take, take-append-drop}
 pub use lib.Pow.{pow_mono, pow_pos, shl_exact, shl-shr, shr-shr, suc_ones}
 pub use lib.Seq.{append_snoc, drop-append-add, drop-append-le, drop_at, drop-cons, drop-drop, drop-set-lt, ext_get_or, get_or-append-add, get_or-append_seam}
-pub use lib.Seq.{get_or_at, get_or-drop, get_or-set_other, get_or-set_same, get_or-take, length-paste, length-take-le, paste, paste-suc, paste-zero, set-append_left}
-pub use lib.Seq.{set_at, set_split, take_all, take-append-add, take_at, take-nil, take-paste, take-suc, take-suc-set, take-take}
+pub use lib.Seq.{get_or_at, get_or-drop, get_or-set_other, get_or-set_same, get_or-take, length-paste, length-take-le, paste, paste-suc, paste-zero}
+pub use lib.Seq.{set-append_left, set_at, set_split, take_all, take-append-add, take_at, take-nil, take-paste, take-suc, take-suc-set, take-take}
 pub use mathlib.Core.Bool.{Bool, ◌&&◌, ◌||◌, false, false≢true, not, or_assoc, or-false, or-true, true, true≢false}
 pub use mathlib.Core.List.Memᴰ.{append_cases as Memᴰ-append_cases}
 pub use mathlib.Core.List.Memᴰ.{cases_cons as Memᴰ-cases_cons}
@@ -39,7 +38,7 @@ pub use mathlib.Core.List.Memᴰ.{tail as Memᴰ-tail}
 pub use mathlib.Core.List.{[], ◌++◌, ◌∷◌, append_assoc, append-nil}
 pub use mathlib.Core.List.{map}
 unfoldable pub use mathlib.Core.List.{flat_map}
-pub use mathlib.Core.Logic.{◌↔◌, ◌⊎◌, inl, inr, ⊎_elim}
+pub use mathlib.Core.Logic.{◌↔◌, ◌⊎◌, inl, inr}
 pub use mathlib.Core.Option.{Option, none, some}
 pub use mathlib.Core.Path.{◌∙◌, ◌≡◌, ap, ap₂, refl, subst, subst₂, sym}
 pub use mir.Val.{bool_byte, has_key}

@@ -20,6 +20,8 @@ pub mod Bounded
 pub mod Singles
 -- The laws of words that collect the numbers with a property, and of the least number with one
 pub mod Collected
+-- The atoms of a word one after the other: where they begin
+pub mod EachAtom
 -- A loop takes the numbers of a word `which`, the lowest first
 pub mod TakenNumbers
 -- What a loop gathers over the numbers of a word, which it takes one by one, the lowest first

@@ -1,11 +1,6 @@
 -- Words that are stored one by one, and areas that are put together of stored parts.
-use Rattle.atoms.proofs.Prelude.{◌≡◌, sym, ap, ◌∙◌, List, ◌++◌, append_assoc, ℕ, ◌+◌, ◌≤◌, ◌<◌, arith, add-one, ℕ_discrete, length, take, drop, get_or}
-use Rattle.atoms.proofs.Prelude.{set, length-set, get_or-append, paste, paste-suc, length-paste, take-paste, take_all, take_at, drop_at, ext_get_or}
-use Rattle.atoms.proofs.Prelude.{get_or-set_same, get_or-set_other}
-
-pub stored_next : (d : List ℕ) (at : ℕ) (s l : List ℕ) (i : ℕ) → at + length s ≤ length d → i < length s → l ≡ paste d at s i
-    → set l (at + i) (get_or s i 0) ≡ paste d at s (i + 1)
-stored_next d at s l i fits k e = rw (e, add-one) (paste-suc d at s i 0 (omega arith) k)
+use Rattle.atoms.proofs.Prelude.{◌≡◌, sym, ap, ◌∙◌, List, ◌++◌, append_assoc, ℕ, ◌+◌, ◌≤◌, ◌<◌, arith, length, take, drop, get_or}
+use Rattle.atoms.proofs.Prelude.{get_or-append, paste, take-paste, take_all, take_at, drop_at}
 
 -- the front of an area up to the end of what was stored last
 pub stored_front : (d : List ℕ) (at : ℕ) (s : List ℕ) {e : List ℕ} {n : ℕ} → at ≤ length d → at + length s ≡ n
@@ -25,36 +20,3 @@ module _ (first second rest : List ℕ) {area : List ℕ} {n m : ℕ} (long : le
   pub second_part : take m (drop n area) ≡ second
   second_part =
       ap (λ (a : List ℕ). take m (drop n a)) parts ∙ ap (take m) (drop_at first (second ++ rest) n long) ∙ take_at second rest m long₂
-
--- an area into which three parts were stored, one behind the other
-pub stored_parts : (d h b w : List ℕ) {d₁ d₂ d₃ : List ℕ} {n k : ℕ} → length h ≡ n → n + length b ≡ k → k ≤ length d
-    → d₁ ≡ paste d 0 h (length h) → d₂ ≡ paste d₁ n b (length b) → d₃ ≡ paste d₂ k w (length w)
-    → d₃ ≡ (h ++ b) ++ (take (length w) w ++ drop (k + length w) d₂)
-stored_parts d h b w {d₁} {d₂} {d₃} {n} {k} l m fits e f g =
-    g ∙ ap (λ (t : List ℕ). t ++ take (length w) w ++ drop (k + length w) d₂) front ∙ append_assoc (h ++ b) (take (length w) w) _
-  where
-    same : length d₁ ≡ length d
-    same = ap length e ∙ length-paste d 0 h (length h) (omega (arith, l, m, fits)) (omega arith)
-
-    front : take k d₂ ≡ h ++ b
-    front =
-        stored_front d₁ n b (omega (arith, same, m, fits)) m f
-        ∙ ap (λ (t : List ℕ). t ++ b) (stored_front d 0 h {n = n} (omega arith) (omega (arith, l)) e)
-
--- an area of which the first words are copied
-pub record Copying (words area : List ℕ) (i : ℕ) : Type 0 where
-  pub same_length : length area ≡ length words
-  pub done : (j : ℕ) → j < i → get_or area j 0 ≡ get_or words j 0
-
-pub copying_next : (words area : List ℕ) (i : ℕ) → Copying words area i → i < length words → Copying words (set area i (get_or words i 0)) (i + 1)
-copying_next words area i k l = record {
-  same_length = length-set area i (get_or words i 0) ∙ k.same_length;
-  done = λ j m. go j m (ℕ_discrete j i);
-}
-  where
-    go : (j : ℕ) → j < i + 1 → Dec (j ≡ i) → get_or (set area i (get_or words i 0)) j 0 ≡ get_or words j 0
-    go j m (yes q) = rw q (get_or-set_same area i (get_or words i 0) 0 (omega (arith, k.same_length, l)))
-    go j m (no d) = get_or-set_other area i j (get_or words i 0) 0 d ∙ k.done j (omega (arith, m, d))
-
-pub copying_end : {words area : List ℕ} {i : ℕ} → Copying words area i → length words ≤ i → area ≡ words
-copying_end {words} {area} k l = ext_get_or 0 area words k.same_length (λ j m. k.done j (omega (arith, m, l, k.same_length)))

@@ -1,4 +1,6 @@
 -- Tallies: what a write does to the counts, a word counted place by place, and the atoms with the highest count.
+use Rattle.std.proofs.lemmas.List.{length-reverse, get_or-reverse}
+use Rattle.std.specs.Prelude.{reverse}
 use Rattle.atoms.proofs.Prelude.{◌≡◌, refl, sym, ap, subst, ◌∙◌, Bool, true, false, List, [], ◌∷◌, ℕ, zero, suc, ◌+◌, ◌-◌, ◌*◌, ◌/◌, ◌%◌, ◌^◌, ◌≤◌}
 use Rattle.atoms.proofs.Prelude.{◌<◌, arith, dec_lt, pow-succ', mul_assoc, mul-add, mod-eq_of_lt, add-mul-mod_self_left, add-one, bit_xor, and_step}
 use Rattle.atoms.proofs.Prelude.{xor_shr, xor_add_and, eqb, length, get_or, set, drop, length-set, drop_of_length-le, drop-cons, digit, Has, ◌∩◌}
@@ -113,9 +115,9 @@ preferred_both word better {both} e n = go (eqb (word ∩ better) 0) (decides_eq
 
 -- ---- the atoms with the highest count
 
-pub most_start : (places : List ℕ) (word : ℕ) → MostCounted (drop (length places) places) word word
+pub most_start : (places : List ℕ) (i word : ℕ) → length places ≤ i → MostCounted (drop i places) word word
 unfolding tallied
-most_start places word = rw (drop_of_length-le places {i = length places} (omega arith)) (record {
+most_start places i word l = rw (drop_of_length-le places {i = i} l) (record {
   each = λ i h. record { here = h; highest = λ j g. omega arith };
   all = λ i k. k.here;
 })
@@ -169,18 +171,23 @@ module _ (p : ℕ) (ps : List ℕ) {word best : ℕ} (c : MostCounted ps word be
       go true d q = rw q (unmarked (d.yes refl))
       go false d q = rw q (marked (d.no refl))
 
-pub most_next : (places : List ℕ) (i : ℕ) {word best r : ℕ} → 0 < i → i ≤ length places → MostCounted (drop i places) word best
-    → r ≡ preferred best (get_or places (i - 1) 0) → MostCounted (drop (i - 1) places) word r
-most_next places zero l m c e = absurd (omega arith)
-most_next places (suc j) {word} {best} {r} l m c e =
-    rw (less, drop-cons places j 0 (omega arith)) (most_of_lem (get_or places j 0) (drop (suc j) places) c (rw less at e))
-  where
-    less : suc j - 1 ≡ j
-    less = omega arith
+most_next : (places : List ℕ) (j : ℕ) {word best r x : ℕ} → j < length places → MostCounted (drop (suc j) places) word best
+    → x ≡ get_or places j x → r ≡ preferred best x → MostCounted (drop j places) word r
+most_next places j {x = x} l c e d = let d' = rw e at d in rw (drop-cons places j x l) (most_of_lem (get_or places j x) (drop (suc j) places) c d')
 
-pub most_end : (places : List ℕ) (i : ℕ) {word best : ℕ} → i ≤ 0 → MostCounted (drop i places) word best → MostCounted places word best
-most_end places zero l c = c
-most_end places (suc i) l c = absurd (omega arith)
+-- the places are looked at from the last one on: n of them were, and x is the one before those
+pub most_turn : (places : List ℕ) (n : ℕ) {m word best r x : ℕ} → (n < length (reverse places)) × (x ≡ get_or (reverse places) n x) → m ≡ n + 1
+    → MostCounted (drop (length places - n) places) word best → r ≡ preferred best x → MostCounted (drop (length places - m) places) word r
+most_turn places n {m} {word} {best} {r} {x} t e c d =
+    let l : n < length places = omega (arith, length-reverse places, t.0) in
+    let f : length places - m ≡ length places - 1 - n = omega (arith, e, l) in
+    let g : length places - n ≡ suc (length places - 1 - n) = omega (arith, l) in
+    let c' = rw g at c in
+    rw f (most_next places (length places - 1 - n) (omega (arith, l)) c' (t.1 ∙ get_or-reverse places n x l) d)
+
+pub most_end : (places : List ℕ) (n : ℕ) {word best : ℕ} → n ≡ length (reverse places) → MostCounted (drop (length places - n) places) word best
+    → MostCounted places word best
+most_end places n e c = let f : length places - n ≡ 0 = omega (arith, e, length-reverse places) in rw f at c
 
 -- a count keeps the tally's length
 pub counted_long : {word n : ℕ} {before after : List ℕ} → Tallied word before after → n ≡ length before → n ≡ length after

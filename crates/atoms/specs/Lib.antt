@@ -5,3 +5,4 @@ pub mod Rising
 pub mod Lists
 pub mod Cuts
 pub mod Tally
+pub mod Each

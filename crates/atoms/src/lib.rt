@@ -1,6 +1,7 @@
 // A 64-bit word as a set of atoms: atom i is bit i. Code above takes sets apart through these functions alone.
 #![tactic(auto)]
 
+mod each_atom;
 pub mod tally;
 pub mod words;
 
@@ -8,6 +9,8 @@ ghost use Rattle.std.specs.Prelude.{◌≡◌, ◌≤◌, ◌<◌, length, get_o
 ghost use Rattle.std.specs.Int.Count.{ones};
 ghost use Rattle.atoms.specs.Word.{ATOMS, ◌∩◌, ◌∪◌, ◌∖◌, subset, apart, atom, below, outside, Lowest, Highest, AtMostOne};
 ghost use Rattle.atoms.specs.Bounded.{Decides, single_if, union_in};
+
+pub use each_atom::{Members, each};
 
 // How many atoms there are.
 pub const ATOMS: usize = 64;
@@ -134,11 +137,8 @@ pub fn union_of(words: &[u64], n: usize, which: u64) -> u64
     ensures { result ≡ union_in n which (λ i. get_or words.now i 0) }
 {
     let mut all = 0;
-    let mut rest = cut(which, first(n));
-    while rest != 0 {
-        let i = lowest(rest);
+    for i in each(cut(which, first(n))) {
         all = union(all, words[i]);
-        rest = drop(rest, i);
     }
     all
 }

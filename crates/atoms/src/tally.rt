@@ -10,12 +10,13 @@ pub fn count_atoms(places: &mut [u64], word: u64)
     ensures { Tallied word places.old places.new }
 {
     let mut carried = word;
-    let mut i = 0;
-    while carried != 0 && i < places.len() {
-        let here = places[i];
-        places[i] = here ^ carried;
+    for place in places.iter_mut() {
+        if carried == 0 {
+            return;
+        }
+        let here = *place;
+        *place = here ^ carried;
         carried = cut(here, carried);
-        i += 1;
     }
 }
 
@@ -39,10 +40,8 @@ pub fn most(places: &[u64], word: u64) -> u64
     ensures most { MostCounted places.now word result }
 {
     let mut best = word;
-    let mut i = places.len();
-    while 0 < i {
-        i -= 1;
-        best = prefer(best, places[i]);
+    for place in places.iter().rev() {
+        best = prefer(best, *place);
     }
     best
 }

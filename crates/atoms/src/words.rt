@@ -7,9 +7,5 @@ pub fn store(words: &[u64], area: &mut [u64], base: usize)
     requires { base + length words.now ≤ length area.old }
     ensures { area.new ≡ paste area.old base words.now (length words.now) }
 {
-    let mut i = 0;
-    while i < words.len() {
-        area[base + i] = words[i];
-        i += 1;
-    }
+    area[base..base + words.len()].copy_from_slice(words);
 }

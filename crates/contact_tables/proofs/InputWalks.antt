@@ -78,6 +78,14 @@ module _ {inputs rest k top a : ℕ} (w : Walking inputs rest k top) (low : Lowe
       go (no n) (yes q) = inr q
       go (no n) (no q) = absurd (next_gap i (omega arith) (omega arith) p)
 
+-- where the walk stops no input is left, or a row has no bit more; n bits were left
+pub walk_stops : {rest rest' k n : ℕ} → (0 < n → (rest ≡ 0) × (rest' ≡ 0)) → k + n ≡ MAX_INPUTS → (rest ≡ 0) ⊎ (MAX_INPUTS ≤ k)
+walk_stops {rest} {k = k} {n} f e = go (dec_lt 0 n)
+  where
+    go : Dec (0 < n) → (rest ≡ 0) ⊎ (MAX_INPUTS ≤ k)
+    go (yes l) = inl (f l).0
+    go (no m) = inr (omega arith)
+
 -- at the end an input is done, or its place is none of a row
 module _ {inputs rest k top : ℕ} (w : Walking inputs rest k top) (end : (rest ≡ 0) ⊎ (MAX_INPUTS ≤ k)) where
   pub input_done : (a : ℕ) → Has inputs a → (a < top) ⊎ (MAX_INPUTS ≤ place inputs a)

@@ -1,5 +1,5 @@
 -- The places of a table's inputs: they rise from input to input, and each number up to the last place is one.
-use Rattle.contact_tables.proofs.Prelude.{◌≡◌, refl, ap, ◌∙◌, ℕ, zero, suc, ◌+◌, ◌-◌, ◌<◌, ◌≤◌, dec_lt, ℕ_discrete, arith, digit, Has, has_dec, place}
+use Rattle.contact_tables.proofs.Prelude.{◌≡◌, refl, ap, ◌∙◌, ℕ, zero, suc, ◌+◌, ◌<◌, ◌≤◌, dec_lt, ℕ_discrete, arith, digit, Has, has_dec, place}
 use Rattle.atoms.proofs.Digits.{digit_lt}
 
 -- an input raises the place of what is above it by one, another atom does not

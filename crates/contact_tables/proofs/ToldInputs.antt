@@ -1,6 +1,6 @@
 -- What rows tell of the inputs of a table: input by input, those that each of the rows has up and those that none has.
-use Rattle.contact_tables.proofs.Prelude.{◌≡◌, refl, sym, ap, subst, ◌∙◌, Bool, ◌⊎◌, inl, inr, ℕ, suc, ◌+◌, ◌^◌, ◌≤◌, ◌<◌, arith, ATOMS, Has, ◌⊆◌}
-use Rattle.contact_tables.proofs.Prelude.{subset, Apart, apart, ◌∪◌, ◌∖◌, atom, Lowest, Decides, single_if, Collects, decided_true, decides_iff, has_lt}
+use Rattle.contact_tables.proofs.Prelude.{◌≡◌, refl, sym, subst, Bool, ◌⊎◌, inl, inr, ℕ, suc, ◌+◌, ◌^◌, ◌≤◌, ◌<◌, arith, ATOMS, Has}
+use Rattle.contact_tables.proofs.Prelude.{subset, apart, ◌∪◌, ◌∖◌, atom, Lowest, Decides, single_if, Collects, decided_true, decides_iff, has_lt}
 use Rattle.contact_tables.proofs.Prelude.{has_none, decides_apart, decides_subset, single_if_has, single_if_at, collects_iff, collects_has}
 use Rattle.contact_tables.proofs.Prelude.{collects_union, MAX_INPUTS, Completes, place, row, InColumn, EachRow, NoRow}
 use Rattle.states.specs.declared.state.State.{State}

@@ -44,12 +44,9 @@ pub fn agreeing_rows(inputs: u64, up: u64, dropped: u64) -> u64
     ensures { Collects (RowReached inputs up dropped) result }
 {
     let mut rows = atoms::first(atoms::ATOMS);
-    let mut rest = inputs;
     let mut k = 0;
-    while rest != 0 && k < MAX_INPUTS {
-        let a = atoms::lowest(rest);
+    for a in atoms::each(inputs).take(MAX_INPUTS) {
         rows = sifted(rows, k, a, up, dropped);
-        rest = atoms::drop(rest, a);
         k += 1;
     }
     atoms::cut(rows, atoms::first(atoms::single(k) as usize))
@@ -62,15 +59,10 @@ pub fn told_inputs(inputs: u64, rows: u64) -> State
 {
     let mut up = 0;
     let mut dropped = 0;
-    let mut rest = inputs;
-    let mut k = 0;
-    while rest != 0 && k < MAX_INPUTS {
-        let a = atoms::lowest(rest);
+    for (k, a) in atoms::each(inputs).take(MAX_INPUTS).enumerate() {
         let with = column(k);
         up = atoms::union(up, atoms::single_if(atoms::is_subset(rows, with), a));
         dropped = atoms::union(dropped, atoms::single_if(atoms::are_apart(rows, with), a));
-        rest = atoms::drop(rest, a);
-        k += 1;
     }
     State { up, dropped }
 }

@@ -1,7 +1,7 @@
 -- One more atom decided: the two branches of a state, and how many atoms are left undecided.
 use Rattle.states.proofs.Prelude.{◌≡◌, refl, sym, ◌∙◌, Bool, true, false, not, ◌⊎◌, inl, inr, ℕ, ◌≤◌, ◌<◌, lt_of_lt_of_le, arith, ones, ATOMS}
 use Rattle.states.proofs.Prelude.{EVERY_ATOM, Has, ◌∪◌, atom, below, has_dec, has_none, has_below, has_atom, has_left, has_right, subset_refl, ext}
-use Rattle.states.proofs.Prelude.{Completes, undecided, Narrows, with_dropped, with_up, branch_of, State}
+use Rattle.states.proofs.Prelude.{Completes, undecided, Narrows, branch_of, State}
 use Rattle.atoms.proofs.Counts.{count-le, count_lt, count_proper}
 use Rattle.states.proofs.HalfDecided.{undecided_shrinks, undecided_up, undecided_dropped, undecided_lt}
 use Rattle.states.proofs.Narrows.{with_up_lem, with_dropped_lem, without_up, without_dropped}
@@ -23,20 +23,6 @@ pub none_falls : {w v : ℕ} → ¬ (w ≡ 0) → v ≡ 0 → ones v < ones w
 none_falls {w} n e = rw e (count_proper 0 w (record { each = λ i h. absurd (has_none h) }) (λ z. n (sym z)))
 
 -- ---- the two branches
-
-pub lowered_is : (s : State) (i : ℕ) {x d : ℕ} → d ≡ s.dropped ∪ x → x ≡ atom i
-    → ◌≡◌ {A = State} (record { up = s.up; dropped = d }) (with_dropped s i)
-lowered_is s i e f = rw (e, f)
-
-pub raised_is : (s : State) (i : ℕ) {x u : ℕ} → u ≡ s.up ∪ x → x ≡ atom i
-    → ◌≡◌ {A = State} (record { up = u; dropped = s.dropped }) (with_up s i)
-raised_is s i e f = rw (e, f)
-
-pub branch_up : (s : State) (i : ℕ) {b : Bool} {r : State} → b ≡ true → r ≡ with_up s i → r ≡ branch_of s i b
-branch_up s i e f = rw e f
-
-pub branch_dropped : (s : State) (i : ℕ) {b : Bool} {r : State} → b ≡ false → r ≡ with_dropped s i → r ≡ branch_of s i b
-branch_dropped s i e f = rw e f
 
 -- who completes a branch completes the state
 pub without_branch : (s : State) (i : ℕ) (b : Bool) {N : ℕ} → Completes (branch_of s i b) N → Completes s N

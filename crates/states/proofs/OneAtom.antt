@@ -1,6 +1,6 @@
 -- A word of which one atom has to go one way: none left, one, or several.
-use Rattle.states.proofs.Prelude.{◌≡◌, ℕ, ◌⊆◌, ◌∪◌, ◌∖◌, AtMostOne, has_none, has_without, empty, without_left, without_right, Completes, SomeUp}
-use Rattle.states.proofs.Prelude.{SomeDown, Narrows, OneGoes, clashed, State}
+use Rattle.states.proofs.Prelude.{◌≡◌, Bool, true, false, ℕ, ◌⊆◌, ◌∖◌, AtMostOne, has_none, has_without, empty, without_left, without_right, Completes, SomeUp}
+use Rattle.states.proofs.Prelude.{SomeGoes, Narrows, OneGoes, clashed, decided_word, State}
 use Rattle.states.proofs.Narrows.{narrows_refl, narrows_when, clash_overlaps, clash_narrows, up_narrows, down_narrows}
 
 -- with no atom nothing completes the state
@@ -10,22 +10,17 @@ clash_one {s = s} f e = rw e (record {
   stops = λ z. clash_overlaps s;
 })
 
-pub none_up : {word : ℕ} {s t : State} → word ≡ 0 → t ≡ clashed s → OneGoes (SomeUp word) word s t
-none_up z e = clash_one (λ N k. has_none (rw z at k.in_word)) e
+pub none_goes : {word : ℕ} (phase : Bool) {s t : State} → word ≡ 0 → t ≡ clashed s → OneGoes (SomeGoes word phase) word s t
+none_goes true z e = clash_one (λ N k. has_none (rw z at k.in_word)) e
+none_goes false z e = clash_one (λ N k. has_none (rw z at k.in_word)) e
 
-pub none_down : {word : ℕ} {s t : State} → word ≡ 0 → t ≡ clashed s → OneGoes (SomeDown word) word s t
-none_down z e = clash_one (λ N k. has_none (rw z at k.in_word)) e
-
-pub last_up : {word up : ℕ} {s : State} → ¬ (word ≡ 0) → AtMostOne word → up ≡ s.up ∪ word
-    → OneGoes (SomeUp word) word s (record { up = up; dropped = s.dropped })
-last_up {word} {s = s} n o e = rw e (record {
+pub last_goes : {word : ℕ} (phase : Bool) {s t : State} → ¬ (word ≡ 0) → AtMostOne word → t ≡ decided_word s word phase
+    → OneGoes (SomeGoes word phase) word s t
+last_goes {word} true {s} n o e = rw e (record {
   narrows = up_narrows s word (λ N k p. record { each = λ i h. rw (o.same k.atom i k.in_word h) at k.is_up });
   stops = λ z. absurd (n z);
 })
-
-pub last_down : {word dropped : ℕ} {s : State} → ¬ (word ≡ 0) → AtMostOne word → dropped ≡ s.dropped ∪ word
-    → OneGoes (SomeDown word) word s (record { up = s.up; dropped = dropped })
-last_down {word} {s = s} n o e = rw e (record {
+last_goes {word} false {s} n o e = rw e (record {
   narrows = down_narrows s word (λ N k p. record { none = λ i h m. k.is_down (rw (o.same i k.atom h k.in_word) at m) });
   stops = λ z. absurd (n z);
 })

@@ -5,7 +5,7 @@ pub use Rattle.atoms.proofs.Sets.{atom_only, cut_left, decides_subset, empty, ex
 pub use Rattle.atoms.proofs.Sets.{has_without, outside_lacks, outside_lt, subset_refl, subset_trans, union_cases, without_left, without_right}
 pub use Rattle.atoms.specs.Word.{ATOMS, Apart, AtMostOne, EVERY_ATOM, Has, ◌∖◌, ◌∩◌, ◌∪◌, ◌⊆◌, atom, outside, subset}
 unfoldable pub use Rattle.atoms.specs.Word.{below}
-pub use Rattle.states.specs.Narrowing.{Narrows, OneGoes, Overlaps, SomeDown, SomeUp, Wanted, Within, branch_of, with_dropped, with_up}
+pub use Rattle.states.specs.Narrowing.{Narrows, OneGoes, Overlaps, SomeDown, SomeGoes, SomeUp, Wanted, Within, branch_of, decided_word, with_dropped, with_up}
 unfoldable pub use Rattle.states.specs.Narrowing.{clashed}
 pub use Rattle.states.specs.State.{Completes}
 unfoldable pub use Rattle.states.specs.State.{undecided}

@@ -31,6 +31,11 @@ abbrev pub branch_of : State → ℕ → Bool → State
 branch_of s i true = with_up s i
 branch_of s i false = with_dropped s i
 
+-- with the atoms of the word in a phase as well
+abbrev pub decided_word : State → ℕ → Bool → State
+decided_word s word true = record { up = s.up ∪ word; dropped = s.dropped }
+decided_word s word false = record { up = s.up; dropped = s.dropped ∪ word }
+
 -- what two states say together
 abbrev pub both_of : State → State → State
 both_of s t = record { up = s.up ∪ t.up; dropped = s.dropped ∪ t.dropped }
@@ -52,6 +57,11 @@ pub record SomeDown (word N : ℕ) : Type 0 where
   pub atom : ℕ
   pub in_word : Has word atom
   pub is_down : ¬ Has N atom
+
+-- the position has an atom of the word in the phase: up, or not
+abbrev pub SomeGoes : ℕ → Bool → ℕ → Type 0
+SomeGoes word true N = SomeUp word N
+SomeGoes word false N = SomeDown word N
 
 -- ---- steps
 

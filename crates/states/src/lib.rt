@@ -5,4 +5,4 @@ mod one_atom;
 mod state;
 
 pub use one_atom::{one_down, one_up};
-pub use state::{State, clash, decide, everything, lies_within, undecided};
+pub use state::{State, clash, decide, decide_word, everything, lies_within, undecided};

@@ -3,12 +3,12 @@ ghost use Rattle.std.specs.Prelude.{◌≡◌, ◌<◌};
 ghost use Rattle.atoms.specs.Word.{ATOMS, EVERY_ATOM};
 ghost use Rattle.atoms.specs.Bounded.{Decides};
 ghost use Rattle.states.specs.State.{undecided as undecided_of};
-ghost use Rattle.states.specs.Narrowing.{Overlaps, Within, clashed, branch_of};
+ghost use Rattle.states.specs.Narrowing.{Overlaps, Within, clashed, decided_word, branch_of};
 
 use atoms::EVERY_ATOM;
 
 // A half-decided position: atoms known up and atoms known dropped. The others are undecided.
-#[derive(Clone, Copy)]
+#[derive(Clone, Copy, PartialEq, Eq)]
 pub struct State {
     pub up: u64,
     pub dropped: u64,
@@ -43,21 +43,28 @@ pub fn everything() -> State
     }
 }
 
+// The state with the atoms of the word in the phase as well: up, or dropped.
+pub fn decide_word(s: State, word: u64, phase: bool) -> State
+    ensures { result ≡ decided_word s word phase }
+{
+    if phase {
+        return State {
+            up: atoms::union(s.up, word),
+            ..s
+        };
+    }
+    State {
+        dropped: atoms::union(s.dropped, word),
+        ..s
+    }
+}
+
 // The state with one more atom in the phase: up, or dropped.
 pub fn decide(s: State, i: usize, phase: bool) -> State
     requires { i < ATOMS }
     ensures { result ≡ branch_of s i phase }
 {
-    if phase {
-        return State {
-            up: atoms::union(s.up, atoms::single(i)),
-            dropped: s.dropped,
-        };
-    }
-    State {
-        up: s.up,
-        dropped: atoms::union(s.dropped, atoms::single(i)),
-    }
+    decide_word(s, atoms::single(i), phase)
 }
 
 // Whether the state s has decided all that n has, and as n has it.

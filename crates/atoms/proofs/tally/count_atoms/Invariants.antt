@@ -1,10 +1,6 @@
--- The loop carries what is counted, place by place. The measure is how many places are left.
-use Rattle.atoms.proofs.Prelude.{◌-◌, length}
+-- The loop carries what is counted, place by place.
 use Rattle.atoms.proofs.Face.{Counting}
 use Rattle.atoms.proofs.tally.count_atoms.Given as goal
 
-abbrev pub invariant-loop-carried : goal.invariant-loop-carried
-invariant-loop-carried l = Counting l.word l.initial.places l.places l.carried l.i
-
-abbrev pub decreases-loop-carried : goal.decreases-loop-carried
-decreases-loop-carried l = length l.initial.places - l.i
+abbrev pub invariant-loop-place : goal.invariant-loop-place
+invariant-loop-place l = Counting l.fn.word l.initial.places l.places l.carried l.place-index

@@ -1,10 +1,7 @@
--- The loop takes the inputs from the lowest on. The measure is how many are left.
-use Rattle.contact_tables.proofs.Prelude.{ones}
+-- The loop takes the inputs from the lowest on, as long as a row has bits for them.
+use Rattle.contact_tables.proofs.Prelude.{◌≡◌, ◌+◌, MAX_INPUTS}
 use Rattle.contact_tables.proofs.RowSifting.{Sifting}
 use Rattle.contact_tables.proofs.rows.agreeing_rows.Given as goal
 
-abbrev pub invariant-loop-rest : goal.invariant-loop-rest
-invariant-loop-rest l = Sifting l.inputs l.up l.dropped l.rows l.rest l.k
-
-abbrev pub decreases-loop-rest : goal.decreases-loop-rest
-decreases-loop-rest l = ones l.rest
+abbrev pub invariant-loop-a : goal.invariant-loop-a
+invariant-loop-a l = (l.k + l.a-iterator.n ≡ MAX_INPUTS) × Sifting l.fn.inputs l.fn.up l.fn.dropped l.rows l.a-iterator.iter.rest l.k

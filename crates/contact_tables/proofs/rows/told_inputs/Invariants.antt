@@ -1,10 +1,8 @@
--- The loop takes the inputs from the lowest on. The measure is how many are left.
-use Rattle.contact_tables.proofs.Prelude.{ones}
+-- The loop takes the inputs from the lowest on, as long as a row has bits for them.
+use Rattle.contact_tables.proofs.Prelude.{◌≡◌, ◌+◌, MAX_INPUTS}
 use Rattle.contact_tables.proofs.ToldInputs.{Telling}
 use Rattle.contact_tables.proofs.rows.told_inputs.Given as goal
 
-abbrev pub invariant-loop-rest : goal.invariant-loop-rest
-invariant-loop-rest l = Telling l.inputs l.rows l.rest l.k l.up l.dropped
-
-abbrev pub decreases-loop-rest : goal.decreases-loop-rest
-decreases-loop-rest l = ones l.rest
+abbrev pub invariant-loop-k : goal.invariant-loop-k
+invariant-loop-k l =
+    (l.k-iterator.count + l.k-iterator.iter.n ≡ MAX_INPUTS) × Telling l.fn.inputs l.fn.rows l.k-iterator.iter.iter.rest l.k-iterator.count l.up l.dropped

@@ -1,9 +1,0 @@
--- The place stays within the text.
-use Rattle.check_plans.proofs.Prelude.{◌≤◌, ◌-◌, length}
-use Rattle.check_plans.proofs.questions.line_length.Given as goal
-
-abbrev pub invariant-loop-i : goal.invariant-loop-i
-invariant-loop-i l = l.i ≤ length l.text
-
-abbrev pub decreases-loop-i : goal.decreases-loop-i
-decreases-loop-i l = length l.text - l.i

@@ -1,9 +1,0 @@
--- The first half of the uses wants tables true, the second half false.
-use Rattle.parities.proofs.Prelude.{needs, table_first, table_second}
-use Rattle.parities.proofs.told.used_table.Goals as goal
-
-pub returns-then-i-lt-MAX_TABLES : goal.returns-then-i-lt-MAX_TABLES
-returns-then-i-lt-MAX_TABLES c = search (table_first, needs)
-
-pub returns-else-i-lt-MAX_TABLES : goal.returns-else-i-lt-MAX_TABLES
-returns-else-i-lt-MAX_TABLES c = search (table_second, needs)
