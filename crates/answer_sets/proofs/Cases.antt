@@ -1,7 +1,9 @@
 -- Which case of a computing definition the tests of the code pick: the answers' equations come in the order of the code.
 use Rattle.answer_sets.proofs.Prelude.{◌≡◌, refl, sym, ◌∙◌, Bool, true, false, not, false≢true, inl, inr, ℕ, not-true, not-false, subset, apart, ◌∖◌}
 use Rattle.answer_sets.proofs.Prelude.{atom, decides_subset, Program, body, satisfies, satisfies_all, kept, kept_if, some_smaller, answer_set, SmallerSet}
-use Rattle.answer_sets.proofs.Prelude.{RefutedBy}
+use Rattle.answer_sets.proofs.Prelude.{RefutedBy, ◌<◌, ◌^◌, ATOMS, decided_true, decided_false, not_is_true, true_of_not_false}
+use Rattle.std.proofs.Common.{Option, Some, None, is_some}
+use Rattle.answer_sets.specs.SubsetTest.{Unsatisfied}
 use Rattle.answer_sets.proofs.JudgedSets.{decides_all_satisfied, kept_fits}
 
 -- ---- one rule
@@ -22,6 +24,16 @@ module _ (P : Program) (r M : ℕ) {b : Bool} (tested : b ≡ body P r M) where
   pub kept_if_fails : (word : ℕ) → b ≡ false → word ∖ atom r ≡ kept_if P r M word
   unfolding kept_if
   kept_if_fails word e = rw (sym tested ∙ e, kept_if)
+
+-- ---- the rules of a word
+
+-- the position satisfies all where none was found that it does not
+pub all_unless_found : (P : Program) (which M : ℕ) {none : Bool} (found : Option ℕ) → which < 2 ^ ATOMS → Unsatisfied P which M found
+    → is_some found ≡ not none → none ≡ satisfies_all P which M
+all_unless_found P which M {none} None fits all e =
+    true_of_not_false none (λ f. false≢true (e ∙ (not_is_true none).1 f)) ∙ sym (decided_true (decides_all_satisfied P which M fits) all)
+all_unless_found P which M {none} (Some r) fits u e =
+    (not_is_true none).0 (sym e) ∙ sym (decided_false (decides_all_satisfied P which M fits) (λ all. u.1 (all.each r u.0)))
 
 -- ---- the answer-set test
 

@@ -1,13 +1,13 @@
 -- The memo of a subset test that said none: whether a rule is satisfied depends on its own atoms alone, so the same is said of every test that comes
 -- to the same rules and the same atoms of them.
-use Rattle.answer_sets.proofs.Prelude.{not-false, ◌≡◌, refl, sym, ap₂, subst, ◌∙◌, Bool, true, false, not, false≢true, ◌↔◌, ◌⊎◌, inl, inr, List, ℕ}
-use Rattle.answer_sets.proofs.Prelude.{◌<◌, ◌^◌, length, get_or, set, replicate, length-set, length-replicate, get_or-set_same, get_or-set_other, ATOMS}
-use Rattle.answer_sets.proofs.Prelude.{EVERY_ATOM, Has, ◌⊆◌, ◌⊂◌, subset, Apart, apart, ◌∩◌, ◌∪◌, ◌∖◌, Decides, has_dec, has_lt, has_cut, cut_left}
+use Rattle.answer_sets.proofs.Prelude.{not-false, ◌≡◌, refl, sym, subst, ◌∙◌, Bool, true, false, not, ◌↔◌, ◌⊎◌, inl, inr, List, ℕ}
+use Rattle.answer_sets.proofs.Prelude.{◌<◌, ◌^◌, replicate, length-replicate, ATOMS}
+use Rattle.answer_sets.proofs.Prelude.{EVERY_ATOM, Has, subset, Apart, apart, ◌∩◌, ◌∪◌, ◌∖◌, Decides, has_dec, has_lt, has_cut, cut_left}
 use Rattle.answer_sets.proofs.Prelude.{cut_right, has_left, has_right, union_cases, has_without, without_left, without_right, decides_subset}
 use Rattle.answer_sets.proofs.Prelude.{decides_apart, subset_le, cut_fits, union_fits, without_fits, Program, Body, Satisfies, SatisfiesAll, lent}
 use Rattle.answer_sets.proofs.Prelude.{looks, Between, Finds, Confines, InRule, in_head, in_positive, in_looks, Passed, Completes, undecided, State}
 use Rattle.answer_sets.proofs.Prelude.{undecided_intro, lt_of_le_of_lt, arith}
-use Rattle.answer_sets.specs.Memo.{OnlyWhole, MEMO_WORDS, memo_of, Memo, Blank, Written, differing, NoRuleHas, RestAlike}
+use Rattle.answer_sets.specs.Memo.{OnlyWhole, MEMO_WORDS, Memo, Blank, Written, differing, NoRuleHas, RestAlike}
 use Rattle.answer_sets.proofs.Between.{finds_none}
 use Rattle.answer_sets.proofs.Bodies.{rest_same}
 
@@ -160,48 +160,7 @@ blank_memo = record {
   };
 }
 
--- three writes
-pub words_written : (words : List ℕ) (p : Passed) → length words ≡ MEMO_WORDS
-    → Written p (set (set (set words 0 p.left) 1 p.state.up) 2 p.state.dropped)
-words_written words p l = record {
-  long = length-set two 2 d ∙ length-set one 1 u ∙ length-set words 0 a ∙ l;
-  is = rw (at_left, at_up, get_or-set_same two 2 d 0 (omega (arith, long_two)));
-}
-  where
-    a : ℕ
-    a = p.left
-
-    u : ℕ
-    u = p.state.up
-
-    d : ℕ
-    d = p.state.dropped
-
-    one : List ℕ
-    one = set words 0 a
-
-    two : List ℕ
-    two = set one 1 u
-
-    long_one : length one ≡ 3
-    long_one = length-set words 0 a ∙ l
-
-    long_two : length two ≡ 3
-    long_two = length-set one 1 u ∙ long_one
-
-    at_left : get_or (set two 2 d) 0 0 ≡ a
-    at_left =
-        get_or-set_other two 2 0 d 0 (λ e. omega (arith, e)) ∙ get_or-set_other one 1 0 u 0 (λ e. omega (arith, e))
-        ∙ get_or-set_same words 0 a 0 (omega (arith, l))
-
-    at_up : get_or (set two 2 d) 1 0 ≡ u
-    at_up = get_or-set_other two 2 1 d 0 (λ e. omega (arith, e)) ∙ get_or-set_same one 1 u 0 (omega (arith, long_one))
-
 -- ---- the tests of the code
-
-pub differing_is : (s t : State) {a b c d u v r : ℕ} → a ≡ s.up ∖ t.up → b ≡ t.up ∖ s.up → u ≡ a ∪ b → c ≡ s.dropped ∖ t.dropped
-    → d ≡ t.dropped ∖ s.dropped → v ≡ c ∪ d → r ≡ u ∪ v → r ≡ differing s t
-differing_is s t e f g h i j k = k ∙ ap₂ ◌∪◌ (g ∙ ap₂ ◌∪◌ e f) (j ∙ ap₂ ◌∪◌ h i)
 
 -- a rule none of whose atoms are in the word
 pub untouched_rule : {rules : List ℕ} {r all w : ℕ} {b : Bool} → all ≡ (lent rules).head r ∪ ((lent rules).positive r ∪ looks rules r)

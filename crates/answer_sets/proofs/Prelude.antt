@@ -14,17 +14,16 @@ pub use Rattle.answer_sets.specs.declared.rule_pass.Passed.{Passed}
 pub use Rattle.answer_sets.specs.declared.truth.Truth.{Truth}
 pub use Rattle.answer_sets.specs.declared.truth.Truth.TheVariants.{Fails, Holds, Open}
 pub use Rattle.atoms.proofs.Bounded.{all_in_at, all_in_intro, decides_all_in, decides_some, some_at, some_intro, union_at, union_has, word_at, word_has}
-pub use Rattle.atoms.proofs.Counts.{taken_less}
-pub use Rattle.atoms.proofs.Kit.{Bool, In, List, Measures, ◌&&◌, ◌*◌, ◌+◌, ◌-◌, ◌<◌, ◌^◌, ◌↔◌, ◌∙◌, ◌≡◌, ◌≤◌, ◌⊎◌, and, ap, ap₂, arith, falls, false}
-pub use Rattle.atoms.proofs.Kit.{false≢true, get_or, get_or-set_other, get_or-set_same, inl, inr, is, le-ltb, length, length-replicate, length-set, lt-ltb}
-pub use Rattle.atoms.proofs.Kit.{lt_of_le_of_lt, min, needs, not, not-false, not-true, ones, pow-suc, refl, replicate, set, subst, suc, sym, true}
+pub use Rattle.atoms.proofs.Kit.{Bool, List, ◌&&◌, ◌*◌, ◌+◌, ◌-◌, ◌<◌, ◌^◌, ◌↔◌, ◌∙◌, ◌≡◌, ◌≤◌, ◌⊎◌, ap, ap₂, arith, false}
+pub use Rattle.atoms.proofs.Kit.{false≢true, get_or, inl, inr, le-ltb, length, length-replicate, lt-ltb}
+pub use Rattle.atoms.proofs.Kit.{lt_of_le_of_lt, min, needs, not, not-false, not-true, ones, pow-suc, refl, replicate, subst, suc, sym, true}
 pub use Rattle.atoms.proofs.Kit.{true≢false, zero, ℕ, ℕ_discrete}
 pub use Rattle.atoms.proofs.Sets.{apart_of_cut, atom_only, below_lt, cut_fits, cut_left, cut_right, decides_apart, decides_has, decides_subset, ext, has_atom}
 pub use Rattle.atoms.proofs.Sets.{has_below, has_cut, has_dec, has_left, has_lt, has_none, has_outside, has_right, has_without, lt_of_has, outside_lacks}
 pub use Rattle.atoms.proofs.Sets.{shared_atom, some_atom, subset_antisym, subset_dec, subset_le, subset_lt, subset_refl, subset_trans, union_cases}
 pub use Rattle.atoms.proofs.Sets.{union_fits, without_fits, without_left, without_right}
-pub use Rattle.atoms.proofs.TakenNumbers.{Carrying, Sifts, Taking, carrying_more, carrying_start, sifts_drop, sifts_end, sifts_keep, sifts_start, taken_lent}
-pub use Rattle.atoms.proofs.TakenNumbers.{taking_end, taking_more, taking_next, taking_start}
+pub use Rattle.atoms.proofs.TakenNumbers.{Carrying, Sifts, Taking, carrying_more, sifts_drop, sifts_end, sifts_keep, taken_lent}
+pub use Rattle.atoms.proofs.TakenNumbers.{taking_more, taking_next}
 pub use Rattle.atoms.proofs.Tests.{and-true, bool_ext, decided, decided_false, decided_true, decides_and, decides_iff, decides_implies, decides_not}
 pub use Rattle.atoms.proofs.Tests.{decides_same, false_of_not_true, not_both, not_is_true, test_cases, true_of_not_false}
 pub use Rattle.atoms.specs.Bounded.{Decides, all_in, some_below, union_in}

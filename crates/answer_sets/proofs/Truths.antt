@@ -1,5 +1,5 @@
 -- What is known of tests, put together: the three answers are apart, two tests together, and a test the other way round.
-use Rattle.answer_sets.proofs.Prelude.{◌≡◌, refl, sym, ◌∙◌, Bool, true, false, not, false≢true, ◌↔◌, ◌⊎◌, inl, inr, ℕ, arith, not-true, not-false, ◌⊆◌}
+use Rattle.answer_sets.proofs.Prelude.{◌≡◌, refl, sym, ◌∙◌, Bool, true, false, not, ◌↔◌, ◌⊎◌, inl, inr, ℕ, arith, not-true, not-false, ◌⊆◌}
 use Rattle.answer_sets.proofs.Prelude.{subset, Apart, apart, decides_subset, decides_apart, some_atom, not_both, true_of_not_false, false_of_not_true}
 use Rattle.answer_sets.proofs.Prelude.{not_is_true, Says, both, opposite, WordSays, RowsSay, State, Truth, Holds, Fails, Open}
 
@@ -11,19 +11,6 @@ open_not_holds e = let z : ◌≡◌ {A = ℕ} 0 1 = cc in omega arith
 
 pub open_not_fails : Open ≡ Fails → ⊥
 open_not_fails e = let z : ◌≡◌ {A = ℕ} 0 1 = cc in omega arith
-
--- a test for one answer says no at the others
-pub holds_no_failure : {t : Truth} → t ≡ Holds → (false ≡ true) ↔ (t ≡ Fails)
-holds_no_failure e = (λ f. absurd (false≢true f), λ f. absurd (holds_not_fails (sym e ∙ f)))
-
-pub open_no_failure : {t : Truth} → t ≡ Open → (false ≡ true) ↔ (t ≡ Fails)
-open_no_failure e = (λ f. absurd (false≢true f), λ f. absurd (open_not_fails (sym e ∙ f)))
-
-pub fails_no_success : {t : Truth} → t ≡ Fails → (false ≡ true) ↔ (t ≡ Holds)
-fails_no_success e = (λ f. absurd (false≢true f), λ f. absurd (holds_not_fails (sym f ∙ e)))
-
-pub open_no_success : {t : Truth} → t ≡ Open → (false ≡ true) ↔ (t ≡ Holds)
-open_no_success e = (λ f. absurd (false≢true f), λ f. absurd (open_not_holds (sym e ∙ f)))
 
 -- ---- two tests together
 

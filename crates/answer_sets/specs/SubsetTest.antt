@@ -1,14 +1,14 @@
 -- Inner: the statements of the subset test's functions.
 use Rattle.std.specs.Prelude.{◌≡◌, Bool, true, false, List, ℕ, ◌<◌}
+use Rattle.std.specs.declared.option.Option.{Option}
+use Rattle.std.specs.declared.option.Option.TheVariants.{Some, None}
 use Rattle.atoms.specs.Word.{ATOMS, EVERY_ATOM, Has, ◌⊆◌, ◌⊂◌, outside}
 use Rattle.atoms.specs.Bounded.{Decides}
 use Rattle.answer_sets.specs.Program.{Program, Satisfies, SatisfiesAll}
-use Rattle.answer_sets.specs.Lent.{lent, looks}
+use Rattle.answer_sets.specs.Lent.{Lent, lent, looks}
 use Rattle.states.specs.State.{Completes}
 use Rattle.states.specs.declared.state.State.{State}
-use Rattle.answer_sets.specs.declared.reduct.FoundRule.{FoundRule}
 use Rattle.answer_sets.specs.declared.smaller.Smaller.{Smaller}
-use Rattle.answer_sets.specs.declared.reduct.FoundRule.TheVariants.{Rule, Nothing}
 
 -- some completion of the state is a proper subset of M and satisfies each rule of the word
 pub record Between (P : Program) (which M : ℕ) (s : State) : Type 0 where
@@ -44,10 +44,15 @@ subsets_of facts M = record { up = facts; dropped = outside M }
 pub record Confines (M dropped : ℕ) : Type 0 where
   pub outside : (i : ℕ) → i < ATOMS → ¬ Has M i → Has dropped i
 
+-- a test that finds a smaller set for any rules that are lent and any state whose completions lie within the position
+pub record TestsBetween (rules : List ℕ) (position : ℕ) (may : ℕ → State → Type 0) (gives : ℕ → State → Smaller → Type 0) : Type 0 where
+  pub asked : (which : ℕ) (s : State) → Lent rules which → Confines position s.dropped → may which s
+  pub told : (which : ℕ) (s : State) (r : Smaller) → gives which s r → Finds (lent rules) which position s r.found r.set
+
 -- a rule of the word that the position does not satisfy, or it satisfies them all
-abbrev pub Unsatisfied : Program → ℕ → ℕ → FoundRule → Type 0
-Unsatisfied P which M (Rule r) = Has which r × ¬ Satisfies P r M
-Unsatisfied P which M Nothing = SatisfiesAll P which M
+abbrev pub Unsatisfied : Program → ℕ → ℕ → Option ℕ → Type 0
+Unsatisfied P which M (Some r) = Has which r × ¬ Satisfies P r M
+Unsatisfied P which M None = SatisfiesAll P which M
 
 -- atom i stands in rule r: in its head, its positive word, its negative word or among the inputs of a table it uses
 pub data InRule (rules : List ℕ) (r i : ℕ) : Type 0 where

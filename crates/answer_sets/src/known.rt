@@ -19,7 +19,9 @@ pub fn words_known(rules: &[u64], rule: usize, up: u64, down: u64) -> Truth
     both(positive, negative)
 }
 
-// Whether the body holds, fails or is open: each word and each use of a table by what it is in every completion.
+// Whether the body holds, fails or is open: each word and each use of a table by what it is in every completion. Every step asks it of every rule, so it is
+// inlined there, and the loop over uses is not.
+#[inline(always)]
 pub fn body_known(rules: &[u64], rule: usize, up: u64, dropped: u64) -> Truth
     requires { IsLent rules.now rule }
     ensures { BodySays rules.now rule up dropped result }

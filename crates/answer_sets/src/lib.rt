@@ -13,5 +13,7 @@ mod tried;
 pub mod truth;
 pub mod uses;
 
-pub use position::{Judged, has_smaller, is_answer_set, judge_position, judge_set, lent_numbers};
+pub use position::{
+    Judged, has_smaller, is_answer_set, judge_position, judge_set, judge_set_by, lent_numbers,
+};
 pub use truth::Truth;

@@ -60,13 +60,10 @@ fn are_untouched(rules: &[u64], which: u64, w: u64) -> bool
     requires { Lent rules.now which }
     ensures { result ≡ true → NoRuleHas rules.now which w }
 {
-    let mut rest = which;
-    while rest != 0 {
-        let rule = atoms::lowest(rest);
+    for rule in atoms::each(which) {
         if !atoms::are_apart(rule_atoms(rules, rule), w) {
             return false;
         }
-        rest = atoms::drop(rest, rule);
     }
     true
 }

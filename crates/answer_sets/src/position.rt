@@ -1,14 +1,16 @@
 // The answer-set test of one position, over lent rules and a word of their numbers; and the same for any lent words and any numbers.
-ghost use Rattle.std.specs.Prelude.{◌≡◌, min};
+ghost use Rattle.std.specs.Prelude.{◌≡◌};
 ghost use Rattle.answer_sets.specs.Lent.{lent, Lent, numbered};
 ghost use Rattle.answer_sets.specs.Memo.{Memo};
+ghost use Rattle.answer_sets.specs.SubsetTest.{TestsBetween};
 ghost use Rattle.answer_sets.specs.Test.{SubsetTested, answer_set, RefutedBy};
 
 use crate::memo::blank_memo;
 use crate::reduct::{all_satisfied, kept_rules};
 use crate::rule::rule_count;
-use crate::smaller::some_smaller;
+use crate::smaller::{Smaller, UNBOUNDED, some_between, some_smaller, some_smaller_by};
 use plan::MAX_RULES;
+use states::State;
 
 // Whether a position is an answer set, and if it is none, what shows it: a smaller set, or the position itself. Which smaller set it is, is free.
 #[derive(Clone, Copy)]
@@ -18,9 +20,17 @@ pub struct Judged {
 }
 
 // Whether the position is an answer set of the rules numbered in `which` with the facts added, and what shows that it is none. The subset test's memo
-// may go from one position to the next.
-pub fn judge_set(rules: &[u64], which: u64, facts: u64, position: u64, memo: &mut [u64]) -> Judged
-    requires { Lent rules.now which × Memo rules.now memo.old }
+// may go from one position to the next; what the test has to try is left to `between`.
+pub fn judge_set_by<F: Fn(u64, State) -> Smaller>(
+    rules: &[u64],
+    which: u64,
+    facts: u64,
+    position: u64,
+    memo: &mut [u64],
+    between: F,
+) -> Judged
+    requires lent { Lent rules.now which × Memo rules.now memo.old }
+    requires finds { TestsBetween rules.now position (F.pre between) (F.post between) }
     ensures answers { result.answers ≡ answer_set (lent rules.now) which facts position }
     ensures refuted { RefutedBy (lent rules.now) which facts position result.answers result.smaller }
     ensures memo { Memo rules.now memo.new }
@@ -38,11 +48,23 @@ pub fn judge_set(rules: &[u64], which: u64, facts: u64, position: u64, memo: &mu
             smaller: position,
         };
     }
-    let smaller = some_smaller(rules, kept, facts, position, memo);
+    let smaller = some_smaller_by(rules, kept, facts, position, memo, between);
     Judged {
         answers: !smaller.found,
         smaller: smaller.set,
     }
+}
+
+// The same by the plain subset test.
+pub fn judge_set(rules: &[u64], which: u64, facts: u64, position: u64, memo: &mut [u64]) -> Judged
+    requires { Lent rules.now which × Memo rules.now memo.old }
+    ensures answers { result.answers ≡ answer_set (lent rules.now) which facts position }
+    ensures refuted { RefutedBy (lent rules.now) which facts position result.answers result.smaller }
+    ensures memo { Memo rules.now memo.new }
+{
+    judge_set_by(rules, which, facts, position, memo, |left, s| {
+        some_between(rules, left, position, s, UNBOUNDED)
+    })
 }
 
 // Only whether the position is an answer set.
@@ -54,19 +76,12 @@ pub fn is_answer_set(rules: &[u64], which: u64, facts: u64, position: u64) -> bo
     judge_set(rules, which, facts, position, &mut memo).answers
 }
 
-// The lesser of two numbers.
-fn lesser(a: usize, b: usize) -> usize
-    ensures { result ≡ min a b }
-{
-    if a < b { a } else { b }
-}
-
 // Of the numbers in a word those of the n rules lent, as far as their words are there.
 pub fn lent_numbers(rules: &[u64], n: usize, which: u64) -> u64
     ensures { (result ≡ numbered rules.now n which) × Lent rules.now result }
 {
-    let there = lesser(n, rule_count(rules));
-    atoms::cut(which, atoms::first(lesser(MAX_RULES, there)))
+    let there = n.min(rule_count(rules));
+    atoms::cut(which, atoms::first(there.min(MAX_RULES)))
 }
 
 // The subset test over the n rules lent: whether some proper subset of the position has all the facts and satisfies

@@ -8,13 +8,6 @@ ghost use Rattle.answer_sets.specs.Test.{satisfies as satisfies_at, satisfies_al
 use crate::known::body_holds;
 use crate::rule::head;
 
-// A rule that a position does not satisfy, if there is one.
-#[derive(Clone, Copy)]
-pub enum FoundRule {
-    Rule(usize),
-    Nothing,
-}
-
 // Whether the position satisfies the rule: its body fails, or a head atom is up.
 fn satisfies(rules: &[u64], rule: usize, position: u64) -> bool
     requires { IsLent rules.now rule }
@@ -27,19 +20,16 @@ fn satisfies(rules: &[u64], rule: usize, position: u64) -> bool
 }
 
 // A rule numbered in `which` that the position does not satisfy, if there is one.
-pub fn find_unsatisfied(rules: &[u64], which: u64, position: u64) -> FoundRule
+pub fn find_unsatisfied(rules: &[u64], which: u64, position: u64) -> Option<usize>
     requires { Lent rules.now which }
     ensures { Unsatisfied (lent rules.now) which position result }
 {
-    let mut rest = which;
-    while rest != 0 {
-        let rule = atoms::lowest(rest);
+    for rule in atoms::each(which) {
         if !satisfies(rules, rule, position) {
-            return FoundRule::Rule(rule);
+            return Some(rule);
         }
-        rest = atoms::drop(rest, rule);
     }
-    FoundRule::Nothing
+    None
 }
 
 // Whether the position satisfies each rule numbered in `which`.
@@ -47,11 +37,7 @@ pub fn all_satisfied(rules: &[u64], which: u64, position: u64) -> bool
     requires { Lent rules.now which }
     ensures { result ≡ satisfies_all (lent rules.now) which position }
 {
-    let found = find_unsatisfied(rules, which, position);
-    match found {
-        FoundRule::Nothing => true,
-        FoundRule::Rule(_) => false,
-    }
+    find_unsatisfied(rules, which, position).is_none()
 }
 
 // The word without the rule where its body fails at the position.
@@ -70,12 +56,9 @@ pub fn kept_rules(rules: &[u64], which: u64, position: u64) -> u64
     requires { Lent rules.now which }
     ensures { result ≡ kept (lent rules.now) which position }
 {
-    let mut rest = which;
     let mut word = which;
-    while rest != 0 {
-        let rule = atoms::lowest(rest);
+    for rule in atoms::each(which) {
         word = kept_if(rules, rule, position, word);
-        rest = atoms::drop(rest, rule);
     }
     word
 }

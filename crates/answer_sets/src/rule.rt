@@ -6,6 +6,9 @@ ghost use Rattle.answer_sets.specs.Lent.{lent, rule_count_of, IsLent, negative, 
 use crate::uses::used_inputs;
 use plan::{FIRST_RULE, RULE_WORDS};
 
+// Binary places of a count of rules: seven count up to 127, for at most MAX_RULES rules.
+pub const RULE_PLACES: usize = 7;
+
 // How many rules the words hold.
 pub fn rule_count(rules: &[u64]) -> usize
     ensures { result ≡ rule_count_of rules.now }

@@ -148,18 +148,15 @@ pub fn rule_pass(rules: &[u64], which: u64, s: State) -> Passed
     requires { Lent rules.now which }
     ensures { Sifted (lent rules.now) which s which result }
 {
-    let mut rest = which;
     let mut up = s.up;
     let mut dropped = s.dropped;
     let mut left = which;
-    while rest != 0 {
-        let rule = atoms::lowest(rest);
+    for rule in atoms::each(which) {
         let p = pass_rule(rules, rule, round_of(up, dropped, left));
         let t = p.state;
         up = t.up;
         dropped = t.dropped;
         left = p.left;
-        rest = atoms::drop(rest, rule);
     }
     round_of(up, dropped, left)
 }

@@ -6,10 +6,10 @@ ghost use Rattle.answer_sets.specs.Lent.{lent, Lent};
 ghost use Rattle.answer_sets.specs.Memo.{Memo};
 ghost use Rattle.answer_sets.specs.RulePass.{Sifted};
 ghost use Rattle.answer_sets.specs.Test.{SubsetTested, SmallerSet};
-ghost use Rattle.answer_sets.specs.SubsetTest.{Confines, Finds, Tries, Lasts, subsets_of};
+ghost use Rattle.answer_sets.specs.SubsetTest.{Confines, Finds, TestsBetween, Tries, Lasts, subsets_of};
 
 use crate::memo::{memo_tells, write_memo};
-use crate::reduct::{FoundRule, find_unsatisfied};
+use crate::reduct::find_unsatisfied;
 use crate::rounds::rounds;
 use crate::rule_pass::Passed;
 use crate::tried::{candidates, tried_next};
@@ -62,8 +62,7 @@ pub fn some_between(rules: &[u64], which: u64, position: u64, s: State, left: u6
     if s.up == position {
         return none_smaller(left);
     }
-    let found = find_unsatisfied(rules, which, s.up);
-    let FoundRule::Rule(rule) = found else {
+    let Some(rule) = find_unsatisfied(rules, which, s.up) else {
         return Smaller {
             found: true,
             set: s.up,
@@ -118,7 +117,35 @@ pub fn is_told(rules: &[u64], memo: &[u64], position: u64, p: Passed) -> bool
     memo_tells(rules, memo, position, p)
 }
 
-// Whether some proper subset of the position has all the facts and satisfies each rule of the word, and one that does.
+// Whether some proper subset of the position has all the facts and satisfies each rule of the word, and one that does. What neither the rounds nor the memo
+// tell is left to `between`: it is asked of the rules and the state that the rounds leave.
+pub fn some_smaller_by<F: Fn(u64, State) -> Smaller>(
+    rules: &[u64],
+    which: u64,
+    facts: u64,
+    position: u64,
+    memo: &mut [u64],
+    between: F,
+) -> Smaller
+    requires lent { Lent rules.now which × Memo rules.now memo.old }
+    requires finds { TestsBetween rules.now position (F.pre between) (F.post between) }
+    ensures tested { SubsetTested (lent rules.now) which facts position result.found }
+    ensures set { SmallerSet (lent rules.now) which facts position result.found result.set }
+    ensures memo { Memo rules.now memo.new }
+{
+    let p = open_test(rules, which, facts, position);
+    if is_told(rules, memo, position, p) {
+        return none_smaller(UNBOUNDED);
+    }
+    let smaller = between(p.left, p.state);
+    if smaller.found {
+        return smaller;
+    }
+    write_memo(memo, p);
+    smaller
+}
+
+// The same by the plain test, with as many branchings as it takes.
 pub fn some_smaller(
     rules: &[u64],
     which: u64,
@@ -131,14 +158,7 @@ pub fn some_smaller(
     ensures set { SmallerSet (lent rules.now) which facts position result.found result.set }
     ensures memo { Memo rules.now memo.new }
 {
-    let p = open_test(rules, which, facts, position);
-    if is_told(rules, memo, position, p) {
-        return none_smaller(UNBOUNDED);
-    }
-    let smaller = some_between(rules, p.left, position, p.state, UNBOUNDED);
-    if smaller.found {
-        return smaller;
-    }
-    write_memo(memo, p);
-    smaller
+    some_smaller_by(rules, which, facts, position, memo, |left, s| {
+        some_between(rules, left, position, s, UNBOUNDED)
+    })
 }

@@ -4,11 +4,8 @@ ghost use Rattle.atoms.specs.Word.{SomeOf};
 ghost use Rattle.answer_sets.specs.Lent.{IsLent, Lent};
 ghost use Rattle.answer_sets.specs.SubsetTest.{Candidates};
 
-use crate::rule::{head, looks, positive_body};
+use crate::rule::{RULE_PLACES, head, looks, positive_body};
 use atoms::tally::{count_atoms, most};
-
-// Seven binary places count up to 127, for at most MAX_RULES rules.
-const PLACES: usize = 7;
 
 // The free atoms by which the rule may come to be satisfied: of its head, else of its body.
 pub fn candidates(rules: &[u64], rule: usize, free: u64) -> u64
@@ -28,12 +25,9 @@ fn most_wanted(rules: &[u64], which: u64, free: u64) -> u64
     requires { Lent rules.now which × (free ≡ 0 → ⊥) }
     ensures { SomeOf free result }
 {
-    let mut places = [0u64; PLACES];
-    let mut rest = which;
-    while rest != 0 {
-        let rule = atoms::lowest(rest);
+    let mut places = [0u64; RULE_PLACES];
+    for rule in atoms::each(which) {
         count_atoms(&mut places, positive_body(rules, rule));
-        rest = atoms::drop(rest, rule);
     }
     most(&places, free)
 }

@@ -5,7 +5,7 @@ ghost use Rattle.atoms.specs.Word.{Apart};
 ghost use Rattle.answer_sets.specs.Known.{both as both_of, opposite as opposite_of, WordSays, RowsSay};
 
 // What is known of a test at a half-decided position.
-#[derive(Clone, Copy)]
+#[derive(Clone, Copy, PartialEq, Eq)]
 pub enum Truth {
     Holds,
     Fails,
@@ -42,22 +42,14 @@ pub fn opposite(t: Truth) -> Truth
 pub fn is_failure(t: Truth) -> bool
     ensures { (result ≡ true) ↔ (t ≡ Fails) }
 {
-    match t {
-        Truth::Fails => true,
-        Truth::Holds => false,
-        Truth::Open => false,
-    }
+    t == Truth::Fails
 }
 
 // Whether the test is known to hold.
 pub fn is_success(t: Truth) -> bool
     ensures { (result ≡ true) ↔ (t ≡ Holds) }
 {
-    match t {
-        Truth::Holds => true,
-        Truth::Fails => false,
-        Truth::Open => false,
-    }
+    t == Truth::Holds
 }
 
 // Of a word of atoms, all of which are wanted; no atom is both wanted and barred.

@@ -9,7 +9,7 @@ use crate::truth::{Truth, both, is_failure, opposite, rows_known};
 use plan::{CONTACT_WORDS, FIRST_RULE, MAX_TABLES, RULE_WORDS, USES};
 
 // A bit for each table that must be true, and one for each that must be false.
-const USE_BITS: usize = 2 * MAX_TABLES;
+pub const USE_BITS: usize = 2 * MAX_TABLES;
 
 // The word of the rule's uses.
 pub fn uses(rules: &[u64], rule: usize) -> u64
@@ -20,7 +20,7 @@ pub fn uses(rules: &[u64], rule: usize) -> u64
 }
 
 // The table that the use is of.
-fn table_of(i: usize) -> usize
+pub fn used_table(i: usize) -> usize
     requires { i < Lent-as-USE_BITS }
     ensures { (result ≡ used_table i) × (result < Limits-as-MAX_TABLES) }
 {
@@ -49,11 +49,8 @@ pub fn used_inputs(rules: &[u64], rule: usize) -> u64
     ensures { result ≡ used_inputs rules.now rule }
 {
     let mut all = 0;
-    let mut rest = atoms::cut(uses(rules, rule), atoms::first(USE_BITS));
-    while rest != 0 {
-        let i = atoms::lowest(rest);
-        all = atoms::union(all, table_inputs(rules, table_of(i)));
-        rest = atoms::drop(rest, i);
+    for i in atoms::each(atoms::cut(uses(rules, rule), atoms::first(USE_BITS))) {
+        all = atoms::union(all, table_inputs(rules, used_table(i)));
     }
     all
 }
@@ -63,26 +60,24 @@ fn use_known(rules: &[u64], i: usize, up: u64, dropped: u64) -> Truth
     requires { (Limits-as-FIRST_RULE ≤ length rules.now) × (i < Lent-as-USE_BITS) }
     ensures { Says (λ N. use_holds rules.now i N ≡ true) (half_decided up dropped) result }
 {
-    let table = table_of(i);
+    let table = used_table(i);
     let rows = contact_tables::agreeing_rows(table_inputs(rules, table), up, dropped);
     let said = rows_known(rows, table_truth(rules, table));
     if i < MAX_TABLES { said } else { opposite(said) }
 }
 
 // What is known of the body, from what is known of its words; no use is asked where something failed already.
+#[inline(never)]
 pub fn with_uses(rules: &[u64], rule: usize, up: u64, dropped: u64, words: Truth) -> Truth
     requires { IsLent rules.now rule × PartsSay rules.now rule IsWord (half_decided up dropped) words }
     ensures { BodySays rules.now rule up dropped result }
 {
     let mut known = words;
-    let mut rest = atoms::cut(uses(rules, rule), atoms::first(USE_BITS));
-    while rest != 0 {
+    for i in atoms::each(atoms::cut(uses(rules, rule), atoms::first(USE_BITS))) {
         if is_failure(known) {
             return Truth::Fails;
         }
-        let i = atoms::lowest(rest);
         known = both(known, use_known(rules, i, up, dropped));
-        rest = atoms::drop(rest, i);
     }
     known
 }

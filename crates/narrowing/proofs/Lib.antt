@@ -16,7 +16,7 @@ pub mod UnfoundedAtoms
 pub mod NumberedSteps
 -- Rules at a stop (document 02, S-7): what that means, where a rule stands, and that no answer set completes the state there
 pub mod StoppedRules
--- Rules with a wide head: where a rule stands it stands alone, and what a loop over the rules finds
+-- Rules with a wide head: a rule of which the test said no has none
 pub mod WideRules
 -- Atoms that hold each other up: what one rule adds, what all rules add, and the largest such set
 pub mod LoopedAtoms

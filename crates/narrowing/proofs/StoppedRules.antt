@@ -1,16 +1,12 @@
 -- Rules at a stop (document 02, S-7): what that means, where a rule stands, and that no answer set completes the state there.
-use Rattle.narrowing.proofs.Prelude.{◌≡◌, refl, sym, ◌∙◌, subst, Bool, true, false, not, true≢false, false≢true, ◌↔◌, List, ℕ, arith, not-true}
-use Rattle.narrowing.proofs.Prelude.{not-false, Has, ◌⊆◌, subset, Apart, apart, ◌∩◌, ◌∖◌, atom, Lowest, has_without, without_left, without_right}
-use Rattle.narrowing.proofs.Prelude.{decides_subset, decides_apart, Taking, taking_start, taking_next, taking_end, lent, Completes, half_decided, Part}
+use Rattle.narrowing.proofs.Prelude.{◌≡◌, refl, sym, ◌∙◌, subst, Bool, true, false, not, ◌↔◌, List, ℕ, not-true}
+use Rattle.narrowing.proofs.Prelude.{not-false, Has, subset, Apart, apart, ◌∩◌, has_without, without_left, without_right}
+use Rattle.narrowing.proofs.Prelude.{decides_subset, decides_apart, lent, Completes, half_decided, Part}
 use Rattle.narrowing.proofs.Prelude.{PartHolds, InBody, BodySays, State, Truth, Holds, Fails, Open, up_apart, up_completes, completes_known, satisfied}
-use Rattle.narrowing.proofs.Prelude.{AnswersInputs, AtStop, NoStop, StopFound, RulesCounted, IsSpent, IsLive, SameLengths, head_up, body_fails, Stands}
-use Rattle.narrowing.proofs.Prelude.{Chosen, Standing, Spent, Stopped, Live}
-use Rattle.answer_sets.specs.declared.reduct.FoundRule.{FoundRule}
-use Rattle.answer_sets.specs.declared.reduct.FoundRule.TheVariants.{Rule, Nothing}
+use Rattle.narrowing.proofs.Prelude.{AnswersInputs, AtStop, IsSpent, IsLive, head_up, body_fails, Stands}
+use Rattle.narrowing.proofs.Prelude.{Standing, Spent, Stopped, Live}
 use Rattle.answer_sets.proofs.Truths.{holds_not_fails, open_not_holds, open_not_fails}
 use Rattle.answer_sets.proofs.HalfKnown.{none_satisfies}
-use Rattle.narrowing.specs.declared.choice.Choice.{Choice}
-use Rattle.narrowing.specs.declared.choice.Choice.TheVariants.{Atom, Stop}
 
 module _ (rules : List ℕ) (r : ℕ) (s : State) where
   -- every part of the body is true in every completion, and every head atom is dropped and not up: just then the rule is at a stop
@@ -51,9 +47,6 @@ module _ (rules : List ℕ) (r : ℕ) (s : State) where
   spent_no_stop (head_up n) a = n (record { none = λ i h u. without_right s.dropped s.up (a.gone.each i h) u })
   spent_no_stop (body_fails k) a = holds_not_fails (sym (holds_told k a))
 
-  pub failing_spent : {t : Truth} → BodySays rules r s.up s.dropped t → t ≡ Fails → IsSpent rules r s
-  failing_spent k e = body_fails (told k e)
-
   module _ {head : ℕ} {a : Bool} (reads : head ≡ (lent rules).head r) (ea : a ≡ apart head s.up) where
     pub met_spent : not a ≡ true → IsSpent rules r s
     met_spent t = head_up (λ n. (decides_apart head s.up).no (sym ea ∙ not-true a t) (rw reads n))
@@ -88,59 +81,10 @@ module _ (rules : List ℕ) (r : ℕ) (s : State) where
         }
 
 -- a rule that does not stand at a stop is at none
-stands_no_stop : (rules : List ℕ) (r : ℕ) (s : State) (t : Standing) → Stands rules r s t → ¬ (t ≡ Stopped) → ¬ AtStop rules r s
+pub stands_no_stop : (rules : List ℕ) (r : ℕ) (s : State) (t : Standing) → Stands rules r s t → ¬ (t ≡ Stopped) → ¬ AtStop rules r s
 stands_no_stop rules r s Spent k n = spent_no_stop rules r s k
 stands_no_stop rules r s Stopped k n = absurd (n refl)
 stands_no_stop rules r s Live k n = k.unstopped
-
-pub spent_no : {t : Standing} → t ≡ Spent → (false ≡ true) ↔ (t ≡ Stopped)
-spent_no e = (λ f. absurd (false≢true f), λ f. let z : ◌≡◌ {A = ℕ} 0 1 = cc in absurd (omega arith))
-
-pub live_no : {t : Standing} → t ≡ Live → (false ≡ true) ↔ (t ≡ Stopped)
-live_no e = (λ f. absurd (false≢true f), λ f. let z : ◌≡◌ {A = ℕ} 0 1 = cc in absurd (omega arith))
-
--- ---- a loop over the rules: those that are done are at no stop
-
-pub stop_found : (rules : List ℕ) (r : ℕ) (s : State) {t : Standing} {b : Bool} → Stands rules r s t → (b ≡ true) ↔ (t ≡ Stopped) → b ≡ true
-    → AtStop rules r s
-stop_found rules r s k e f = subst (Stands rules r s) (e.0 f) k
-
-pub record Passing (rules : List ℕ) (which rest : ℕ) (s : State) : Type 0 where
-  pub passed : Taking which rest (λ r. ¬ AtStop rules r s)
-
-pub passing_start : {rules : List ℕ} {which : ℕ} {s : State} → Passing rules which which s
-passing_start = record { passed = taking_start }
-
-pub passing_next : {rules : List ℕ} {which rest rest' r : ℕ} {s : State} {t : Standing} {b : Bool} → Passing rules which rest s → Lowest rest r
-    → rest' ≡ rest ∖ atom r → Stands rules r s t → (b ≡ true) ↔ (t ≡ Stopped) → b ≡ false → Passing rules which rest' s
-passing_next {rules} {r = r} {s} {t} p low e k d f = record {
-  passed = taking_next p.passed low e (λ j n. n) (stands_no_stop rules r s t k (λ g. true≢false (sym (d.1 g) ∙ f)));
-}
-
-pub passing_end : {rules : List ℕ} {which rest : ℕ} {s : State} → Passing rules which rest s → rest ≡ 0 → NoStop rules which s
-passing_end p e = record { each = taking_end p.passed e }
-
-pub same_lengths : {first others : List ℕ} → SameLengths first others first others
-same_lengths = record { of_first = refl; of_others = refl }
-
-pub lengths_kept : {first others first' others' first'' others'' : List ℕ} → SameLengths first others first' others'
-    → SameLengths first' others' first'' others'' → SameLengths first others first'' others''
-lengths_kept k l = record { of_first = l.of_first ∙ k.of_first; of_others = l.of_others ∙ k.of_others }
-
--- what was met
-module _ {rules : List ℕ} {which : ℕ} {s : State} {first others first' others' : List ℕ} {f : FoundRule}
-    (k : RulesCounted rules which s first others first' others' f) where
-  pub met_stop : {r : ℕ} → f ≡ Rule r → Has which r × AtStop rules r s
-  met_stop e = subst (StopFound rules which s) e k.met
-
-  pub met_none : f ≡ Nothing → NoStop rules which s
-  met_none e = subst (StopFound rules which s) e k.met
-
--- what comes next of some of the free atoms comes next of all
-pub chosen_within : (rules : List ℕ) (which : ℕ) (s : State) {some free : ℕ} (c : Choice) → some ⊆ free → Chosen rules which s some c
-    → Chosen rules which s free c
-chosen_within rules which s (Atom i) f k = (f.each i k.0, k.1, k.2)
-chosen_within rules which s (Stop r) f k = k
 
 -- ---- "show that no completion there satisfies that rule": so none is an answer set
 

@@ -1,5 +1,5 @@
 -- Whether an atom of its own makes a rule's body fail.
-use Rattle.narrowing.proofs.Prelude.{◌≡◌, refl, sym, ap, subst, ◌∙◌, Bool, true, false, not, true≢false, List, ℕ, not-true, not-false, Apart, apart}
+use Rattle.narrowing.proofs.Prelude.{◌≡◌, sym, Bool, true, false, not, true≢false, List, ℕ, not-true, not-false, Apart, apart}
 use Rattle.narrowing.proofs.Prelude.{Decides, decides_apart, decides_iff, lent, negative, State, Unfailed}
 
 module _ (rules : List ℕ) (r : ℕ) (s : State) {p : ℕ} {t : Bool} (e : p ≡ (lent rules).positive r) (f : t ≡ apart p s.dropped) where

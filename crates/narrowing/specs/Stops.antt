@@ -1,12 +1,12 @@
 -- Where a search goes no further (document 02, S-7), and what the choice of the next atom says of it.
-use Rattle.std.specs.Prelude.{◌≡◌, List, ℕ, ◌<◌, length}
+use Rattle.std.specs.Prelude.{List, ℕ, ◌<◌}
+use Rattle.std.specs.declared.option.Option.{Option}
+use Rattle.std.specs.declared.option.Option.TheVariants.{Some, None}
 use Rattle.atoms.specs.Word.{ATOMS, Has, ◌⊆◌, Apart, ◌∖◌}
 use Rattle.answer_sets.specs.Lent.{lent, negative}
 use Rattle.answer_sets.specs.Known.{BodySays}
 use Rattle.states.specs.declared.state.State.{State}
 use Rattle.answer_sets.specs.declared.truth.Truth.TheVariants.{Holds, Fails}
-use Rattle.answer_sets.specs.declared.reduct.FoundRule.{FoundRule}
-use Rattle.answer_sets.specs.declared.reduct.FoundRule.TheVariants.{Rule, Nothing}
 use Rattle.narrowing.specs.declared.choice.Standing.{Standing}
 use Rattle.narrowing.specs.declared.choice.Standing.TheVariants.{Spent, Stopped, Live}
 use Rattle.narrowing.specs.declared.choice.Choice.{Choice}
@@ -27,19 +27,9 @@ Chosen rules which s free (Atom i) = Has free i × (i < ATOMS) × NoStop rules w
 Chosen rules which s free (Stop r) = Has which r × AtStop rules r s
 
 -- Inner: a rule of the word that is at a stop, or that none is
-abbrev pub StopFound : List ℕ → ℕ → State → FoundRule → Type 0
-StopFound rules which s (Rule r) = Has which r × AtStop rules r s
-StopFound rules which s Nothing = NoStop rules which s
-
--- Inner: two tallies keep their lengths
-pub record SameLengths (first others first' others' : List ℕ) : Type 0 where
-  pub of_first : length first' ≡ length first
-  pub of_others : length others' ≡ length others
-
--- Inner: what a count of the rules says, and that both tallies keep their lengths
-pub record RulesCounted (rules : List ℕ) (which : ℕ) (s : State) (first others first' others' : List ℕ) (r : FoundRule) : Type 0 where
-  pub met : StopFound rules which s r
-  pub lengths : SameLengths first others first' others'
+abbrev pub StopFound : List ℕ → ℕ → State → Option ℕ → Type 0
+StopFound rules which s (Some r) = Has which r × AtStop rules r s
+StopFound rules which s None = NoStop rules which s
 
 -- Inner: rule r has nothing more to ask for: a head atom is up, or its body fails
 pub data IsSpent (rules : List ℕ) (r : ℕ) (s : State) : Type 0 where

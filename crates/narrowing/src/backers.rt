@@ -23,11 +23,8 @@ fn back_by_all(rules: &[u64], which: u64, table: &mut [u64])
     requires { Lent rules.now which × (ATOMS ≤ length table.old) }
     ensures { RulesBack rules.now which table.old table.new }
 {
-    let mut rest = which;
-    while rest != 0 {
-        let rule = atoms::lowest(rest);
+    for rule in atoms::each(which) {
         back_by(rules, rule, table);
-        rest = atoms::drop(rest, rule);
     }
 }
 

@@ -1,25 +1,20 @@
 // Which undecided atom is decided next, one that stands in most live rules, and in which phase it is tried first. Any would be right; this one
 // leaves little to search. Where a rule is at a stop there is none.
-ghost use Rattle.std.specs.Prelude.{◌≡◌, true, ◌↔◌};
+ghost use Rattle.std.specs.Prelude.{◌≡◌};
 ghost use Rattle.atoms.specs.Bounded.{Decides};
 ghost use Rattle.answer_sets.specs.Lent.{IsLent, Lent};
-ghost use Rattle.narrowing.specs.declared.choice.Standing.TheVariants.{Stopped};
-ghost use Rattle.narrowing.specs.Stops.{Stands, Unfailed, SameLengths, RulesCounted, Chosen};
+ghost use Rattle.narrowing.specs.Stops.{Stands, Unfailed, StopFound, Chosen};
 ghost use Rattle.narrowing.specs.Wide.{IsWide, SomeWide};
 
 use answer_sets::Truth;
 use answer_sets::known::body_known;
-use answer_sets::reduct::FoundRule;
-use answer_sets::rule::{head, negative_body, positive_body, rule_atoms};
+use answer_sets::rule::{RULE_PLACES, head, negative_body, positive_body, rule_atoms};
 use atoms::tally::{count_atoms, most};
 use states::State;
 
-// Seven binary places count up to 127, for at most MAX_RULES rules.
-const PLACES: usize = 7;
-
 // Where a rule stands: it has nothing more to ask for, since a head atom is up or its body fails; its body holds and all its head atoms are dropped, so
 // that no completion satisfies it; or it is live.
-#[derive(Clone, Copy)]
+#[derive(Clone, Copy, PartialEq, Eq)]
 pub enum Standing {
     Spent,
     Stopped,
@@ -55,17 +50,6 @@ fn standing_of(rules: &[u64], rule: usize, s: State) -> Standing
     }
 }
 
-// Whether that is a stop.
-fn is_stop(standing: Standing) -> bool
-    ensures { (result ≡ true) ↔ (standing ≡ Stopped) }
-{
-    match standing {
-        Standing::Stopped => true,
-        Standing::Spent => false,
-        Standing::Live => false,
-    }
-}
-
 // A head is wide with this many atoms left.
 const WIDE: usize = 3;
 
@@ -87,13 +71,10 @@ pub fn some_wide(rules: &[u64], which: u64, s: State) -> bool
     requires { Lent rules.now which }
     ensures { Decides (SomeWide rules.now which s) result }
 {
-    let mut rest = which;
-    while rest != 0 {
-        let rule = atoms::lowest(rest);
+    for rule in atoms::each(which) {
         if is_wide(rules, rule, s) {
             return true;
         }
-        rest = atoms::drop(rest, rule);
     }
     false
 }
@@ -109,6 +90,13 @@ fn is_unfailed(rules: &[u64], rule: usize, s: State) -> bool
     atoms::are_apart(negative_body(rules, rule), s.up)
 }
 
+// Counts of the free atoms: by the rules that come first, and by the others.
+#[derive(Drop)]
+struct Tallies {
+    first: [u64; RULE_PLACES],
+    others: [u64; RULE_PLACES],
+}
+
 // Counts the free atoms of a live rule as `counted` has it, unless its body fails there. They count among the first if the rule has a near atom, and
 // otherwise among the others.
 fn count_rule(
@@ -118,11 +106,9 @@ fn count_rule(
     s: State,
     free: u64,
     near: u64,
-    first: &mut [u64],
-    others: &mut [u64],
+    tallies: &mut Tallies,
 )
     requires { IsLent counted.now rule }
-    ensures { SameLengths first.old others.old first.new others.new }
 {
     let Standing::Live = standing else {
         return;
@@ -133,10 +119,10 @@ fn count_rule(
     let all = rule_atoms(counted, rule);
     let open = atoms::cut(free, all);
     if atoms::are_apart(all, near) {
-        count_atoms(others, open);
+        count_atoms(&mut tallies.others, open);
         return;
     }
-    count_atoms(first, open);
+    count_atoms(&mut tallies.first, open);
 }
 
 // The same for the rules of the word, up to one that is at a stop: that one, if there is one.
@@ -147,23 +133,19 @@ fn count_rules(
     s: State,
     free: u64,
     near: u64,
-    first: &mut [u64],
-    others: &mut [u64],
-) -> FoundRule
+    tallies: &mut Tallies,
+) -> Option<usize>
     requires { Lent rules.now which × Lent counted.now which }
-    ensures { RulesCounted rules.now which s first.old others.old first.new others.new result }
+    ensures { StopFound rules.now which s result }
 {
-    let mut rest = which;
-    while rest != 0 {
-        let rule = atoms::lowest(rest);
+    for rule in atoms::each(which) {
         let standing = standing_of(rules, rule, s);
-        if is_stop(standing) {
-            return FoundRule::Rule(rule);
+        if standing == Standing::Stopped {
+            return Some(rule);
         }
-        count_rule(counted, rule, standing, s, free, near, first, others);
-        rest = atoms::drop(rest, rule);
+        count_rule(counted, rule, standing, s, free, near, tallies);
     }
-    FoundRule::Nothing
+    None
 }
 
 // What comes next: a rule of the word that is at a stop, if there is one. Otherwise the lowest of the free atoms that stand in most live rules, where rules
@@ -173,20 +155,13 @@ pub fn choose(rules: &[u64], counted: &[u64], which: u64, s: State, free: u64, n
     requires { Lent rules.now which × Lent counted.now which × (free ≡ 0 → ⊥) }
     ensures { Chosen rules.now which s free result }
 {
-    let mut first = [0u64; PLACES];
-    let mut others = [0u64; PLACES];
-    let found = count_rules(
-        rules,
-        counted,
-        which,
-        s,
-        free,
-        near,
-        &mut first,
-        &mut others,
-    );
+    let mut tallies = Tallies {
+        first: [0; RULE_PLACES],
+        others: [0; RULE_PLACES],
+    };
+    let found = count_rules(rules, counted, which, s, free, near, &mut tallies);
     match found {
-        FoundRule::Rule(rule) => Choice::Stop(rule),
-        FoundRule::Nothing => Choice::Atom(atoms::lowest(most(&others, most(&first, free)))),
+        Some(rule) => Choice::Stop(rule),
+        None => Choice::Atom(atoms::lowest(most(&tallies.others, most(&tallies.first, free)))),
     }
 }

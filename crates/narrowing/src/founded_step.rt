@@ -31,11 +31,7 @@ fn found_by(rules: &[u64], rule: usize, s: State, c: Closure) -> Closure
     }
     let left = atoms::drop(c.left, rule);
     if is_failure(body_known(rules, rule, s.up, s.dropped)) {
-        return Closure {
-            found: c.found,
-            waiting: c.waiting,
-            left,
-        };
+        return Closure { left, ..c };
     }
     let head = head(rules, rule);
     let up = atoms::cut(head, s.up);
@@ -43,28 +39,23 @@ fn found_by(rules: &[u64], rule: usize, s: State, c: Closure) -> Closure
         let barred = atoms::union(negative_body(rules, rule), s.dropped);
         return Closure {
             found: atoms::union(c.found, atoms::without(head, barred)),
-            waiting: c.waiting,
             left,
+            ..c
         };
     }
     if !atoms::are_apart(up, c.found) {
-        return Closure {
-            found: c.found,
-            waiting: c.waiting,
-            left,
-        };
+        return Closure { left, ..c };
     }
     if atoms::at_most_one(up) {
         return Closure {
             found: atoms::union(c.found, up),
-            waiting: c.waiting,
             left,
+            ..c
         };
     }
     Closure {
-        found: c.found,
         waiting: atoms::union(c.waiting, up),
-        left: c.left,
+        ..c
     }
 }
 
@@ -72,16 +63,12 @@ fn found_by(rules: &[u64], rule: usize, s: State, c: Closure) -> Closure
 fn found_by_all(rules: &[u64], which: u64, s: State, before: Closure) -> Closure
     requires { Lent rules.now which }
 {
-    let mut rest = atoms::cut(which, before.left);
     let mut c = Closure {
-        found: before.found,
         waiting: 0,
-        left: before.left,
+        ..before
     };
-    while rest != 0 {
-        let rule = atoms::lowest(rest);
+    for rule in atoms::each(atoms::cut(which, before.left)) {
         c = found_by(rules, rule, s, c);
-        rest = atoms::drop(rest, rule);
     }
     c
 }
@@ -114,14 +101,12 @@ fn founded_atoms(rules: &[u64], which: u64, s: State, start: u64) -> u64
         waiting: 0,
         left: which,
     };
-    let mut rounds = 0;
-    while rounds < ATOMS {
+    for _ in 0..ATOMS {
         c = found_round(rules, which, s, c);
         if c.found == found {
             return found;
         }
         found = c.found;
-        rounds += 1;
     }
     found
 }

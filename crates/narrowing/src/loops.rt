@@ -21,12 +21,9 @@ fn held_on_all(rules: &[u64], which: u64, within: u64) -> u64
     requires { Lent rules.now which }
     ensures { HeldAmong rules.now which within result }
 {
-    let mut rest = which;
     let mut held = 0;
-    while rest != 0 {
-        let rule = atoms::lowest(rest);
+    for rule in atoms::each(which) {
         held = held_on(rules, rule, within, held);
-        rest = atoms::drop(rest, rule);
     }
     held
 }

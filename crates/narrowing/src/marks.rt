@@ -10,10 +10,7 @@ pub fn mark(table: &mut [u64], base: usize, which: u64, word: u64)
     requires { base + ATOMS ≤ length table.old }
     ensures { Marked base which word table.old table.new }
 {
-    let mut rest = which;
-    while rest != 0 {
-        let atom = atoms::lowest(rest);
+    for atom in atoms::each(which) {
         table[base + atom] = atoms::union(table[base + atom], word);
-        rest = atoms::drop(rest, atom);
     }
 }

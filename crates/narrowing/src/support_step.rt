@@ -19,12 +19,7 @@ fn may_support(rules: &[u64], rule: usize, atom: usize, s: State) -> bool
     if !atoms::are_apart(others, s.up) {
         return false;
     }
-    let truth = body_known(rules, rule, s.up, s.dropped);
-    match truth {
-        Truth::Holds => true,
-        Truth::Fails => false,
-        Truth::Open => true,
-    }
+    body_known(rules, rule, s.up, s.dropped) != Truth::Fails
 }
 
 // The word without its lowest rules, as far as these cannot support the atom.
@@ -32,13 +27,10 @@ fn supporters(rules: &[u64], backing: u64, atom: usize, s: State) -> u64
     requires { Lent rules.now backing × (atom < ATOMS) }
     ensures { Supporters rules.now backing atom s result }
 {
-    let mut rest = backing;
-    while rest != 0 {
-        let rule = atoms::lowest(rest);
+    for rule in atoms::each(backing) {
         if may_support(rules, rule, atom, s) {
-            return rest;
+            return atoms::without(backing, atoms::first(rule));
         }
-        rest = atoms::drop(rest, rule);
     }
     0
 }

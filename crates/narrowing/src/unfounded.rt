@@ -40,13 +40,10 @@ fn is_unfounded(rules: &[u64], which: u64, x: u64, s: State) -> bool
     requires { Lent rules.now which }
     ensures { result ≡ true → Unfounded rules.now which x s }
 {
-    let mut rest = which;
-    while rest != 0 {
-        let rule = atoms::lowest(rest);
+    for rule in atoms::each(which) {
         if !spares(rules, rule, x, s) {
             return false;
         }
-        rest = atoms::drop(rest, rule);
     }
     true
 }

@@ -52,10 +52,7 @@ pub fn note_rules(rules: &[u64], which: u64, table: &mut [u64])
     requires { Lent rules.now which × (WOKEN_WORDS ≤ length table.old) }
     ensures { AddsAt (SomeWakes rules.now which) table.old table.new }
 {
-    let mut rest = which;
-    while rest != 0 {
-        let rule = atoms::lowest(rest);
+    for rule in atoms::each(which) {
         note_rule(rules, rule, table);
-        rest = atoms::drop(rest, rule);
     }
 }

@@ -8,6 +8,3 @@ words_known-words-requires c = search (up_apart, needs)
 
 pub returns-then-uses-eq0 : goal.returns-then-uses-eq0
 returns-then-uses-eq0 c = search (body_of_words, words_told, needs)
-
-pub with_uses-requires : goal.with_uses-requires
-with_uses-requires c = search (words_told, needs)

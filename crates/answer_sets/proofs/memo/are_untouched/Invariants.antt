@@ -1,9 +1,6 @@
--- The loop takes the rules of the word: each that is done has none of the atoms. The measure is how many are left.
-use Rattle.answer_sets.proofs.Prelude.{ones, ℕ, Has, Taking, InRule}
+-- The loop takes the rules of the word: each that is done has none of the atoms.
+use Rattle.answer_sets.proofs.Prelude.{ℕ, Has, Taking, InRule}
 use Rattle.answer_sets.proofs.memo.are_untouched.Given as goal
 
-abbrev pub invariant-loop-rest : goal.invariant-loop-rest
-invariant-loop-rest l = Taking l.which l.rest (λ r. (i : ℕ) → InRule l.rules r i → ¬ Has l.w i)
-
-abbrev pub decreases-loop-rest : goal.decreases-loop-rest
-decreases-loop-rest l = ones l.rest
+abbrev pub invariant-loop-rule : goal.invariant-loop-rule
+invariant-loop-rule l = Taking l.fn.which l.rule-iterator.rest (λ r. (i : ℕ) → InRule l.fn.rules r i → ¬ Has l.fn.w i)

@@ -3,6 +3,3 @@ use Rattle.answer_sets.proofs.position.has_smaller.Goals as goal
 
 pub some_smaller-requires : goal.some_smaller-requires
 some_smaller-requires c = (c.lent_numbers-numbers.ensures.1, c.blank_memo-memo.ensures.memo _)
-
-pub returns : goal.returns
-returns c = rw c.lent_numbers-numbers.ensures.0 at c.some_smaller.ensures.tested

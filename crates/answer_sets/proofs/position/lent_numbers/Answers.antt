@@ -4,5 +4,5 @@ use Rattle.answer_sets.proofs.position.lent_numbers.Goals as goal
 
 pub returns : goal.returns
 returns c =
-    numbered_cut c.args.rules.now c.args.n c.args.which c.rule_count.ensures c.lesser-there.ensures
-    c.lesser.ensures c.first.ensures c.cut.ensures
+    numbered_cut c.args.rules.now c.args.n c.args.which c.rule_count.ensures c.min-there.ensures
+    c.min.ensures c.first.ensures c.cut.ensures

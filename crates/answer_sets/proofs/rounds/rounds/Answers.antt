@@ -1,9 +1,6 @@
 use Rattle.answer_sets.proofs.Prelude.{refl, needs, pass_falls}
-use Rattle.answer_sets.proofs.Face.{sifted_more, rounds_narrow, lent_part}
+use Rattle.answer_sets.proofs.Face.{sifted_more, rounds_narrow}
 use Rattle.answer_sets.proofs.rounds.rounds.Goals as goal
-
-pub rule_pass-p-requires-in-loop-before : goal.rule_pass-p-requires-in-loop-before
-rule_pass-p-requires-in-loop-before c = search (lent_part, needs)
 
 pub loop-before-smaller : goal.loop-before-smaller
 loop-before-smaller c = pass_falls c.loop-before.invariant.1 refl refl (c.is_moving.ensures c.loop-before-test.true) refl

@@ -1,6 +1,6 @@
 -- Each return says of the completions what its step of the subset test shows.
-use Rattle.answer_sets.proofs.Prelude.{sym, ap, not, ◌∙◌, true, false, ℕ, ◌<◌, ones, In, needs, not-false, Has, Apart, decides_apart, Satisfies, lent, undecided, decided_falls}
-use Rattle.answer_sets.proofs.Face.{lent_part, confines_more, confines_branch, between_clash, between_whole, between_model, between_stuck, lasts_trans}
+use Rattle.answer_sets.proofs.Prelude.{sym, ap, not, ◌∙◌, true, false, needs, Has, decides_apart, undecided, decided_falls}
+use Rattle.answer_sets.proofs.Face.{lent_part, confines_more, confines_branch, between_clash, between_model, between_stuck, lasts_trans}
 use Rattle.answer_sets.proofs.Face.{tries_told, tries_spent, tries_yes, tries_no}
 use Rattle.answer_sets.proofs.smaller.+some_between.Goals as goal
 
@@ -8,25 +8,18 @@ use Rattle.answer_sets.proofs.smaller.+some_between.Goals as goal
 pub returns-then-not-are_apart : goal.returns-then-not-are_apart
 returns-then-not-are_apart t c = rw c.none_smaller.ensures (tries_told (between_clash c.are_apart.ensures (ap not c.if-not-are_apart.true)))
 
--- the whole position is no proper subset
-pub returns-then-s-position : goal.returns-then-s-position
-returns-then-s-position t c = rw c.none_smaller-then-s-position.ensures (tries_told (between_whole c.if-s-position.true))
-
 -- what is up satisfies all rules
 pub returns-in_default : goal.returns-in_default
 returns-in_default t c =
     let apart_up = (decides_apart c.args.s.up c.args.s.dropped).yes (sym c.are_apart.ensures ∙ c.if-not-are_apart.false) in
-    tries_told (between_model {t = c.args.s} (search needs) c.requires.1 apart_up c.if-s-position.false (rw c.in_default.is at c.find_unsatisfied-found.ensures))
+    tries_told (between_model {t = c.args.s} (search needs) c.requires.1 apart_up c.if-s-position.false c.in_default.ensures)
 
 -- a rule that is not satisfied leaves nothing to try
 pub returns-then-choice-eq0 : goal.returns-then-choice-eq0
 returns-then-choice-eq0 t c =
     rw c.none_smaller-then-choice-eq0.ensures
     (tries_told
-    (between_stuck c.undecided-free.ensures c.candidates-choice.ensures c.if-choice-eq0.true (rw c.in-Rule.is at c.find_unsatisfied-found.ensures)))
-
-pub returns-then-left-eq0 : goal.returns-then-left-eq0
-returns-then-left-eq0 t c = rw c.none_smaller-then-left-eq0.ensures (tries_spent (record { unbounded = λ e. e }) c.if-left-eq0.true)
+    (between_stuck c.undecided-free.ensures c.candidates-choice.ensures c.if-choice-eq0.true c.in-Some.ensures))
 
 pub some_between-raised-requires : goal.some_between-raised-requires
 some_between-raised-requires t c =

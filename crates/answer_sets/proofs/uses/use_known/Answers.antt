@@ -9,7 +9,7 @@ rows_known-said-requires c = search (rows_some, needs)
 -- what is known of the table
 pub returns-then-i-lt-MAX_TABLES : goal.returns-then-i-lt-MAX_TABLES
 returns-then-i-lt-MAX_TABLES c =
-    let table = c.table_of-table.ensures.0 in
+    let table = c.used_table-table.ensures.0 in
     let told : Says (λ N. said c.args.rules.now c.args.i N ≡ true) (half_decided c.args.up c.args.dropped) c.rows_known-said.result =
     table_says _ _ (rw (c.table_inputs.ensures, table) at c.agreeing_rows-rows.ensures)
     (rw (c.table_truth.ensures, table) at c.rows_known-said.ensures) in
@@ -17,7 +17,7 @@ returns-then-i-lt-MAX_TABLES c =
 
 pub returns-else-i-lt-MAX_TABLES : goal.returns-else-i-lt-MAX_TABLES
 returns-else-i-lt-MAX_TABLES c =
-    let table = c.table_of-table.ensures.0 in
+    let table = c.used_table-table.ensures.0 in
     let told : Says (λ N. said c.args.rules.now c.args.i N ≡ true) (half_decided c.args.up c.args.dropped) c.rows_known-said.result =
     table_says _ _ (rw (c.table_inputs.ensures, table) at c.agreeing_rows-rows.ensures)
     (rw (c.table_truth.ensures, table) at c.rows_known-said.ensures) in

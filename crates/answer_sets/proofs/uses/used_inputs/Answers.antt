@@ -1,19 +1,14 @@
-use Rattle.answer_sets.proofs.Prelude.{taken_less, used_inputs, needs}
+use Rattle.answer_sets.proofs.Prelude.{used_inputs, needs}
 use Rattle.answer_sets.proofs.Face.{used_inputs_read}
-use Rattle.atoms.proofs.GatheredWords.{gathers_lt, gathers_next, gathers_end, gathers_read}
+use Rattle.atoms.proofs.GatheredWords.{gathers_next, gathers_end, gathers_read}
+use Rattle.atoms.proofs.EachAtom.{each_from}
 use Rattle.answer_sets.proofs.uses.used_inputs.Goals as goal
 
-pub loop-rest-init : goal.loop-rest-init
-loop-rest-init c = search (gathers_read, needs)
+pub loop-i-init : goal.loop-i-init
+loop-i-init c = search (gathers_read, each_from, needs)
 
-pub table_of-requires : goal.table_of-requires
-table_of-requires c = search (gathers_lt, needs)
-
-pub loop-rest-smaller : goal.loop-rest-smaller
-loop-rest-smaller c = search (taken_less, needs)
-
-pub loop-rest-preserved : goal.loop-rest-preserved
-loop-rest-preserved c = search (gathers_next, used_inputs_read, needs)
+pub loop-i-preserved : goal.loop-i-preserved
+loop-i-preserved c = search (gathers_next, used_inputs_read, c.in-Some.ensures, needs)
 
 pub returns : goal.returns
 unfolding used_inputs

@@ -1,18 +1,9 @@
-use Rattle.narrowing.proofs.Prelude.{needs, taken_less}
-use Rattle.narrowing.proofs.Face.{supporters_all, supporters_next, supporter_lent, supporters_end}
+use Rattle.narrowing.proofs.Prelude.{needs}
+use Rattle.narrowing.proofs.Face.{supporters_next, supporters_from}
 use Rattle.narrowing.proofs.support_step.supporters.Goals as goal
 
-pub loop-rest-init : goal.loop-rest-init
-loop-rest-init c = search (supporters_all, needs)
+pub loop-rule-preserved : goal.loop-rule-preserved
+loop-rule-preserved c = search (supporters_next, c.in-Some.ensures, needs)
 
-pub may_support-requires : goal.may_support-requires
-may_support-requires c = search (supporter_lent, needs)
-
-pub loop-rest-smaller : goal.loop-rest-smaller
-loop-rest-smaller c = search (taken_less, needs)
-
-pub loop-rest-preserved : goal.loop-rest-preserved
-loop-rest-preserved c = search (supporters_next, needs)
-
-pub returns : goal.returns
-returns c = search (supporters_end, needs)
+pub returns-then-may_support : goal.returns-then-may_support
+returns-then-may_support c = search (supporters_from, c.in-Some.ensures, needs)

@@ -1,9 +1,6 @@
--- The loop carries that the rules left are all that may support the atom. The measure is how many are left.
-use Rattle.narrowing.proofs.Prelude.{ones, Supporters}
+-- The loop carries that the rules left are all that may support the atom.
+use Rattle.narrowing.proofs.Prelude.{Supporters}
 use Rattle.narrowing.proofs.support_step.supporters.Given as goal
 
-abbrev pub invariant-loop-rest : goal.invariant-loop-rest
-invariant-loop-rest l = Supporters l.rules l.backing l.atom l.s l.rest
-
-abbrev pub decreases-loop-rest : goal.decreases-loop-rest
-decreases-loop-rest l = ones l.rest
+abbrev pub invariant-loop-rule : goal.invariant-loop-rule
+invariant-loop-rule l = Supporters l.fn.rules l.fn.backing l.fn.atom l.fn.s l.rule-iterator.rest
