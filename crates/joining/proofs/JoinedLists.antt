@@ -1,7 +1,14 @@
 -- The lists of direct predecessors: to join all is to join each.
-use Rattle.joining.proofs.Prelude.{◌≡◌, sym, ap, ◌∙◌, Bool, true, false, not, List, ℕ, ◌+◌, ◌*◌, ◌≤◌, ◌<◌, arith, length, get_or, eqb, not-true}
-use Rattle.joining.proofs.Prelude.{not-false, eq-eqb, Taking, taking_end, taken_lent, taken_lt, Has, ◌⊆◌, ◌∩◌, Lowest, has_lt, subset_le, some_intro}
-use Rattle.joining.proofs.Prelude.{all_in_at, all_in_intro, all_in_fails, all_in_none, MAX_UNITS, LIST_WORDS, is_listed, joins, Joinable, JoinsAll}
+use Rattle.std.specs.Ordering.{nat_cmp}
+use Rattle.std.specs.List.{IsAnyAnswer}
+use Rattle.std.proofs.Common.{Equal}
+use Rattle.std.proofs.lemmas.Bool.Decides.{nat_tests}
+use Rattle.atoms.specs.Bounded.{some_below}
+use Rattle.atoms.proofs.Tests.{bool_ext}
+use Rattle.joining.proofs.Prelude.{◌≡◌, sym, ap, ◌∙◌, Bool, true, false, List, ℕ, ◌+◌, ◌*◌, ◌≤◌, ◌<◌, arith, length, get_or, eqb}
+use Rattle.joining.proofs.Prelude.{some_at, some_none, take, drop, length-take, length-drop, get_or-take, get_or-drop, false≢true, eqb-true, eq-eqb, Taking}
+use Rattle.joining.proofs.Prelude.{taking_end, taken_lent, taken_lt, Has, ◌⊆◌, ◌∩◌, Lowest, has_lt, subset_le, some_intro}
+use Rattle.joining.proofs.Prelude.{all_in_at, all_in_intro, all_in_fails, all_in_none, MAX_UNITS, LIST_WORDS, is_among, is_listed, joins, Joinable, JoinsAll}
 
 -- no list
 pub joins_none : (table counts heads : List ℕ) (M : ℕ) → joins table counts heads 0 M ≡ true
@@ -42,21 +49,55 @@ module _ (table counts heads : List ℕ) (M v : ℕ) {cut : ℕ} {b : Bool} (c :
   listed_so : b ≡ is_listed table (LIST_WORDS * v) (get_or counts v 0) (M ∩ get_or heads v 0)
   listed_so = t ∙ ap (is_listed table (LIST_WORDS * v) (get_or counts v 0)) c
 
-  pub listed_said : not b ≡ false → is_listed table (LIST_WORDS * v) (get_or counts v 0) (M ∩ get_or heads v 0) ≡ true
-  listed_said f = sym listed_so ∙ not-false b f
+  pub listed_said : b ≡ true → is_listed table (LIST_WORDS * v) (get_or counts v 0) (M ∩ get_or heads v 0) ≡ true
+  listed_said f = sym listed_so ∙ f
 
-  pub joins_not : (w : ℕ) → v < MAX_UNITS → Has w v → not b ≡ true → false ≡ joins table counts heads w M
-  joins_not w l h f = sym (joins_fails table counts heads w M v l h (sym listed_so ∙ not-true b f))
+  pub joins_not : (w : ℕ) → v < MAX_UNITS → Has w v → b ≡ false → false ≡ joins table counts heads w M
+  joins_not w l h f = sym (joins_fails table counts heads w M v l h (sym listed_so ∙ f))
 
 pub joins_all : (table counts heads : List ℕ) (w M : ℕ) {rest : ℕ}
     → Taking w rest (λ v. is_listed table (LIST_WORDS * v) (get_or counts v 0) (M ∩ get_or heads v 0) ≡ true) → rest ≡ 0 → true ≡ joins table counts heads w M
 joins_all table counts heads w M t e = sym (joins_each table counts heads w M (taking_end t e))
 
--- a word at a place of the list
-pub listed_here : (words : List ℕ) (base count value i : ℕ) → i < count → get_or words (base + i) 0 ≡ value → true ≡ is_listed words base count value
-unfolding is_listed
-listed_here words base count value i l e =
-    sym (some_intro count (λ (k : ℕ). eqb (get_or words (base + k) 0) value) i l (eq-eqb (get_or words (base + i) 0) value e))
+-- a word of the list
+pub among_here : (list : List ℕ) (value i : ℕ) → i < length list → get_or list i 0 ≡ value → true ≡ is_among list value
+unfolding is_among
+among_here list value i l e =
+    sym (some_intro (length list) (λ (k : ℕ). eqb (get_or list k 0) value) i l (eq-eqb (get_or list i 0) value e))
+
+-- as the library finds it
+pub same_number : (x y : ℕ) → nat_cmp x y ≡ Equal → x ≡ y
+same_number x y e = grind (arith, nat_tests)
+
+pub among_any : (list : List ℕ) (value : ℕ) (r : Bool) → IsAnyAnswer (λ x b. eqb x value ≡ b) list r → r ≡ is_among list value
+unfolding is_among
+among_any list value true f = among_here list value f.0 f.1 (eqb-true (get_or list f.0 0) value (f.2 0))
+among_any list value false f =
+    sym (some_none (length list) (λ (k : ℕ). eqb (get_or list k 0) value) (λ k l e. false≢true (sym (f k 0 (omega arith) l) ∙ e)))
+
+-- a list that is a part of the table
+pub listed_part : (words : List ℕ) (base count m value : ℕ) → m ≡ count → base + count ≤ length words
+    → is_among (take m (drop base words)) value ≡ is_listed words base count value
+unfolding is_among is_listed
+listed_part words base count m value e fits = rw (e, long) (bool_ext _ _ into from)
+  where
+    long : length (take count (drop base words)) ≡ count
+    long = simp (length-take, length-drop) (omega (arith, fits))
+
+    here : (i : ℕ) → i < count → get_or (take count (drop base words)) i 0 ≡ get_or words (base + i) 0
+    here i l = get_or-take count (drop base words) i 0 l ∙ get_or-drop base words i 0
+
+    into : some_below count (λ i. eqb (get_or (take count (drop base words)) i 0) value) ≡ true
+        → some_below count (λ i. eqb (get_or words (base + i) 0) value) ≡ true
+    into h =
+        let s = some_at count (λ (i : ℕ). eqb (get_or (take count (drop base words)) i 0) value) h in
+        some_intro count (λ (i : ℕ). eqb (get_or words (base + i) 0) value) s.0 s.1 (rw (here s.0 s.1) at s.2)
+
+    from : some_below count (λ i. eqb (get_or words (base + i) 0) value) ≡ true
+        → some_below count (λ i. eqb (get_or (take count (drop base words)) i 0) value) ≡ true
+    from h =
+        let s = some_at count (λ (i : ℕ). eqb (get_or words (base + i) 0) value) h in
+        some_intro count (λ (i : ℕ). eqb (get_or (take count (drop base words)) i 0) value) s.0 s.1 (rw (here s.0 s.1) s.2)
 
 -- to join one is to be in its list
 pub joins_one : (table counts heads : List ℕ) (predecessors M v : ℕ) → v < MAX_UNITS → Has predecessors v

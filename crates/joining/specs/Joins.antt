@@ -4,6 +4,10 @@ use Rattle.atoms.specs.Word.{Has, ◌∩◌}
 use Rattle.atoms.specs.Bounded.{all_in, some_below}
 use Rattle.plan.specs.Limits.{MAX_UNITS, LIST_WORDS}
 
+-- the value is in the list
+unfoldable pub is_among : List ℕ → ℕ → Bool
+is_among list value = some_below (length list) (λ i. eqb (get_or list i 0) value)
+
 -- the value is one of the `count` words from `base` on
 unfoldable pub is_listed : List ℕ → ℕ → ℕ → ℕ → Bool
 is_listed words base count value = some_below count (λ i. eqb (get_or words (base + i) 0) value)

@@ -18,14 +18,7 @@ fn entries(count: usize, k: usize) -> u64
     requires { k < BLOCKS }
     ensures { result ≡ below (min ATOMS (count - ATOMS * k)) }
 {
-    let from = ATOMS * k;
-    if count <= from {
-        return atoms::first(0);
-    }
-    if ATOMS <= count - from {
-        return atoms::first(ATOMS);
-    }
-    atoms::first(count - from)
+    atoms::first(ATOMS.min(count.saturating_sub(ATOMS * k)))
 }
 
 // The filter of all entries.
@@ -34,10 +27,8 @@ pub fn full_filter(counts: &[usize]) -> [u64; FILTER_WORDS]
     ensures { Full counts.now result }
 {
     let mut filter = [0u64; FILTER_WORDS];
-    let mut i = 0;
-    while i < FILTER_WORDS {
-        filter[i] = entries(counts[i / BLOCKS], i % BLOCKS);
-        i += 1;
+    for (i, word) in filter.iter_mut().enumerate() {
+        *word = entries(counts[i / BLOCKS], i % BLOCKS);
     }
     filter
 }
@@ -48,11 +39,7 @@ pub fn copied(filter: &[u64]) -> [u64; FILTER_WORDS]
     ensures { result ≡ filter.now }
 {
     let mut r = [0u64; FILTER_WORDS];
-    let mut i = 0;
-    while i < FILTER_WORDS {
-        r[i] = filter[i];
-        i += 1;
-    }
+    r.copy_from_slice(filter);
     r
 }
 

@@ -16,18 +16,12 @@ pub fn joins(
     requires { Joinable table.now counts.now heads.now predecessors }
     ensures { result ≡ joins_of table.now counts.now heads.now predecessors position }
 {
-    let mut rest = predecessors;
-    while rest != 0 {
-        let v = atoms::lowest(rest);
-        if !contains(
-            table,
-            LIST_WORDS * v,
-            counts[v],
-            atoms::cut(position, heads[v]),
-        ) {
+    for v in atoms::each(predecessors) {
+        let base = LIST_WORDS * v;
+        let list = &table[base..base + counts[v]];
+        if !contains(list, atoms::cut(position, heads[v])) {
             return false;
         }
-        rest = atoms::drop(rest, v);
     }
     true
 }

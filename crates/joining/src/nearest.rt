@@ -12,13 +12,10 @@ fn is_covered(heads: &[u64], units: u64, word: u64) -> bool
     requires { (MAX_UNITS ≤ length heads.now) × (units < 2 ^ MAX_UNITS) }
     ensures { Decides (Covered heads.now units word) result }
 {
-    let mut rest = units;
-    while rest != 0 {
-        let v = atoms::lowest(rest);
+    for v in atoms::each(units) {
         if atoms::is_subset(word, heads[v]) {
             return true;
         }
-        rest = atoms::drop(rest, v);
     }
     false
 }
@@ -43,11 +40,8 @@ pub fn nearest(heads: &[u64], predecessors: u64) -> u64
     ensures { result ⊆ predecessors }
 {
     let mut near = atoms::cut(predecessors, atoms::first(MAX_UNITS));
-    let mut rest = near;
-    while rest != 0 {
-        let v = atoms::lowest(rest);
+    for v in atoms::each(near) {
         near = without_covered(heads, near, v);
-        rest = atoms::drop(rest, v);
     }
     near
 }

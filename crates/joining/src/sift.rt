@@ -28,15 +28,14 @@ fn sift_entry(entry: u64, i: usize, up: u64, decided: u64, found: Sifted) -> Sif
 {
     if atoms::cut(entry, decided) != up {
         return Sifted {
-            all: found.all,
-            some: found.some,
             kept: atoms::drop(found.kept, i),
+            ..found
         };
     }
     Sifted {
         all: atoms::cut(found.all, entry),
         some: atoms::union(found.some, entry),
-        kept: found.kept,
+        ..found
     }
 }
 
@@ -45,21 +44,18 @@ fn sift_block(words: &[u64], at: usize, bits: u64, up: u64, decided: u64, found:
     requires { at + ATOMS ≤ length words.now }
     ensures { BlockSifted words.now at bits up decided found result }
 {
-    let mut rest = bits;
     let mut r = Sifted {
-        all: found.all,
-        some: found.some,
         kept: bits,
+        ..found
     };
-    while rest != 0 {
-        let i = atoms::lowest(rest);
+    for i in atoms::each(bits) {
         r = sift_entry(words[at + i], i, up, decided, r);
-        rest = atoms::drop(rest, i);
     }
     r
 }
 
 // The same for a whole list, whose entries stand from `base` on and whose filter from `at` on.
+// Stays: the definitions Picked, Refined and Filtered go by places in the whole table and the whole filter.
 fn sift_list(
     words: &[u64],
     base: usize,
@@ -76,11 +72,9 @@ fn sift_list(
         some: 0,
         kept: 0,
     };
-    let mut k = 0;
-    while k < BLOCKS {
+    for k in 0..BLOCKS {
         found = sift_block(words, base + ATOMS * k, filter[at + k], up, decided, found);
         filter[at + k] = found.kept;
-        k += 1;
     }
     found
 }

@@ -4,4 +4,4 @@ pub use Rattle.learning.proofs.Reasons.{contradicts, names_many, once_before, on
 pub use Rattle.learning.proofs.Stores.{Passing, empty_of, empty_same, is_news, keeps_refl, keeps_same, keeps_written, learnt_at, learnt_is}
 pub use Rattle.learning.proofs.Stores.{learnt_keeps, news_met, news_none, news_stopped, next_high, next_low, not_news, passing_next, passing_start}
 pub use Rattle.learning.proofs.Stores.{same_behind, same_pairs, same_part, same_trans, written}
-pub use Rattle.learning.proofs.Trails.{dropped_same, scored_part, step_full, step_noted, step_same, up_differs}
+pub use Rattle.learning.proofs.Trails.{scored_part}

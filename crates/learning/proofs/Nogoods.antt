@@ -1,7 +1,7 @@
 -- Nogoods: what lies within what, what a pair that is avoided says of a state, and resolution.
 use Rattle.learning.proofs.Prelude.{◌≡◌, refl, sym, subst, ◌∙◌, ℕ, ℕ_discrete, Has, ◌⊆◌, Apart, ◌∩◌, ◌∖◌, atom, has_none, has_left, has_right}
 use Rattle.learning.proofs.Prelude.{has_without, without_left, without_right, has_dec, atom_only, some_atom, shared_atom, apart_of_cut, Completes}
-use Rattle.learning.proofs.Prelude.{Narrows, Within, Overlaps, SomeUp, SomeDown, OneGoes, State, narrows_when, narrows_for, overlap_none}
+use Rattle.learning.proofs.Prelude.{Narrows, Within, Overlaps, SomeUp, SomeDown, OneGoes, State, narrows_when, overlap_none}
 use Rattle.learning.proofs.Prelude.{completes_within, Avoids, Nogood, resolvent, Resolves}
 use Rattle.states.proofs.OneAtom.{none_left}
 
@@ -11,9 +11,6 @@ use Rattle.states.proofs.OneAtom.{none_left}
 pub avoids_larger : {n m : State} {N : ℕ} → Within n m → Avoids n N → Avoids m N
 avoids_larger w a = record { never = λ c. a.never (completes_within w c) }
 
-pub nogood_larger : {K : ℕ → Type 0} {n m : State} → Within n m → Nogood K n → Nogood K m
-nogood_larger w g = record { avoided = λ N k. avoids_larger w (g.avoided N k) }
-
 -- nothing of interest completes a state with a nogood within it
 pub nogood_stops : {K : ℕ → Type 0} {n s : State} → Nogood K n → Within n s → (N : ℕ) → K N → ¬ Completes s N
 nogood_stops g w N k c = (g.avoided N k).never (completes_within w c)
@@ -21,10 +18,6 @@ nogood_stops g w N k c = (g.avoided N k).never (completes_within w c)
 -- a state that overlaps is a nogood
 pub overlap_avoided : {s : State} (N : ℕ) → Overlaps s → Avoids s N
 overlap_avoided N o = record { never = λ c. overlap_none o c }
-
--- a step that keeps who avoids the pair keeps whoever has K
-pub nogood_narrows : {K : ℕ → Type 0} {n s t : State} → Nogood K n → Narrows (Avoids n) s t → Narrows K s t
-nogood_narrows g m = narrows_for (λ N k. g.avoided N k) m
 
 -- ---- a pair that is avoided
 

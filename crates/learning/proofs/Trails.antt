@@ -1,39 +1,9 @@
--- The trail and the scores: a step that is noted, and a tally that is a part of the memory.
-use Rattle.learning.proofs.Prelude.{◌≡◌, refl, sym, ap, ◌∙◌, Bool, true, false, true≢false, List, ◌++◌, ◌⊎◌, inl, inr, ℕ, ◌+◌, ◌-◌, ◌≤◌, ◌<◌, arith}
-use Rattle.learning.proofs.Prelude.{length, get_or, set, take, drop, get_or-append, get_or-take, get_or-drop, length-take-le, take_at, drop_at, mid_of}
-use Rattle.learning.proofs.Prelude.{post_of, put_mid, mid_len, drop_put, Decides, decides_iff, State, STEPS, SCORES, SCORE_PLACES, MEMORY_WORDS}
+-- The scores: a tally that is a part of the memory.
+use Rattle.learning.proofs.Prelude.{◌≡◌, sym, ap, ◌∙◌, List, ◌++◌, ◌⊎◌, inl, inr, ℕ, ◌+◌, ◌-◌, ◌≤◌, ◌<◌, arith}
+use Rattle.learning.proofs.Prelude.{length, get_or, take, drop, get_or-append, get_or-take, get_or-drop, length-take-le, take_at, drop_at, mid_of}
+use Rattle.learning.proofs.Prelude.{post_of, put_mid, mid_len, drop_put, SCORES, SCORE_PLACES, MEMORY_WORDS}
 use Rattle.atoms.specs.Tally.{Tallied}
-use Rattle.learning.specs.Trail.{step_place, with_step, StepNoted, Scored}
-use Rattle.learning.proofs.Stores.{pair_of}
-
--- ---- steps
-
--- whether two states are the same
-pub up_differs : {s t : State} → ¬ (s.up ≡ t.up) → Decides (s ≡ t) false
-up_differs n = record { yes = λ e. absurd (true≢false (sym e)); no = λ e p. n (ap (λ (x : State). x.up) p) }
-
-pub dropped_same : {s t : State} {b : Bool} → s.up ≡ t.up → Decides (s.dropped ≡ t.dropped) b → Decides (s ≡ t) b
-dropped_same {s} {t} e d = decides_iff (λ f. pair_of t e f) (λ p. ap (λ (x : State). x.dropped) p) d
-
-module _ (memory : List ℕ) (at step : ℕ) {s t : State} where
-  pub step_same : {b : Bool} → Decides (s ≡ t) b → b ≡ true → StepNoted at step s t memory memory at
-  step_same d e = record { noted = λ n. absurd (n (d.yes e)); unchanged = λ h. (refl, refl) }
-
-  pub step_full : STEPS ≤ at → StepNoted at step s t memory memory at
-  step_full l = record { noted = λ n h. absurd (omega (arith, l, h)); unchanged = λ h. (refl, refl) }
-
-  pub step_noted : {first second third : List ℕ} {b : Bool} → Decides (s ≡ t) b → b ≡ false → at < STEPS → first ≡ set memory (step_place at) s.up
-      → second ≡ set first (step_place at + 1) s.dropped → third ≡ set second (step_place at + 2) step → StepNoted at step s t memory third (at + 1)
-  step_noted {third = third} {b} d e l p q r = record { noted = λ n h. (is, refl); unchanged = λ h. absurd (never h) }
-    where
-      is : third ≡ with_step memory at step s
-      is =
-          r ∙ ap (λ (m : List ℕ). set m (step_place at + 2) step)
-          (q ∙ ap (λ (m : List ℕ). set m (step_place at + 1) s.dropped) p)
-
-      never : (s ≡ t) ⊎ (STEPS ≤ at) → ⊥
-      never (inl h) = d.no e h
-      never (inr h) = omega (arith, l, h)
+use Rattle.learning.specs.Trail.{Scored}
 
 -- ---- scores
 

@@ -2,7 +2,7 @@
 ghost use Rattle.std.specs.Prelude.{◌≡◌, ◌<◌};
 ghost use Rattle.atoms.specs.Word.{ATOMS};
 ghost use Rattle.states.specs.Narrowing.{Narrows, Within, Overlaps};
-ghost use Rattle.learning.specs.Nogood.{Avoids, resolvent, Resolves};
+ghost use Rattle.learning.specs.Nogood.{Avoids, resolvent, Resolves, Merged};
 
 use states::{State, lies_within, one_down, one_up};
 
@@ -38,7 +38,8 @@ fn resolve(first: State, second: State, atom: usize) -> State
 // began from, and otherwise both pairs without the atom.
 pub fn merge(first: State, second: State, s: State, atom: usize, phase: bool) -> State
     requires { atom < ATOMS }
-    ensures { Resolves second first result }
+    ensures resolves { Resolves second first result }
+    ensures merged { Merged first second s atom phase result }
 {
     if lies_within(second, s) {
         return second;

@@ -41,6 +41,7 @@ pub fn replace(n: State, s: State, part: State) -> State
 
 // Learns the pair if none was learnt yet, something might complete it, and it names at most one atom beyond the base: whether one is learnt now. Until then
 // the atoms score that were replaced since the pair before.
+// Stays: a loop of the crate explaining hands the flag on from pair to pair, and the definition LearntOnce goes by it.
 pub fn learn_once(memory: &mut [u64], base: State, old: State, n: State, learnt: bool) -> bool
     requires { MEMORY_WORDS ≤ length memory.old }
     ensures keeps { Keeps (Avoids n) memory.old memory.new }

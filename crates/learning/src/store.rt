@@ -6,6 +6,7 @@ ghost use Rattle.learning.specs.Nogood.{Avoids};
 ghost use Rattle.learning.specs.Store.{RING, PAIRS, MEMORY_WORDS, pair_at, Empty, Keeps, SamePairs, PairWritten, Learnt};
 ghost use Rattle.learning.specs.Store.{with_pair, learnt_pairs, next_place, learnt_in, Copied, News, NextNews};
 
+use atoms::EVERY_ATOM;
 use states::State;
 
 // Pairs that propagate, and behind them pairs kept beside the trail.
@@ -34,8 +35,6 @@ const SCORE_PLACES: usize = 16;
 
 pub const MEMORY_WORDS: usize = SCORES + SCORE_PLACES;
 
-const ALL: u64 = 0xffff_ffff_ffff_ffff;
-
 // Writes one word behind the pairs.
 pub fn note(memory: &mut [u64], at: usize, word: u64)
     requires { (2 * PAIRS ≤ at) × (at < length memory.old) }
@@ -45,24 +44,12 @@ pub fn note(memory: &mut [u64], at: usize, word: u64)
     memory[at] = word;
 }
 
-// Makes all words behind the pairs zero.
-fn clear_advice(memory: &mut [u64])
-    requires { MEMORY_WORDS ≤ length memory.old }
-    ensures { SamePairs memory.old memory.new }
-{
-    let mut i = PLACE;
-    while i < MEMORY_WORDS {
-        note(memory, i, 0);
-        i += 1;
-    }
-}
-
-// A store of pairs that nothing completes.
+// A store of pairs that nothing completes, without advice.
 pub fn empty_store() -> [u64; MEMORY_WORDS]
     ensures { Empty result }
 {
-    let mut memory = [ALL; MEMORY_WORDS];
-    clear_advice(&mut memory);
+    let mut memory = [EVERY_ATOM; MEMORY_WORDS];
+    memory[PLACE..].fill(0);
     memory
 }
 
@@ -114,11 +101,7 @@ pub fn learnt_pairs(memory: &[u64]) -> usize
     ensures few { result ≤ RING }
     ensures is { result ≡ learnt_pairs memory.now }
 {
-    let place = memory[PLACE] as usize;
-    if place < RING {
-        return place;
-    }
-    RING
+    RING.min(memory[PLACE] as usize)
 }
 
 // Keeps a copy of the pair beside the trail, as far as there is room.
@@ -155,13 +138,10 @@ pub fn next_pair(memory: &[u64], from: usize, s: State) -> usize
     if !atoms::are_apart(s.up, s.dropped) {
         return RING;
     }
-    let end = learnt_pairs(memory);
-    let mut i = from;
-    while i < end {
+    for i in from..learnt_pairs(memory) {
         if is_news(read_pair(memory, i), s) {
             return i;
         }
-        i += 1;
     }
     RING
 }

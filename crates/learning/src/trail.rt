@@ -1,7 +1,6 @@
 // Advice beside the store: the steps that changed the state, and how often each atom stood in what was learnt. The pairs stay as they are.
 ghost use Rattle.std.specs.Prelude.{◌≤◌, ◌<◌, ◌≡◌, length, get_or, set};
 ghost use Rattle.atoms.specs.Word.{SomeOf, ◌∖◌};
-ghost use Rattle.atoms.specs.Bounded.{Decides};
 ghost use Rattle.learning.specs.Store.{MEMORY_WORDS, STEPS, UNFOUNDED, SamePairs};
 ghost use Rattle.learning.specs.Trail.{step_at, StepNoted, Scored, Leading};
 
@@ -16,26 +15,13 @@ pub struct Recorded {
     pub step: usize,
 }
 
-// Whether the two states are the same.
-fn is_same(s: State, t: State) -> bool
-    ensures { Decides (s ≡ t) result }
-{
-    if s.up != t.up {
-        return false;
-    }
-    s.dropped == t.dropped
-}
-
 // Notes a step that changed the state as step `at` of the trail, as far as there is room; where the next one is noted.
 pub fn note_step(memory: &mut [u64], at: usize, step: usize, before: State, after: State) -> usize
     requires { MEMORY_WORDS ≤ length memory.old }
     ensures same { SamePairs memory.old memory.new }
     ensures noted { StepNoted at step before after memory.old memory.new result }
 {
-    if is_same(before, after) {
-        return at;
-    }
-    if STEPS <= at {
+    if before == after || STEPS <= at {
         return at;
     }
     let first = TRAIL + STEP_WORDS * at;

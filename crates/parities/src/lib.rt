@@ -7,5 +7,5 @@ mod tables;
 mod told;
 
 pub use sums::sum_step;
-pub use tables::{parity_atoms, parity_tables};
+pub use tables::{is_parity, parity_atoms, parity_tables};
 pub use told::{telling_atoms, telling_rules};

@@ -13,6 +13,7 @@ use states::{State, one_up};
 pub const ROWS: usize = MAX_TABLES;
 
 // A row by itself: its atoms, and 1 where an odd number of them is up.
+// Stays: the definitions open_row, use_row and RowHolds count with the bit as a number.
 #[derive(Clone, Copy)]
 pub struct Row {
     pub word: u64,
@@ -82,10 +83,8 @@ fn sum_out(words: &mut [u64], bits: u64, row: usize) -> u64
     }
     let atom = atoms::single(atoms::lowest(word));
     let mut sums = bits;
-    let mut to = 0;
-    while to < ROWS {
+    for to in 0..ROWS {
         sums = sum_into(words, sums, row, to, atom);
-        to += 1;
     }
     sums
 }
@@ -96,10 +95,8 @@ pub fn sum_rows(words: &mut [u64], bits: u64) -> u64
     ensures { SameRows words.old bits words.new result }
 {
     let mut sums = bits;
-    let mut row = 0;
-    while row < ROWS {
+    for row in 0..ROWS {
         sums = sum_out(words, sums, row);
-        row += 1;
     }
     sums
 }
@@ -117,8 +114,8 @@ fn read_row(word: u64, bit: usize, s: State) -> State
         return s;
     }
     State {
-        up: s.up,
         dropped: atoms::union(s.dropped, word),
+        ..s
     }
 }
 
@@ -128,10 +125,8 @@ pub fn read_rows(words: &[u64], bits: u64, s: State) -> State
     ensures { Narrows (RowsHold words.now bits) s result }
 {
     let mut t = s;
-    let mut row = 0;
-    while row < ROWS {
-        t = read_row(words[row], bit_of(bits, row), t);
-        row += 1;
+    for (row, word) in words.iter().enumerate() {
+        t = read_row(*word, bit_of(bits, row), t);
     }
     t
 }

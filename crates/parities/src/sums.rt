@@ -11,8 +11,8 @@ ghost use Rattle.parities.specs.Told.{TellsParity, Summed};
 
 use crate::rows::{ROWS, Row, put_bit, read_rows, sum, sum_rows};
 use crate::tables::is_parity_table;
-use crate::told::{USE_BITS, is_held, telling_rules, use_row, used_table};
-use answer_sets::uses::{table_inputs, table_truth, uses};
+use crate::told::{is_held, telling_rules, use_row};
+use answer_sets::uses::{USE_BITS, table_inputs, table_truth, used_table, uses};
 use states::{State, undecided};
 
 // The row of a parity table: its inputs and its pilot. With no input up the table that asks for an even number is true.
@@ -63,10 +63,8 @@ fn gather_rows(rules: &[u64], pilots: &[u64], s: State, words: &mut [u64], bits:
     ensures { RowsGathered (FollowAll rules.now pilots.now) s words.old bits words.new result }
 {
     let mut sums = bits;
-    let mut t = 0;
-    while t < ROWS {
+    for t in 0..ROWS {
         sums = gather_row(rules, pilots, t, s, words, sums);
-        t += 1;
     }
     sums
 }
@@ -92,11 +90,8 @@ fn gather_all_told(rules: &[u64], which: u64, s: State, words: &mut [u64], bits:
     ensures { RowsGathered (SatisfiesAll (lent rules.now) which) s words.old bits words.new result }
 {
     let mut sums = bits;
-    let mut rest = telling_rules(rules, which);
-    while rest != 0 {
-        let rule = atoms::lowest(rest);
+    for rule in atoms::each(telling_rules(rules, which)) {
         sums = gather_told(rules, rule, s, words, sums);
-        rest = atoms::drop(rest, rule);
     }
     sums
 }

@@ -46,11 +46,9 @@ pub fn parity_tables(rules: &[u64], pilots: &[u64]) -> u64
     ensures { Collects (ParityTable rules.now pilots.now) result }
 {
     let mut which = 0;
-    let mut t = 0;
-    while t < MAX_TABLES {
+    for t in 0..MAX_TABLES {
         let one = atoms::single_if(is_parity_table(rules, pilots, t), t);
         which = atoms::union(which, one);
-        t += 1;
     }
     which
 }
@@ -61,11 +59,8 @@ pub fn parity_atoms(rules: &[u64], pilots: &[u64]) -> u64
     ensures { Collects (ParityAtom rules.now pilots.now) result }
 {
     let mut all = 0;
-    let mut rest = parity_tables(rules, pilots);
-    while rest != 0 {
-        let t = atoms::lowest(rest);
+    for t in atoms::each(parity_tables(rules, pilots)) {
         all = atoms::union(all, atoms::union(table_inputs(rules, t), pilots[t]));
-        rest = atoms::drop(rest, t);
     }
     all
 }

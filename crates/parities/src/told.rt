@@ -3,27 +3,16 @@ ghost use Rattle.std.specs.Prelude.{◌≡◌, true, ◌<◌, ◌≤◌, length}
 ghost use Rattle.atoms.specs.Word.{Has};
 ghost use Rattle.atoms.specs.Bounded.{Decides};
 ghost use Rattle.atoms.specs.Collected.{Collects};
-ghost use Rattle.plan.specs.Limits.{FIRST_RULE, MAX_TABLES as Limits-as-MAX_TABLES};
-ghost use Rattle.answer_sets.specs.Lent.{IsLent, Lent, USE_BITS as Lent-as-USE_BITS, used_table};
+ghost use Rattle.plan.specs.Limits.{FIRST_RULE};
+ghost use Rattle.answer_sets.specs.Lent.{IsLent, Lent, USE_BITS as Lent-as-USE_BITS};
 ghost use Rattle.parities.specs.Told.{TellsParity, ToldAtom, Held, use_row};
 
 use crate::rows::Row;
 use crate::tables::is_parity;
 use answer_sets::rule::{head, negative_body, positive_body, rule_atoms};
-use answer_sets::uses::{table_inputs, table_truth, uses};
+use answer_sets::uses::{USE_BITS, table_inputs, table_truth, used_table, uses};
 use plan::MAX_TABLES;
 use states::State;
-
-// A bit for each table that must be true, and one for each that must be false.
-pub const USE_BITS: usize = 2 * MAX_TABLES;
-
-// The table that the use is of.
-pub fn used_table(i: usize) -> usize
-    requires { i < Lent-as-USE_BITS }
-    ensures { (result ≡ used_table i) × (result < Limits-as-MAX_TABLES) }
-{
-    if i < MAX_TABLES { i } else { i - MAX_TABLES }
-}
 
 // Whether the rule is a constraint with one use, of a parity table.
 fn is_telling(rules: &[u64], rule: usize) -> bool
@@ -50,12 +39,9 @@ pub fn telling_rules(rules: &[u64], which: u64) -> u64
     ensures { Collects (λ i. Has which i × TellsParity rules.now i) result }
 {
     let mut telling = 0;
-    let mut rest = which;
-    while rest != 0 {
-        let rule = atoms::lowest(rest);
+    for rule in atoms::each(which) {
         let one = atoms::single_if(is_telling(rules, rule), rule);
         telling = atoms::union(telling, one);
-        rest = atoms::drop(rest, rule);
     }
     telling
 }
@@ -66,11 +52,8 @@ pub fn telling_atoms(rules: &[u64], which: u64) -> u64
     ensures { Collects (ToldAtom rules.now which) result }
 {
     let mut all = 0;
-    let mut rest = telling_rules(rules, which);
-    while rest != 0 {
-        let rule = atoms::lowest(rest);
+    for rule in atoms::each(telling_rules(rules, which)) {
         all = atoms::union(all, rule_atoms(rules, rule));
-        rest = atoms::drop(rest, rule);
     }
     all
 }

@@ -1,7 +1,7 @@
 -- Pilots at a full position: one row is left there, and it tells what the table says.
-use Rattle.pilots.proofs.Prelude.{◌≡◌, refl, sym, subst, ◌∙◌, Bool, true, false, true≢false, false≢true, ◌↔◌, List, ℕ, ◌+◌, ◌≤◌, ◌<◌, arith}
-use Rattle.pilots.proofs.Prelude.{ℕ_discrete, get_or, ATOMS, Has, ◌⊆◌, subset, Apart, apart, outside, Decides, Collects, ext, has_dec, has_outside}
-use Rattle.pilots.proofs.Prelude.{has_without, without_left, without_right, outside_lacks, subset_refl, decides_has, decides_subset, decides_apart}
+use Rattle.pilots.proofs.Prelude.{◌≡◌, refl, sym, subst, ◌∙◌, Bool, true, false, true≢false, false≢true, List, ℕ, ◌+◌, ◌≤◌, ◌<◌, arith}
+use Rattle.pilots.proofs.Prelude.{ℕ_discrete, get_or, ATOMS, Has, ◌⊆◌, subset, apart, outside, Decides, Collects, ext, has_dec, has_outside}
+use Rattle.pilots.proofs.Prelude.{has_without, without_right, subset_refl, decides_has, decides_subset, decides_apart}
 use Rattle.pilots.proofs.Prelude.{has_none, decided_true, decided_false, MAX_INPUTS, MAX_TABLES, Completes, half_decided, row, table_answer, RowReached}
 use Rattle.pilots.proofs.Prelude.{UpAt, row_bit, FollowsWords, FollowsTable, FollowAll, NoPilots}
 

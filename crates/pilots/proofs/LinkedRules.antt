@@ -1,15 +1,14 @@
 -- Linked rules: their bodies where pilots follow their tables, and their answer sets.
-use Rattle.pilots.proofs.Prelude.{◌≡◌, refl, sym, subst, ap, ap₂, ◌∙◌, Bool, true, false, not, true≢false, ◌⊎◌, inl, inr, List, ℕ, ◌+◌, ◌-◌, ◌*◌, ◌/◌}
-use Rattle.pilots.proofs.Prelude.{◌^◌, ◌≤◌, ◌<◌, arith, not-true, not-false, get_or, dec_lt, Has, ◌⊆◌, ◌⊂◌, Apart, ◌∩◌, ◌∪◌, ◌∖◌, has_dec, has_cut}
-use Rattle.pilots.proofs.Prelude.{cut_left, has_left, has_right, has_without, without_left, union_cases, some_atom, union_has, union_at, MAX_TABLES}
+use Rattle.pilots.proofs.Prelude.{◌≡◌, refl, sym, subst, ap, ap₂, ◌∙◌, Bool, true, false, ◌⊎◌, inl, inr, List, ℕ, ◌+◌, ◌-◌, ◌*◌, ◌/◌}
+use Rattle.pilots.proofs.Prelude.{◌^◌, ◌<◌, arith, not-true, not-false, get_or, dec_lt, Has, ◌⊆◌, ◌⊂◌, Apart, ◌∩◌, has_dec, has_cut}
+use Rattle.pilots.proofs.Prelude.{has_left, has_right, has_without, without_left, union_cases, some_atom, union_has, union_at, MAX_TABLES}
 use Rattle.pilots.proofs.Prelude.{FIRST_RULE, CONTACT_WORDS, table_answer, lent, negative, uses, USE_BITS, used_table, inputs, truth, asks, use_holds}
-use Rattle.pilots.proofs.Prelude.{said, wanted_true, wanted_false, table_first, table_second, body_parts, parts_body, FollowsWords, FollowsTable}
-use Rattle.pilots.proofs.Prelude.{FollowAll, on_pilots, off_pilots, LinkedRule, ToldUses, Linked, PilotsWithin}
+use Rattle.pilots.proofs.Prelude.{wanted_true, wanted_false, table_first, table_second, body_parts, parts_body}
+use Rattle.pilots.proofs.Prelude.{FollowAll, on_pilots, off_pilots, LinkedRule, Linked, PilotsWithin}
 use Rattle.atoms.proofs.Digits.{shifted_digit}
-use Rattle.answer_sets.specs.Program.{Body, Satisfies}
-use Rattle.answer_sets.specs.AnswerSet.{AnswerSet, ReductModel, Kept}
+use Rattle.answer_sets.specs.Program.{Body}
+use Rattle.answer_sets.specs.AnswerSet.{ReductModel, Kept}
 use Rattle.answer_sets.specs.Known.{Part, positive_word, negative_word, table_use, PartHolds, InBody, has_positive, has_negative, has_use}
-use Rattle.answer_sets.proofs.Support.{satisfied}
 use Rattle.narrowing.specs.Inputs.{AnswersInputs}
 
 -- ---- uses and their tables

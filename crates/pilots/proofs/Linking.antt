@@ -1,7 +1,7 @@
 -- How rules are linked one after the other.
-use Rattle.pilots.proofs.Prelude.{◌≡◌, refl, sym, ap, subst, ◌∙◌, ◌⊎◌, inl, inr, List, ℕ, ◌+◌, ◌*◌, ◌/◌, ◌^◌, ◌≤◌, ◌<◌, arith, ℕ_discrete, dec_lt, eqb}
+use Rattle.pilots.proofs.Prelude.{◌≡◌, refl, sym, ap, subst, ◌∙◌, ◌⊎◌, inl, inr, List, ℕ, ◌+◌, ◌^◌, ◌≤◌, ◌<◌, arith, ℕ_discrete, dec_lt, eqb}
 use Rattle.pilots.proofs.Prelude.{length, get_or, take, set, length-set, paste, get_or-set_same, get_or-set_other, get_or-take, length-take-le, ATOMS, Has}
-use Rattle.pilots.proofs.Prelude.{Lowest, ◌⊆◌, ◌∪◌, ◌∖◌, atom, union_at, Decides, union_in, decides_iff, decides_equal, has_left, has_right, ext, empty}
+use Rattle.pilots.proofs.Prelude.{Lowest, ◌∪◌, ◌∖◌, atom, union_at, Decides, union_in, decides_iff, decides_equal, has_left, has_right, ext, empty}
 use Rattle.pilots.proofs.Prelude.{has_none, has_lt, has_without, without_left, union_cases, union_none_right, atom_only, Taking, taking_start}
 use Rattle.pilots.proofs.Prelude.{taking_next, taking_end, MAX_TABLES, FIRST_RULE, RULE_WORDS, lent, Lent, negative, uses, used_table, rule_at}
 use Rattle.pilots.proofs.Prelude.{table_first, table_second, LINKED_WORDS, written, on_pilots, off_pilots, LinkedRule, NoPilots, Plain, ToldUses}

@@ -12,10 +12,7 @@ use plan::{CONTACT_WORDS, MAX_TABLES};
 pub fn word_at(words: &[u64], i: usize) -> u64
     ensures { result ≡ get_or words.now i 0 }
 {
-    if words.len() <= i {
-        return 0;
-    }
-    words[i]
+    words.get(i).copied().unwrap_or(0)
 }
 
 // Whether the pilot follows table t at the position: of a full position one row is left.
@@ -43,12 +40,10 @@ pub fn follow_all(rules: &[u64], pilots: &[u64], position: u64) -> bool
     if are_none(pilots) {
         return true;
     }
-    let mut t = 0;
-    while t < MAX_TABLES {
+    for t in 0..MAX_TABLES {
         if !follows(rules, t, pilots[t], position) {
             return false;
         }
-        t += 1;
     }
     true
 }

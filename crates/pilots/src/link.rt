@@ -30,10 +30,8 @@ fn told_uses(pilots: &[u64]) -> u64
     ensures { ToldUses pilots.now result }
 {
     let mut told = 0;
-    let mut t = 0;
-    while t < MAX_TABLES {
+    for t in 0..MAX_TABLES {
         told = told_with(pilots, t, told);
-        t += 1;
     }
     told
 }
@@ -73,11 +71,8 @@ fn link_all(rules: &[u64], pilots: &[u64], told: u64, which: u64, linked: &mut [
     requires { Lent rules.now which × Lent linked.old which × (MAX_TABLES ≤ length pilots.now) }
     ensures { RulesLinked rules.now pilots.now told which linked.old linked.new }
 {
-    let mut rest = which;
-    while rest != 0 {
-        let rule = atoms::lowest(rest);
+    for rule in atoms::each(which) {
         link_rule(rules, pilots, told, rule, linked);
-        rest = atoms::drop(rest, rule);
     }
 }
 
@@ -87,10 +82,8 @@ pub fn are_none(pilots: &[u64]) -> bool
     ensures { Decides (NoPilots pilots.now) result }
 {
     let mut all = 0;
-    let mut t = 0;
-    while t < MAX_TABLES {
+    for t in 0..MAX_TABLES {
         all = atoms::union(all, pilots[t]);
-        t += 1;
     }
     all == 0
 }

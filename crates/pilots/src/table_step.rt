@@ -33,13 +33,13 @@ fn tell_pilot(inputs: u64, truth: u64, pilot: u64, s: State) -> State
     if atoms::is_subset(rows, truth) {
         return State {
             up: atoms::union(s.up, pilot),
-            dropped: s.dropped,
+            ..s
         };
     }
     if atoms::are_apart(rows, truth) {
         return State {
-            up: s.up,
             dropped: atoms::union(s.dropped, pilot),
+            ..s
         };
     }
     s

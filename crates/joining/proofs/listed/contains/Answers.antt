@@ -1,23 +1,8 @@
-use Rattle.joining.proofs.Prelude.{arith, sym, below_none, below_more, needs, eqb-true, ℕ, ◌+◌, eqb, get_or, some_none, is_listed}
-use Rattle.joining.proofs.Face.{listed_here}
+use Rattle.joining.proofs.Face.{among_any, among_here, same_number}
 use Rattle.joining.proofs.listed.contains.Goals as goal
 
-pub returns-then-words-base : goal.returns-then-words-base
-returns-then-words-base c = search (listed_here, needs)
+pub returns-in-Ok : goal.returns-in-Ok
+returns-in-Ok c = among_here _ _ c.in-Ok.field-0 c.in-Ok.ensures.bound (same_number _ _ (c.in-Ok.ensures.ok 0))
 
-pub loop-i-init : goal.loop-i-init
-loop-i-init c = (omega arith, below_none _)
-
-pub returns-then-words-base-2 : goal.returns-then-words-base-2
-returns-then-words-base-2 c = search (listed_here, needs)
-
-pub loop-i-preserved : goal.loop-i-preserved
-loop-i-preserved c = (omega arith, below_more _ _ c.loop-i.invariant.1 c.if-words-base-2.false)
-
-pub returns : goal.returns
-unfolding is_listed
-returns c =
-    sym
-    (some_none c.args.count (λ (k : ℕ). eqb (get_or c.args.words.now (c.args.base + k) 0) c.args.value)
-    (λ k l e.
-    c.loop-i.invariant.1 k (omega arith) (eqb-true (get_or c.args.words.now (c.args.base + k) 0) c.args.value e)))
+pub returns-in-Err : goal.returns-in-Err
+returns-in-Err c = among_any _ _ _ c.contains.ensures.cases

@@ -1,10 +1,6 @@
--- The loop carries that the entries of the words that are done are sifted. The measure is how many words are left.
-use Rattle.joining.proofs.Prelude.{◌-◌, BLOCKS}
+-- The loop carries that the entries of the words that are done are sifted.
 use Rattle.joining.proofs.Face.{Listing}
 use Rattle.joining.proofs.sift.sift_list.Given as goal
 
 abbrev pub invariant-loop-k : goal.invariant-loop-k
-invariant-loop-k l = Listing l.words l.base l.up l.decided l.at l.initial.filter l.k l.filter l.found
-
-abbrev pub decreases-loop-k : goal.decreases-loop-k
-decreases-loop-k l = BLOCKS - l.k
+invariant-loop-k l = Listing l.fn.words l.fn.base l.fn.up l.fn.decided l.fn.at l.initial.filter l.k l.filter l.found

@@ -7,4 +7,7 @@ pub returns-then-at-ge-COPIES : goal.returns-then-at-ge-COPIES
 returns-then-at-ge-COPIES c = record { keeps = keeps_refl; copied = record { room = λ l. absurd (omega (arith, l, c.if-at-ge-COPIES.true)); full = λ l. refl } }
 
 pub returns : goal.returns
-returns c = record { keeps = keeps_written c.write_pair.ensures.written; copied = record { room = λ l. c.write_pair.ensures.is; full = λ l. absurd (omega (arith, l, c.if-at-ge-COPIES.false)) } }
+returns c = record {
+  keeps = keeps_written c.write_pair.ensures.written;
+  copied = record { room = λ l. c.write_pair.ensures.is; full = λ l. absurd (omega (arith, l, c.if-at-ge-COPIES.false)) };
+}

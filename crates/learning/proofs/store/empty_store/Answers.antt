@@ -1,7 +1,10 @@
--- Both words of each pair have atom 0, and no pair is changed when the advice is cleared.
-use Rattle.learning.proofs.Prelude.{refl}
-use Rattle.learning.proofs.Face.{empty_of, empty_same}
+-- Both words of each pair have atom 0, and what is made zero stands behind them.
+use Rattle.learning.proofs.Prelude.{refl, ◌-◌, arith, replicate, MEMORY_WORDS, PLACE}
+use Rattle.atoms.proofs.Prelude.{EVERY_ATOM}
+use Rattle.learning.proofs.Face.{empty_of, empty_same, same_part}
 use Rattle.learning.proofs.store.empty_store.Goals as goal
 
 pub returns : goal.returns
-returns c = empty_same (empty_of {a = 0} (record { bit = refl })) c.clear_advice.ensures
+returns c =
+    empty_same (empty_of {a = 0} (record { bit = refl }))
+    (same_part (replicate MEMORY_WORDS EVERY_ATOM) c.fill.new.self PLACE (MEMORY_WORDS - PLACE) (omega arith) (omega arith) c.fill.ensures.len)

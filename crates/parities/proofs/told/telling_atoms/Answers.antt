@@ -1,18 +1,17 @@
-use Rattle.parities.proofs.Prelude.{taken_less, needs}
+use Rattle.parities.proofs.Prelude.{◌≡◌, needs}
 use Rattle.parities.proofs.Face.{told_start, told_numbered, told_next, told_end}
 use Rattle.parities.proofs.told.telling_atoms.Goals as goal
 
-pub loop-rest-init : goal.loop-rest-init
-loop-rest-init c = search (told_start, needs)
+pub loop-rule-init : goal.loop-rule-init
+loop-rule-init c =
+    let all : c.into_iter-rule-iterator.result.rest ≡ c.telling_rules.result = cc in
+    rw all (told_start c.ranges.which.fits c.telling_rules.ensures)
 
 pub rule_atoms-requires : goal.rule_atoms-requires
-rule_atoms-requires c = c.requires.each _ (told_numbered c.loop-rest.invariant c.lowest-rule.ensures.0)
+rule_atoms-requires c = c.requires.each _ (told_numbered c.loop-rule.invariant c.in-Some.ensures.steps.lowest)
 
-pub loop-rest-smaller : goal.loop-rest-smaller
-loop-rest-smaller c = search (taken_less, needs)
-
-pub loop-rest-preserved : goal.loop-rest-preserved
-loop-rest-preserved c = search (told_next, needs)
+pub loop-rule-preserved : goal.loop-rule-preserved
+loop-rule-preserved c = search (told_next, c.in-Some.ensures, needs)
 
 pub returns : goal.returns
-returns c = search (told_end, needs)
+returns c = search (told_end, c.in-None.ensures, needs)

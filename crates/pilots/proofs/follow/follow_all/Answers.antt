@@ -12,7 +12,7 @@ pub returns-then-not-follows : goal.returns-then-not-follows
 returns-then-not-follows c = not_followed (search needs) (c.follows.ensures.no c.if-not-follows.true)
 
 pub loop-t-preserved : goal.loop-t-preserved
-loop-t-preserved c = followed_next (search needs) (c.follows.ensures.yes c.if-not-follows.false)
+loop-t-preserved c = followed_next c.loop-t.invariant (c.follows.ensures.yes c.if-not-follows.false)
 
 pub returns : goal.returns
 returns c = search (followed_end, needs)
