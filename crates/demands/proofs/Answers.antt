@@ -1,7 +1,9 @@
 -- The answer place by place: which place refuses, and what unit work says list by list.
+use Rattle.std.specs.Prelude.{Ok, Err}
 use Rattle.demands.proofs.Prelude.{◌≡◌, refl, sym, ap, ap₂, ◌∙◌, true, false, List, [], ◌∷◌, ℕ, ◌≤◌, ◌<◌, arith, dec_lt, ltb, length, lt-ltb, le-ltb}
 use Rattle.demands.proofs.Prelude.{LIST_WORDS, TABLE_WORDS, Fault, TableShort, LongList, Outcome, Accepted, Refused, reading, Units, Passes, verdict}
-use Rattle.demands.proofs.Prelude.{units_of, passes_of_verdict, unit_list_of, last_list_of, list_at, table_of, list_counts, cleared, Answer, refuse, unless_refused}
+use Rattle.demands.proofs.Prelude.{units_of, passes_of_verdict, unit_list_of, last_list_of, list_at, table_of, list_counts, cleared, Answer, refuse}
+use Rattle.demands.proofs.Prelude.{unless_refused}
 use Rattle.demands.proofs.Prelude.{work_from, unit_work, after_graph, table_outcome, answer, refusal, Handed, Listing}
 use Rattle.demands.proofs.HeldLists.{cleared_again, with_cleared}
 
@@ -32,8 +34,8 @@ not_accepted f e = let z : ◌≡◌ {A = ℕ} 0 1 = cc in omega arith
 unless_passes : (o : Outcome) (table : List ℕ) (next : Answer) → (unless_refused o table next).outcome ≡ Accepted
     → (o ≡ Accepted) × (next.outcome ≡ Accepted)
 unfolding unless_refused
-unless_passes (Refused f) table next e = absurd (not_accepted f (sym e))
-unless_passes Accepted table next e = (refl, e)
+unless_passes (Err f) table next e = absurd (not_accepted f (sym e))
+unless_passes (Ok u) table next e = (refl, e)
 
 -- the answer of a long enough table
 abbrev read : List ℕ → List ℕ → Answer

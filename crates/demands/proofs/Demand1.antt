@@ -1,4 +1,5 @@
 -- Demand 1, from the answer that the function hands back: where the answer comes from tells the first fault, and each first fault tells the answer.
+use Rattle.std.specs.Prelude.{Ok, Err}
 use Rattle.demands.proofs.Prelude.{◌≡◌, refl, sym, ap, ◌∙◌, subst, subst₂, Bool, true, false, true≢false, inl, inr, List, [], ◌∷◌, ℕ, ◌+◌, ◌-◌, ◌≤◌}
 use Rattle.demands.proofs.Prelude.{◌<◌, arith, dec_lt, eqb, length, drop, get_or, replicate, get_or-replicate, get_or-append, length-append, length-drop}
 use Rattle.demands.proofs.Prelude.{length-replicate, get_or-append-add, eqb-false, padded, MAX_RULES, LIST_WORDS, TABLE_WORDS, COUNTS, LAST_COUNT}
@@ -10,7 +11,7 @@ use Rattle.demands.proofs.Prelude.{list_at, table_of, list_counts, cleared, no_c
 use Rattle.demands.proofs.Prelude.{FitsList, FirstLong, here, later, last, ListsComplete, Demand3, units_in, Listable, TableFixed, FirstFault}
 use Rattle.demands.proofs.Prelude.{table_place, reading_place, graph_place, work_place, LeftBy, Demand1, Listing}
 use Rattle.reading.specs.Refusals.{reading_place_of, Stopped}
-use Rattle.reading.specs.declared.reader.ReadPlan.{ReadPlan}
+use Rattle.reading.specs.Reading.{ReadPlan}
 use Rattle.reading.proofs.RoundTrip.{layout_is_read}
 use Rattle.reading.proofs.JudgedBytes.{reading_judged}
 use Rattle.demands.proofs.HeldLists.{list_there, list_absent, list_last, cleared_behind, held_count, held_padded, held_word, held_long, held_behind}
@@ -130,15 +131,15 @@ module _ (bytes table : List ℕ) (all : All IsByte bytes) where
       by_work p e (all_fit f k q) = subst Comes (sym (e ∙ q)) (listed p)
 
       by_graph : TABLE_WORDS ≤ length table → (reading bytes).outcome ≡ Accepted → (o : Outcome) → verdict S ≡ o → Comes (answer bytes table)
-      by_graph l e (Refused f) v =
+      by_graph l e (Err f) v =
           subst Comes (sym (read_answer bytes table l e ∙ unless_refused_lem f table (unit_work S table) v)) (stopped f l e v)
-      by_graph l e Accepted v =
+      by_graph l e (Ok u) v =
           let p : Passed bytes table = record { long = l; reads = e; passes = passes_of_verdict S v } in
           by_work p (answer_is bytes table all p) (worked table order (enumerated bytes table all p))
 
       by_reading : TABLE_WORDS ≤ length table → (o : Outcome) → (reading bytes).outcome ≡ o → Comes (answer bytes table)
-      by_reading l (Refused f) e = subst Comes (sym (refused_answer bytes table f l e)) (unread f l e)
-      by_reading l Accepted e = by_graph l e (verdict S) refl
+      by_reading l (Err f) e = subst Comes (sym (refused_answer bytes table f l e)) (unread f l e)
+      by_reading l (Ok u) e = by_graph l e (verdict S) refl
 
       by_table : Dec (length table < TABLE_WORDS) → Comes (answer bytes table)
       by_table (yes l) = subst Comes (sym (short_answer bytes table l)) (short l)

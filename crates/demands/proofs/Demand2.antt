@@ -1,4 +1,5 @@
 -- Demand 2 on graphs, from the answer that the function hands back: its outcome tells the verdict, and only one verdict is right.
+use Rattle.std.specs.Prelude.{Ok, Err}
 use Rattle.demands.proofs.Prelude.{◌≡◌, refl, sym, ap, ◌∙◌, subst, ◌↔◌, inl, inr, List, [], ◌∷◌, ℕ, ◌≤◌, ◌<◌, arith, dec_lt, length, MAX_RULES}
 use Rattle.demands.proofs.Prelude.{LIST_WORDS, number, spot, RefusedBy, Fault, LongList, Outcome, Accepted, Refused, refused_by, reading, record_fits}
 use Rattle.demands.proofs.Prelude.{Units, GivenFree, ConditionA, ConditionB, Acyclic, ConditionC, Passes, working_order, units_of, verdict, VerdictRight}
@@ -40,8 +41,8 @@ worked_fault o f (too_long u) n e = n (sym (ap number (same_fault (LongList u) f
 unless_fault : (v : Outcome) (table : List ℕ) (next : Answer) (f : Fault) → Worked next.outcome → ¬ (number f ≡ 15)
     → ((unless_refused v table next).outcome ≡ Refused f) ↔ (v ≡ Refused f)
 unfolding unless_refused
-unless_fault (Refused g) table next f w l = (λ e. e, λ e. e)
-unless_fault Accepted table next f w l = (λ e. absurd (worked_fault next.outcome f w l e), λ e. absurd (not_accepted f e))
+unless_fault (Err g) table next f w l = (λ e. e, λ e. e)
+unless_fault (Ok u) table next f w l = (λ e. absurd (worked_fault next.outcome f w l e), λ e. absurd (not_accepted f e))
 
 -- ---- what a right verdict says
 

@@ -26,10 +26,6 @@ pub cleared_behind : (t : List ℕ) → drop TABLE_WORDS (cleared t) ≡ drop TA
 unfolding cleared
 cleared_behind t = drop_at (replicate {A = ℕ} TABLE_WORDS 0) (drop TABLE_WORDS t) TABLE_WORDS (length-replicate {A = ℕ} TABLE_WORDS 0)
 
-pub cleared_is : (d l : List ℕ) (i : ℕ) → i ≡ TABLE_WORDS → l ≡ replicate i 0 ++ drop i d → l ≡ cleared d
-unfolding cleared
-cleared_is d l i e w = w ∙ ap (λ (n : ℕ). replicate {A = ℕ} n 0 ++ drop n d) e
-
 -- what is cleared, and what is filled with lists, has of the table its words from 4,352 on alone
 cleared_same : (a b : List ℕ) → drop TABLE_WORDS a ≡ drop TABLE_WORDS b → cleared a ≡ cleared b
 unfolding cleared

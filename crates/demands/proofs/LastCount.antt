@@ -1,6 +1,7 @@
 -- The last count is at most 256, whatever the plan and the table.
+use Rattle.std.specs.Prelude.{Ok, Err}
 use Rattle.demands.proofs.Prelude.{◌≡◌, refl, sym, ap, ◌∙◌, subst, List, [], ◌∷◌, ℕ, ◌≤◌, ◌<◌, arith, dec_lt, length, get_or, get_or_tabulate, LIST_WORDS}
-use Rattle.demands.proofs.Prelude.{COUNTS, LAST_COUNT, Outcome, Accepted, Refused, reading, Units, units_of, verdict, working_order, unit_list_of, last_list_of}
+use Rattle.demands.proofs.Prelude.{COUNTS, LAST_COUNT, Outcome, reading, Units, units_of, verdict, working_order, unit_list_of, last_list_of}
 use Rattle.demands.proofs.Prelude.{list_at, counts_with, list_counts, no_counts_of, Answer, unless_refused, work_from, after_graph, table_outcome, answer}
 use Rattle.demands.proofs.HeldLists.{list_last}
 use Rattle.demands.proofs.Answers.{work_fits, work_long, last_fits, last_long}
@@ -38,8 +39,8 @@ work_small S table (u ∷ us) = go (dec_lt LIST_WORDS (length (unit_list_of S u)
 
 unless_small : (o : Outcome) (table : List ℕ) (next : Answer) → Small next → Small (unless_refused o table next)
 unfolding unless_refused
-unless_small (Refused f) table next s = none_counted _ refl
-unless_small Accepted table next s = s
+unless_small (Err f) table next s = none_counted _ refl
+unless_small (Ok u) table next s = s
 
 answer_small : (bytes table : List ℕ) → Small (answer bytes table)
 unfolding answer

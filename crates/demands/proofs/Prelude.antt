@@ -41,8 +41,7 @@ pub use Rattle.plan.specs.Faults.{FaultRow, FirstFit, RefusedBy, number, spot}
 pub use Rattle.plan.specs.Limits.{COUNTS, LAST_COUNT, LIST_WORDS, MAX_RULES, MAX_UNITS, TABLE_WORDS}
 pub use Rattle.plan.specs.declared.fault.Fault.{Fault}
 pub use Rattle.plan.specs.declared.fault.Fault.TheVariants.{LongList, TableShort}
-pub use Rattle.plan.specs.declared.fault.Outcome.{Outcome}
-pub use Rattle.plan.specs.declared.fault.Outcome.TheVariants.{Accepted, Refused}
+pub use Rattle.plan.specs.Faults.{Accepted, Outcome, Refused}
 pub use Rattle.plan.specs.declared.record.Plan.{Plan}
 pub use Rattle.plan_meaning.specs.Settled.{Settles}
 pub use Rattle.reading.proofs.Accepted.{accepted_is_plan, predecessors_there}

@@ -1,5 +1,5 @@
 -- What the atoms that show make of the last list (02, S-11): nothing shows, no answer set is there, or atoms show that no answer set has.
-use Rattle.demands.proofs.Prelude.{◌≡◌, sym, ap, ◌∙◌, subst, ◌↔◌, List, [], ◌∷◌, List-as-Memᴰ, Memᴰ-head, Memᴰ-not-nil}
+use Rattle.demands.proofs.Prelude.{◌≡◌, sym, ap, ◌∙◌, subst, ◌↔◌, List, [], ◌∷◌, Memᴰ-head, Memᴰ-not-nil}
 use Rattle.demands.proofs.Prelude.{Memᴰ-eq_of_singleton, ℕ, Has, ◌∩◌, below, above_nil, rising_nil, rising_cons, ext, empty, has_cut, cut_left}
 use Rattle.demands.proofs.Prelude.{cut_right, has_none, rising_ext, AnswerSet, lent, Settles, Plan, last_in, ListsComplete, Listing}
 use Rattle.answer_sets.proofs.Support.{Supported, supported}

@@ -1,6 +1,6 @@
 -- The units of a plan mean what its lists say.
 use Rattle.demands.proofs.Prelude.{◌≡◌, sym, subst, ◌↔◌, List, List-as-Memᴰ, ℕ, ◌<◌, ◌^◌, arith, length, Has, has_lt, Plan, UnitPair, Contents, GoodEdge}
-use Rattle.demands.proofs.Prelude.{WithinLimits, Lays, Units, Holds, Edge, units_of, units_in}
+use Rattle.demands.proofs.Prelude.{WithinLimits, Holds, Edge, units_of}
 use Rattle.reading.proofs.ElementLists.{all_member}
 use Rattle.plan_meaning.specs.Meaning.{Number, Means}
 use Rattle.plan_meaning.proofs.RecordMeans.{number_lt, number_there, number_listed, record_means}

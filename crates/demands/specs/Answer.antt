@@ -1,10 +1,9 @@
 -- What a plan and a table get, in document 01's order: the table, reading, the graph, unit work.
-use Rattle.std.specs.Prelude.{true, false, List, [], ◌∷◌, ℕ, ltb, length}
+use Rattle.std.specs.Prelude.{true, false, List, [], ◌∷◌, ℕ, ltb, length, Ok, Err}
 use Rattle.plan.specs.Limits.{LIST_WORDS, TABLE_WORDS}
 use Rattle.plan.specs.declared.fault.Fault.{Fault}
 use Rattle.plan.specs.declared.fault.Fault.TheVariants.{TableShort, LongList}
-use Rattle.plan.specs.declared.fault.Outcome.{Outcome}
-use Rattle.plan.specs.declared.fault.Outcome.TheVariants.{Accepted, Refused}
+use Rattle.plan.specs.Faults.{Accepted, Outcome, Refused}
 use Rattle.reading.specs.Reading.{reading}
 use Rattle.dependency_graph.specs.Units.{Units}
 use Rattle.dependency_graph.specs.PlanUnits.{units_of}
@@ -25,8 +24,8 @@ refuse f table = record { outcome = Refused f; counts = no_counts_of; table = ta
 
 -- "Numbers 1 to 14 leave the table untouched", and 16 does: where a place refuses nothing, the next one answers
 unfoldable pub unless_refused : Outcome → List ℕ → Answer → Answer
-unless_refused (Refused f) table next = refuse f table
-unless_refused Accepted table next = next
+unless_refused (Err f) table next = refuse f table
+unless_refused (Ok u) table next = next
 
 -- "list above 256 .. first such unit in working order"; where no unit's list is, the last list comes after all
 unfoldable pub work_from : Units → List ℕ → List ℕ → Answer

@@ -3,8 +3,7 @@
 use Rattle.std.specs.Prelude.{◌≡◌, ◌↔◌, List, [], ℕ, ◌+◌, ◌*◌, ◌≤◌, ◌<◌, length, drop, get_or}
 use Rattle.plan.specs.Limits.{LIST_WORDS, TABLE_WORDS, COUNTS, LAST_COUNT}
 use Rattle.plan.specs.Faults.{RefusedBy}
-use Rattle.plan.specs.declared.fault.Outcome.{Outcome}
-use Rattle.plan.specs.declared.fault.Outcome.TheVariants.{Accepted}
+use Rattle.plan.specs.Faults.{Accepted, Outcome}
 use Rattle.reading.specs.Layout.{Contents, Lays, record_of}
 use Rattle.reading.specs.Refusals.{Stopped}
 use Rattle.dependency_graph.specs.Units.{Units}

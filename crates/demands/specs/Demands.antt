@@ -8,8 +8,7 @@ use Rattle.reading.specs.Reading.{reading}
 use Rattle.plan.specs.Limits.{LIST_WORDS, LAST_LIST, TABLE_WORDS, LAST_COUNT}
 use Rattle.plan.specs.Faults.{RefusedBy}
 use Rattle.plan.specs.declared.record.Plan.{Plan}
-use Rattle.plan.specs.declared.fault.Outcome.{Outcome}
-use Rattle.plan.specs.declared.fault.Outcome.TheVariants.{Accepted}
+use Rattle.plan.specs.Faults.{Accepted, Outcome}
 use Rattle.plan_meaning.specs.Settled.{Settles}
 use Rattle.dependency_graph.specs.Units.{Units, GivenFree}
 use Rattle.dependency_graph.specs.PlanUnits.{units_of}

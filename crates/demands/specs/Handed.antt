@@ -1,7 +1,7 @@
 -- What the functions hand back, against the answer that document 01 gives.
 use Rattle.std.specs.Prelude.{◌≡◌, List, ℕ}
 use Rattle.plan.specs.declared.fault.Fault.{Fault}
-use Rattle.plan.specs.declared.fault.Outcome.TheVariants.{Refused}
+use Rattle.plan.specs.Faults.{Refused}
 use Rattle.demands.specs.LentTable.{no_counts_of}
 use Rattle.demands.specs.Answer.{Answer}
 use Rattle.demands.specs.declared.listing.Listing.{Listing}

@@ -2,12 +2,13 @@
 ghost use Rattle.std.specs.Prelude.{◌≡◌};
 ghost use Rattle.demands.specs.Handed.{refusal};
 
-use plan::{COUNTS, Fault, Outcome};
+use plan::{COUNTS, Fault};
 
 // What a plan gets: listed or refused, and the seventeen counts. Its lists are in the lent table.
+// Stays: the counts of a refusal are promised too, all 0 (`refusal` in specs/Handed.antt), so they stand beside the outcome and not in its Ok.
 #[derive(Clone, Copy)]
 pub struct Listing {
-    pub outcome: Outcome,
+    pub outcome: Result<(), Fault>,
     pub counts: [usize; COUNTS],
 }
 
@@ -16,7 +17,7 @@ pub fn refuse(fault: Fault) -> Listing
     ensures { result ≡ refusal fault }
 {
     Listing {
-        outcome: Outcome::Refused(fault),
+        outcome: Err(fault),
         counts: [0; COUNTS],
     }
 }

@@ -2,7 +2,7 @@
 use Rattle.judge.proofs.Prelude.{◌≡◌, ap, ◌∙◌, List, ℕ, ◌+◌, ◌*◌, ◌≤◌, min, arith, length, take, length-take, CODE_STEP, WIDEST_SPOT, number, spot}
 use Rattle.judge.proofs.Prelude.{reading, DECIDING_BYTES, ReadPlan, Refused as RefusedWith, Fault, asked_refused, settled_in, judged, judge_code}
 use Rattle.reading.proofs.Prefix.{reading_prefix}
-use Rattle.judge.specs.declared.Answer.TheVariants.{Refused}
+use Rattle.std.specs.Prelude.{Err}
 use Rattle.judge.proofs.Spots.{spot_within}
 
 -- "every reading fault .. shows within 2,467", and 1,305 more with GIVEN, TABLEs and USEs
@@ -18,4 +18,4 @@ pub code_exact : (bytes : List ℕ) (position : ℕ) (f : Fault) → (reading by
     → judge_code (judged bytes position) ≡ CODE_STEP * number f + spot f
 code_exact bytes position f e =
     let least : min WIDEST_SPOT (spot f) ≡ spot f = omega (arith, spot_at_most bytes f e) in
-    ap judge_code (asked_refused Refused (settled_in position) bytes f e) ∙ ap (λ (x : ℕ). CODE_STEP * number f + x) least
+    ap judge_code (asked_refused Err (settled_in position) bytes f e) ∙ ap (λ (x : ℕ). CODE_STEP * number f + x) least

@@ -2,7 +2,7 @@
 use Rattle.judge.proofs.Prelude.{◌≡◌, refl, ap, ap₂, sym, ◌∙◌, subst, Bool, true, false, not, List, [], ◌∷◌, ◌++◌, flat_map, inl, inr, ℕ, zero, suc}
 use Rattle.judge.proofs.Prelude.{◌+◌, ◌*◌, ◌/◌, ◌%◌, ◌≤◌, ◌<◌, arith, dec_lt, ℕ_discrete, eqb, length, get_or, take, drop, length-drop, take-append-drop}
 use Rattle.judge.proofs.Prelude.{drop-append-add, lt-ltb, le-ltb, eqb-true, eqb-false, not-true, not-false, below, Decides, not_both, lent, answer_set}
-use Rattle.judge.proofs.Prelude.{Fitting, Plan, Fault, Outcome, Accepted, Refused as RefusedWith, All, IsByte, word_bytes, reading, ReadPlan, Settles}
+use Rattle.judge.proofs.Prelude.{Fitting, Plan, Fault, Outcome, Accepted, All, IsByte, word_bytes, reading, accepted, refused, ReadPlan, Settles}
 use Rattle.judge.proofs.Prelude.{settled, MAX_POSITIONS, bad_bytes, positions_in, position_at, unsettled_at, places_judged, sheet_in, sheet_judged, NoSheet}
 use Rattle.judge.proofs.Prelude.{Laid, PlacesRight, all_settled, first_not, SheetRight, SheetJudged, asked_refused, asked_accepted, refused_answered}
 use Rattle.judge.proofs.Prelude.{accepted_answered, read_fits}
@@ -11,8 +11,9 @@ use Rattle.atoms.proofs.Collected.{lowest_is, lowest_none, lowest_here, lowest_l
 use Rattle.reading.specs.Words.{WORD_BYTES, WORD_VALUES, spelled, word_at}
 use Rattle.reading.proofs.Longest.{elements_long}
 use Rattle.reading.proofs.Numbers.{length_bytes, word_behind, word_bytes_lem, word_fits, all_drop}
-use Rattle.judge.specs.declared.sheet.SheetAnswer.{SheetAnswer}
-use Rattle.judge.specs.declared.sheet.SheetAnswer.TheVariants.{AllSettled, NotSettledAt, Refused, BadSheet}
+use Rattle.std.specs.Prelude.{Option, Some, None, Ok, Err}
+use Rattle.judge.specs.JudgedSheets.{SheetAnswer, places_in, unread}
+use Rattle.judge.specs.declared.sheet.SheetFault.TheVariants.{BadSheet}
 use Rattle.judge.proofs.Settled.{decides_settled}
 use Rattle.plan_meaning.specs.Asked.{Answered}
 
@@ -60,32 +61,32 @@ module _ (p : Plan) (sheet : List ℕ) where
       go (no k) = let e : n ≡ q = omega arith in subst (λ (i : ℕ). settled p (position_at sheet i) ≡ true) e here
 
   places_here : lowest (positions_in sheet) (unsettled_at p sheet) < positions_in sheet
-      → places_judged p sheet ≡ NotSettledAt (lowest (positions_in sheet) (unsettled_at p sheet))
+      → places_judged p sheet ≡ Some (lowest (positions_in sheet) (unsettled_at p sheet))
   unfolding places_judged
   places_here l = rw (lt-ltb (lowest (positions_in sheet) (unsettled_at p sheet)) (positions_in sheet) l, places_judged) refl
 
-  places_none : positions_in sheet ≤ lowest (positions_in sheet) (unsettled_at p sheet) → places_judged p sheet ≡ AllSettled
+  places_none : positions_in sheet ≤ lowest (positions_in sheet) (unsettled_at p sheet) → places_judged p sheet ≡ None
   unfolding places_judged
   places_none l = rw (le-ltb (lowest (positions_in sheet) (unsettled_at p sheet)) (positions_in sheet) l, places_judged) refl
 
   pub places_first : (place : ℕ) → place < positions_in sheet → Passed place → settled p (position_at sheet place) ≡ false
-      → places_judged p sheet ≡ NotSettledAt place
+      → places_judged p sheet ≡ Some place
   places_first place l before here =
       let e : lowest (positions_in sheet) (unsettled_at p sheet) ≡ place =
       lowest_is (positions_in sheet) (unsettled_at p sheet) place l (ap not here) (λ q k. ap not (before q k)) in
-      places_here (omega arith) ∙ ap NotSettledAt e
+      places_here (omega arith) ∙ ap Some e
 
-  pub places_all : Passed (positions_in sheet) → places_judged p sheet ≡ AllSettled
+  pub places_all : Passed (positions_in sheet) → places_judged p sheet ≡ None
   places_all each =
       let e : lowest (positions_in sheet) (unsettled_at p sheet) ≡ positions_in sheet =
       lowest_none (positions_in sheet) (unsettled_at p sheet) (λ q k. ap not (each q k)) in
       places_none (omega arith)
 
 -- an answer for the places, with what the tests said: all passed, or the first that did not
-data Tested (p : Plan) (sheet : List ℕ) : SheetAnswer → Type 0 where
-  all_pass : Passed p sheet (positions_in sheet) → Tested p sheet AllSettled
+data Tested (p : Plan) (sheet : List ℕ) : Option ℕ → Type 0 where
+  all_pass : Passed p sheet (positions_in sheet) → Tested p sheet None
   stops_at : (place : ℕ) → place < positions_in sheet → Passed p sheet place → settled p (position_at sheet place) ≡ false
-      → Tested p sheet (NotSettledAt place)
+      → Tested p sheet (Some place)
 
 places_tested : (p : Plan) (sheet : List ℕ) → Tested p sheet (places_judged p sheet)
 places_tested p sheet = go (dec_lt place (positions_in sheet))
@@ -140,10 +141,10 @@ module _ {ps sheet : List ℕ} (laid : Laid ps sheet) where
     settles place l t = (decides_settled p (get_or ps place 0) fits).yes (ap (settled p) (sym (laid_at place l)) ∙ t)
 
     -- "all are answer sets, or the place from 0 of the first that isn't"
-    pub places_right : PlacesRight p ps (places_judged p sheet)
+    pub places_right : PlacesRight p ps (places_in p sheet)
     places_right = go (places_tested p sheet)
       where
-        go : {answer : SheetAnswer} → Tested p sheet answer → PlacesRight p ps answer
+        go : {first : Option ℕ} → Tested p sheet first → PlacesRight p ps (Ok first)
         go (all_pass each) = all_settled (record { each = λ place l. settles place l (each place (omega (arith, laid_count))) })
         go (stops_at place l before here) =
             let k : place < length ps = omega (arith, laid_count) in
@@ -210,15 +211,14 @@ module _ {A : Type 0} (bad : A) (answer : Plan → List ℕ → A) (sheet : List
 
 -- an answer with a place has one below 256
 abbrev PlaceBelow : SheetAnswer → Type 0
-PlaceBelow AllSettled = Unit {0}
-PlaceBelow (NotSettledAt place) = place < MAX_POSITIONS
-PlaceBelow (Refused f) = Unit {0}
-PlaceBelow BadSheet = Unit {0}
+PlaceBelow (Ok None) = Unit {0}
+PlaceBelow (Ok (Some place)) = place < MAX_POSITIONS
+PlaceBelow (Err e) = Unit {0}
 
-places_below : (p : Plan) (sheet : List ℕ) → positions_in sheet ≤ MAX_POSITIONS → PlaceBelow (places_judged p sheet)
+places_below : (p : Plan) (sheet : List ℕ) → positions_in sheet ≤ MAX_POSITIONS → PlaceBelow (places_in p sheet)
 places_below p sheet few = go (places_tested p sheet)
   where
-    go : {answer : SheetAnswer} → Tested p sheet answer → PlaceBelow answer
+    go : {first : Option ℕ} → Tested p sheet first → PlaceBelow (Ok first)
     go (all_pass each) = tt
     go (stops_at place l before here) = omega arith
 
@@ -230,16 +230,16 @@ answer_below bytes sheet = go (reading bytes).outcome refl (bad_bytes (length sh
     p = (reading bytes).plan
 
     in_plan : Plan → SheetAnswer
-    in_plan = sheet_in BadSheet places_judged sheet
+    in_plan = sheet_in (Err BadSheet) places_in sheet
 
     few : bad_bytes (length sheet) ≡ false → positions_in sheet ≤ MAX_POSITIONS
     few b = let n : ¬ (MAX_POSITIONS < positions_in sheet) = λ l. (decides_no_sheet sheet).no b (inl l) in omega arith
 
     go : (o : Outcome) → (reading bytes).outcome ≡ o → (b : Bool) → bad_bytes (length sheet) ≡ b → PlaceBelow (sheet_judged bytes sheet)
-    go (RefusedWith f) e b t = subst PlaceBelow (sym (asked_refused Refused in_plan bytes f e)) tt
-    go Accepted e true t = subst PlaceBelow (sym (asked_accepted Refused in_plan bytes e ∙ in_bad BadSheet places_judged sheet p t)) tt
-    go Accepted e false t =
-        subst PlaceBelow (sym (asked_accepted Refused in_plan bytes e ∙ in_sheet BadSheet places_judged sheet p t)) (places_below p sheet (few t))
+    go (Err f) e b t = subst PlaceBelow (sym (asked_refused unread in_plan bytes f e)) tt
+    go (Ok u) e true t = subst PlaceBelow (sym (asked_accepted unread in_plan bytes e ∙ in_bad (Err BadSheet) places_in sheet p t)) tt
+    go (Ok u) e false t =
+        subst PlaceBelow (sym (asked_accepted unread in_plan bytes e ∙ in_sheet (Err BadSheet) places_in sheet p t)) (places_below p sheet (few t))
 
 -- ---- the answers of the code, from what reading and the test of the sheet gave
 
@@ -259,7 +259,8 @@ module _ (bytes sheet : List ℕ) {r : ReadPlan} {t : Bool} (read : r ≡ readin
       (record { no_sheet = λ n. absurd ((decides_no_sheet sheet).no is-sheet n); of_sheet = right })
 
 module _ (bytes sheet : List ℕ) (small : All IsByte sheet) where
-  whole_answer : {answer : SheetAnswer} → Answered Refused (sheet_in BadSheet places_judged sheet) (SheetRight BadSheet PlacesRight sheet) bytes answer
+  whole_answer : {answer : SheetAnswer}
+      → Answered unread (sheet_in (Err BadSheet) places_in sheet) (SheetRight (Err BadSheet) PlacesRight sheet) bytes answer
       → SheetJudged bytes sheet answer
   whole_answer a = record {
     answered = a;
@@ -267,16 +268,14 @@ module _ (bytes sheet : List ℕ) (small : All IsByte sheet) where
     place_below = λ place e. subst PlaceBelow (sym a.is ∙ e) (answer_below bytes sheet);
   }
 
-  pub refused_sheet : {r : ReadPlan} {f : Fault} → r ≡ reading bytes → r.outcome ≡ RefusedWith f → SheetJudged bytes sheet (Refused f)
-  refused_sheet read o = whole_answer (refused_answered bytes read o refl)
+  pub refused_sheet : {f : Fault} → refused f ≡ reading bytes → SheetJudged bytes sheet (unread f)
+  refused_sheet read = whole_answer (refused_answered bytes read refl refl)
 
-  pub bad_sheet : {r : ReadPlan} {t : Bool} → r ≡ reading bytes → r.outcome ≡ Accepted → t ≡ bad_bytes (length sheet) → t ≡ true
-      → SheetJudged bytes sheet BadSheet
-  bad_sheet read o t b = whole_answer (bad_answered bytes sheet read o t places_judged b)
+  module _ {p : Plan} {t : Bool} (read : accepted p ≡ reading bytes) (bad-is : t ≡ bad_bytes (length sheet)) where
+    pub bad_sheet : t ≡ true → SheetJudged bytes sheet (Err BadSheet)
+    bad_sheet b = whole_answer (bad_answered bytes sheet read refl bad-is places_in b)
 
-  pub judged_sheet : {r : ReadPlan} {t : Bool} {answer : SheetAnswer} → r ≡ reading bytes → r.outcome ≡ Accepted → t ≡ bad_bytes (length sheet) → t ≡ false
-      → answer ≡ places_judged r.plan sheet → SheetJudged bytes sheet answer
-  judged_sheet {r} read o t b e =
-      let right : (ps : List ℕ) → Laid ps sheet → PlacesRight r.plan ps (places_judged r.plan sheet) =
-      λ ps l. places_right l r.plan (read_fits bytes read) in
-      whole_answer (sheet_answered bytes sheet read o t places_judged b e (λ ps l. rw e (right ps l)))
+    pub judged_sheet : {first : Option ℕ} → t ≡ false → first ≡ places_judged p sheet → SheetJudged bytes sheet (Ok first)
+    judged_sheet b e =
+        let right : (ps : List ℕ) → Laid ps sheet → PlacesRight p ps (places_in p sheet) = λ ps l. places_right l p (read_fits bytes read) in
+        whole_answer (sheet_answered bytes sheet read refl bad-is places_in b (ap Ok e) (λ ps l. rw e (right ps l)))

@@ -2,13 +2,12 @@
 -- as one set, with the given atoms as facts; and a position with an atom that is in no head and not given gets the answer no.
 use Rattle.judge.proofs.Prelude.{◌≡◌, refl, ap, sym, ◌∙◌, Bool, true, false, true≢false, List, ◌⊎◌, inl, inr, ℕ, ◌<◌, arith, length, Has, below}
 use Rattle.judge.proofs.Prelude.{Decides, decided_true, decided_false, lent, Lent, Fitting, reading, record_fits, asked_accepted, accepted_answered}
-use Rattle.judge.proofs.Prelude.{read_fits, Plan, Accepted, ReadPlan, Settles, settled, yes_no, is_yes, settled_in, judged, Judged, Settled, NotSettled}
+use Rattle.judge.proofs.Prelude.{read_fits, Plan, Accepted, accepted, Settles, settled, JudgeAnswer, is_yes, settled_in, judged, Judged}
 use Rattle.atoms.proofs.Sets.{below_lt, lt_of_has}
 use Rattle.answer_sets.proofs.JudgedSets.{decides_answer_set}
 use Rattle.answer_sets.proofs.Support.{Supported, supported}
 use Rattle.plan.specs.Limits.{MAX_RULES, PROGRAM_WORDS}
-use Rattle.judge.specs.declared.Answer.{Answer}
-use Rattle.judge.specs.declared.Answer.TheVariants.{Refused}
+use Rattle.std.specs.Prelude.{Ok, Err}
 
 -- ---- the whole program of a record
 
@@ -25,31 +24,18 @@ decides_settled p M f =
 
 -- ---- the answer
 
-yes_no_lem : (b : Bool) → is_yes (yes_no b) ≡ b
-yes_no_lem true = refl
-yes_no_lem false = refl
-
 -- what the definition says of every plan that reads
 pub judged_decides : (bytes : List ℕ) (position : ℕ) → (reading bytes).outcome ≡ Accepted
     → Decides (Settles (reading bytes).plan position) (is_yes (judged bytes position))
 judged_decides bytes position e =
-    rw (asked_accepted Refused (settled_in position) bytes e, yes_no_lem (settled (reading bytes).plan position))
+    rw (asked_accepted Err (settled_in position) bytes e)
     (decides_settled (reading bytes).plan position (record_fits bytes))
 
 -- the answer of the code, from what reading and the test gave
-pub test_judged : (bytes : List ℕ) (position : ℕ) {r : ReadPlan} {t : Bool} (b : Bool) → r ≡ reading bytes → r.outcome ≡ Accepted
-    → t ≡ settled r.plan position → t ≡ b → Judged bytes position (yes_no b)
-test_judged bytes position {r} b read o e t =
-    let s : b ≡ settled r.plan position = sym t ∙ e in
-    accepted_answered bytes read o (ap yes_no s) (rw (yes_no_lem b, s) (decides_settled r.plan position (read_fits bytes read)))
-
-pub yes_judged : (bytes : List ℕ) (position : ℕ) {r : ReadPlan} {t : Bool} → r ≡ reading bytes → r.outcome ≡ Accepted → t ≡ settled r.plan position
-    → t ≡ true → Judged bytes position Settled
-yes_judged bytes position = test_judged bytes position true
-
-pub no_judged : (bytes : List ℕ) (position : ℕ) {r : ReadPlan} {t : Bool} → r ≡ reading bytes → r.outcome ≡ Accepted → t ≡ settled r.plan position
-    → t ≡ false → Judged bytes position NotSettled
-no_judged bytes position = test_judged bytes position false
+pub test_judged : {bytes : List ℕ} {p : Plan} {t : Bool} (position : ℕ) → accepted p ≡ reading bytes → t ≡ settled p position
+    → Judged bytes position (Ok t)
+test_judged {bytes} {p} position read e =
+    accepted_answered bytes read refl (ap Ok e) (rw e (decides_settled p position (read_fits bytes read)))
 
 -- ---- the theorems
 
@@ -57,15 +43,14 @@ no_judged bytes position = test_judged bytes position false
 abbrev pub Headed : Plan → ℕ → Type 0
 Headed p a = Has p.once.given.word a ⊎ ((r : ℕ) × (r < p.rule_count) × Has ((lent p.rules).head r) a)
 
-yes_is_settled : (answer : Answer) → is_yes answer ≡ true → answer ≡ Settled
-yes_is_settled Settled e = refl
-yes_is_settled NotSettled e = absurd (true≢false (sym e))
-yes_is_settled (Refused f) e = absurd (true≢false (sym e))
+yes_is_settled : (answer : JudgeAnswer) → is_yes answer ≡ true → answer ≡ Ok true
+yes_is_settled (Ok settled) e = ap Ok e
+yes_is_settled (Err f) e = absurd (true≢false (sym e))
 
--- for every plan that reads: Settled exactly if the position is an answer set of all its rules as one set
+-- for every plan that reads: settled exactly if the position is an answer set of all its rules as one set
 pub settled_exactly : (bytes : List ℕ) (position : ℕ) → (reading bytes).outcome ≡ Accepted
-    → (judged bytes position ≡ Settled → Settles (reading bytes).plan position)
-    × (Settles (reading bytes).plan position → judged bytes position ≡ Settled)
+    → (judged bytes position ≡ Ok true → Settles (reading bytes).plan position)
+    × (Settles (reading bytes).plan position → judged bytes position ≡ Ok true)
 settled_exactly bytes position e =
     let d = judged_decides bytes position e in
     (λ s. d.yes (ap is_yes s), λ s. yes_is_settled (judged bytes position) (decided_true d s))
@@ -80,8 +65,8 @@ settled_headed p M a s h = go (supported (lent p.rules) (below p.rule_count) p.o
 
 -- "A position with an atom that is in no head gets the answer no.", from S-1 on: "in no head" and not given
 pub headless_not_settled : (bytes : List ℕ) (position a : ℕ) → (reading bytes).outcome ≡ Accepted → Has position a
-    → ¬ Headed (reading bytes).plan a → judged bytes position ≡ NotSettled
+    → ¬ Headed (reading bytes).plan a → judged bytes position ≡ Ok false
 headless_not_settled bytes position a e h n =
     let not_settled : ¬ Settles (reading bytes).plan position = λ s. n (settled_headed (reading bytes).plan position a s h) in
-    asked_accepted Refused (settled_in position) bytes e
-    ∙ ap yes_no (decided_false (decides_settled (reading bytes).plan position (record_fits bytes)) not_settled)
+    asked_accepted Err (settled_in position) bytes e
+    ∙ ap Ok (decided_false (decides_settled (reading bytes).plan position (record_fits bytes)) not_settled)

@@ -1,8 +1,10 @@
 -- The spot of a reading fault lies within the plan's bytes.
 use Rattle.judge.proofs.Prelude.{◌≡◌, refl, ap, subst, Bool, true, false, List, [], ◌∷◌, Option, some, none, ℕ, suc, ◌+◌, ◌≤◌, arith, length, drop}
-use Rattle.judge.proofs.Prelude.{length-drop, spot, empty_plan, Step, onward, ended, step_of, reading, command_bytes, Plan, Fault, Outcome, Accepted}
+use Rattle.judge.proofs.Prelude.{length-drop, spot, empty_plan, Step, onward, ended, step_of, reading, command_bytes, Plan, Fault, Outcome}
 use Rattle.judge.proofs.Prelude.{Refused as RefusedWith}
-use Rattle.reading.specs.Commands.{Kind, single, table, rule, usage, unit, edge, end, kind_of, carrying, command_at, Row, operand_rows, rows, first_fit, of_kind}
+use Rattle.std.specs.Prelude.{Ok, Err}
+use Rattle.reading.specs.Commands.{Kind, single, table, rule, usage, unit, edge, end, kind_of, carrying, command_at, Row, operand_rows, rows, first_fit}
+use Rattle.reading.specs.Commands.{of_kind}
 use Rattle.reading.proofs.Commands.{known_command, unknown_command, adds, step_when_lem, Leads}
 use Rattle.reading.proofs.Walk.{walk_keeps}
 use Rattle.plan.specs.declared.fault.Fault.TheVariants.{UnknownCommand}
@@ -10,8 +12,8 @@ use Rattle.reading.specs.declared.command.Command.{Command}
 
 -- the fault of an outcome, if it is a refusal, has a spot of at most n
 abbrev OutcomeBy : ℕ → Outcome → Type 0
-OutcomeBy n Accepted = Unit {0}
-OutcomeBy n (RefusedWith f) = spot f ≤ n
+OutcomeBy n (Ok u) = Unit {0}
+OutcomeBy n (Err f) = spot f ≤ n
 
 -- so has that of a command
 abbrev StepBy : ℕ → Step → Type 0
@@ -60,8 +62,8 @@ command_by n p at (b ∷ operands) l = go (kind_of b) refl
     near (ended r) h = outcome r.outcome h
       where
         outcome : (o : Outcome) → OutcomeBy (at + 1) o → OutcomeBy n o
-        outcome Accepted k = tt
-        outcome (RefusedWith f) k = omega arith
+        outcome (Ok u) k = tt
+        outcome (Err f) k = omega arith
 
     go : (x : Option Kind) → kind_of b ≡ x → StepBy n (step_of p (command_at p at (b ∷ operands)))
     go none e = let here : spot (UnknownCommand at) ≤ n = omega arith in rw (unknown_command p at b operands e) here

@@ -1,19 +1,25 @@
 -- A whole sheet judged. Document 02, S-12: "It passes a plan and up to 256 positions, any order".
 use Rattle.std.specs.Prelude.{◌≡◌, Bool, true, false, not, ◌⊎◌, ℕ, ◌*◌, ◌/◌, ◌%◌, ◌≤◌, ◌<◌, ltb, eqb, length, get_or}
+use Rattle.std.specs.Prelude.{Option, Some, None, Result, Ok, Err}
 use mathlib.Core.List.{List, flat_map}
 use Rattle.atoms.specs.Collected.{lowest}
 use Rattle.plan.specs.Faults.{code_of, refusal_code}
+use Rattle.plan.specs.declared.fault.Fault.{Fault}
 use Rattle.plan.specs.declared.record.Plan.{Plan}
 use Rattle.reading.specs.Words.{WORD_BYTES, WORD_VALUES, word_at}
 use Rattle.reading.specs.Layout.{All, word_bytes}
 use Rattle.plan_meaning.specs.Settled.{Settles, settled}
 use Rattle.plan_meaning.specs.Asked.{asked, Answered}
-use Rattle.judge.specs.declared.sheet.SheetAnswer.{SheetAnswer}
-use Rattle.judge.specs.declared.sheet.SheetAnswer.TheVariants.{AllSettled, NotSettledAt, Refused, BadSheet}
+use Rattle.judge.specs.declared.sheet.SheetFault.{SheetFault}
+use Rattle.judge.specs.declared.sheet.SheetFault.TheVariants.{Refused, BadSheet}
 
 -- "up to 256 positions"
 abbrev pub MAX_POSITIONS : ℕ
 MAX_POSITIONS = 256
+
+-- the place of the first position that is not settled, or none where all are; or why the question is refused
+abbrev pub SheetAnswer : Type 0
+SheetAnswer = Result (Option ℕ) SheetFault
 
 -- ---- the answer, computed
 
@@ -34,28 +40,36 @@ abbrev pub unsettled_at : Plan → List ℕ → ℕ → Bool
 unsettled_at p sheet place = not (settled p (position_at sheet place))
 
 -- "all are answer sets, or the place from 0 of the first that isn't"
-unfoldable pub places_judged : Plan → List ℕ → SheetAnswer
+unfoldable pub places_judged : Plan → List ℕ → Option ℕ
 places_judged p sheet =
     let place = lowest (positions_in sheet) (unsettled_at p sheet) in
-    elim (ltb place (positions_in sheet)) [ true ↦ NotSettledAt place | false ↦ AllSettled ]
+    elim (ltb place (positions_in sheet)) [ true ↦ Some place | false ↦ None ]
 
 -- a question about the positions of a sheet: 24 for what is none
 unfoldable pub sheet_in : {A : Type 0} → A → (Plan → List ℕ → A) → List ℕ → Plan → A
 sheet_in bad answer sheet p = elim (bad_bytes (length sheet)) [ true ↦ bad | false ↦ answer p sheet ]
 
+-- the same as an answer
+abbrev pub places_in : Plan → List ℕ → SheetAnswer
+places_in p sheet = Ok (places_judged p sheet)
+
+-- the refusal of a plan as an answer
+abbrev pub unread : Fault → SheetAnswer
+unread f = Err (Refused f)
+
 -- 24 "after the reading refusals", and the places after both
 abbrev pub sheet_judged : List ℕ → List ℕ → SheetAnswer
-sheet_judged bytes sheet = asked Refused (sheet_in BadSheet places_judged sheet) bytes
+sheet_judged bytes sheet = asked unread (sheet_in (Err BadSheet) places_in sheet) bytes
 
 -- ---- the answer as one number
 
 -- "one 64-bit number: 256 if all are answer sets, or the place from 0 of the first that isn't"; "A refusal is 65,536 times its number plus its spot".
 -- A place is below the number of positions, and these are at most 256: so 256 is no place, and has the one meaning (`place_below`)
 abbrev pub sheet_code : SheetAnswer → ℕ
-sheet_code AllSettled = 256
-sheet_code (NotSettledAt place) = place
-sheet_code (Refused f) = refusal_code f
-sheet_code BadSheet = code_of 24 0
+sheet_code (Ok None) = 256
+sheet_code (Ok (Some place)) = place
+sheet_code (Err (Refused f)) = refusal_code f
+sheet_code (Err BadSheet) = code_of 24 0
 
 -- ---- what it means
 
@@ -86,13 +100,13 @@ pub record FirstNot (p : Plan) (positions : List ℕ) (place : ℕ) : Type 0 whe
 
 -- one of the two, and the answer says which
 pub data PlacesRight (p : Plan) (positions : List ℕ) : SheetAnswer → Type 0 where
-  all_settled : AllSettle p positions → PlacesRight p positions AllSettled
-  first_not : {place : ℕ} → FirstNot p positions place → PlacesRight p positions (NotSettledAt place)
+  all_settled : AllSettle p positions → PlacesRight p positions (Ok None)
+  first_not : {place : ℕ} → FirstNot p positions place → PlacesRight p positions (Ok (Some place))
 
 -- The answer equals the definition. By meaning: the fault that reading found; else 24, if the bytes are no sheet; else all positions are answer sets of the
 -- whole program, or this place has the first that is not, and it is below 256. The rules and facts are those of the plan's lists. Bytes that are a sheet have
 -- positions
 pub record SheetJudged (bytes sheet : List ℕ) (answer : SheetAnswer) : Type 0 where
-  pub answered : Answered Refused (sheet_in BadSheet places_judged sheet) (SheetRight BadSheet PlacesRight sheet) bytes answer
+  pub answered : Answered unread (sheet_in (Err BadSheet) places_in sheet) (SheetRight (Err BadSheet) PlacesRight sheet) bytes answer
   pub laid : ¬ NoSheet sheet → (positions : List ℕ) × Laid positions sheet
-  pub place_below : (place : ℕ) → answer ≡ NotSettledAt place → place < sheet_code AllSettled
+  pub place_below : (place : ℕ) → answer ≡ Ok (Some place) → place < sheet_code (Ok None)

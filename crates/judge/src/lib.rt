@@ -8,16 +8,8 @@ ghost use Rattle.plan.specs.Record.{Fitting};
 ghost use Rattle.plan_meaning.specs.Settled.{settled};
 ghost use Rattle.judge.specs.Answers.{Judged, judge_code};
 
-use plan::{Fault, Outcome, Plan, refusal_code};
-pub use sheet::{BAD_SHEET, MAX_POSITIONS, SheetAnswer, is_bad_sheet, judge_sheet, sheet_code};
-
-// What the question is answered: yes, no, or the fault for which the plan is refused.
-#[derive(Clone, Copy)]
-pub enum Answer {
-    Settled,
-    NotSettled,
-    Refused(Fault),
-}
+use plan::{Fault, Plan, refusal_code};
+pub use sheet::{BAD_SHEET, MAX_POSITIONS, SheetFault, is_bad_sheet, judge_sheet, sheet_code};
 
 // Whether the position is an answer set of all the plan's rules as one set, with the given atoms as facts.
 fn is_settled(plan: Plan, position: u64) -> bool
@@ -28,29 +20,21 @@ fn is_settled(plan: Plan, position: u64) -> bool
     answer_sets::is_answer_set(&plan.rules, whole_program, plan.once.given.word, position)
 }
 
-// The answer for a plan as bytes. Units and edges play no part in it, and neither does the graph.
-pub fn judge(plan: &[u8], position: u64) -> Answer
+// Whether the position is settled for a plan as bytes. Units and edges play no part in it, and neither does the graph.
+pub fn judge(plan: &[u8], position: u64) -> Result<bool, Fault>
     ensures { Judged plan.now position result }
 {
-    let reading = reading::read_plan(plan);
-    let outcome = reading.outcome;
-    if let Outcome::Refused(fault) = outcome {
-        return Answer::Refused(fault);
-    }
-    let read = reading.plan;
-    if is_settled(read, position) {
-        return Answer::Settled;
-    }
-    Answer::NotSettled
+    let read = reading::read_plan(plan)?;
+    Ok(is_settled(read, position))
 }
 
 // The answer as one number, for hosts: 1 settled, 0 not settled, from 65,536 on a refusal.
-pub fn answer_code(answer: Answer) -> u64
+pub fn answer_code(answer: Result<bool, Fault>) -> u64
     ensures { result ≡ judge_code answer }
 {
     match answer {
-        Answer::Settled => 1,
-        Answer::NotSettled => 0,
-        Answer::Refused(fault) => refusal_code(fault),
+        Ok(true) => 1,
+        Ok(false) => 0,
+        Err(fault) => refusal_code(fault),
     }
 }

@@ -2,8 +2,7 @@
 use Rattle.plan.proofs.Prelude.{◌≡◌, refl, sym, ap, ap₂, ◌∙◌, subst, ◌↔◌, [], ◌∷◌, ℕ, get_or, number, spot, RefusedBy, Fault, TableShort, Truncated}
 use Rattle.plan.proofs.Prelude.{UnknownCommand, OutOfOrder, TooMany, EmptyRule, AbsentRule, BadEdge, TrailingBytes, RuleInNoUnit, HeadedRuleInSeveral}
 use Rattle.plan.proofs.Prelude.{Cycle, NonmonotonicUnseen, MonotonicUnseen, LongList, GivenInHead, BadTable, BadUse, ContradictoryBody, WrongCount}
-use Rattle.plan.specs.declared.fault.Outcome.{Outcome}
-use Rattle.plan.specs.declared.fault.Outcome.TheVariants.{Refused}
+use Rattle.plan.specs.Faults.{Outcome, Refused}
 
 -- the faults with this spot, by their numbers; none has the number 0
 abbrev fault_at : ℕ → ℕ → Fault

@@ -1,12 +1,20 @@
 -- The numbers and spots of faults. Document 01, "Faults, by where they are found": columns "no." and "spot"; from 16 on document 02.
-use Rattle.std.specs.Prelude.{◌≡◌, List, [], ◌∷◌, ◌⊎◌, ℕ, ◌+◌, ◌*◌, ◌-◌, ◌^◌, min}
+use Rattle.std.specs.Prelude.{◌≡◌, List, [], ◌∷◌, ◌⊎◌, ℕ, ◌+◌, ◌*◌, ◌-◌, ◌^◌, min, Result, Ok, Err}
 use Rattle.plan.specs.declared.fault.Fault.{Fault}
 use Rattle.plan.specs.declared.fault.Fault.TheVariants.{TableShort, Truncated, UnknownCommand, OutOfOrder, TooMany}
 use Rattle.plan.specs.declared.fault.Fault.TheVariants.{EmptyRule, AbsentRule, BadEdge, TrailingBytes}
 use Rattle.plan.specs.declared.fault.Fault.TheVariants.{RuleInNoUnit, HeadedRuleInSeveral, Cycle, NonmonotonicUnseen, MonotonicUnseen, LongList}
 use Rattle.plan.specs.declared.fault.Fault.TheVariants.{GivenInHead, BadTable, BadUse, ContradictoryBody, WrongCount}
-use Rattle.plan.specs.declared.fault.Outcome.{Outcome}
-use Rattle.plan.specs.declared.fault.Outcome.TheVariants.{Refused}
+
+-- a plan is accepted, or refused with its first fault
+abbrev pub Outcome : Type 0
+Outcome = Result (Unit {0}) Fault
+
+abbrev pub Accepted : Outcome
+Accepted = Ok tt
+
+abbrev pub Refused : Fault → Outcome
+Refused f = Err f
 
 -- column "no."
 abbrev pub number : Fault → ℕ

@@ -27,13 +27,6 @@ pub enum Fault {
     WrongCount(usize),
 }
 
-// A plan is accepted, or refused with its first fault.
-#[derive(Clone, Copy)]
-pub enum Outcome {
-    Accepted,
-    Refused(Fault),
-}
-
 // The number of the fault.
 pub fn fault_number(f: Fault) -> u64
     ensures { result ≡ number f }
@@ -63,6 +56,7 @@ pub fn fault_number(f: Fault) -> u64
 }
 
 // The spot of the fault.
+// Stays: a struct of a kind and a spot would restate every definition and law by the cases of Fault, and edits name single arms (fifteen_at_0).
 pub fn fault_spot(f: Fault) -> usize
     ensures { result ≡ spot f }
 {

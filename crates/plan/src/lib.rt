@@ -5,7 +5,7 @@ mod fault;
 mod limits;
 mod record;
 
-pub use fault::{CODE_STEP, Fault, Outcome, code_of, fault_number, fault_spot, refusal_code};
+pub use fault::{CODE_STEP, Fault, code_of, fault_number, fault_spot, refusal_code};
 pub use limits::{
     CONTACT_WORDS, COUNTS, FIRST_RULE, LAST_COUNT, LAST_LIST, LIST_WORDS, MAX_INPUTS, MAX_RULES,
     MAX_TABLES, MAX_UNITS, MAX_USES, OVERFULL, RULE_WORDS, TABLE_WORDS, USES,

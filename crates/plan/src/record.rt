@@ -25,6 +25,7 @@ pub struct OnceWord {
     pub word: u64,
 }
 
+// Stays: the command table counts what was read of each kind (`once_line` in reading/specs/Commands.antt), so a count stands beside the numbers and the words.
 // What may stand once in a plan: the sizes that its COUNT declares, the atoms of its GIVEN, and those of its SHOW.
 #[derive(Clone, Copy)]
 pub struct Once {

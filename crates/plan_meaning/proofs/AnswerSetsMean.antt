@@ -1,6 +1,6 @@
 -- The answer sets of a record that means what the lists say are those of the lists.
-use Rattle.plan_meaning.proofs.Prelude.{◌≡◌, sym, subst, ◌↔◌, List, List-as-Memᴰ, ℕ, ◌<◌, arith, length, Has, ◌⊆◌, ◌⊂◌, below, has_below, below_lt, Plan}
-use Rattle.plan_meaning.proofs.Prelude.{RuleWords, Contents, Lays, reading, lent, Number, RuleMeans, Means}
+use Rattle.plan_meaning.proofs.Prelude.{sym, subst, ◌↔◌, List, ℕ, ◌<◌, arith, length, Has, ◌⊆◌, below, has_below, below_lt, Plan}
+use Rattle.plan_meaning.proofs.Prelude.{RuleWords, Contents, lent, RuleMeans, Means}
 use Rattle.answer_sets.specs.Program.{Program, Body, Satisfies}
 use Rattle.answer_sets.specs.AnswerSet.{ReductModel, AnswerSet}
 use Rattle.plan_meaning.specs.AnswerSets.{BodyHolds, RuleSatisfied, KeptModel, AnswerSetOf, PlanAnswerSet}

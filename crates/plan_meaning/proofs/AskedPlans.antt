@@ -2,8 +2,7 @@
 use Rattle.plan_meaning.proofs.Prelude.{◌≡◌, sym, ap, ◌∙◌, subst, List, ℕ, arith, Plan, reading, ReadPlan}
 use Rattle.plan.specs.Record.{Fitting}
 use Rattle.plan.specs.declared.fault.Fault.{Fault}
-use Rattle.plan.specs.declared.fault.Outcome.{Outcome}
-use Rattle.plan.specs.declared.fault.Outcome.TheVariants.{Accepted, Refused}
+use Rattle.plan.specs.Faults.{Accepted, Outcome, Refused}
 use Rattle.reading.proofs.Limits.{record_fits}
 use Rattle.plan_meaning.specs.Asked.{asked, Answered}
 use Rattle.plan_meaning.proofs.AnswerSetsMean.{read_means}

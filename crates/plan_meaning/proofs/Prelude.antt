@@ -18,5 +18,4 @@ pub use Rattle.plan_meaning.specs.Meaning.{LooksAt, Means, Number, RestHolds, Ru
 pub use Rattle.plan_meaning.specs.Tables.{KthInput, RowAt, TrueAt}
 pub use Rattle.reading.specs.Layout.{All, Contents, GoodTable, GoodUse, Lays, RuleWords, TableUse, TableWords, UnitPair, WithinLimits, two_words}
 unfoldable pub use Rattle.reading.specs.Layout.{predecessors_of, record_of, rule_words, uses_of}
-pub use Rattle.reading.specs.Reading.{reading}
-pub use Rattle.reading.specs.declared.reader.ReadPlan.{ReadPlan}
+pub use Rattle.reading.specs.Reading.{ReadPlan, reading}

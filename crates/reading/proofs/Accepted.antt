@@ -1,10 +1,10 @@
 -- Whenever reading accepts bytes they are the layout of lists within the limits, and the record is theirs.
 -- What each command keeps: the bytes read so far are the commands of lists within the limits, and the record is theirs.
-use Rattle.reading.proofs.Prelude.{◌≡◌, refl, ap, sym, ◌∙◌, subst, List, [], ◌∷◌, ◌++◌, flat_map, Bool, true, false, true≢false, ℕ, ◌+◌, ◌^◌}
+use Rattle.reading.proofs.Prelude.{◌≡◌, refl, ap, sym, ◌∙◌, subst, List, [], ◌∷◌, ◌++◌, flat_map, false, ℕ, ◌+◌, ◌^◌}
 use Rattle.reading.proofs.Prelude.{◌<◌, arith, length, drop, get_or, Has, get_or_tabulate, MAX_UNITS, empty_plan, Single, Kind, single, table, rule, usage}
 use Rattle.reading.proofs.Prelude.{unit, edge, end, kind_discrete, byte_of, operand_bytes, miscounted, reading, command_bytes, Contents, Element}
 use Rattle.reading.proofs.Prelude.{end_bytes, commands, predecessors_of, record_of, IsByte, All, GoodOnce, GoodTable, GoodRule, WithinLimits, IsPlan}
-use Rattle.reading.proofs.Prelude.{Plan, Outcome, Accepted, Refused}
+use Rattle.reading.proofs.Prelude.{Plan, Accepted}
 use Rattle.reading.proofs.Numbers.{all_drop}
 use Rattle.reading.proofs.Commands.{Leads}
 use Rattle.reading.proofs.Walk.{walk_keeps}
@@ -143,16 +143,12 @@ module _ (whole : List ℕ) where
         record_is = r.record_is;
       }
 
-abbrev is_accepted : Outcome → Bool
-is_accepted Accepted = true
-is_accepted (Refused f) = false
-
 -- whenever reading accepts bytes, they are the layout of lists within the limits, and the record is theirs
 pub accepted_is_plan : (bytes : List ℕ) → All IsByte bytes → (reading bytes).outcome ≡ Accepted → IsPlan bytes (reading bytes).plan
 unfolding reading
 accepted_is_plan bytes small =
     walk_keeps (Read bytes) (λ x. x.outcome ≡ Accepted → IsPlan bytes x.plan) (read_on bytes) (λ p at s r e n o. read_ended bytes p at s r e n)
-    (λ p at s f r e o. absurd (true≢false (sym (ap is_accepted o)))) empty_plan 0 bytes (read_start bytes small)
+    (λ p at s f r e o. cc) empty_plan 0 bytes (read_start bytes small)
 
 -- ---- the edges of an accepted plan
 

@@ -3,7 +3,8 @@ use Rattle.reading.proofs.Prelude.{◌≡◌, refl, ap, sym, ◌∙◌, List, []
 use Rattle.reading.proofs.Prelude.{suc, ◌+◌, ◌-◌, ◌≤◌, ◌<◌, arith, add-one, length, take, drop, get_or, length-drop, drop_of_length-le, take_all}
 use Rattle.reading.proofs.Prelude.{drop-cons, eqb, eqb-true, ltb-false, leb-false, le-ltb, not-false, empty_plan, Kind, single, sizes, given, show}
 use Rattle.reading.proofs.Prelude.{table, rule, usage, unit, edge, end, byte_of, kinds, kind_of, operand_bytes, order_of, carrying, Most, once, up_to}
-use Rattle.reading.proofs.Prelude.{runs_out_at, most_of, count, no_room_of, full, Row, kind_rows, operand_rows, rows, first_fit, of_kind, command_at, Step, onward}
+use Rattle.reading.proofs.Prelude.{runs_out_at, most_of, count, no_room_of, full, Row, kind_rows, operand_rows, rows, first_fit, of_kind, command_at, Step}
+use Rattle.reading.proofs.Prelude.{onward}
 use Rattle.reading.proofs.Prelude.{ended, step_of, accepted, refused, kind_of_step, Plan, Outcome, Accepted, Refused, Truncated, UnknownCommand, Command}
 use Rattle.reading.proofs.Prelude.{Fault as Faulty}
 use Rattle.reading.proofs.CommandKinds.{kind_of_byte, kind_byte, byte_own, no_kind, count_behind, late_counted}

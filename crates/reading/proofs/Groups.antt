@@ -2,7 +2,7 @@
 use Rattle.reading.proofs.Prelude.{◌≡◌, refl, ap, sym, ◌∙◌, subst, List, [], ◌∷◌, true, false, true≢false, not, ℕ, suc, min, ◌+◌, ◌-◌, ◌≤◌, ◌<◌, arith}
 use Rattle.reading.proofs.Prelude.{dec_lt, length, drop, get_or, length-drop, drop-drop, T, eqb, has_key, OneOf, miss, tag_of, Fitting, empty_plan, Kind}
 use Rattle.reading.proofs.Prelude.{single, sizes, usage, edge, end, order_of, earliest_behind, count, command_at, carrying, onward, step_of, walk, reading}
-use Rattle.reading.proofs.Prelude.{accepted, refused, command_bytes, place_at, kind_of_step, Reached, Plan, Refused, ReadPlan, Command, Count, Given}
+use Rattle.reading.proofs.Prelude.{accepted, refused, command_bytes, place_at, kind_of_step, Reached, Plan, Command, Count, Given}
 use Rattle.reading.proofs.Prelude.{Table, Rule, Use, Unit as UnitOf, Edge, Show, End, Fault as Faulty}
 use Rattle.reading.specs.contracts.command.Command.{the_type}
 use Rattle.reading.proofs.Commands.{InPlace, Unstopped, Front, unstopped, stopped, front, plan_of, adds, goes_on_lem, step_kind, step_adds, Leads}
@@ -24,7 +24,8 @@ in_order p k j h i = go (dec_lt (order_of j) (order_of (earliest_behind k)))
     go (yes l) = absurd (omega (arith, none_behind p (order_of j) i.on_time k l))
     go (no l) = omega arith
 
-past_after : (p : Plan) (k : Kind) → 0 < count p k → (at : ℕ) (s : List ℕ) → order_of (earliest_behind k) ≤ order_of (kind_of_step (step_of p (command_at p at s)))
+past_after : (p : Plan) (k : Kind) → 0 < count p k → (at : ℕ) (s : List ℕ)
+    → order_of (earliest_behind k) ≤ order_of (kind_of_step (step_of p (command_at p at s)))
 past_after p k h at s = go (front p at s)
   where
     go : Front p at s → order_of (earliest_behind k) ≤ order_of (kind_of_step (step_of p (command_at p at s)))
@@ -174,7 +175,8 @@ pub passed_by : (k next : Kind) (bytes : List ℕ) (r : Progress) → Reached k 
 passed_by k next bytes r R o n =
     let left_out : T (not (has_key (tags_but (order_of k)) (order_of k))) =
     subst T (sym (each_kind (λ j. not (has_key (tags_but (order_of j)) (order_of j))) refl k)) tt in
-    let other : ¬ (tag_of the_type r.command ≡ order_of k) = λ e. miss (tags_but (order_of k)) (order_of k) left_out (subst (OneOf (tags_but (order_of k))) e o) in
+    let other : ¬ (tag_of the_type r.command ≡ order_of k) =
+    λ e. miss (tags_but (order_of k)) (order_of k) left_out (subst (OneOf (tags_but (order_of k))) e o) in
     record {
       fitting = R.fitting;
       within = R.within;
@@ -204,8 +206,5 @@ module _ (bytes : List ℕ) (r : Progress) (R : Reached end bytes r) where
   pub accepted_here : OneOf (tags_but FAULT) (tag_of the_type r.command) → accepted r.plan ≡ reading bytes
   accepted_here o = sym (walk_ended r.plan r.at _ (accepted r.plan) (there End (at-end r.command o R.past))) ∙ R.same
 
-  pub refused_here : (f : Fault) (q : Plan) → r.command ≡ Faulty f → q ≡ empty_plan
-      → ◌≡◌ {A = ReadPlan} (record { outcome = Refused f; plan = q }) (reading bytes)
-  refused_here f q e z =
-      ap (λ (x : Plan). record { outcome = Refused f; plan = x }) z
-      ∙ sym (walk_ended r.plan r.at _ (refused f) (there (Faulty f) e)) ∙ R.same
+  pub refused_here : (f : Fault) → r.command ≡ Faulty f → refused f ≡ reading bytes
+  refused_here f e = sym (walk_ended r.plan r.at _ (refused f) (there (Faulty f) e)) ∙ R.same

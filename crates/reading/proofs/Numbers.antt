@@ -1,6 +1,7 @@
 -- Numbers and their bytes, lowest first.
-use Rattle.reading.proofs.Prelude.{◌≡◌, refl, ap, sym, ◌∙◌, subst, List, [], ◌∷◌, ◌++◌, ℕ, zero, suc, ◌+◌, ◌-◌, ◌*◌, ◌/◌, ◌%◌, ◌^◌, ◌≤◌, ◌<◌, arith}
-use Rattle.reading.proofs.Prelude.{pow-le-pow_right, pow-succ', pow-zero, length, take, drop, get_or, length-drop, drop-cons, take_at, drop_at}
+use Rattle.std.specs.Int.{w64, from_le_bytes}
+use Rattle.reading.proofs.Prelude.{take_all, ◌≡◌, refl, ap, sym, ◌∙◌, subst, List, [], ◌∷◌, ◌++◌, ℕ, zero, suc, ◌+◌, ◌*◌, ◌/◌, ◌%◌, ◌^◌, ◌≤◌, ◌<◌, arith}
+use Rattle.reading.proofs.Prelude.{pow-succ', pow-zero, length, take, drop, get_or, length-drop, drop-cons, take_at, drop_at}
 use Rattle.reading.proofs.Prelude.{length-take-le, WORD_BYTES, BYTE_VALUES, WORD_VALUES, spelled, word_at, bytes_of, word_bytes, IsByte, All}
 
 -- one byte more in front
@@ -9,47 +10,24 @@ pub number_step : (s : List ℕ) (at k : ℕ) → at < length s
 unfolding spelled
 number_step s at k h = rw (drop-cons s at 0 h)
 
--- ---- a word built from its highest byte down
+-- ---- a word of eight bytes
 
--- w is the word's part from byte i on
-pub record Built (s : List ℕ) (at i w : ℕ) : Type 0 where
-  pub within : i ≤ WORD_BYTES
-  pub below : w < BYTE_VALUES ^ (WORD_BYTES - i)
-  pub is : w ≡ spelled (take (WORD_BYTES - i) (drop (at + i) s))
-
--- with one byte more below it, it still fits a word
-pub built_fits : {s : List ℕ} {at i w : ℕ} (b : ℕ) → Built s at i w → 0 < i → b < BYTE_VALUES → w * BYTE_VALUES + b < WORD_VALUES
-built_fits {s} {at} {i} {w} b h pos b< =
-    let k : ℕ = WORD_BYTES - i in
-    let more : BYTE_VALUES ^ suc k ≡ BYTE_VALUES * BYTE_VALUES ^ k = pow-succ' BYTE_VALUES k in
-    let most : BYTE_VALUES ^ suc k ≤ WORD_VALUES =
-    pow-le-pow_right (omega arith) {i = suc k} {j = WORD_BYTES} (omega (arith, h.within)) in
-    omega (arith, h.below)
-
-pub built_more : {s : List ℕ} {at w : ℕ} (i b : ℕ) → Built s at i w → 0 < i → at + WORD_BYTES ≤ length s → b < BYTE_VALUES
-    → b ≡ get_or s (at + (i - 1)) 0 → Built s at (i - 1) (w * BYTE_VALUES + b)
-built_more {s} {at} {w} zero b h pos fits b< eb = absurd (omega arith)
-built_more {s} {at} {w} (suc i) b h pos fits b< eb =
-    let k : WORD_BYTES - (suc i - 1) ≡ suc (WORD_BYTES - suc i) = omega (arith, h.within) in
-    let p : at + (suc i - 1) ≡ at + i = omega arith in
-    let q : at + suc i ≡ suc (at + i) = omega arith in
-    let more = pow-succ' BYTE_VALUES (WORD_BYTES - suc i) in
-    let w' : w ≡ spelled (take (WORD_BYTES - suc i) (drop (suc (at + i)) s)) = rw q at h.is in
-    let b' : b ≡ get_or s (at + i) 0 = rw p at eb in
-    record {
-      within = omega (arith, h.within);
-      below = rw k (omega (arith, more, h.below));
-      is = rw (k, p) (omega (arith, number_step s (at + i) (WORD_BYTES - suc i) (omega (arith, h.within))));
-    }
-
-pub built_none : (s : List ℕ) (at : ℕ) → Built s at WORD_BYTES 0
+-- the number that the machine makes of eight bytes, lowest first
+pub machine_word : (s : List ℕ) → length s ≡ WORD_BYTES → from_le_bytes w64 s ≡ spelled s
 unfolding spelled
-built_none s at = record { within = omega arith; below = omega arith; is = refl }
-
-pub built_whole : {s : List ℕ} {at w : ℕ} (i : ℕ) → Built s at i w → i ≤ 0 → w ≡ word_at at s
-unfolding word_at
-built_whole {s} {at} {w} zero h l = let z : at + 0 ≡ at = omega arith in rw z at h.is
-built_whole {s} {at} {w} (suc i) h l = absurd (omega arith)
+machine_word s l =
+    let whole : spelled (take 8 s) ≡ spelled s = ap spelled (take_all 8 s (omega arith)) in
+    omega (
+      arith,
+      number_step s 0 7 (omega arith),
+      number_step s 1 6 (omega arith),
+      number_step s 2 5 (omega arith),
+      number_step s 3 4 (omega arith),
+      number_step s 4 3 (omega arith),
+      number_step s 5 2 (omega arith),
+      number_step s 6 1 (omega arith),
+      number_step s 7 0 (omega arith),
+    )
 
 -- ---- bytes and numbers
 

@@ -2,7 +2,8 @@
 pub use Rattle.atoms.proofs.Kit.{Bool, List, List-as-Memᴰ, Memᴰ-append_cases, Memᴰ-cases_cons, Memᴰ-eq_of_singleton, Memᴰ-head}
 pub use Rattle.atoms.proofs.Kit.{Memᴰ-not-nil, Memᴰ-tail, Memᴰ-append_left, Memᴰ-append_right, OneOf, Option, T, [], ◌%◌, ◌&&◌, ◌*◌, ◌++◌, ◌+◌, ◌-◌}
 pub use Rattle.atoms.proofs.Kit.{◌/◌, ◌<◌, ◌^◌, ◌||◌, ◌∙◌, ◌∷◌, ◌≡◌, ◌≤◌, ◌⊎◌, add-one, ap, append_assoc, append-nil, ap₂, arith, dec_lt, drop, drop_at}
-pub use Rattle.atoms.proofs.Kit.{drop-cons, drop-drop, drop_of_length-le, eq-eqb, eqb, eqb-false, eqb-true, false, get_or, get_or-append-add, get_or-take, has_key}
+pub use Rattle.atoms.proofs.Kit.{drop-cons, drop-drop, drop_of_length-le, eq-eqb, eqb, eqb-false, eqb-true, false, get_or, get_or-append-add, get_or-take}
+pub use Rattle.atoms.proofs.Kit.{has_key}
 pub use Rattle.atoms.proofs.Kit.{inl, inr, le-leb, le-ltb, leb, leb-false, leb-true, leb-suc-zero, length, length-append, length-drop, length-take}
 pub use Rattle.atoms.proofs.Kit.{length-take-le, lt-leb, lt-ltb, ltb, ltb-false, ltb-true, max, min, miss, mul-suc, ne_eqb, needs, none, not, not-false}
 pub use Rattle.atoms.proofs.Kit.{ones, ones-le, or_assoc, or-false, pow-le-pow_right, pow_mono, pow-succ', pow-zero, refl, replicate, set, set-append_left}
@@ -24,8 +25,7 @@ pub use Rattle.plan.specs.Record.{Fitting, uses_at, wanted_bit}
 unfoldable pub use Rattle.plan.specs.Record.{empty_plan, with_count, with_edge, with_given, with_rule, with_show, with_table, with_unit, with_use}
 pub use Rattle.plan.specs.declared.fault.Fault.TheVariants.{AbsentRule, BadEdge, BadTable, BadUse, ContradictoryBody, EmptyRule, OutOfOrder, TooMany}
 pub use Rattle.plan.specs.declared.fault.Fault.TheVariants.{Truncated, UnknownCommand}
-pub use Rattle.plan.specs.declared.fault.Outcome.{Outcome}
-pub use Rattle.plan.specs.declared.fault.Outcome.TheVariants.{Accepted, Refused}
+pub use Rattle.plan.specs.Faults.{Accepted, Outcome, Refused}
 pub use Rattle.plan.specs.declared.record.Plan.{Plan}
 pub use Rattle.reading.specs.Commands.{Kind, Most, Row, Single, byte_of, count, earliest_behind, edge, end, first_fit, full, given, kind_discrete}
 pub use Rattle.reading.specs.Commands.{kind_among, kind_rows, kinds, most_of, no_room_of, once, operand_bytes, operand_rows, order_of, rows, rule, runs_out_at}
@@ -38,7 +38,7 @@ pub use Rattle.reading.specs.Layout.{count_bytes, edge_bytes, end_bytes, first_s
 pub use Rattle.reading.specs.Layout.{table_bytes, two_words, unit_bytes, use_bytes, word_bytes}
 unfoldable pub use Rattle.reading.specs.Layout.{bytes_of, commands, predecessors_of, record_of, rule_words, uses_of, word_of}
 pub use Rattle.reading.specs.Progress.{Reached, kind_of_step, place_at}
-pub use Rattle.reading.specs.Reading.{DECIDING_BYTES, LONGEST_PLAN, Step, accepted, command_bytes, ended, onward, refused, step_of}
+pub use Rattle.reading.specs.Reading.{DECIDING_BYTES, LONGEST_PLAN, ReadPlan, Step, accepted, command_bytes, ended, onward, refused, step_of}
 unfoldable pub use Rattle.reading.specs.Reading.{reading, walk}
 pub use Rattle.reading.specs.Refusals.{BytesAfterEnd, ContradictoryRule, CutShort, Differs, Line, Miscounted, NamesAbsentRule, NoNewEdge, NoNewUse}
 pub use Rattle.reading.specs.Refusals.{NoRoom, NoTable, OneTooMany, OutOfGroupOrder, ReadingJudged, Stopped, TooLate, UnknownByte, WrongEdge}
@@ -51,4 +51,3 @@ pub use Rattle.reading.specs.Words.{BYTE_VALUES, WORD_BYTES, WORD_VALUES}
 unfoldable pub use Rattle.reading.specs.Words.{spelled, word_at}
 pub use Rattle.reading.specs.declared.command.Command.{Command}
 pub use Rattle.reading.specs.declared.command.Command.TheVariants.{Count, Edge, End, Fault, Given, Rule, Show, Table, Unit, Use}
-pub use Rattle.reading.specs.declared.reader.ReadPlan.{ReadPlan}

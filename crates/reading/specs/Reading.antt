@@ -1,5 +1,5 @@
--- ReadPlan a whole plan: its record, or the first fault from the left.
-use Rattle.std.specs.Prelude.{List, [], ◌∷◌, ℕ, zero, suc, ◌+◌, ◌*◌}
+-- Reading a whole plan: its record, or the first fault from the left.
+use Rattle.std.specs.Prelude.{List, [], ◌∷◌, ℕ, zero, suc, ◌+◌, ◌*◌, Result, Ok, Err}
 use Rattle.plan.specs.Record.{empty_plan, with_count, with_given, with_table, with_rule, with_use, with_unit, with_edge, with_show}
 use Rattle.reading.specs.Commands.{Kind, single, sizes, given, show, table, rule, usage, unit, edge, kinds, operand_bytes, command_at}
 use Rattle.reading.specs.Commands.{Most, once, up_to, runs_out_at, most_of}
@@ -7,8 +7,12 @@ use Rattle.plan.specs.declared.record.Plan.{Plan}
 use Rattle.reading.specs.declared.command.Command.{Command}
 use Rattle.reading.specs.declared.command.Command.TheVariants.{Count, Given, Table, Rule, Use, Unit as UnitOf, Edge, Show, End, Fault as Faulty}
 use Rattle.plan.specs.declared.fault.Fault.{Fault}
-use Rattle.plan.specs.declared.fault.Outcome.TheVariants.{Accepted, Refused}
-use Rattle.reading.specs.declared.reader.ReadPlan.{ReadPlan}
+use Rattle.plan.specs.Faults.{Accepted, Outcome, Refused}
+
+-- what reading gives: the outcome and the record, which is empty on a refusal
+pub record ReadPlan : Type 0 where
+  pub outcome : Outcome
+  pub plan : Plan
 
 abbrev pub accepted : Plan → ReadPlan
 accepted p = record { outcome = Accepted; plan = p }
@@ -16,6 +20,11 @@ accepted p = record { outcome = Accepted; plan = p }
 -- a refusal has no record but the empty one
 abbrev pub refused : Fault → ReadPlan
 refused f = record { outcome = Refused f; plan = empty_plan }
+
+-- the record of an accepted plan, or the fault of a refused one, as functions hand it out
+abbrev pub as_read : Result Plan Fault → ReadPlan
+as_read (Ok p) = accepted p
+as_read (Err f) = refused f
 
 -- a command of this kind, in bytes
 abbrev pub command_bytes : Kind → ℕ

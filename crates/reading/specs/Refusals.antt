@@ -10,8 +10,7 @@ use Rattle.reading.specs.Kinds.{sizes, given, show}
 use Rattle.reading.specs.Words.{WORD_VALUES}
 use Rattle.reading.specs.Layout.{Sizes, TableWords, RuleWords, TableUse, UnitPair, Contents, table_bytes, rule_bytes, use_bytes, unit_bytes, edge_bytes}
 use Rattle.reading.specs.Layout.{end_bytes, commands, layout, WithinLimits, CountRight}
-use Rattle.plan.specs.declared.fault.Outcome.{Outcome}
-use Rattle.plan.specs.declared.fault.Outcome.TheVariants.{Accepted}
+use Rattle.plan.specs.Faults.{Accepted, Outcome}
 
 -- ---- the rows: c is what the commands before say, `rest` the bytes from the command on
 

@@ -2,6 +2,7 @@
 use plan::Fault;
 
 // "A command is one of four kinds carrying its operands", of nine with COUNT, GIVEN, TABLE, USE and SHOW, or the fault that stopped it.
+// Stays: the user's paper names an enum with data for each read command, "or the fault that stopped it".
 #[derive(Clone, Copy)]
 pub enum Command {
     Count {

@@ -19,5 +19,5 @@ mod usage;
 mod words;
 
 pub use command::Command;
-pub use reader::{ReadPlan, read_plan};
+pub use reader::read_plan;
 pub use words::{WORD_BYTES, read_word};

@@ -3,7 +3,7 @@ ghost use Rattle.std.specs.Prelude.{◌≡◌};
 ghost use Rattle.plan.specs.Record.{Fitting};
 ghost use Rattle.reading.specs.Commands.{single, given, show, table, rule, usage, unit, edge, end};
 ghost use Rattle.reading.specs.Progress.{place_at, Reached};
-ghost use Rattle.reading.specs.Reading.{reading};
+ghost use Rattle.reading.specs.Reading.{reading, as_read};
 ghost use Rattle.reading.specs.Layout.{Records};
 ghost use Rattle.reading.specs.Refusals.{ReadingJudged};
 
@@ -14,16 +14,9 @@ use crate::kinds::{
     USE_BYTES,
 };
 use plan::{
-    Outcome, Plan, empty_plan, with_count, with_edge, with_given, with_rule, with_show, with_table,
+    Fault, Plan, empty_plan, with_count, with_edge, with_given, with_rule, with_show, with_table,
     with_unit, with_use,
 };
-
-// What reading gives: the outcome and the record, which is empty on a refusal.
-#[derive(Clone, Copy)]
-pub struct ReadPlan {
-    pub outcome: Outcome,
-    pub plan: Plan,
-}
 
 // How far reading has come: the record of what is taken, and the command at byte `at`, which is not.
 #[derive(Clone, Copy)]
@@ -80,6 +73,7 @@ fn read_givens(bytes: &[u8], from: Progress) -> Progress
 }
 
 // The place behind all TABLEs.
+// Stays: the user's paper names `let .. else` that takes a command from the read one, here and in the four loops below.
 fn read_tables(bytes: &[u8], from: Progress) -> Progress
     requires { Reached table bytes.now from }
     ensures { Reached rule bytes.now result }
@@ -184,10 +178,10 @@ fn read_shows(bytes: &[u8], from: Progress) -> Progress
 }
 
 // The record of the plan, or its first fault from the left.
-pub fn read_plan(plan: &[u8]) -> ReadPlan
-    ensures read { result ≡ reading plan.now }
-    ensures judged { ReadingJudged plan.now result.outcome }
-    ensures records { Records plan.now result.plan }
+pub fn read_plan(plan: &[u8]) -> Result<Plan, Fault>
+    ensures read { as_read result ≡ reading plan.now }
+    ensures judged { ReadingJudged plan.now (as_read result).outcome }
+    ensures records { Records plan.now (as_read result).plan }
 {
     let counts = read_counts(plan);
     let givens = read_givens(plan, counts);
@@ -198,15 +192,8 @@ pub fn read_plan(plan: &[u8]) -> ReadPlan
     let edges = read_edges(plan, units);
     let shows = read_shows(plan, edges);
     let command = shows.command;
-    let Command::Fault(fault) = command else {
-        let read = shows.plan;
-        return ReadPlan {
-            outcome: Outcome::Accepted,
-            plan: read,
-        };
-    };
-    ReadPlan {
-        outcome: Outcome::Refused(fault),
-        plan: empty_plan(),
+    match command {
+        Command::Fault(fault) => Err(fault),
+        _ => Ok(shows.plan),
     }
 }
