@@ -1,6 +1,6 @@
 -- Words that a loop builds number by number, up to a bound.
 use Rattle.dependency_graph.proofs.Prelude.{◌≡◌, refl, sym, ap, ◌∙◌, Bool, ℕ, suc, ◌+◌, ◌≤◌, ◌<◌, arith, add-one, ◌∩◌, ◌∪◌, word_below, union_in}
-use Rattle.dependency_graph.proofs.Prelude.{single_if, ext, word_has, word_at, word_suc, union_below, twice_below}
+use Rattle.dependency_graph.proofs.Prelude.{ext, word_has, word_at, union_below, twice_below}
 use Rattle.dependency_graph.proofs.Offenders.{union_below_suc}
 
 -- of n numbers the first i are done, and w is what they make
@@ -18,15 +18,6 @@ pub built_end : {F : ℕ → ℕ} {n i w : ℕ} → Built F n i w → n ≤ i �
 built_end {F} {n} {i} b l = let q : i ≡ n = omega (arith, b.within) in b.is ∙ ap F q
 
 -- ---- the numbers of which the test p holds
-
-pub word_start : (p : ℕ → Bool) {n : ℕ} → Built (λ i. word_below i p) n 0 0
-unfolding word_below
-word_start p = built_start refl
-
-pub word_more : (p : ℕ → Bool) {n i w x w' : ℕ} → Built (λ k. word_below k p) n i w → i < n → x ≡ single_if (p i) i
-    → w' ≡ w ∪ x → Built (λ k. word_below k p) n (i + 1) w'
-word_more p {n} {i} {x = x} b l d e =
-    built_more l (e ∙ ap (λ (y : ℕ). y ∪ x) b.is ∙ ap (λ (y : ℕ). word_below i p ∪ y) d ∙ word_suc i p)
 
 pub word_same : (n : ℕ) (p q : ℕ → Bool) → ((i : ℕ) → i < n → p i ≡ q i) → word_below n p ≡ word_below n q
 word_same n p q e =

@@ -26,5 +26,5 @@ pub mod Built
 pub mod PlanUnits
 -- Small circuits of document 01 at the graph place: the definitions give the verdicts that the paper has
 pub mod GraphCircuits
--- Tests of words that were read, and the rules of a unit held against the head atoms that it does not see
-pub mod UnseenRules
+-- What a loop gathers over the numbers of a word, by what a function answers of each
+pub mod GatheredNumbers

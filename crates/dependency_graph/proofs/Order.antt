@@ -8,6 +8,9 @@ use Rattle.dependency_graph.proofs.Prelude.{has_right, union_cases, has_atom, at
 use Rattle.dependency_graph.proofs.Prelude.{collects_has, collects_below, collects_without, least_same, lowest_le, lowest_here, lowest_least}
 use Rattle.dependency_graph.proofs.Prelude.{lowest_is, lowest_none, Units, Edge, Acyclic, reach, Ready, ready, next_unit, order_from, working_order}
 use Rattle.dependency_graph.proofs.Prelude.{InOrder, all_done, next}
+use Rattle.std.specs.Option.{MatchOption}
+use Rattle.std.specs.declared.option.Option.{Option}
+use Rattle.std.specs.declared.option.Option.TheVariants.{None, Some}
 use Rattle.dependency_graph.proofs.Heads.{collects_direct, edge_rank}
 
 -- ---- ready units
@@ -28,15 +31,14 @@ pub ready_of_waiting : (S : Units) (done u : ℕ) → has done u ≡ false → s
 unfolding ready
 ready_of_waiting S done u e = rw (e, ◌&&◌)
 
--- the search for the unit that is worked next: no unit passed is ready
-pub next_found : (S : Units) (done u : ℕ) → u < S.units → ready S done u ≡ true → ((j : ℕ) → j < u → ready S done j ≡ false)
-    → u ≡ next_unit S done
+-- the first unit that is ready is worked next
+pub next_first : (S : Units) (done : ℕ) (r : Option ℕ)
+    → MatchOption r ((k : ℕ) → 0 ≤ k → k < S.units → ready S done k ≡ false)
+    (λ u. (0 ≤ u) × (u < S.units) × (ready S done u ≡ true) × ((k : ℕ) → 0 ≤ k → k < u → ready S done k ≡ false))
+    → MatchOption r (next_unit S done ≡ S.units) (λ u. (u < S.units) × (u ≡ next_unit S done))
 unfolding next_unit
-next_found S done u l e f = sym (lowest_is S.units (ready S done) u l e f)
-
-pub next_missing : (S : Units) (done u : ℕ) → S.units ≤ u → ((j : ℕ) → j < u → ready S done j ≡ false) → S.units ≡ next_unit S done
-unfolding next_unit
-next_missing S done u l f = sym (lowest_none S.units (ready S done) (λ j k. f j (omega arith)))
+next_first S done None f = lowest_none S.units (ready S done) (λ k l. f k (omega arith) l)
+next_first S done (Some u) f = (f.1, sym (lowest_is S.units (ready S done) u f.1 f.2 (λ k l. f.3 k (omega arith) l)))
 
 -- a unit that is not done and not ready has a predecessor that is not done
 waiting_predecessor : (S : Units) (done u : ℕ) → u < S.units → ¬ Has done u → ¬ Ready S done u
@@ -69,10 +71,6 @@ some_ready S a done (suc k) u b l h = go (some_ready S a done k) (decided (decid
         ih s.0 (omega (arith, edge_rank S a u s.0 s.1)) s.1.is_predecessor s.2
 
 -- ---- the next unit
-
-pub next_le : (S : Units) (done : ℕ) → next_unit S done ≤ S.units
-unfolding next_unit
-next_le S done = lowest_le S.units (ready S done)
 
 pub next_ready : (S : Units) (done : ℕ) → next_unit S done < S.units → Ready S done (next_unit S done)
 unfolding next_unit

@@ -2,8 +2,7 @@
 use Rattle.std.specs.Prelude.{true, false, ℕ, eqb}
 use Rattle.atoms.specs.Collected.{lowest_of, Least}
 use Rattle.plan.specs.declared.fault.Fault.{Fault}
-use Rattle.plan.specs.declared.fault.Outcome.{Outcome}
-use Rattle.plan.specs.declared.fault.Outcome.TheVariants.{Accepted, Refused}
+use Rattle.plan.specs.Faults.{Accepted, Outcome, Refused}
 use Rattle.dependency_graph.specs.Units.{Units, GivenFree}
 use Rattle.dependency_graph.specs.Graph.{Passes, ConditionA, ConditionB, Acyclic, ConditionC}
 use Rattle.dependency_graph.specs.Offenders.{GivenInHead, RuleInNoUnit, HeadedRuleInSeveral, Cycle, NonmonotonicUnseen, MonotonicUnseen}

@@ -6,3 +6,4 @@ pub mod PlanUnits
 pub mod Filled
 pub mod Offenders
 pub mod Check
+pub mod Gathered

@@ -8,36 +8,36 @@ use crate::cycle::cycle;
 use crate::dependences::{monotonic_unseen, nonmonotonic_unseen};
 use crate::given::given_in_head;
 use crate::placement::{headed_rule_in_several, rule_in_no_unit};
-use plan::{Fault, Outcome, Plan};
+use plan::{Fault, Plan};
 
 // The first graph condition that is broken, with its lowest rule or unit, or that all hold.
-pub fn check_graph(plan: Plan) -> Outcome
+pub fn check_graph(plan: Plan) -> Result<(), Fault>
     requires { Fitting plan }
     ensures { result ≡ verdict (units_of plan) }
 {
-    let given = given_in_head(plan);
+    let given = given_in_head(&plan);
     if given != 0 {
-        return Outcome::Refused(Fault::GivenInHead(atoms::lowest(given)));
+        return Err(Fault::GivenInHead(atoms::lowest(given)));
     }
-    let in_none = rule_in_no_unit(plan);
+    let in_none = rule_in_no_unit(&plan);
     if in_none != 0 {
-        return Outcome::Refused(Fault::RuleInNoUnit(atoms::lowest(in_none)));
+        return Err(Fault::RuleInNoUnit(atoms::lowest(in_none)));
     }
-    let in_several = headed_rule_in_several(plan);
+    let in_several = headed_rule_in_several(&plan);
     if in_several != 0 {
-        return Outcome::Refused(Fault::HeadedRuleInSeveral(atoms::lowest(in_several)));
+        return Err(Fault::HeadedRuleInSeveral(atoms::lowest(in_several)));
     }
-    let cyclic = cycle(plan);
+    let cyclic = cycle(&plan);
     if cyclic != 0 {
-        return Outcome::Refused(Fault::Cycle(atoms::lowest(cyclic)));
+        return Err(Fault::Cycle(atoms::lowest(cyclic)));
     }
-    let nonmonotonic = nonmonotonic_unseen(plan);
+    let nonmonotonic = nonmonotonic_unseen(&plan);
     if nonmonotonic != 0 {
-        return Outcome::Refused(Fault::NonmonotonicUnseen(atoms::lowest(nonmonotonic)));
+        return Err(Fault::NonmonotonicUnseen(atoms::lowest(nonmonotonic)));
     }
-    let monotonic = monotonic_unseen(plan);
+    let monotonic = monotonic_unseen(&plan);
     if monotonic != 0 {
-        return Outcome::Refused(Fault::MonotonicUnseen(atoms::lowest(monotonic)));
+        return Err(Fault::MonotonicUnseen(atoms::lowest(monotonic)));
     }
-    Outcome::Accepted
+    Ok(())
 }

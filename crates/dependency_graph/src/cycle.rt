@@ -6,6 +6,7 @@ ghost use Rattle.plan.specs.Record.{Fitting};
 ghost use Rattle.dependency_graph.specs.PlanUnits.{units_of};
 ghost use Rattle.dependency_graph.specs.Offenders.{cycle as cycle_of};
 
+use crate::gather::where_holds;
 use crate::reach::fill_reach;
 use plan::{MAX_UNITS, Plan};
 
@@ -14,20 +15,16 @@ fn own_members(words: &[u64], n: usize) -> u64
     requires { (n ≤ ATOMS) × (n ≤ length words.now) }
     ensures { result ≡ word_below n (λ i. has (get_or words.now i 0) i) }
 {
-    let mut found = 0;
-    let mut i = 0;
-    while i < n {
-        let inside = !atoms::are_apart(words[i], atoms::single(i));
-        found = atoms::union(found, atoms::single_if(inside, i));
-        i += 1;
-    }
-    found
+    where_holds(
+        atoms::first(n),
+        |i| !atoms::are_apart(words[i], atoms::single(i)),
+    )
 }
 
 // The units on a cycle.
-pub fn cycle(plan: Plan) -> u64
-    requires { Fitting plan }
-    ensures { result ≡ cycle_of (units_of plan) }
+pub fn cycle(plan: &Plan) -> u64
+    requires { Fitting plan.now }
+    ensures { result ≡ cycle_of (units_of plan.now) }
 {
     let mut reached = [0u64; MAX_UNITS];
     fill_reach(plan, &mut reached);

@@ -4,14 +4,15 @@ ghost use Rattle.plan.specs.Record.{Fitting};
 ghost use Rattle.dependency_graph.specs.PlanUnits.{units_of};
 ghost use Rattle.dependency_graph.specs.Offenders.{unseen_heads, nonmonotonic_unseen_in, nonmonotonic_unseen, monotonic_seen_in, monotonic_unseen};
 
+use crate::gather::{union_over, where_holds};
 use crate::rule_heads::rule_heads;
 use answer_sets::rule;
 use plan::Plan;
 
 // The head atoms of the rules that unit u neither holds nor has an edge to the unit of.
-fn unseen_heads(plan: Plan, u: usize) -> u64
-    requires { Fitting plan × (u < plan.unit_count) }
-    ensures { result ≡ unseen_heads (units_of plan) u }
+fn unseen_heads(plan: &Plan, u: usize) -> u64
+    requires { Fitting plan.now × (u < plan.now.unit_count) }
+    ensures { result ≡ unseen_heads (units_of plan.now) u }
 {
     let direct = plan.predecessors[u];
     let beside = atoms::union_of(&plan.units, plan.unit_count, direct);
@@ -20,66 +21,53 @@ fn unseen_heads(plan: Plan, u: usize) -> u64
 }
 
 // The rules of unit u that look at an unseen head atom.
-fn nonmonotonic_unseen_in(plan: Plan, u: usize) -> u64
-    requires { Fitting plan × (u < plan.unit_count) }
-    ensures { result ≡ nonmonotonic_unseen_in (units_of plan) u }
+fn nonmonotonic_unseen_in(plan: &Plan, u: usize) -> u64
+    requires { Fitting plan.now × (u < plan.now.unit_count) }
+    ensures { result ≡ nonmonotonic_unseen_in (units_of plan.now) u }
 {
     let unseen = unseen_heads(plan, u);
-    let mut found = 0;
-    let mut rest = atoms::cut(plan.units[u], atoms::first(plan.rule_count));
-    while rest != 0 {
-        let r = atoms::lowest(rest);
-        let clashes = !atoms::are_apart(rule::looks(&plan.rules, r), unseen);
-        found = atoms::union(found, atoms::single_if(clashes, r));
-        rest = atoms::drop(rest, r);
-    }
-    found
+    let held = atoms::cut(plan.units[u], atoms::first(plan.rule_count));
+    where_holds(
+        held,
+        |r| !atoms::are_apart(rule::looks(&plan.rules, r), unseen),
+    )
 }
 
 // The rules of unit u with no positive and no head atom among the unseen head atoms.
-fn monotonic_seen_in(plan: Plan, u: usize) -> u64
-    requires { Fitting plan × (u < plan.unit_count) }
-    ensures { result ≡ monotonic_seen_in (units_of plan) u }
+fn monotonic_seen_in(plan: &Plan, u: usize) -> u64
+    requires { Fitting plan.now × (u < plan.now.unit_count) }
+    ensures { result ≡ monotonic_seen_in (units_of plan.now) u }
 {
     let unseen = unseen_heads(plan, u);
-    let mut found = 0;
-    let mut rest = atoms::cut(plan.units[u], atoms::first(plan.rule_count));
-    while rest != 0 {
-        let r = atoms::lowest(rest);
+    let held = atoms::cut(plan.units[u], atoms::first(plan.rule_count));
+    where_holds(held, |r| {
         let needed = atoms::union(
             rule::positive_body(&plan.rules, r),
             rule::head(&plan.rules, r),
         );
-        found = atoms::union(found, atoms::single_if(atoms::are_apart(needed, unseen), r));
-        rest = atoms::drop(rest, r);
-    }
-    found
+        atoms::are_apart(needed, unseen)
+    })
 }
 
 // The rules that depend nonmonotonically on a rule that some unit with them does not see.
-pub fn nonmonotonic_unseen(plan: Plan) -> u64
-    requires { Fitting plan }
-    ensures { result ≡ nonmonotonic_unseen (units_of plan) }
+pub fn nonmonotonic_unseen(plan: &Plan) -> u64
+    requires { Fitting plan.now }
+    ensures { result ≡ nonmonotonic_unseen (units_of plan.now) }
 {
-    let mut found = 0;
-    let mut u = 0;
-    while u < plan.unit_count {
-        found = atoms::union(found, nonmonotonic_unseen_in(plan, u));
-        u += 1;
-    }
-    found
+    union_over(
+        atoms::first(plan.unit_count),
+        |u| nonmonotonic_unseen_in(plan, u),
+    )
 }
 
 // The rules whose monotonic dependences no unit sees together.
-pub fn monotonic_unseen(plan: Plan) -> u64
-    requires { Fitting plan }
-    ensures { result ≡ monotonic_unseen (units_of plan) }
+pub fn monotonic_unseen(plan: &Plan) -> u64
+    requires { Fitting plan.now }
+    ensures { result ≡ monotonic_unseen (units_of plan.now) }
 {
-    let mut seen = 0;
-    let mut u = 0;
-    while u < plan.unit_count {
-        seen = atoms::union(seen, monotonic_seen_in(plan, u));
-        u += 1;
-    }
+    let seen = union_over(
+        atoms::first(plan.unit_count),
+        |u| monotonic_seen_in(plan, u),
+    );
     atoms::without(atoms::first(plan.rule_count), seen)
 }

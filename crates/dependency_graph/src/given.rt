@@ -4,20 +4,18 @@ ghost use Rattle.plan.specs.Record.{Fitting};
 ghost use Rattle.dependency_graph.specs.PlanUnits.{units_of};
 ghost use Rattle.dependency_graph.specs.Offenders.{given_in_head};
 
+use crate::gather::where_holds;
 use answer_sets::rule;
 use plan::Plan;
 
 // The rules that have a given atom in the head.
-pub fn given_in_head(plan: Plan) -> u64
-    requires { Fitting plan }
-    ensures { result ≡ given_in_head (units_of plan) }
+pub fn given_in_head(plan: &Plan) -> u64
+    requires { Fitting plan.now }
+    ensures { result ≡ given_in_head (units_of plan.now) }
 {
-    let mut found = 0;
-    let mut r = 0;
-    while r < plan.rule_count {
-        let shares = !atoms::are_apart(rule::head(&plan.rules, r), plan.once.given.word);
-        found = atoms::union(found, atoms::single_if(shares, r));
-        r += 1;
-    }
-    found
+    let given = plan.once.given.word;
+    where_holds(
+        atoms::first(plan.rule_count),
+        |r| !atoms::are_apart(rule::head(&plan.rules, r), given),
+    )
 }

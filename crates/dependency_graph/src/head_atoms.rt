@@ -12,6 +12,7 @@ use crate::rule_heads::rule_heads;
 use plan::{MAX_UNITS, Plan};
 
 // H(u) and Hp(u) of each unit u, zeros behind.
+// Stays: an array of pairs would be no plainer, since joining and searching are lent `heads` as one slice, which would have to be copied out.
 #[derive(Clone, Copy)]
 pub struct HeadAtoms {
     pub heads: [u64; MAX_UNITS],
@@ -19,14 +20,12 @@ pub struct HeadAtoms {
 }
 
 // Fills the table with each unit's own head atoms.
-fn fill_own(plan: Plan, table: &mut [u64])
-    requires { Fitting plan × (plan.unit_count ≤ length table.old) }
-    ensures { FilledFirst plan.unit_count (own_of (units_of plan)) table.old table.new }
+fn fill_own(plan: &Plan, table: &mut [u64])
+    requires { Fitting plan.now × (plan.now.unit_count ≤ length table.old) }
+    ensures { FilledFirst plan.now.unit_count (own_of (units_of plan.now)) table.old table.new }
 {
-    let mut u = 0;
-    while u < plan.unit_count {
+    for u in 0..plan.unit_count {
         table[u] = rule_heads(plan, plan.units[u]);
-        u += 1;
     }
 }
 
@@ -37,10 +36,8 @@ fn fill_unions(given: u64, words: &[u64], which: &[u64], unit_count: usize, tabl
     ensures { FilledFirst unit_count (λ u. given ∪ union_in unit_count (get_or which.now u 0) (λ v. get_or words.now v 0))
         table.old table.new }
 {
-    let mut u = 0;
-    while u < unit_count {
+    for u in 0..unit_count {
         table[u] = atoms::union(given, atoms::union_of(words, unit_count, which[u]));
-        u += 1;
     }
 }
 
@@ -50,17 +47,15 @@ fn add_words(words: &[u64], unit_count: usize, table: &mut [u64])
     ensures { FilledFirst unit_count (λ u. get_or words.now u 0 ∪ get_or table.old u 0)
         table.old table.new }
 {
-    let mut u = 0;
-    while u < unit_count {
+    for u in 0..unit_count {
         table[u] = atoms::union(words[u], table[u]);
-        u += 1;
     }
 }
 
 // Fills the table with H(u) for each unit u.
-fn fill_heads(plan: Plan, table: &mut [u64])
-    requires { Fitting plan × (plan.unit_count ≤ length table.old) }
-    ensures { FilledFirst plan.unit_count (heads_from (units_of plan)) table.old table.new }
+fn fill_heads(plan: &Plan, table: &mut [u64])
+    requires { Fitting plan.now × (plan.now.unit_count ≤ length table.old) }
+    ensures { FilledFirst plan.now.unit_count (heads_from (units_of plan.now)) table.old table.new }
 {
     let unit_count = plan.unit_count;
     let mut own = [0u64; MAX_UNITS];
@@ -78,7 +73,7 @@ pub fn head_atoms(plan: Plan) -> HeadAtoms
 {
     let mut heads = [0u64; MAX_UNITS];
     let mut inputs = [0u64; MAX_UNITS];
-    fill_heads(plan, &mut heads);
+    fill_heads(&plan, &mut heads);
     fill_unions(
         plan.once.given.word,
         &heads,
@@ -86,8 +81,5 @@ pub fn head_atoms(plan: Plan) -> HeadAtoms
         plan.unit_count,
         &mut inputs,
     );
-    HeadAtoms {
-        heads: heads,
-        inputs: inputs,
-    }
+    HeadAtoms { heads, inputs }
 }

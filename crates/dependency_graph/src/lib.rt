@@ -4,6 +4,7 @@
 pub mod check;
 mod cycle;
 mod dependences;
+mod gather;
 mod given;
 pub mod head_atoms;
 mod placement;

@@ -20,15 +20,13 @@ fn through(reached: u64, k: usize, middle: u64) -> u64
 }
 
 // Fills the table with each unit's direct predecessors.
-fn fill_direct(plan: Plan, table: &mut [u64])
-    requires { Fitting plan × (plan.unit_count ≤ length table.old) }
-    ensures { FilledFirst plan.unit_count (reach_via (units_of plan) 0) table.old table.new }
+fn fill_direct(plan: &Plan, table: &mut [u64])
+    requires { Fitting plan.now × (plan.now.unit_count ≤ length table.old) }
+    ensures { FilledFirst plan.now.unit_count (reach_via (units_of plan.now) 0) table.old table.new }
 {
     let all = atoms::first(plan.unit_count);
-    let mut u = 0;
-    while u < plan.unit_count {
+    for u in 0..plan.unit_count {
         table[u] = atoms::cut(plan.predecessors[u], all);
-        u += 1;
     }
 }
 
@@ -39,22 +37,18 @@ fn open_middle(unit_count: usize, k: usize, table: &mut [u64])
         table.old table.new }
 {
     let middle = table[k];
-    let mut u = 0;
-    while u < unit_count {
+    for u in 0..unit_count {
         table[u] = through(table[u], k, middle);
-        u += 1;
     }
 }
 
 // Fills the table with what each unit reaches.
-pub fn fill_reach(plan: Plan, table: &mut [u64])
-    requires { Fitting plan × (plan.unit_count ≤ length table.old) }
-    ensures { FilledFirst plan.unit_count (reach_of (units_of plan)) table.old table.new }
+pub fn fill_reach(plan: &Plan, table: &mut [u64])
+    requires { Fitting plan.now × (plan.now.unit_count ≤ length table.old) }
+    ensures { FilledFirst plan.now.unit_count (reach_of (units_of plan.now)) table.old table.new }
 {
     fill_direct(plan, table);
-    let mut k = 0;
-    while k < plan.unit_count {
+    for k in 0..plan.unit_count {
         open_middle(plan.unit_count, k, table);
-        k += 1;
     }
 }

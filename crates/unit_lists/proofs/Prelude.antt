@@ -2,7 +2,7 @@
 pub use Rattle.answer_sets.specs.Lent.{lent, rule_at}
 pub use Rattle.atoms.proofs.Bounded.{all_in_at, all_in_intro, some_at, some_intro, union_at, union_has}
 pub use Rattle.atoms.proofs.Kit.{Bool, List, List-as-Memᴰ, Memᴰ-cases_cons, Memᴰ-head, Memᴰ-not-nil, Memᴰ-tail, [], ◌*◌, ◌++◌, ◌+◌, ◌-◌, ◌<◌}
-pub use Rattle.atoms.proofs.Kit.{◌^◌, ◌∙◌, ◌∷◌, ◌≡◌, ◌≤◌, ◌⊎◌, ap, arith, dec_lt, drop, eq-eqb, eqb, eqb-true, false, false≢true, fill_more, get_or, inl, inr}
+pub use Rattle.atoms.proofs.Kit.{◌^◌, ◌∙◌, ◌∷◌, ◌≡◌, ◌≤◌, ◌⊎◌, ap, arith, dec_lt, drop, eq-eqb, eqb, eqb-true, false, false≢true, get_or, inl, inr}
 pub use Rattle.atoms.proofs.Kit.{le-ltb, length, length-replicate, length-take, lt-ltb, needs, paste, refl, replicate}
 pub use Rattle.atoms.proofs.Kit.{set, subst, suc, sym, take, take-append-drop, true, true≢false, zero, ℕ}
 pub use Rattle.atoms.proofs.Rising.{above_at, members_same, rising_ext}
@@ -14,7 +14,7 @@ pub use Rattle.atoms.specs.Word.{ATOMS, EVERY_ATOM, Has, ◌∩◌, ◌∪◌, �
 pub use Rattle.demands.proofs.Answers.{handed_refused, last_fits, last_long, read_answer, refused_answer, short_answer, unless_accepted, unless_refused_lem}
 pub use Rattle.demands.proofs.Answers.{work_cleared, work_fits, work_long}
 pub use Rattle.demands.proofs.Decided.{decides_listed, numbers_fit, unit_list_at, unit_list_has}
-pub use Rattle.demands.proofs.HeldLists.{cleared_is, held_cleared, held_count, held_counts_long, held_long, held_word, holding_next, holding_none}
+pub use Rattle.demands.proofs.HeldLists.{held_cleared, held_count, held_counts_long, held_long, held_word, holding_next, holding_none}
 pub use Rattle.demands.proofs.HeldLists.{list_absent, list_last, list_there}
 pub use Rattle.demands.specs.Answer.{unit_work, work_from}
 pub use Rattle.demands.specs.LentTable.{cleared, list_at}

@@ -1,7 +1,8 @@
 -- The table and the counts while units are worked: what one unit more changes, and what stands there in the end.
 use Rattle.unit_lists.proofs.Prelude.{◌≡◌, sym, ap, ◌∙◌, subst, Bool, true, ◌⊎◌, inl, inr, List, [], ℕ, ◌≤◌, ◌<◌, arith, dec_lt, length, Has, ◌∪◌, atom}
 use Rattle.unit_lists.proofs.Prelude.{decided_true, decided_false, decides_has, has_dec, has_none, has_left, has_right, union_cases, has_atom}
-use Rattle.unit_lists.proofs.Prelude.{atom_only, MAX_UNITS, TABLE_WORDS, LAST_COUNT, Units, unit_list_of, last_list_of, list_at, cleared, no_counts_of, list_there}
+use Rattle.unit_lists.proofs.Prelude.{atom_only, MAX_UNITS, TABLE_WORDS, LAST_COUNT, Units, unit_list_of, last_list_of, list_at, cleared, no_counts_of}
+use Rattle.unit_lists.proofs.Prelude.{list_there}
 use Rattle.unit_lists.proofs.Prelude.{list_absent, list_last, holding_none, held_count, held_word, held_counts_long, held_long, holding_next}
 use Rattle.unit_lists.proofs.Prelude.{MembersStored, ListsThere, list_so_far, Working}
 use Rattle.demands.specs.Held.{Holding}

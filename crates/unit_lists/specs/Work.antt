@@ -1,5 +1,5 @@
 -- Inner: what the functions of unit work say to each other.
-use Rattle.std.specs.Prelude.{◌≡◌, Bool, true, false, List, [], ℕ, ◌+◌, ◌*◌, ◌≤◌, ◌<◌, length, get_or, set, replicate}
+use Rattle.std.specs.Prelude.{◌≡◌, Bool, true, false, List, [], ℕ, ◌+◌, ◌*◌, ◌≤◌, ◌<◌, length, get_or, set, replicate, Result, Ok, Err}
 use Rattle.std.proofs.Math.Seq.{paste}
 use Rattle.atoms.specs.Word.{Has, has, ◌⊆◌, ◌∩◌, below, outside}
 use Rattle.atoms.specs.Lists.{padded}
@@ -20,8 +20,6 @@ use Rattle.demands.specs.UnitLists.{unit_list_of}
 use Rattle.demands.specs.LentTable.{cleared}
 use Rattle.demands.specs.Held.{Holding}
 use Rattle.demands.specs.Answer.{Answer, refuse, work_from, unit_work}
-use Rattle.unit_lists.specs.declared.work.Work.{Work}
-use Rattle.unit_lists.specs.declared.work.Work.TheVariants.{Fits, Long}
 
 -- ---- one list
 
@@ -93,14 +91,18 @@ pub record Working (S : Units) (done : ℕ) (table₀ table counts : List ℕ) :
   pub holding : Holding (list_so_far S done) table₀ table counts
   pub done_units : (v : ℕ) → Has done v → v < S.units
 
+-- whether all lists of units fit, or the first unit whose list does not
+abbrev pub Work : Type 0
+Work = Result (Unit {0}) ℕ
+
 -- what is left of the answer behind the units
 abbrev pub after_units : Units → List ℕ → Work → Answer
-after_units S table Fits = work_from S table []
-after_units S table (Long u) = refuse (LongList u) (cleared table)
+after_units S table (Ok u) = work_from S table []
+after_units S table (Err u) = refuse (LongList u) (cleared table)
 
 -- all units are worked, or one whose list is above 256 is found
 pub record UnitsWorked (S : Units) (table₀ table counts : List ℕ) (worked : Work) : Type 0 where
   pub done : ℕ
   pub working : Working S done table₀ table counts
   pub answer_is : unit_work S table₀ ≡ after_units S table₀ worked
-  pub all_done : worked ≡ Fits → (u : ℕ) → u < S.units → Has done u
+  pub all_done : worked ≡ Ok tt → (u : ℕ) → u < S.units → Has done u

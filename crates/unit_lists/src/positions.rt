@@ -11,7 +11,7 @@ ghost use Rattle.demands.specs.Promised.{Promised};
 use crate::work::unit_work;
 use demands::listing::{Listing, refuse};
 use dependency_graph::check::check_graph;
-use plan::{Fault, Outcome, Plan, TABLE_WORDS};
+use plan::{Fault, Plan, TABLE_WORDS};
 use reading::read_plan;
 
 // The graph place and, where it passes, unit work on a read plan.
@@ -19,11 +19,10 @@ fn list_read_plan(plan: Plan, table: &mut [u64]) -> Listing
     requires { Fitting plan × Clean (units_of plan) × (TABLE_WORDS ≤ length table.old) }
     ensures { Handed (after_graph (units_of plan) table.old) result table.new }
 {
-    let verdict = check_graph(plan);
-    if let Outcome::Refused(fault) = verdict {
-        return refuse(fault);
+    match check_graph(plan) {
+        Ok(()) => unit_work(plan, table),
+        Err(fault) => refuse(fault),
     }
-    unit_work(plan, table)
 }
 
 // Lists every settled position of the plan in the lent table, or refuses it by the first fault in document 01's order.
@@ -35,10 +34,8 @@ pub fn list_positions(plan: &[u8], table: &mut [u64]) -> Listing
     if length < TABLE_WORDS {
         return refuse(Fault::TableShort(length));
     }
-    let reading = read_plan(plan);
-    let outcome = reading.outcome;
-    if let Outcome::Refused(fault) = outcome {
-        return refuse(fault);
+    match read_plan(plan) {
+        Ok(read) => list_read_plan(read, table),
+        Err(fault) => refuse(fault),
     }
-    list_read_plan(reading.plan, table)
 }

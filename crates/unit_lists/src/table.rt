@@ -10,9 +10,5 @@ pub fn clear(table: &mut [u64])
     requires { TABLE_WORDS ≤ length table.old }
     ensures { table.new ≡ cleared table.old }
 {
-    let mut i = 0;
-    while i < TABLE_WORDS {
-        table[i] = 0;
-        i += 1;
-    }
+    table[..TABLE_WORDS].fill(0);
 }

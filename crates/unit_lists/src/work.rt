@@ -21,17 +21,10 @@ use demands::listing::{Listing, refuse};
 use dependency_graph::head_atoms::{HeadAtoms, head_atoms};
 use dependency_graph::working_order::next_unit;
 use joining::nearest::nearest;
-use plan::{COUNTS, Fault, LAST_COUNT, LIST_WORDS, Outcome, Plan};
+use plan::{COUNTS, Fault, LAST_COUNT, LIST_WORDS, Plan};
 use propagating::Job;
 use searching::search::search;
 use states::State;
-
-// Whether all lists fit, or the first unit whose list does not.
-#[derive(Clone, Copy)]
-pub enum Work {
-    Fits,
-    Long(usize),
-}
 
 // Where a search starts: the given atoms are up, and all atoms but these are dropped.
 fn start_within(given: u64, within: u64) -> State
@@ -111,25 +104,27 @@ fn list_unit(
     )
 }
 
-// Lists the units, lowest number first among those whose predecessors are done.
-fn list_units(plan: Plan, head_atoms: HeadAtoms, table: &mut [u64], counts: &mut [usize]) -> Work
+// Lists the units, lowest number first among those whose predecessors are done. The error is the first unit whose list does not fit.
+fn list_units(
+    plan: Plan,
+    head_atoms: HeadAtoms,
+    table: &mut [u64],
+    counts: &mut [usize],
+) -> Result<(), usize>
     requires { Setting plan head_atoms × Working (units_of plan) 0 table.old table.old counts.old }
     ensures { UnitsWorked (units_of plan) table.old table.new counts.new result }
 {
     let mut done = 0;
-    let mut left = plan.unit_count;
-    while 0 < left {
-        let u = next_unit(plan, done);
-        if plan.unit_count <= u {
-            return Work::Fits;
-        }
+    for _ in 0..plan.unit_count {
+        let Some(u) = next_unit(plan, done) else {
+            return Ok(());
+        };
         if !list_unit(plan, head_atoms, u, table, counts) {
-            return Work::Long(u);
+            return Err(u);
         }
         done = atoms::union(done, atoms::single(u));
-        left -= 1;
     }
-    Work::Fits
+    Ok(())
 }
 
 // The one more unit as the search gets it: no rules, and an edge to every unit.
@@ -190,14 +185,14 @@ pub fn unit_work(plan: Plan, table: &mut [u64]) -> Listing
     let head_atoms = head_atoms(plan);
     let mut counts = [0usize; COUNTS];
     let worked = list_units(plan, head_atoms, table, &mut counts);
-    if let Work::Long(u) = worked {
+    if let Err(u) = worked {
         return refuse_long(u, table);
     }
     if !list_last(plan, head_atoms, table, &mut counts) {
         return refuse_long(plan.unit_count, table);
     }
     Listing {
-        outcome: Outcome::Accepted,
+        outcome: Ok(()),
         counts,
     }
 }

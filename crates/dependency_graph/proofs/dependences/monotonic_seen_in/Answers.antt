@@ -1,25 +1,15 @@
-use Rattle.dependency_graph.proofs.Prelude.{needs, taken_less, picks_start, picks_lt, picks_next, units_of}
-use Rattle.dependency_graph.proofs.Face.{apart_read, union_read, seen_end}
+use Rattle.dependency_graph.proofs.Prelude.{apart, ◌∪◌, needs, units_of, monotonic_seen_in}
+use Rattle.dependency_graph.proofs.Face.{few_in, holding_in}
 use Rattle.dependency_graph.proofs.dependences.monotonic_seen_in.Goals as goal
 
-pub loop-rest-init : goal.loop-rest-init
-unfolding units_of
-loop-rest-init c = search (picks_start, needs)
-
-pub positive_body-requires : goal.positive_body-requires
-unfolding units_of
-positive_body-requires c = search (picks_lt, needs)
-
-pub head-requires : goal.head-requires
-unfolding units_of
-head-requires c = search (picks_lt, needs)
-
-pub loop-rest-smaller : goal.loop-rest-smaller
-loop-rest-smaller c = search (taken_less, needs)
-
-pub loop-rest-preserved : goal.loop-rest-preserved
-unfolding units_of
-loop-rest-preserved c = search (picks_next, apart_read, union_read, needs)
+pub where_holds-requires : goal.where_holds-requires
+where_holds-requires c = let few = few_in _ c.first.ensures c.cut-held.ensures in search (few, needs)
 
 pub returns : goal.returns
-returns c = search (seen_end, needs)
+unfolding units_of monotonic_seen_in
+returns c =
+    let picked =
+    holding_in c.where_holds.ensures _
+    (λ r. apart ((units_of c.args.plan.now).program.positive r ∪ (units_of c.args.plan.now).program.head r) c.unseen_heads-unseen.result)
+    c.first.ensures c.cut-held.ensures (λ r l b h. search needs) in
+    rw c.unseen_heads-unseen.ensures at picked

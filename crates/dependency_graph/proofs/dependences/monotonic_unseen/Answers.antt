@@ -1,13 +1,12 @@
 use Rattle.dependency_graph.proofs.Prelude.{needs, units_of, monotonic_seen_in, monotonic_unseen}
-use Rattle.dependency_graph.proofs.Face.{built_end, union_start, union_more}
+use Rattle.dependency_graph.proofs.Face.{few_below, union_over_below}
 use Rattle.dependency_graph.proofs.dependences.monotonic_unseen.Goals as goal
 
-pub loop-u-init : goal.loop-u-init
-loop-u-init c = search (union_start, needs)
-
-pub loop-u-preserved : goal.loop-u-preserved
-loop-u-preserved c = union_more _ c.loop-u.invariant c.loop-u-test.true c.monotonic_seen_in.ensures c.union-seen.ensures
+pub union_over-seen-requires : goal.union_over-seen-requires
+union_over-seen-requires c = let few = few_below c.first.ensures in search (few, needs)
 
 pub returns : goal.returns
-unfolding monotonic_unseen units_of
-returns c = rw (c.first.ensures, built_end c.loop-u.invariant c.loop-u-test.false) at c.without.ensures
+unfolding units_of monotonic_unseen
+returns c =
+    let all = union_over_below c.union_over-seen.ensures (monotonic_seen_in (units_of c.args.plan.now)) c.first.ensures (λ u l w h. search needs) in
+    rw (c.first-2.ensures, all) at c.without.ensures

@@ -1,13 +1,10 @@
 use Rattle.dependency_graph.proofs.Prelude.{needs, units_of, nonmonotonic_unseen_in, nonmonotonic_unseen}
-use Rattle.dependency_graph.proofs.Face.{built_end, union_start, union_more}
+use Rattle.dependency_graph.proofs.Face.{few_below, union_over_below}
 use Rattle.dependency_graph.proofs.dependences.nonmonotonic_unseen.Goals as goal
 
-pub loop-u-init : goal.loop-u-init
-loop-u-init c = search (union_start, needs)
-
-pub loop-u-preserved : goal.loop-u-preserved
-loop-u-preserved c = union_more _ c.loop-u.invariant c.loop-u-test.true c.nonmonotonic_unseen_in.ensures c.union-found.ensures
+pub union_over-requires : goal.union_over-requires
+union_over-requires c = let few = few_below c.first.ensures in search (few, needs)
 
 pub returns : goal.returns
-unfolding nonmonotonic_unseen units_of
-returns c = built_end c.loop-u.invariant c.loop-u-test.false
+unfolding units_of nonmonotonic_unseen
+returns c = union_over_below c.union_over.ensures (nonmonotonic_unseen_in (units_of c.args.plan.now)) c.first.ensures (λ u l w h. search needs)

@@ -1,21 +1,14 @@
-use Rattle.dependency_graph.proofs.Prelude.{needs, taken_less, picks_start, picks_lt, picks_next, units_of}
-use Rattle.dependency_graph.proofs.Face.{shares_read, unseen_end}
+use Rattle.dependency_graph.proofs.Prelude.{not, apart, needs, units_of, nonmonotonic_unseen_in}
+use Rattle.dependency_graph.proofs.Face.{few_in, holding_in}
 use Rattle.dependency_graph.proofs.dependences.nonmonotonic_unseen_in.Goals as goal
 
-pub loop-rest-init : goal.loop-rest-init
-unfolding units_of
-loop-rest-init c = search (picks_start, needs)
-
-pub looks-requires : goal.looks-requires
-unfolding units_of
-looks-requires c = search (picks_lt, needs)
-
-pub loop-rest-smaller : goal.loop-rest-smaller
-loop-rest-smaller c = search (taken_less, needs)
-
-pub loop-rest-preserved : goal.loop-rest-preserved
-unfolding units_of
-loop-rest-preserved c = search (picks_next, shares_read, needs)
+pub where_holds-requires : goal.where_holds-requires
+where_holds-requires c = let few = few_in _ c.first.ensures c.cut-held.ensures in search (few, needs)
 
 pub returns : goal.returns
-returns c = search (unseen_end, needs)
+unfolding units_of nonmonotonic_unseen_in
+returns c =
+    let picked =
+    holding_in c.where_holds.ensures _ (λ r. not (apart ((units_of c.args.plan.now).looks r) c.unseen_heads-unseen.result))
+    c.first.ensures c.cut-held.ensures (λ r l b h. search needs) in
+    rw c.unseen_heads-unseen.ensures at picked

@@ -1,16 +1,12 @@
-use Rattle.dependency_graph.proofs.Prelude.{needs, units_of, given_in_head}
-use Rattle.dependency_graph.proofs.Face.{built_end, word_start, word_more}
+use Rattle.dependency_graph.proofs.Prelude.{not, needs, apart, units_of, given_in_head}
+use Rattle.dependency_graph.proofs.Face.{few_below, holding_below}
 use Rattle.dependency_graph.proofs.given.given_in_head.Goals as goal
 
-pub loop-r-init : goal.loop-r-init
-loop-r-init c = search (word_start, needs)
-
-pub loop-r-preserved : goal.loop-r-preserved
-unfolding units_of
-loop-r-preserved c =
-    let shares = rw c.head.ensures at c.are_apart-shares.ensures in
-    word_more _ c.loop-r.invariant c.loop-r-test.true (rw shares at c.single_if.ensures) c.union-found.ensures
+pub where_holds-requires : goal.where_holds-requires
+where_holds-requires c = let few = few_below c.first.ensures in search (few, needs)
 
 pub returns : goal.returns
 unfolding units_of given_in_head
-returns c = built_end c.loop-r.invariant c.loop-r-test.false
+returns c =
+    holding_below c.where_holds.ensures (λ r. not (apart ((units_of c.args.plan.now).program.head r) (units_of c.args.plan.now).given)) c.first.ensures
+    (λ r l b h. search needs)

@@ -1,4 +1,4 @@
-use Rattle.dependency_graph.proofs.Prelude.{needs, through}
+use Rattle.dependency_graph.proofs.Prelude.{needs}
 use Rattle.dependency_graph.proofs.Face.{filling_start, unreached, filling_more, filling_end}
 use Rattle.dependency_graph.proofs.reach.open_middle.Goals as goal
 

@@ -15,10 +15,10 @@ list_units-worked-requires c = (
   rw c.clear.ensures (working_start (units_of c.args.plan) c.args.table.now c.requires.0.fits.units_fit c.requires.1),
 )
 
-pub returns-in-Long : goal.returns-in-Long
-returns-in-Long c =
-    handed_refused (LongList c.in-Long.u)
-    (same_work _ c.args.table.now c.clear.ensures ∙ c.list_units-worked.ensures.answer_is ∙ ap (after_units _ _) c.in-Long.is) c.refuse_long.ensures.refused
+pub returns-in-Err : goal.returns-in-Err
+returns-in-Err c =
+    handed_refused (LongList c.in-Err.u)
+    (same_work _ c.args.table.now c.clear.ensures ∙ c.list_units-worked.ensures.answer_is ∙ ap (after_units _ _) c.in-Err.is) c.refuse_long.ensures.refused
     (c.refuse_long.ensures.emptied ∙ held_cleared c.list_units-worked.ensures.working.holding)
 
 pub list_last-requires : goal.list_last-requires
