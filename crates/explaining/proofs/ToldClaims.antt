@@ -1,7 +1,7 @@
 -- Claims: what a step tells of a goal, through steps that keep the goal.
 use Rattle.explaining.proofs.Prelude.{refl, sym, subst, ◌∙◌, List, ℕ, Heeds, Explains, Told}
 use Rattle.states.specs.declared.state.State.{State}
-use Rattle.explaining.specs.declared.reasons.Claim.{Claim}
+use Rattle.explaining.specs.declared.claim.Claim.{Claim}
 
 module _ {K : ℕ → Type 0} {memory : List ℕ} {goal : State} {c : Claim} (t : Told K memory goal c) where
   -- of the claim's own goal

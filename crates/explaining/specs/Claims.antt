@@ -2,7 +2,7 @@
 use Rattle.std.specs.Prelude.{◌≡◌, List, ℕ}
 use Rattle.states.specs.declared.state.State.{State}
 use Rattle.learning.specs.Reason.{Heeds, Explains}
-use Rattle.explaining.specs.declared.reasons.Claim.{Claim}
+use Rattle.explaining.specs.declared.claim.Claim.{Claim}
 
 -- the claim is about this goal, and its part is a reason of it
 pub record Told (K : ℕ → Type 0) (memory : List ℕ) (goal : State) (c : Claim) : Type 0 where

@@ -1,5 +1,6 @@
 // Reasons of steps, and pairs lifted over a trail by them.
 #![tactic(auto)]
 
+pub mod claim;
 pub mod lift;
 pub mod reasons;

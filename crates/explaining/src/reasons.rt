@@ -6,11 +6,11 @@ ghost use Rattle.answer_sets.specs.Lent.{IsLent, Lent};
 ghost use Rattle.states.specs.Narrowing.{Narrows};
 ghost use Rattle.learning.specs.Store.{MEMORY_WORDS, STEPS};
 ghost use Rattle.learning.specs.Reason.{Heeds, Explains};
-ghost use Rattle.joining.specs.Joins.{Joinable};
 ghost use Rattle.joining.specs.Filter.{JoinsAll};
-ghost use Rattle.propagating.specs.Desk.{DESK_WORDS, linked_of, Prepared, Wired};
+ghost use Rattle.propagating.specs.Context.{WiredIn};
 ghost use Rattle.explaining.specs.Claims.{Told};
 
+use crate::claim::Claim;
 use answer_sets::rule::{head, looks, negative_body, positive_body, rule_atoms};
 use answer_sets::uses::table_inputs;
 use atoms::ATOMS;
@@ -25,67 +25,50 @@ use narrowing::unfounded::drop_unfounded;
 use parities::{parity_atoms, sum_step, telling_atoms};
 use pilots::table_step::table_step;
 use plan::FIRST_RULE;
-use propagating::Job;
+use propagating::context::Context;
 use propagating::desk::{BACKERS, DESK_WORDS, INDEX, LINKED, PILOTS, backing};
-use propagating::step::{Step, UNFOUNDED_STEP, decode};
+use propagating::step::Step;
 use states::State;
 
-// A claim: from this part of a state the step tells the goal. For the unfounded step also the atoms that it drops; `explain` finds these itself.
-#[derive(Clone, Copy)]
-pub struct Claim {
-    pub step: usize,
-    pub part: State,
-    pub goal: State,
-    pub unfounded: u64,
-}
-
 // The state after list v, of which all entries are looked at.
-fn list_again(
-    table: &[u64],
-    counts: &[usize],
-    heads: &[u64],
-    near: u64,
-    v: usize,
-    s: State,
-) -> State
-    requires { Joinable table.now counts.now heads.now near × (v < MAX_UNITS) }
-    ensures { Narrows (JoinsAll table.now counts.now heads.now near) s result }
+fn list_again(cx: &Context<'_>, v: usize, s: State) -> State
+    requires { v < MAX_UNITS }
+    ensures { Narrows (JoinsAll cx.now.table.now cx.now.counts.now cx.now.desk.now cx.now.unit.nearest) s result }
 {
-    let mut filter = full_filter(counts);
-    filter_step(table, counts, heads, near, v, &mut filter, s)
+    let mut filter = full_filter(cx.counts);
+    filter_step(
+        cx.table,
+        cx.counts,
+        cx.desk,
+        cx.unit.nearest,
+        v,
+        &mut filter,
+        s,
+    )
 }
 
 // The state after the claim's step, run on its part.
-fn step_again(
-    rules: &[u64],
-    table: &[u64],
-    counts: &[usize],
-    desk: &[u64],
-    memory: &[u64],
-    unit: Job,
-    c: Claim,
-) -> State
-    requires { Prepared rules.now table.now counts.now desk.now unit × (MEMORY_WORDS ≤ length memory.now) }
-    ensures { Narrows (Heeds (Wired rules.now table.now counts.now desk.now unit)
-        memory.now) c.part result }
+fn step_again(cx: &Context<'_>, memory: &[u64], c: Claim) -> State
+    requires { MEMORY_WORDS ≤ length memory.now }
+    ensures { Narrows (Heeds (WiredIn cx.now) memory.now) c.part result }
 {
     let s = c.part;
-    match decode(c.step) {
-        Step::Rule(rule) => apply_rule(&desk[LINKED..DESK_WORDS], unit.rules, rule, s),
+    match c.step {
+        Step::Rule(rule) => apply_rule(&cx.desk[LINKED..DESK_WORDS], cx.unit.rules, rule, s),
         Step::Support(atom) => apply_support(
-            &desk[LINKED..DESK_WORDS],
-            unit.rules,
-            unit.inputs,
-            &desk[BACKERS..INDEX],
+            &cx.desk[LINKED..DESK_WORDS],
+            cx.unit.rules,
+            cx.unit.inputs,
+            &cx.desk[BACKERS..INDEX],
             atom,
             s,
         ),
-        Step::List(list) => list_again(table, counts, desk, unit.nearest, list, s),
-        Step::Founded => founded_step(rules, unit.rules, unit.inputs, s),
-        Step::Table(t) => table_step(rules, t, desk[PILOTS + t], s),
-        Step::Sums => sum_step(rules, &desk[PILOTS..LINKED], unit.rules, s),
+        Step::List(list) => list_again(cx, list, s),
+        Step::Founded => founded_step(cx.rules, cx.unit.rules, cx.unit.inputs, s),
+        Step::Table(t) => table_step(cx.rules, t, cx.pilot(t), s),
+        Step::Sums => sum_step(cx.rules, &cx.desk[PILOTS..LINKED], cx.unit.rules, s),
         Step::Pair(i) => refute(read_pair(memory, i), s),
-        Step::Unfounded => drop_unfounded(rules, unit.rules, unit.inputs, c.unfounded, s),
+        Step::Unfounded => drop_unfounded(cx.rules, cx.unit.rules, cx.unit.inputs, c.unfounded, s),
     }
 }
 
@@ -125,12 +108,9 @@ fn excluded_by(rules: &[u64], rule: usize, seen: State) -> State
 fn excluding(rules: &[u64], which: u64) -> State
     requires { Lent rules.now which }
 {
-    let mut rest = which;
     let mut seen = State { up: 0, dropped: 0 };
-    while rest != 0 {
-        let rule = atoms::lowest(rest);
+    for rule in atoms::each(which) {
         seen = excluded_by(rules, rule, seen);
-        rest = atoms::drop(rest, rule);
     }
     seen
 }
@@ -153,24 +133,21 @@ fn unfounded_by(rules: &[u64], rule: usize, x: u64, seen: State) -> State
 fn unfounding(rules: &[u64], which: u64, x: u64) -> State
     requires { Lent rules.now which }
 {
-    let mut rest = which;
     let mut seen = State { up: x, dropped: 0 };
-    while rest != 0 {
-        let rule = atoms::lowest(rest);
+    for rule in atoms::each(which) {
         seen = unfounded_by(rules, rule, x, seen);
-        rest = atoms::drop(rest, rule);
     }
     seen
 }
 
 // The inputs of a table and its pilot, where there are tables.
-fn table_atoms(rules: &[u64], t: usize, pilot: u64) -> u64
+fn table_atoms(cx: &Context<'_>, t: usize) -> u64
     requires { t < MAX_TABLES }
 {
-    if rules.len() < FIRST_RULE {
+    if cx.rules.len() < FIRST_RULE {
         return 0;
     }
-    atoms::union(table_inputs(rules, t), pilot)
+    atoms::union(table_inputs(cx.rules, t), cx.pilot(t))
 }
 
 // The atoms that the state, or the pair, has decided.
@@ -178,78 +155,53 @@ fn decided(s: State) -> u64 {
     atoms::union(s.up, s.dropped)
 }
 
-// What the step looks at: atoms that are up, and atoms that are dropped. It is advice: a reason that has too few does not tell the goal.
-fn looked_at(
-    rules: &[u64],
-    desk: &[u64],
-    memory: &[u64],
-    unit: Job,
-    step: usize,
-    unfounded: u64,
-) -> State
-    requires { Lent rules.now unit.rules × Lent (linked_of desk.now) unit.rules × (length desk.now ≡ DESK_WORDS)
-        × (MEMORY_WORDS ≤ length memory.now) }
+// What the claim's step looks at: atoms that are up, and atoms that are dropped. It is advice: a reason that has too few does not tell the goal.
+fn looked_at(cx: &Context<'_>, memory: &[u64], c: Claim) -> State
+    requires { MEMORY_WORDS ≤ length memory.now }
 {
-    match decode(step) {
-        Step::Rule(rule) => either_way(numbered_atoms(&desk[LINKED..DESK_WORDS], unit.rules, rule)),
+    match c.step {
+        Step::Rule(rule) => either_way(numbered_atoms(
+            &cx.desk[LINKED..DESK_WORDS],
+            cx.unit.rules,
+            rule,
+        )),
         Step::Support(atom) => excluding(
-            &desk[LINKED..DESK_WORDS],
-            backing(desk, unit.rules, atom),
+            &cx.desk[LINKED..DESK_WORDS],
+            backing(cx.desk, cx.unit.rules, atom),
         ),
-        Step::List(list) => either_way(desk[list]),
+        Step::List(list) => either_way(cx.desk[list]),
         Step::Founded => either_way(atoms::first(ATOMS)),
-        Step::Table(t) => either_way(table_atoms(rules, t, desk[PILOTS + t])),
+        Step::Table(t) => either_way(table_atoms(cx, t)),
         Step::Sums => either_way(atoms::union(
-            parity_atoms(rules, &desk[PILOTS..LINKED]),
-            telling_atoms(rules, unit.rules),
+            parity_atoms(cx.rules, &cx.desk[PILOTS..LINKED]),
+            telling_atoms(cx.rules, cx.unit.rules),
         )),
         Step::Pair(i) => either_way(decided(read_pair(memory, i))),
-        Step::Unfounded => unfounding(rules, unit.rules, unfounded),
+        Step::Unfounded => unfounding(cx.rules, cx.unit.rules, c.unfounded),
     }
 }
 
 // The atoms that may be spared in a reason: those of rules and pairs are few already.
-fn to_spare(step: usize, part: State) -> u64 {
-    match decode(step) {
-        Step::Rule(_) => 0,
-        Step::Pair(_) => 0,
-        _ => decided(part),
+fn to_spare(c: Claim) -> u64 {
+    match c.step {
+        Step::Rule(_) | Step::Pair(_) => 0,
+        _ => decided(c.part),
     }
 }
 
 // Whether the step, run on the part, still tells the goal.
-fn still_tells(
-    rules: &[u64],
-    table: &[u64],
-    counts: &[usize],
-    desk: &[u64],
-    memory: &[u64],
-    unit: Job,
-    c: Claim,
-) -> bool
-    requires { Prepared rules.now table.now counts.now desk.now unit × (MEMORY_WORDS ≤ length memory.now) }
-    ensures { result ≡ true → Told (Wired rules.now table.now counts.now desk.now unit)
-        memory.now c.goal c }
+fn still_tells(cx: &Context<'_>, memory: &[u64], c: Claim) -> bool
+    requires { MEMORY_WORDS ≤ length memory.now }
+    ensures { result ≡ true → Told (WiredIn cx.now) memory.now c.goal c }
 {
-    let t = step_again(rules, table, counts, desk, memory, unit, c);
+    let t = step_again(cx, memory, c);
     tells(t, c.goal)
 }
 
 // The claim without the atom in its part if the step can spare it, and else as it is.
-fn spare(
-    rules: &[u64],
-    table: &[u64],
-    counts: &[usize],
-    desk: &[u64],
-    memory: &[u64],
-    unit: Job,
-    c: Claim,
-    atom: usize,
-) -> Claim
-    requires { Prepared rules.now table.now counts.now desk.now unit × (MEMORY_WORDS ≤ length memory.now) × (atom < ATOMS)
-        × Told (Wired rules.now table.now counts.now desk.now unit) memory.now c.goal c }
-    ensures { Told (Wired rules.now table.now counts.now desk.now unit) memory.now
-        c.goal result }
+fn spare(cx: &Context<'_>, memory: &[u64], c: Claim, atom: usize) -> Claim
+    requires { (MEMORY_WORDS ≤ length memory.now) × (atom < ATOMS) × Told (WiredIn cx.now) memory.now c.goal c }
+    ensures { Told (WiredIn cx.now) memory.now c.goal result }
 {
     let part = c.part;
     let goal = c.goal;
@@ -263,121 +215,92 @@ fn spare(
         goal,
         unfounded: c.unfounded,
     };
-    if still_tells(rules, table, counts, desk, memory, unit, less) {
+    if still_tells(cx, memory, less) {
         return less;
     }
     c
 }
 
 // The claim without those of the atoms that the step can spare, one after the other.
-fn spare_each(
-    rules: &[u64],
-    table: &[u64],
-    counts: &[usize],
-    desk: &[u64],
-    memory: &[u64],
-    unit: Job,
-    claim: Claim,
-    which: u64,
-) -> Claim
-    requires { Prepared rules.now table.now counts.now desk.now unit × (MEMORY_WORDS ≤ length memory.now)
-        × Told (Wired rules.now table.now counts.now desk.now unit) memory.now claim.goal claim }
-    ensures { Told (Wired rules.now table.now counts.now desk.now unit) memory.now
-        claim.goal result }
+fn spare_each(cx: &Context<'_>, memory: &[u64], claim: Claim, which: u64) -> Claim
+    requires { (MEMORY_WORDS ≤ length memory.now) × Told (WiredIn cx.now) memory.now claim.goal claim }
+    ensures { Told (WiredIn cx.now) memory.now claim.goal result }
 {
     let mut c = claim;
-    let mut rest = which;
-    while rest != 0 {
-        let atom = atoms::lowest(rest);
-        c = spare(rules, table, counts, desk, memory, unit, c, atom);
-        rest = atoms::drop(rest, atom);
+    for atom in atoms::each(which) {
+        c = spare(cx, memory, c, atom);
     }
     c
 }
 
 // The claim without what its step can spare. What was decided last is tried first, going back in the trail from step `at`.
-fn shrink(
-    rules: &[u64],
-    table: &[u64],
-    counts: &[usize],
-    desk: &[u64],
-    memory: &[u64],
-    unit: Job,
-    claim: Claim,
-    at: usize,
-) -> Claim
-    requires { Prepared rules.now table.now counts.now desk.now unit × (MEMORY_WORDS ≤ length memory.now) × (at < STEPS)
-        × Told (Wired rules.now table.now counts.now desk.now unit) memory.now claim.goal claim }
-    ensures { Told (Wired rules.now table.now counts.now desk.now unit) memory.now
-        claim.goal result }
+fn shrink(cx: &Context<'_>, memory: &[u64], claim: Claim, at: usize) -> Claim
+    requires { (MEMORY_WORDS ≤ length memory.now) × (at < STEPS) × Told (WiredIn cx.now) memory.now claim.goal claim }
+    ensures { Told (WiredIn cx.now) memory.now claim.goal result }
 {
     let mut c = claim;
-    let mut i = at;
-    let mut rest = to_spare(claim.step, claim.part);
-    while 0 < i && rest != 0 {
-        i -= 1;
+    let mut rest = to_spare(claim);
+    for i in (0..at).rev() {
+        if rest == 0 {
+            return c;
+        }
         let new = decided_since(memory, i, rest);
-        c = spare_each(rules, table, counts, desk, memory, unit, c, new);
+        c = spare_each(cx, memory, c, new);
         rest = atoms::without(rest, new);
     }
     c
 }
 
-// The atoms that the step drops together because they are unfounded: what the founded step drops from the state, or else those that were noted.
-fn unfounded_atoms(rules: &[u64], memory: &[u64], unit: Job, step: usize, s: State) -> u64
-    requires { Lent rules.now unit.rules × (MEMORY_WORDS ≤ length memory.now) }
+// The claim of the step that is run again for this one, with the atoms that it drops together because they are unfounded: for the founded step those that it
+// drops from the state, by the unfounded one, which needs no other closure; else those that were noted.
+fn run_as(cx: &Context<'_>, memory: &[u64], c: Claim) -> Claim
+    requires { MEMORY_WORDS ≤ length memory.now }
+    ensures { result.goal ≡ c.goal }
 {
-    match decode(step) {
+    let part = c.part;
+    let goal = c.goal;
+    match c.step {
         Step::Founded => {
-            let t = founded_step(rules, unit.rules, unit.inputs, s);
-            atoms::without(t.dropped, s.dropped)
-        }
-        _ => noted_unfounded(memory),
-    }
-}
-
-// The step that is run again for this one: for the founded step the unfounded one, which needs no other closure.
-fn rerun_as(step: usize) -> usize {
-    match decode(step) {
-        Step::Founded => UNFOUNDED_STEP,
-        _ => step,
+            let t = founded_step(cx.rules, cx.unit.rules, cx.unit.inputs, part);
+            Claim {
+                step: Step::Unfounded,
+                part,
+                goal,
+                unfounded: atoms::without(t.dropped, part.dropped),
+            }
+        },
+        step => Claim {
+            step,
+            part,
+            goal,
+            unfounded: noted_unfounded(memory),
+        },
     }
 }
 
 // A reason of the claim's goal. Step `at` of the trail told the goal from the claim's part; the reason is those atoms of the part that the step looks at and
 // cannot spare. Where the step does not tell the goal from these, the reason is the goal itself.
-pub fn explain(
-    rules: &[u64],
-    table: &[u64],
-    counts: &[usize],
-    desk: &[u64],
-    memory: &[u64],
-    unit: Job,
-    c: Claim,
-    at: usize,
-) -> State
-    requires { Prepared rules.now table.now counts.now desk.now unit × (MEMORY_WORDS ≤ length memory.now) × (at < STEPS) }
-    ensures { Explains (Heeds (Wired rules.now table.now counts.now desk.now unit)
-        memory.now) result c.goal }
+pub fn explain(cx: &Context<'_>, memory: &[u64], c: Claim, at: usize) -> State
+    requires { (MEMORY_WORDS ≤ length memory.now) × (at < STEPS) }
+    ensures { Explains (Heeds (WiredIn cx.now) memory.now) result c.goal }
 {
-    let whole = c.part;
-    let unfounded = unfounded_atoms(rules, memory, unit, c.step, whole);
-    let step = rerun_as(c.step);
-    let seen = looked_at(rules, desk, memory, unit, step, unfounded);
+    let again = run_as(cx, memory, c);
+    let whole = again.part;
+    let goal = again.goal;
+    let seen = looked_at(cx, memory, again);
     let part = State {
         up: atoms::cut(whole.up, seen.up),
         dropped: atoms::cut(whole.dropped, seen.dropped),
     };
-    let goal = c.goal;
     let near = Claim {
-        step,
+        step: again.step,
         part,
         goal,
-        unfounded,
+        unfounded: again.unfounded,
     };
-    if !still_tells(rules, table, counts, desk, memory, unit, near) {
+    if !still_tells(cx, memory, near) {
         return goal;
     }
-    let least = shrink(rules, table, counts, desk, memory, unit, near, at);
+    let least = shrink(cx, memory, near, at);
     least.part
 }

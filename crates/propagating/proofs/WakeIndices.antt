@@ -1,5 +1,5 @@
 -- The index of woken steps: its lists, the founded step, the tables, their sums, and all of it from zeros on; and the places of tables on an agenda.
-use Rattle.propagating.proofs.Prelude.{◌≡◌, sym, subst, ◌∙◌, Bool, true, false, not, List, ◌⊎◌, inl, inr, ℕ, ◌+◌, ◌≤◌, ◌<◌, arith, ℕ_discrete, eqb}
+use Rattle.propagating.proofs.Prelude.{◌≡◌, sym, subst, ◌∙◌, Bool, true, false, not, List, ◌⊎◌, inl, inr, ℕ, ◌+◌, ◌≤◌, arith, ℕ_discrete, eqb}
 use Rattle.propagating.proofs.Prelude.{length, get_or, Has, Apart, apart, ◌∪◌, atom, AtMostOne, Decides, single_if, Collects, has_none, has_atom}
 use Rattle.propagating.proofs.Prelude.{atom_only, decides_apart, decided, decided_true, decides_not, decides_equal, collects_iff, collects_has}
 use Rattle.propagating.proofs.Prelude.{collects_same, collects_union, MAX_TABLES, lent, inputs, AddsAt, NotedAt, ByOne, Marked, TellsParity, ToldAtom}

@@ -2,3 +2,4 @@ pub mod Job
 pub mod Agenda
 pub mod Desk
 pub mod Step
+pub mod Context

@@ -38,3 +38,11 @@ Decoded n (Table t) = (t < MAX_TABLES) × (n ≡ TABLE_STEPS + t)
 Decoded n Sums = n ≡ SUM_STEP
 Decoded n (Pair i) = (i < PAIRS) × (n ≡ PAIR_STEPS + i)
 Decoded n Unfounded = UNFOUNDED_STEP ≤ n
+
+-- the step is one that there is: its rule, atom, list, table or pair
+pub record IsStep (s : Step) : Type 0 where
+  pub rule : (r : ℕ) → s ≡ Rule r → r < MAX_RULES
+  pub atom : (a : ℕ) → s ≡ Support a → a < ATOMS
+  pub list : (v : ℕ) → s ≡ List v → v < MAX_UNITS
+  pub table : (t : ℕ) → s ≡ Table t → t < MAX_TABLES
+  pub pair : (i : ℕ) → s ≡ Pair i → i < PAIRS

@@ -1,7 +1,8 @@
 // The agenda: which steps may have something new to say. It is advice: a step that is left out costs pruning and no member.
 ghost use Rattle.std.specs.Prelude.{◌≡◌, not, ◌^◌, ◌≤◌, ◌<◌, eqb, length, ◌⊎◌};
+ghost use Rattle.std.specs.Option.{MatchOption};
 ghost use Rattle.atoms.specs.Word.{ATOMS, Has, outside, Apart, ◌∪◌};
-ghost use Rattle.atoms.specs.Bounded.{Decides, single_if};
+ghost use Rattle.atoms.specs.Bounded.{single_if};
 ghost use Rattle.atoms.specs.Collected.{Collects};
 ghost use Rattle.plan.specs.Limits.{MAX_TABLES, MAX_UNITS};
 ghost use Rattle.answer_sets.specs.Lent.{lent, IsLent, Lent};
@@ -44,29 +45,16 @@ pub struct Agenda {
 }
 
 // A step taken from an agenda, and the rest.
+// Stays: the step is a number, since the trail notes it as one; held decoded, it would have to be numbered again for each note, which is no plainer.
 #[derive(Clone, Copy)]
 pub struct Taken {
     pub step: usize,
     pub rest: Agenda,
 }
 
-// Whether no step is on the agenda.
-pub fn is_idle(a: Agenda) -> bool
-    ensures { Decides (Idle a) result }
-{
-    if a.rules != 0 {
-        return false;
-    }
-    if a.supports != 0 {
-        return false;
-    }
-    a.others == 0
-}
-
-// The first step of the agenda, the cheap ones before the others.
-pub fn take(a: Agenda) -> Taken
-    requires { Idle a → ⊥ }
-    ensures { TakenFrom a result }
+// The first step of the agenda, the cheap ones before the others, if there is one.
+pub fn take(a: Agenda) -> Option<Taken>
+    ensures { MatchOption result (Idle a) (λ t. TakenFrom a t) }
 {
     if a.rules != 0 {
         let rule = atoms::lowest(a.rules);
@@ -75,7 +63,7 @@ pub fn take(a: Agenda) -> Taken
             supports: a.supports,
             others: a.others,
         };
-        return Taken { step: rule, rest };
+        return Some(Taken { step: rule, rest });
     }
     if a.supports != 0 {
         let atom = atoms::lowest(a.supports);
@@ -84,10 +72,13 @@ pub fn take(a: Agenda) -> Taken
             supports: atoms::drop(a.supports, atom),
             others: a.others,
         };
-        return Taken {
+        return Some(Taken {
             step: SUPPORTS + atom,
             rest,
-        };
+        });
+    }
+    if a.others == 0 {
+        return None;
     }
     let other = atoms::lowest(a.others);
     let rest = Agenda {
@@ -95,26 +86,23 @@ pub fn take(a: Agenda) -> Taken
         supports: a.supports,
         others: atoms::drop(a.others, other),
     };
-    Taken {
+    Some(Taken {
         step: LISTS + other,
         rest,
-    }
+    })
 }
 
 // The agenda with the steps that these atoms wake, once they are up (`side` RULES_UP) or dropped (`side` RULES_DOWN).
 fn wake(index: &[u64], which: u64, side: usize, a: Agenda) -> Agenda
     requires { (INDEX_WORDS ≤ length index.now) × (side ≤ ATOMS) }
 {
-    let mut rest = which;
     let mut r = a;
-    while rest != 0 {
-        let atom = atoms::lowest(rest);
+    for atom in atoms::each(which) {
         r = Agenda {
             rules: atoms::union(r.rules, index[side + atom]),
             supports: atoms::union(r.supports, index[SUPPORTS_UP + side + atom]),
             others: atoms::union(r.others, index[OTHERS + atom]),
         };
-        rest = atoms::drop(rest, atom);
     }
     r
 }
@@ -153,11 +141,8 @@ fn note_lists(heads: &[u64], near: u64, index: &mut [u64])
     requires { (MAX_UNITS ≤ length heads.now) × (near < 2 ^ MAX_UNITS) × (INDEX_WORDS ≤ length index.old) }
     ensures { AddsAt (ByOne (WakesList heads.now) near) index.old index.new }
 {
-    let mut rest = near;
-    while rest != 0 {
-        let v = atoms::lowest(rest);
+    for v in atoms::each(near) {
         mark(index, OTHERS, heads[v], atoms::single(v));
-        rest = atoms::drop(rest, v);
     }
 }
 
@@ -183,11 +168,8 @@ fn note_founded(rules: &[u64], which: u64, looped: u64, index: &mut [u64])
     ensures { AddsAt (ByOne (WakesFounded rules.now looped) which) index.old index.new }
 {
     let founded = atoms::single(FOUNDED_PLACE);
-    let mut rest = which;
-    while rest != 0 {
-        let rule = atoms::lowest(rest);
+    for rule in atoms::each(which) {
         mark(index, OTHERS, looped_rule(rules, rule, looped), founded);
-        rest = atoms::drop(rest, rule);
     }
 }
 
@@ -209,10 +191,8 @@ fn note_tables(linked: &[u64], pilots: &[u64], index: &mut [u64])
     requires { (length linked.now ≡ LINKED_WORDS) × (length pilots.now ≡ MAX_TABLES) × (INDEX_WORDS ≤ length index.old) }
     ensures { AddsAt (WakesTables linked.now pilots.now MAX_TABLES) index.old index.new }
 {
-    let mut t = 0;
-    while t < MAX_TABLES {
+    for t in 0..MAX_TABLES {
         note_table(linked, pilots, t, index);
-        t += 1;
     }
 }
 
@@ -269,10 +249,8 @@ fn table_places(pilots: &[u64]) -> u64
     ensures { Collects (TablePlace pilots.now MAX_TABLES) result }
 {
     let mut places = 0;
-    let mut t = 0;
-    while t < MAX_TABLES {
+    for t in 0..MAX_TABLES {
         places = atoms::union(places, atoms::single_if(pilots[t] != 0, TABLES_PLACE + t));
-        t += 1;
     }
     places
 }

@@ -2,6 +2,7 @@
 #![tactic(auto)]
 
 pub mod agenda;
+pub mod context;
 pub mod desk;
 pub mod front;
 pub mod propagate;

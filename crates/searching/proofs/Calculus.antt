@@ -4,7 +4,7 @@ use Rattle.searching.proofs.Prelude.{Memᴰ-head, Memᴰ-not-nil, Memᴰ-append_
 use Rattle.searching.proofs.Prelude.{Memᴰ-append_right, ℕ, ◌<◌, ◌^◌, ATOMS, Has, Apart, ◌∩◌, CutOf, has_lt, has_none, subset_antisym, cut_for}
 use Rattle.searching.proofs.Prelude.{Completes, undecided, Wanted, branch_of, State, decided_cases, wanted_back, wanted_after, without_branch}
 use Rattle.searching.proofs.Prelude.{some_branch, nogood_stops, Searched, narrowed, stop, leaf, done, full, skip, both, Witnessed, met, none, Shows}
-use Rattle.searching.proofs.Prelude.{one, nobody, Witness}
+use Rattle.searching.proofs.Prelude.{one, nobody, Option}
 use Rattle.searching.proofs.Witnesses.{same_cut}
 
 -- ---- a state that leaves one position
@@ -75,7 +75,7 @@ module _ {K : ℕ → Type 0} {shown : ℕ} where
   gathers word y e x c = subst (CutOf shown (λ M. List-as-Memᴰ M _)) (sym c.is) (met_all word y e c.whole c.wanted)
 
   -- and one of them is a witness, or nothing is wanted
-  pub witnesses : ((M : ℕ) → K M → M < 2 ^ ATOMS) → {s : State} {whole : Bool} {ms : List ℕ} {w : Witness} → Searched K shown s whole ms → whole ≡ true
+  pub witnesses : ((M : ℕ) → K M → M < 2 ^ ATOMS) → {s : State} {whole : Bool} {ms : List ℕ} {w : Option ℕ} → Searched K shown s whole ms → whole ≡ true
       → Shows ms w → Witnessed (Wanted K s) w
   witnesses word x e (one {M} m) = met (met_wanted x M m)
   witnesses word x e (nobody z) = none (λ M w. Memᴰ-not-nil (subst (List-as-Memᴰ _) z (met_all word x e M w).wanted))

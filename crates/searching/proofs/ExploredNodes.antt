@@ -3,10 +3,10 @@ use Rattle.searching.proofs.Prelude.{◌≡◌, refl, sym, ◌∙◌, subst, Boo
 use Rattle.searching.proofs.Prelude.{Memᴰ-head, Memᴰ-not-nil, Memᴰ-append_cases, Memᴰ-eq_of_singleton, Memᴰ-append_left}
 use Rattle.searching.proofs.Prelude.{Memᴰ-append_right, ℕ, ◌<◌, ◌≤◌, ◌^◌, arith, ATOMS, Has, Apart, ◌∩◌, CutOf, empty, cut_right, has_none, cut_for}
 use Rattle.searching.proofs.Prelude.{LIST_WORDS, undecided, Overlaps, Narrows, Within, Wanted, branch_of, State, overlap_none, AnswersInputs, NoStop}
-use Rattle.searching.proofs.Prelude.{stop_answers_none, Nogood, Resolves, Remembers, nogood_resolved, lifted_nogood, lifted_remembers, Filtered}
-use Rattle.searching.proofs.Prelude.{Prepared, Wired, Job, Ordered, Gathered, fits, over, Grown, Offered, Witnessed, met, none, Met, either_of, Shows}
+use Rattle.searching.proofs.Prelude.{stop_answers_none, Nogood, Resolves, Remembers, nogood_resolved, lifted_nogood, lifted_remembers}
+use Rattle.searching.proofs.Prelude.{FilteredIn, WiredIn, Context, Ordered, Gathered, fits, over, Grown, Offered, Witnessed, met, none, Met, option_or, Shows}
 use Rattle.searching.proofs.Prelude.{one, nobody, Searched, narrowed, stop, leaf, done, full, skip, both, Done, too_many, enough, HandedUp, SoughtOf}
-use Rattle.searching.proofs.Prelude.{Explored, Entered, ModelJob, Found, Witness, Member, Nothing}
+use Rattle.searching.proofs.Prelude.{Explored, Entered, ModelJob, Found, Option, Some, None}
 use Rattle.answer_sets.specs.Memo.{Memo}
 use Rattle.propagating.specs.declared.front.Front.{Front}
 use Rattle.searching.specs.Outlook.{SomeStop, Leaves}
@@ -20,13 +20,13 @@ use Rattle.searching.proofs.Calculus.{only_up, met_wanted, gathers, witnesses}
 
 -- ---- the witness
 
-shows_met : {ms : List ℕ} {w : Witness} → (m : Met w) → Shows ms w → List-as-Memᴰ m.member ms
+shows_met : {ms : List ℕ} {w : Option ℕ} → (m : Met w) → Shows ms w → List-as-Memᴰ m.member ms
 shows_met {ms} m x = go (subst (Shows ms) m.is x)
   where
-    go : {M : ℕ} → Shows ms (Member M) → List-as-Memᴰ M ms
+    go : {M : ℕ} → Shows ms (Some M) → List-as-Memᴰ M ms
     go (one k) = k
 
-shows_both : {ms ns : List ℕ} {u v : Witness} → Shows ms u → Shows ns v → Shows (ms ++ ns) (either_of u v)
+shows_both : {ms ns : List ℕ} {u v : Option ℕ} → Shows ms u → Shows ns v → Shows (ms ++ ns) (option_or u v)
 shows_both {ns = ns} (one m) y = one (Memᴰ-append_left ns m)
 shows_both {ms} (nobody e) (one m) = one (Memᴰ-append_right ms m)
 shows_both (nobody e) (nobody f) = nobody (rw (e, f) refl)
@@ -58,19 +58,19 @@ module _ {K : ℕ → Type 0} where
     }
 
   pub sought_stop : {shown count : ℕ} {t n : State} {memory : List ℕ} {r : Found} → ((M : ℕ) → ¬ Wanted K t M)
-      → r ≡ record { count = count; nogood = n; witness = Nothing } → Remembers K memory → Nogood K n → SoughtOf K shown t true memory r
+      → r ≡ record { count = count; nogood = n; witness = None } → Remembers K memory → Nogood K n → SoughtOf K shown t true memory r
   sought_stop f e m n = rw e (record { met = []; searched = stop f; shows = nobody refl; remembers = m; nogood = n })
 
   -- at a leaf the one position was met, if it has K
   module _ (shown : ℕ) {t : State} (word : (M : ℕ) → K M → M < 2 ^ ATOMS) (l : Apart t.up t.dropped × (undecided t.up t.dropped ≡ 0)) where
-    record LeafMet (w : Witness) : Type 0 where
+    record LeafMet (w : Option ℕ) : Type 0 where
       ms : List ℕ
       searched : Searched K shown t true ms
       shows : Shows ms w
       into : (M : ℕ) → Offered K t.up M → List-as-Memᴰ M ms
       from : (M : ℕ) → List-as-Memᴰ M ms → Offered K t.up M
 
-    leaf_met : {w : Witness} → Witnessed (Offered K t.up) w → LeafMet w
+    leaf_met : {w : Option ℕ} → Witnessed (Offered K t.up) w → LeafMet w
     leaf_met (met {M} o) = record {
       ms = t.up ∷ [];
       searched = leaf l (subst K o.is o.belongs);
@@ -127,7 +127,7 @@ module _ {K : ℕ → Type 0} where
   pub sought_both : (i : ℕ) (phase : Bool) {shown : ℕ} {t one other : State} {part whole : Bool} {memory₁ memory₂ : List ℕ} {first second found : Found}
       → one ≡ branch_of t i phase → SoughtOf K shown one part memory₁ first → part ≡ true → other ≡ branch_of t i (not phase)
       → SoughtOf K shown other whole memory₂ second
-      → found ≡ record { count = second.count; nogood = found.nogood; witness = either_of first.witness second.witness }
+      → found ≡ record { count = second.count; nogood = found.nogood; witness = option_or first.witness second.witness }
       → Resolves second.nogood first.nogood found.nogood → SoughtOf K shown t whole memory₂ found
   sought_both i phase {shown} {t} e x z f y is n = record {
     met = x.met ++ y.met;
@@ -164,7 +164,7 @@ module _ {K : ℕ → Type 0} where
 
   pub explored_stop : {rules list memory : List ℕ} {which inputs count shown : ℕ} {t n : State} {r : Found}
       → ((M : ℕ) → K M → AnswersInputs rules which inputs M) → Ordered list count → Overlaps t ⊎ SomeStop rules which t
-      → r ≡ record { count = count; nogood = n; witness = Nothing } → Remembers K memory
+      → r ≡ record { count = count; nogood = n; witness = None } → Remembers K memory
       → Nogood K n → Explored K shown t list count list memory r
   unfolding sought_stop
   explored_stop {list = list} {count = count} {shown = shown} f o k e m n = rw e (record {
@@ -207,7 +207,7 @@ module _ {K : ℕ → Type 0} where
 
     pub explored_both : {other : State} {list₂ memory₂ memory : List ℕ} {second found r : Found} → first.count ≤ LIST_WORDS → other ≡ branch_of t i (not phase)
         → Explored K shown other list₁ first.count list₂ memory₂ second
-        → found ≡ record { count = second.count; nogood = found.nogood; witness = either_of first.witness second.witness }
+        → found ≡ record { count = second.count; nogood = found.nogood; witness = option_or first.witness second.witness }
         → Resolves second.nogood first.nogood found.nogood → HandedUp K found memory₂ memory r → Explored K shown t list₀ count₀ list₂ memory r
     unfolding sought_both sought_handed
     explored_both {list₂ = list₂} {second = second} {r = r} l f y is n h = record {
@@ -246,35 +246,27 @@ module _ (rules : List ℕ) (which : ℕ) {s : State} {next : Outlook} where
   pub is_open : {i : ℕ} → next ≡ Open i → Leaves rules which s next → Has (undecided s.up s.dropped) i × (i < ATOMS) × NoStop rules which s
   is_open e l = rw e at l
 
-module _ {rules table counts desk : List ℕ} {unit : Job} {shown count : ℕ} {front : Front} {base : State} {branch : Branch}
-    {memory filter : List ℕ} {node : Node}
-    (b : branch ≡ record { unit = unit; shown = shown; count = count; front = front; base = base })
-    (e : Entered rules table counts desk branch memory filter node) where
+module _ {cx : Context} {shown count : ℕ} {front : Front} {base : State} {branch : Branch} {memory filter : List ℕ} {node : Node}
+    (b : branch ≡ record { shown = shown; count = count; front = front; base = base }) (e : Entered cx branch memory filter node) where
   -- the node may be searched
-  pub entered_ready : {list memo : List ℕ} → Prepared rules table counts desk unit → Ordered list count → Memo rules memo
-      → Prepared rules table counts desk node.unit
-      × Ordered list node.count
-      × Remembers (Wired rules table counts desk node.unit) memory
-      × Filtered table counts desk node.unit.nearest node.front.state filter
-      × Leaves rules node.unit.rules node.front.state node.next
-      × Memo rules memo
-  entered_ready p o m = rw e.same (rw b (p, o, rw b at e.remembers, rw b at e.filtered, rw b at e.leaves, m))
+  pub entered_ready : {list memo : List ℕ} → Ordered list count → Memo cx.rules.now memo
+      → Ordered list node.count
+      × Remembers (WiredIn cx) memory
+      × FilteredIn cx node.front.state filter
+      × Leaves cx.rules.now cx.unit.rules node.front.state node.next
+      × Memo cx.rules.now memo
+  entered_ready o m = rw e.same (rw b (o, e.remembers, e.filtered, e.leaves, m))
 
   -- so with the job of the subset test
-  pub entered_job : Prepared rules table counts desk unit → ModelJob desk unit
-      → Prepared rules table counts desk node.unit
-      × Remembers (Wired rules table counts desk node.unit) memory
-      × Leaves rules node.unit.rules node.front.state node.next
-      × ModelJob desk node.unit
-  entered_job p j = rw e.same (rw b (p, rw b at e.remembers, rw b at e.leaves, j))
+  pub entered_job : ModelJob cx.desk.now cx.unit
+      → Remembers (WiredIn cx) memory × Leaves cx.rules.now cx.unit.rules node.front.state node.next × ModelJob cx.desk.now cx.unit
+  entered_job j = (e.remembers, e.leaves, j)
 
   pub sought_branch : {show : ℕ} {whole : Bool} {later : List ℕ} {r : Found}
-      → SoughtOf (Wired rules table counts desk node.unit) show node.front.state whole later r
-      → SoughtOf (Wired rules table counts desk unit) show front.state whole later r
-  sought_branch x = rw b at (sought_narrowed e.narrows (rw e.same at x))
+      → SoughtOf (WiredIn cx) show node.front.state whole later r → SoughtOf (WiredIn cx) show front.state whole later r
+  sought_branch x = rw b at (sought_narrowed e.narrows x)
 
   -- what is said of it is said of the branch
-  pub explored_branch : {list after later : List ℕ} {r : Found}
-      → Explored (Wired rules table counts desk node.unit) node.shown node.front.state list node.count after later r
-      → Explored (Wired rules table counts desk unit) shown front.state list count after later r
+  pub explored_branch : {list after later : List ℕ} {r : Found} → Explored (WiredIn cx) node.shown node.front.state list node.count after later r
+      → Explored (WiredIn cx) shown front.state list count after later r
   explored_branch x = rw b at (explored_narrowed e.narrows (rw e.same at x))

@@ -1,15 +1,15 @@
 -- The job of the subset test: with every atom an input all of a position are facts, so that who is wired is who satisfies the rules; and what one question
 -- after the other says of the proper subsets of a position.
-use Rattle.searching.proofs.Prelude.{◌≡◌, refl, sym, ◌∙◌, subst, Bool, true, false, true≢false, false≢true, List, [], ℕ, zero, suc, ◌<◌}
-use Rattle.searching.proofs.Prelude.{◌≤◌, ◌^◌, lt_of_le_of_lt, arith, ones, length, get_or, replicate, ATOMS, Has, ◌⊆◌, ◌∩◌, ◌∖◌, atom}
-use Rattle.searching.proofs.Prelude.{count_lt, cut_all, has_dec, has_lt, has_none, has_left, has_right, has_atom, has_without, without_left}
-use Rattle.searching.proofs.Prelude.{without_right, subset_refl, subset_le, decided_true, MAX_UNITS, MAX_TABLES, AnswerSet, lent, Lent}
+use Rattle.searching.proofs.Prelude.{◌≡◌, refl, sym, ◌∙◌, subst, Bool, true, false, true≢false, List, [], ℕ, zero, suc, ◌<◌}
+use Rattle.searching.proofs.Prelude.{◌^◌, lt_of_le_of_lt, arith, get_or, replicate, ATOMS, Has, ◌∩◌, atom}
+use Rattle.searching.proofs.Prelude.{cut_all, has_dec, has_lt, has_none, has_left, has_right, has_atom}
+use Rattle.searching.proofs.Prelude.{subset_refl, subset_le, decided_true, MAX_UNITS, MAX_TABLES, AnswerSet, lent, Lent}
 use Rattle.searching.proofs.Prelude.{SatisfiesAll, Between, Confines, Finds, finds_none, satisfies_all, decides_answer_set, decides_all_satisfied}
 use Rattle.searching.proofs.Prelude.{Narrows, Wanted, branch_of, Completes, State, completes_back, narrows_trans, with_up_lem, with_dropped_lem}
-use Rattle.searching.proofs.Prelude.{without_dropped, FILTER_WORDS, Filtered, joins_none, LaidOut, Prepared, Wired}
-use Rattle.searching.proofs.Prelude.{Job, prepared, Offered, ModelJob, models_of, Asks, Witnessed, met, none, Member, Nothing}
+use Rattle.searching.proofs.Prelude.{without_dropped, joins_none, LaidOut, Prepared, Wired}
+use Rattle.searching.proofs.Prelude.{Job, prepared, Offered, ModelJob, models_of, Asks, Witnessed, met, none, Some, None}
 use Rattle.answer_sets.proofs.Support.{satisfied}
-use Rattle.searching.specs.declared.subsets.WithoutAtom.{WithoutAtom}
+use Rattle.searching.specs.declared.subsets.WithoutAtom.TheVariants.{Set, Known}
 use Rattle.searching.proofs.SearchSteps.{belongs_answers}
 
 -- ---- who is wired
@@ -44,30 +44,21 @@ module _ {rules table counts desk : List ℕ} {unit : Job} (job : ModelJob desk 
 
   -- so a full position is met where it satisfies them
   module _ {M : ℕ} {b : Bool} (word : M < 2 ^ ATOMS) (e : b ≡ satisfies_all (lent rules) unit.rules M) where
-    pub settled_one : b ≡ true → Witnessed (Offered (Wired rules table counts desk unit) M) (Member M)
+    pub settled_one : b ≡ true → Witnessed (Offered (Wired rules table counts desk unit) M) (Some M)
     settled_one f =
         met (record { is = refl; belongs = model_wired word ((decides_all_satisfied (lent rules) unit.rules M fits).yes (sym e ∙ f)) })
 
-    pub settled_none : b ≡ false → Witnessed (Offered (Wired rules table counts desk unit) M) Nothing
+    pub settled_none : b ≡ false → Witnessed (Offered (Wired rules table counts desk unit) M) None
     settled_none f =
         none (λ N o. (decides_all_satisfied (lent rules) unit.rules M fits).no (sym e ∙ f)
         (subst (SatisfiesAll (lent rules) unit.rules) o.is (wired_model o.belongs)))
 
 -- ---- what is lent
 
--- there is no list, so that every filter has each entry
-pub unfiltered : {table counts desk filter : List ℕ} {unit : Job} {s : State} → ModelJob desk unit → length filter ≡ FILTER_WORDS
-    → Filtered table counts desk unit.nearest s filter
-unfiltered job l = record { long = l; each = λ M j c v h. absurd (has_none (rw job.no_list at h)) }
-
 zero_at : (n v : ℕ) → get_or (replicate {A = ℕ} n 0) v 0 ≡ 0
 zero_at zero v = refl
 zero_at (suc n) zero = refl
 zero_at (suc n) (suc v) = zero_at n v
-
-pub models_lent : {rules : List ℕ} {which : ℕ} {unit : Job} → unit ≡ models_of which → Lent rules which
-    → Lent rules unit.rules × (MAX_UNITS ≤ length (replicate {A = ℕ} MAX_UNITS 0)) × (unit.nearest < 2 ^ MAX_UNITS)
-models_lent e k = rw e (k, omega arith, omega arith)
 
 module _ {rules desk : List ℕ} {which : ℕ} {unit : Job} (e : unit ≡ models_of which)
     (l : LaidOut rules (replicate MAX_UNITS 0) (replicate MAX_TABLES 0) unit desk) where
@@ -94,18 +85,14 @@ module _ {rules desk : List ℕ} {which : ℕ} {unit : Job} (e : unit ≡ models
 
 -- ---- one question
 
-module _ {K : ℕ → Type 0} {t : State} (i : ℕ) where
-  pub asks_found : {lowered : State} {m : ℕ} → lowered ≡ branch_of t i false → Witnessed (Wanted K lowered) (Member m)
-      → Asks K t i (record { found = true; set = m; state = t })
-  asks_found e (met w) = record { shown = λ f. rw e at w; narrows = λ f. absurd (true≢false f); is_up = λ f. absurd (true≢false f) }
+module _ {K : ℕ → Type 0} (t : State) (i : ℕ) where
+  pub asks_found : {lowered : State} {m : ℕ} → lowered ≡ branch_of t i false → Witnessed (Wanted K lowered) (Some m) → Asks K t i (Set m)
+  asks_found e (met w) = rw e at w
 
-  pub asks_none : {lowered raised u : State} → lowered ≡ branch_of t i false → Witnessed (Wanted K lowered) Nothing → raised ≡ branch_of t i true
-      → Narrows K raised u → Asks K t i (record { found = false; set = 0; state = u })
-  asks_none {u = u} e (none n) f k = record {
-    shown = λ g. absurd (false≢true g);
-    narrows = λ g. narrows_trans up (rw f at k);
-    is_up = λ g. (rw f at k).up_grows.each i (has_right t.up (atom i) (has_atom i));
-  }
+  pub asks_none : {lowered raised u : State} → lowered ≡ branch_of t i false → Witnessed (Wanted K lowered) None → raised ≡ branch_of t i true
+      → Narrows K raised u → Asks K t i (Known u)
+  asks_none {u = u} e (none n) f k =
+      (narrows_trans up (rw f at k), (rw f at k).up_grows.each i (has_right t.up (atom i) (has_atom i)))
     where
       up : Narrows K t (branch_of t i true)
       up = record {
@@ -120,53 +107,38 @@ module _ {K : ℕ → Type 0} {t : State} (i : ℕ) where
 
 -- ---- one after the other
 
-module _ {rules table counts desk : List ℕ} {which M : ℕ} {unit : Job} {s t : State} (e : unit ≡ models_of which) (job : ModelJob desk unit)
-    (fits : which < 2 ^ ATOMS) (n : Narrows (Wired rules table counts desk unit) s t) where
+module _ {rules table counts desk : List ℕ} {M : ℕ} {unit : Job} {s t : State} (job : ModelJob desk unit)
+    (fits : unit.rules < 2 ^ ATOMS) (n : Narrows (Wired rules table counts desk unit) s t) where
   -- a set without an atom of M is a smaller one
-  pub asked_found : {i rest : ℕ} {a : WithoutAtom} → Confines M s.dropped → rest ≡ M ∖ t.up → Has rest i → Asks (Wired rules table counts desk unit) t i a
-      → a.found ≡ true → Finds (lent rules) which M s true a.set
-  asked_found {i} {rest} {a} conf r h k f = record {
+  pub asked_found : {i N : ℕ} → Confines M s.dropped → Has M i → Wanted (Wired rules table counts desk unit) (branch_of t i false) N
+      → Finds (lent rules) unit.rules M s true N
+  asked_found {i} {N} conf h w = record {
     exactly = record { yes = λ g. found; no = λ g. absurd (true≢false g) };
     shown = λ g. (found, refl);
     none = λ g. absurd (true≢false g);
   }
     where
-      w : Wanted (Wired rules table counts desk unit) (branch_of t i false) a.set
-      w = k.shown f
-
-      c : Completes s a.set
+      c : Completes s N
       c = completes_back n (without_dropped t i w.completes)
 
-      inside : (j : ℕ) → Has a.set j → Dec (Has M j) → Has M j
+      inside : (j : ℕ) → Has N j → Dec (Has M j) → Has M j
       inside j p (yes q) = q
-      inside j p (no q) = absurd (c.no_dropped.none j (conf.outside j (has_lt a.set ATOMS w.belongs.belongs.word p) q) p)
+      inside j p (no q) = absurd (c.no_dropped.none j (conf.outside j (has_lt N ATOMS w.belongs.belongs.word p) q) p)
 
-      found : Between (lent rules) which M s
+      found : Between (lent rules) unit.rules M s
       found = record {
-        set = a.set;
+        set = N;
         proper = record {
           within = record { each = λ j p. inside j p (has_dec M j) };
-          short = λ g. w.completes.no_dropped.none i (has_right t.dropped (atom i) (has_atom i)) (g.each i (without_left M t.up (rw r at h)));
+          short = λ g. w.completes.no_dropped.none i (has_right t.dropped (atom i) (has_atom i)) (g.each i h);
         };
         completes = c;
-        satisfied = rw e at (wired_model job (rw e fits) w.belongs);
+        satisfied = wired_model job fits w.belongs;
       }
 
   -- where all of M is up there is none
-  pub asked_none : {rest : ℕ} → M < 2 ^ ATOMS → rest ≡ M ∖ t.up → rest ≡ 0 → Finds (lent rules) which M s false 0
-  asked_none {rest} word r z = finds_none (λ b. b.proper.short (record { each = λ i h. inside b i h (has_dec t.up i) }))
+  pub asked_none : M < 2 ^ ATOMS → ((i : ℕ) → Has M i → Has t.up i) → Finds (lent rules) unit.rules M s false 0
+  asked_none word up = finds_none (λ b. b.proper.short (record { each = λ i h. (kept b).has_up.each i (up i h) }))
     where
-      inside : (b : Between (lent rules) which M s) → (i : ℕ) → Has M i → Dec (Has t.up i) → Has b.set i
-      inside b i h (yes u) =
-          (n.keeps b.set (model_wired job (rw e fits) (lt_of_le_of_lt (subset_le b.proper.within) word) (rw e b.satisfied)) b.completes
-          ).has_up.each i u
-      inside b i h (no u) = absurd (has_none (subst (λ (w : ℕ). Has w i) (sym r ∙ z) (has_without M t.up h u)))
-
--- with each question fewer atoms are left
-pub asked_less : (M : ℕ) (t u : State) {i rest rest₂ : ℕ} → rest ≡ M ∖ t.up → Has rest i → rest₂ ≡ M ∖ u.up → t.up ⊆ u.up → Has u.up i
-    → ones rest₂ < ones rest
-asked_less M t u {i} e h f k up =
-    rw (e, f)
-    (count_lt i (M ∖ u.up) (M ∖ t.up)
-    (record { each = λ j p. has_without M t.up (without_left M u.up p) (λ q. without_right M u.up p (k.each j q)) }) (rw e at h)
-    (λ p. without_right M u.up p up))
+      kept : (b : Between (lent rules) unit.rules M s) → Completes t b.set
+      kept b = n.keeps b.set (model_wired job fits (lt_of_le_of_lt (subset_le b.proper.within) word) b.satisfied) b.completes

@@ -39,7 +39,8 @@ module _ {rules heads pilots : List ℕ} {unit : Job} {X : ℕ} (p : Piloted rul
     each = λ t l. record {
       when_true = λ e. record {
         each = λ a h.
-            has_right N W (union_has MAX_TABLES lit (λ t. get_or pilots t 0) t a l (word_has MAX_TABLES says t l (says_alike t l (alike_with X N within) ∙ e)) h);
+            has_right N W
+            (union_has MAX_TABLES lit (λ t. get_or pilots t 0) t a l (word_has MAX_TABLES says t l (says_alike t l (alike_with X N within) ∙ e)) h);
       };
       when_false = λ e. record { none = λ a h m. go t l e a h (union_cases N W m) };
     };

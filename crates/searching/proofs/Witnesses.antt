@@ -1,9 +1,9 @@
 -- Cuts of wanted positions, and members that were met.
 use Rattle.searching.proofs.Prelude.{◌≡◌, refl, sym, ◌∙◌, subst, true, false≢true, ◌⊎◌, inl, inr, List, [], ◌∷◌, List-as-Memᴰ, Memᴰ-head}
-use Rattle.searching.proofs.Prelude.{Memᴰ-tail, Memᴰ-not-nil, ℕ, ◌≤◌, ◌<◌, ◌^◌, arith, eqb, length, replicate, eqb-true, ATOMS, Has, ◌∩◌}
+use Rattle.searching.proofs.Prelude.{Memᴰ-tail, Memᴰ-not-nil, ℕ, ◌≤◌, ◌<◌, ◌^◌, arith, length, replicate, eqb-true, ATOMS, Has, ◌∩◌}
 use Rattle.searching.proofs.Prelude.{ext, empty, has_cut, cut_left, cut_right, has_lt, has_none, above_cons, Rising, rising_cons, CutOf, LIST_WORDS}
 use Rattle.searching.proofs.Prelude.{OVERFULL, Completes, undecided, State, decided_cases, Gathered, fits, over, Grown, Witnessed, met, none, Met}
-use Rattle.searching.proofs.Prelude.{Witness, Member, Nothing}
+use Rattle.searching.proofs.Prelude.{Option, Some, None}
 use Rattle.searching.specs.Witness.{enough}
 
 -- ---- cuts
@@ -28,22 +28,19 @@ same_cut t shown e z M N m n c d = ext (M ∩ shown) (N ∩ shown) (shared M N m
 
 -- ---- members that were met
 
-pub witnessed_iff : {Q R : ℕ → Type 0} {w : Witness} → ((M : ℕ) → Q M → R M) → ((M : ℕ) → R M → Q M) → Witnessed Q w → Witnessed R w
+pub witnessed_iff : {Q R : ℕ → Type 0} {w : Option ℕ} → ((M : ℕ) → Q M → R M) → ((M : ℕ) → R M → Q M) → Witnessed Q w → Witnessed R w
 witnessed_iff f g (met {M} q) = met (f M q)
 witnessed_iff f g (none n) = none (λ M r. n M (g M r))
 
-pub witnessed_met : {Q : ℕ → Type 0} {w : Witness} → (m : Met w) → Witnessed Q w → Q m.member
+pub witnessed_met : {Q : ℕ → Type 0} {w : Option ℕ} → (m : Met w) → Witnessed Q w → Q m.member
 witnessed_met {Q} m q = go (subst (Witnessed Q) m.is q)
   where
-    go : {M : ℕ} → Witnessed Q (Member M) → Q M
+    go : {M : ℕ} → Witnessed Q (Some M) → Q M
     go (met q) = q
 
-pub enough_met : (w : Witness) {left : ℕ} → enough w left ≡ true → (left ≡ 0) × Met w
-enough_met (Member M) {left} e = (eqb-true left 0 e, record { member = M; is = refl })
-enough_met Nothing e = absurd (false≢true e)
-
-pub enough_is : {w : Witness} {M : ℕ} (left : ℕ) → w ≡ Member M → eqb left 0 ≡ enough w left
-enough_is left e = rw e refl
+pub enough_met : (w : Option ℕ) {left : ℕ} → enough w left ≡ true → (left ≡ 0) × Met w
+enough_met (Some M) {left} e = (eqb-true left 0 e, record { member = M; is = refl })
+enough_met None e = absurd (false≢true e)
 
 -- ---- nothing shows: the list has one member at most
 

@@ -5,27 +5,26 @@ use Rattle.states.specs.Narrowing.{Overlaps, Within, Narrows, branch_of}
 use Rattle.states.specs.declared.state.State.{State}
 use Rattle.narrowing.specs.Stops.{NoStop}
 use Rattle.learning.specs.Reason.{Remembers}
-use Rattle.joining.specs.Filter.{Filtered}
-use Rattle.propagating.specs.Desk.{Wired}
+use Rattle.propagating.specs.Context.{WiredIn, FilteredIn}
+use Rattle.propagating.specs.declared.context.Context.{Context}
 use Rattle.searching.specs.Outlook.{Leaves}
 use Rattle.searching.specs.declared.node.Branch.{Branch}
 use Rattle.searching.specs.declared.node.Node.{Node}
 
 -- a node stands behind its branch: the same members complete its state, and `next` is what that state leaves to search
-pub record Entered (rules table counts desk : List ℕ) (branch : Branch) (memory filter : List ℕ) (node : Node) : Type 0 where
+pub record Entered (cx : Context) (branch : Branch) (memory filter : List ℕ) (node : Node) : Type 0 where
   pub same : node
       ≡ record {
-        unit = branch.unit;
         shown = branch.shown;
         count = branch.count;
         way = node.way;
         front = node.front;
         next = node.next;
       }
-  pub narrows : Narrows (Wired rules table counts desk branch.unit) branch.front.state node.front.state
-  pub filtered : Filtered table counts desk branch.unit.nearest node.front.state filter
-  pub remembers : Remembers (Wired rules table counts desk branch.unit) memory
-  pub leaves : Leaves rules branch.unit.rules node.front.state node.next
+  pub narrows : Narrows (WiredIn cx) branch.front.state node.front.state
+  pub filtered : FilteredIn cx node.front.state filter
+  pub remembers : Remembers (WiredIn cx) memory
+  pub leaves : Leaves cx.rules.now cx.unit.rules node.front.state node.next
 
 -- one atom further: it is decided where no rule of the word is at a stop
 pub record GoesOn (rules : List ℕ) (which : ℕ) (from to : State) : Type 0 where

@@ -1,35 +1,21 @@
 // Where a search begins.
 ghost use Rattle.states.specs.Narrowing.{Narrows};
 ghost use Rattle.learning.specs.Reason.{Remembers};
-ghost use Rattle.joining.specs.Filter.{Filtered};
-ghost use Rattle.propagating.specs.Desk.{Prepared, Wired};
+ghost use Rattle.propagating.specs.Context.{WiredIn, FilteredIn};
 
 use crate::dive::dive_ahead;
-use propagating::Job;
+use propagating::context::Context;
 use propagating::front::Front;
 use propagating::propagate::propagate;
 
 // What every search and every question begins with: the steps on the agenda are taken, and a few ways down are learnt from.
-pub fn begin(
-    rules: &[u64],
-    table: &[u64],
-    counts: &[usize],
-    desk: &[u64],
-    unit: Job,
-    memory: &mut [u64],
-    filter: &mut [u64],
-    front: Front,
-) -> Front
-    requires { Prepared rules.now table.now counts.now desk.now unit
-        × Remembers (Wired rules.now table.now counts.now desk.now unit) memory.old
-        × Filtered table.now counts.now desk.now unit.nearest front.state filter.old }
-    ensures narrows { Narrows (Wired rules.now table.now counts.now desk.now unit)
-        front.state result.state }
-    ensures filtered { Filtered table.now counts.now desk.now unit.nearest result.state filter.new }
-    ensures remembers { Remembers (Wired rules.now table.now counts.now desk.now unit)
-        memory.new }
+pub fn begin(cx: &Context<'_>, memory: &mut [u64], filter: &mut [u64], front: Front) -> Front
+    requires { Remembers (WiredIn cx.now) memory.old × FilteredIn cx.now front.state filter.old }
+    ensures narrows { Narrows (WiredIn cx.now) front.state result.state }
+    ensures filtered { FilteredIn cx.now result.state filter.new }
+    ensures remembers { Remembers (WiredIn cx.now) memory.new }
 {
-    let f = propagate(rules, table, counts, desk, unit, memory, filter, front);
-    dive_ahead(rules, table, counts, desk, unit, memory, filter, f);
+    let f = propagate(cx, memory, filter, front);
+    dive_ahead(cx, memory, filter, f);
     f
 }

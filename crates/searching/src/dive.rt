@@ -5,15 +5,14 @@ ghost use Rattle.std.specs.Int.Count.{ones};
 ghost use Rattle.states.specs.State.{undecided as undecided_of};
 ghost use Rattle.states.specs.Narrowing.{Overlaps};
 ghost use Rattle.learning.specs.Reason.{Remembers};
-ghost use Rattle.joining.specs.Filter.{Filtered};
-ghost use Rattle.propagating.specs.Desk.{Prepared, Wired};
+ghost use Rattle.propagating.specs.Context.{WiredIn, FilteredIn};
 ghost use Rattle.searching.specs.Entered.{WentDown};
 
 use crate::outlook::{Outlook, outlook_of, phase_of};
 use crate::stop::stop;
 use explaining::lift::span;
 use joining::filter::copied;
-use propagating::Job;
+use propagating::context::Context;
 use propagating::front::{Front, branched};
 use propagating::propagate::propagate;
 use states::{State, everything, undecided};
@@ -49,50 +48,28 @@ fn halted(f: Front) -> Front
 
 // The front one atom further down: the atom is decided in its phase, and steps are taken until none has anything new to say. Where a rule is at a
 // stop nothing is left to decide.
-fn descend(
-    rules: &[u64],
-    table: &[u64],
-    counts: &[usize],
-    desk: &[u64],
-    unit: Job,
-    memory: &mut [u64],
-    filter: &mut [u64],
-    f: Front,
-) -> Front
-    requires { Prepared rules.now table.now counts.now desk.now unit
-        × Remembers (Wired rules.now table.now counts.now desk.now unit) memory.old
-        × Filtered table.now counts.now desk.now unit.nearest f.state filter.old
+fn descend(cx: &Context<'_>, memory: &mut [u64], filter: &mut [u64], f: Front) -> Front
+    requires { Remembers (WiredIn cx.now) memory.old × FilteredIn cx.now f.state filter.old
         × (undecided_of f.state.up f.state.dropped ≡ 0 → ⊥) }
-    ensures filtered { Filtered table.now counts.now desk.now unit.nearest result.state filter.new }
-    ensures remembers { Remembers (Wired rules.now table.now counts.now desk.now unit)
-        memory.new }
-    ensures onward { WentDown rules.now unit.rules f.state result.state }
+    ensures filtered { FilteredIn cx.now result.state filter.new }
+    ensures remembers { Remembers (WiredIn cx.now) memory.new }
+    ensures onward { WentDown cx.now.rules.now cx.now.unit.rules f.state result.state }
     ensures falls { ones (undecided_of result.state.up result.state.dropped) < ones (undecided_of f.state.up f.state.dropped) }
 {
     let s = f.state;
-    let next = outlook_of(rules, desk, unit, memory, s, s.up);
+    let next = outlook_of(cx, memory, s, s.up);
     let Outlook::Open(i) = next else {
         return halted(f);
     };
-    let phase = phase_of(rules, desk, unit.rules, memory, s, i);
-    let below = branched(rules, unit, desk, f, i, phase);
-    propagate(rules, table, counts, desk, unit, memory, filter, below)
+    let phase = phase_of(cx, memory, s, i);
+    let below = branched(cx.rules, cx.unit, cx.desk, f, i, phase);
+    propagate(cx, memory, filter, below)
 }
 
 // Learns from the state if it is a stop, and whether it is; the state above it is that of the front before.
-fn learn_stop(
-    rules: &[u64],
-    table: &[u64],
-    counts: &[usize],
-    desk: &[u64],
-    unit: Job,
-    memory: &mut [u64],
-    above: Front,
-    f: Front,
-) -> bool
-    requires { Prepared rules.now table.now counts.now desk.now unit
-        × Remembers (Wired rules.now table.now counts.now desk.now unit) memory.old }
-    ensures { Remembers (Wired rules.now table.now counts.now desk.now unit) memory.new }
+fn learn_stop(cx: &Context<'_>, memory: &mut [u64], above: Front, f: Front) -> bool
+    requires { Remembers (WiredIn cx.now) memory.old }
+    ensures { Remembers (WiredIn cx.now) memory.new }
 {
     let s = f.state;
     if atoms::are_apart(s.up, s.dropped) {
@@ -100,60 +77,36 @@ fn learn_stop(
     }
     let base = above.state;
     let way = span(base, above.top, f.top);
-    stop(rules, table, counts, desk, unit, memory, way);
+    stop(cx, memory, way);
     true
 }
 
 // Goes down from the front until nothing is undecided or nothing completes the state, and learns from the stop: whether there was one.
-fn dive(
-    rules: &[u64],
-    table: &[u64],
-    counts: &[usize],
-    desk: &[u64],
-    unit: Job,
-    memory: &mut [u64],
-    filter: &[u64],
-    front: Front,
-) -> bool
-    requires { Prepared rules.now table.now counts.now desk.now unit
-        × Remembers (Wired rules.now table.now counts.now desk.now unit) memory.old
-        × Filtered table.now counts.now desk.now unit.nearest front.state filter.now }
-    ensures { Remembers (Wired rules.now table.now counts.now desk.now unit) memory.new }
+fn dive(cx: &Context<'_>, memory: &mut [u64], filter: &[u64], front: Front) -> bool
+    requires { Remembers (WiredIn cx.now) memory.old × FilteredIn cx.now front.state filter.now }
+    ensures { Remembers (WiredIn cx.now) memory.new }
 {
     let mut mine = copied(filter);
     let mut above = front;
     let mut f = front;
     while free_atoms(f.state) != 0 {
         above = f;
-        f = descend(rules, table, counts, desk, unit, memory, &mut mine, f);
+        f = descend(cx, memory, &mut mine, f);
     }
-    learn_stop(rules, table, counts, desk, unit, memory, above, f)
+    learn_stop(cx, memory, above, f)
 }
 
 // Goes down again and again, as long as that ends in a stop.
-pub fn dive_ahead(
-    rules: &[u64],
-    table: &[u64],
-    counts: &[usize],
-    desk: &[u64],
-    unit: Job,
-    memory: &mut [u64],
-    filter: &[u64],
-    front: Front,
-)
-    requires { Prepared rules.now table.now counts.now desk.now unit
-        × Remembers (Wired rules.now table.now counts.now desk.now unit) memory.old
-        × Filtered table.now counts.now desk.now unit.nearest front.state filter.now }
-    ensures { Remembers (Wired rules.now table.now counts.now desk.now unit) memory.new }
+pub fn dive_ahead(cx: &Context<'_>, memory: &mut [u64], filter: &[u64], front: Front)
+    requires { Remembers (WiredIn cx.now) memory.old × FilteredIn cx.now front.state filter.now }
+    ensures { Remembers (WiredIn cx.now) memory.new }
 {
     if atoms::count(free_atoms(front.state)) < DEEP {
         return;
     }
-    let mut left = WAYS;
-    while 0 < left {
-        if !dive(rules, table, counts, desk, unit, memory, filter, front) {
+    for _ in 0..WAYS {
+        if !dive(cx, memory, filter, front) {
             return;
         }
-        left -= 1;
     }
 }

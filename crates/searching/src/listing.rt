@@ -11,8 +11,7 @@ pub fn insert(list: &mut [u64], count: usize, value: u64) -> usize
     ensures { Inserted list.old count value list.new result }
 {
     let mut carried = value;
-    let mut i = 0;
-    while i < count {
+    for i in 0..count {
         let here = list[i];
         if carried == here {
             return count;
@@ -21,7 +20,6 @@ pub fn insert(list: &mut [u64], count: usize, value: u64) -> usize
             list[i] = carried;
             carried = here;
         }
-        i += 1;
     }
     if count == LIST_WORDS {
         return OVERFULL;

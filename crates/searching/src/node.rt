@@ -1,27 +1,25 @@
 // Nodes of the search, and what is found below them.
-ghost use Rattle.std.specs.Prelude.{◌≡◌, ◌<◌, length};
+ghost use Rattle.std.specs.Prelude.{◌≡◌, ◌<◌};
+ghost use Rattle.std.specs.Option.{option_or};
 ghost use Rattle.atoms.specs.Word.{ATOMS};
 ghost use Rattle.states.specs.Narrowing.{branch_of};
 ghost use Rattle.narrowing.specs.Stops.{NoStop};
-ghost use Rattle.learning.specs.Nogood.{Resolves};
-ghost use Rattle.propagating.specs.Desk.{DESK_WORDS};
-ghost use Rattle.searching.specs.Witness.{either_of};
+ghost use Rattle.learning.specs.Nogood.{Resolves, Merged};
 ghost use Rattle.searching.specs.Node.{Finishes};
 
 use crate::outlook::Outlook;
-use crate::witness::{Witness, either, is_enough};
+use crate::witness::is_enough;
 use explaining::lift::Stretch;
 use learning::nogood::merge;
 use plan::LIST_WORDS;
-use propagating::Job;
+use propagating::context::Context;
 use propagating::front::{Front, branched};
 use states::State;
 
-// A way into the search: its unit, the atoms that show, how many positions are listed so far, where propagation stands, and the state in which the
+// A way into the search: the atoms that show, how many positions are listed so far, where propagation stands, and the state in which the
 // atom was decided.
 #[derive(Clone, Copy)]
 pub struct Branch {
-    pub unit: Job,
     pub shown: u64,
     pub count: usize,
     pub front: Front,
@@ -31,7 +29,6 @@ pub struct Branch {
 // A node of the search: a branch with its steps taken, the way that they went, and what the state then leaves to search.
 #[derive(Clone, Copy)]
 pub struct Node {
-    pub unit: Job,
     pub shown: u64,
     pub count: usize,
     pub way: Stretch,
@@ -44,15 +41,14 @@ pub struct Node {
 pub struct Found {
     pub count: usize,
     pub nogood: State,
-    pub witness: Witness,
+    pub witness: Option<u64>,
 }
 
 // Where a search begins: nothing is listed yet.
-pub fn root(unit: Job, shown: u64, front: Front, base: State) -> Branch
-    ensures { result ≡ record { unit = unit; shown = shown; count = 0; front = front; base = base } }
+pub fn root(shown: u64, front: Front, base: State) -> Branch
+    ensures { result ≡ record { shown = shown; count = 0; front = front; base = base } }
 {
     Branch {
-        unit,
         shown,
         count: 0,
         front,
@@ -61,25 +57,23 @@ pub fn root(unit: Job, shown: u64, front: Front, base: State) -> Branch
 }
 
 // A branch of a node: in the same search, at this count, one atom further down.
-pub fn below(rules: &[u64], desk: &[u64], node: Node, count: usize, i: usize, phase: bool) -> Branch
-    requires { NoStop rules.now node.unit.rules node.front.state × (length desk.now ≡ DESK_WORDS) × (i < ATOMS) }
-    ensures same { result ≡ record { unit = node.unit; shown = node.shown; count = count; front = result.front; base = node.front.state } }
+pub fn below(cx: &Context<'_>, node: Node, count: usize, i: usize, phase: bool) -> Branch
+    requires { NoStop cx.now.rules.now cx.now.unit.rules node.front.state × (i < ATOMS) }
+    ensures same { result ≡ record { shown = node.shown; count = count; front = result.front; base = node.front.state } }
     ensures decided { result.front.state ≡ branch_of node.front.state i phase }
 {
-    let unit = node.unit;
     let front = node.front;
     let base = front.state;
     Branch {
-        unit,
         shown: node.shown,
         count,
-        front: branched(rules, unit, desk, front, i, phase),
+        front: branched(cx.rules, cx.unit, cx.desk, front, i, phase),
         base,
     }
 }
 
 // What was found, put together.
-pub fn found_of(count: usize, nogood: State, witness: Witness) -> Found
+pub fn found_of(count: usize, nogood: State, witness: Option<u64>) -> Found
     ensures { result ≡ record { count = count; nogood = nogood; witness = witness } }
 {
     Found {
@@ -97,20 +91,18 @@ pub fn is_done(first: Found, left: u64) -> bool
     if LIST_WORDS < first.count {
         return true;
     }
-    let met = first.witness;
-    is_enough(met, left)
+    is_enough(first.witness, left)
 }
 
 // What both branches of a node found, of which the first has the atom in the phase; they began from the state s.
 pub fn joined(first: Found, second: Found, s: State, atom: usize, phase: bool) -> Found
     requires { atom < ATOMS }
-    ensures is { result ≡ record { count = second.count; nogood = result.nogood; witness = either_of first.witness second.witness } }
+    ensures is { result ≡ record { count = second.count; nogood = result.nogood; witness = option_or first.witness second.witness } }
     ensures resolves { Resolves second.nogood first.nogood result.nogood }
+    ensures merged { Merged first.nogood second.nogood s atom phase result.nogood }
 {
     let n = first.nogood;
     let m = second.nogood;
     let nogood = merge(n, m, s, atom, phase);
-    let met = first.witness;
-    let also = second.witness;
-    found_of(second.count, nogood, either(met, also))
+    found_of(second.count, nogood, first.witness.or(second.witness))
 }

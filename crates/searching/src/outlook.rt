@@ -5,14 +5,13 @@ ghost use Rattle.atoms.specs.Bounded.{Decides};
 ghost use Rattle.answer_sets.specs.Lent.{Lent};
 ghost use Rattle.narrowing.specs.Stops.{Chosen};
 ghost use Rattle.learning.specs.Store.{MEMORY_WORDS};
-ghost use Rattle.propagating.specs.Desk.{DESK_WORDS, linked_of};
 ghost use Rattle.searching.specs.Outlook.{Leaves, TriedUp};
 
 use atoms::tally::prefer;
 use learning::store::{RING, learnt_pairs};
 use learning::trail::leaders;
 use narrowing::choice::{Choice, choose, some_wide};
-use propagating::Job;
+use propagating::context::Context;
 use propagating::desk::{DESK_WORDS, LINKED, backing};
 use states::{State, undecided};
 
@@ -57,28 +56,20 @@ const MANY: usize = RING / 2;
 
 // The phase in which the atom is tried first: up where a rule that may back it is wide, since that meets members sooner; dropped where none is, and
 // once much was learnt, since that refutes sooner.
-pub fn phase_of(rules: &[u64], desk: &[u64], which: u64, memory: &[u64], s: State, i: usize) -> bool
-    requires { Lent rules.now which × (length desk.now ≡ DESK_WORDS) × (MEMORY_WORDS ≤ length memory.now) × (i < ATOMS) }
-    ensures { Decides (TriedUp rules.now desk.now which memory.now s i) result }
+pub fn phase_of(cx: &Context<'_>, memory: &[u64], s: State, i: usize) -> bool
+    requires { (MEMORY_WORDS ≤ length memory.now) × (i < ATOMS) }
+    ensures { Decides (TriedUp cx.now.rules.now cx.now.desk.now cx.now.unit.rules memory.now s i) result }
 {
     if MANY <= learnt_pairs(memory) {
         return false;
     }
-    some_wide(rules, backing(desk, which, i), s)
+    some_wide(cx.rules, backing(cx.desk, cx.unit.rules, i), s)
 }
 
 // What the state leaves to search of the unit; of the atoms those that show come first.
-pub fn outlook_of(
-    rules: &[u64],
-    desk: &[u64],
-    unit: Job,
-    memory: &[u64],
-    s: State,
-    shown: u64,
-) -> Outlook
-    requires { Lent rules.now unit.rules × Lent (linked_of desk.now) unit.rules × (length desk.now ≡ DESK_WORDS)
-        × (MEMORY_WORDS ≤ length memory.now) }
-    ensures { Leaves rules.now unit.rules s result }
+pub fn outlook_of(cx: &Context<'_>, memory: &[u64], s: State, shown: u64) -> Outlook
+    requires { MEMORY_WORDS ≤ length memory.now }
+    ensures { Leaves cx.now.rules.now cx.now.unit.rules s result }
 {
     if !atoms::are_apart(s.up, s.dropped) {
         return Outlook::Stop;
@@ -87,8 +78,8 @@ pub fn outlook_of(
     if free == 0 {
         return Outlook::Leaf;
     }
-    let linked = &desk[LINKED..DESK_WORDS];
-    let choice = pick(rules, linked, unit.rules, memory, s, free, shown);
+    let linked = &cx.desk[LINKED..DESK_WORDS];
+    let choice = pick(cx.rules, linked, cx.unit.rules, memory, s, free, shown);
     match choice {
         Choice::Atom(i) => Outlook::Open(i),
         Choice::Stop(_) => Outlook::Stop,

@@ -5,8 +5,7 @@ ghost use Rattle.searching.specs.Listing.{Ordered, Gathered, Grown};
 ghost use Rattle.atoms.specs.Cuts.{CutOf};
 ghost use Rattle.searching.specs.Node.{Explored};
 ghost use Rattle.searching.specs.Outlook.{Leaves};
-ghost use Rattle.joining.specs.Filter.{Filtered};
-ghost use Rattle.propagating.specs.Desk.{Prepared, Wired};
+ghost use Rattle.propagating.specs.Context.{WiredIn, FilteredIn};
 ghost use Rattle.propagating.specs.Job.{Belongs, Searchable};
 ghost use Rattle.states.specs.Narrowing.{Wanted};
 
@@ -23,6 +22,7 @@ use learning::store::empty_store;
 use narrowing::loops::looped_atoms;
 use propagating::Job;
 use propagating::agenda::{every_step, with_tables};
+use propagating::context::Context;
 use propagating::desk::lay_out;
 use propagating::front::Front;
 use states::{State, lies_within, undecided};
@@ -32,49 +32,44 @@ use states::{State, lies_within, undecided};
 // test left. A node is open only where no rule of the unit is at a stop, so the search goes no further there. No member completes the pair that is handed
 // back; where the first branch's pair lies within the state that it began from, the second branch has no member.
 pub fn explore(
-    rules: &[u64],
-    table: &[u64],
-    counts: &[usize],
-    desk: &[u64],
+    cx: &Context<'_>,
     list: &mut [u64],
     memory: &mut [u64],
     memo: &mut [u64],
     filter: &[u64],
     node: Node,
 ) -> Found
-    requires { Prepared rules.now table.now counts.now desk.now node.unit × Ordered list.old node.count
-        × Remembers (Wired rules.now table.now counts.now desk.now node.unit) memory.old
-        × Filtered table.now counts.now desk.now node.unit.nearest node.front.state filter.now
-        × Leaves rules.now node.unit.rules node.front.state node.next × Memo rules.now memo.old }
-    ensures explored { Explored (Wired rules.now table.now counts.now desk.now node.unit) node.shown
+    requires { Ordered list.old node.count × Remembers (WiredIn cx.now) memory.old
+        × FilteredIn cx.now node.front.state filter.now
+        × Leaves cx.now.rules.now cx.now.unit.rules node.front.state node.next × Memo cx.now.rules.now memo.old }
+    ensures explored { Explored (WiredIn cx.now) node.shown
         node.front.state list.old node.count list.new memory.new result }
-    ensures memo { Memo rules.now memo.new }
+    ensures memo { Memo cx.now.rules.now memo.new }
 {
     let next = node.next;
     match next {
-        Outlook::Stop => halt(rules, table, counts, desk, memory, node),
-        Outlook::Leaf => offer(rules, table, counts, desk, list, memory, memo, node),
+        Outlook::Stop => halt(cx, memory, node),
+        Outlook::Leaf => offer(cx, list, memory, memo, node),
         Outlook::Open(i) => {
-            let unit = node.unit;
             let front = node.front;
             let t = front.state;
-            let phase = phase_of(rules, desk, unit.rules, memory, t, i);
+            let phase = phase_of(cx, memory, t, i);
             let mut mine = copied(filter);
-            let one = below(rules, desk, node, node.count, i, phase);
-            let here = enter(rules, table, counts, desk, memory, &mut mine, one);
-            let first = explore(rules, table, counts, desk, list, memory, memo, &mine, here);
+            let one = below(cx, node, node.count, i, phase);
+            let here = enter(cx, memory, &mut mine, one);
+            let first = explore(cx, list, memory, memo, &mine, here);
             if is_done(first, atoms::cut(undecided(t.up, t.dropped), node.shown)) {
                 return first;
             }
             if lies_within(first.nogood, t) {
-                return hand_up(rules, table, counts, desk, memory, node, first);
+                return hand_up(cx, memory, node, first);
             }
             mine = copied(filter);
-            let other = below(rules, desk, node, first.count, i, !phase);
-            let there = enter(rules, table, counts, desk, memory, &mut mine, other);
-            let second = explore(rules, table, counts, desk, list, memory, memo, &mine, there);
+            let other = below(cx, node, first.count, i, !phase);
+            let there = enter(cx, memory, &mut mine, other);
+            let second = explore(cx, list, memory, memo, &mine, there);
             let both = joined(first, second, t, i, phase);
-            hand_up(rules, table, counts, desk, memory, node, both)
+            hand_up(cx, memory, node, both)
         },
     }
 }
@@ -101,6 +96,13 @@ pub fn search(
     let rest = every_step(piloted, looped);
     let agenda = with_tables(&pilots, rest);
     let desk = lay_out(rules, heads, &pilots, piloted, looped);
+    let cx = Context {
+        rules,
+        table,
+        counts,
+        desk: &desk,
+        unit: piloted,
+    };
     let mut memory = empty_store();
     let mut memo = blank_memo();
     let mut filter = full_filter(counts);
@@ -113,29 +115,8 @@ pub fn search(
         agenda,
         top: 0,
     };
-    let f = begin(
-        rules,
-        table,
-        counts,
-        &desk,
-        piloted,
-        &mut memory,
-        &mut filter,
-        front,
-    );
-    let base = f.state;
-    let start = root(piloted, atoms::without(shown, all), f, base);
-    let node = enter(rules, table, counts, &desk, &mut memory, &mut filter, start);
-    explore(
-        rules,
-        table,
-        counts,
-        &desk,
-        list,
-        &mut memory,
-        &mut memo,
-        &filter,
-        node,
-    )
-    .count
+    let f = begin(&cx, &mut memory, &mut filter, front);
+    let start = root(atoms::without(shown, all), f, f.state);
+    let node = enter(&cx, &mut memory, &mut filter, start);
+    explore(&cx, list, &mut memory, &mut memo, &filter, node).count
 }

@@ -7,7 +7,7 @@ ghost use Rattle.searching.specs.Spare.{Spare, NoInputs, DistinctPilots, Piloted
 
 use answer_sets::rule::{head, rule_atoms};
 use answer_sets::uses::uses;
-use contact_tables::agreeing_rows;
+use parities::is_parity;
 use pilots::follow::word_at;
 use plan::{CONTACT_WORDS, MAX_TABLES, MAX_UNITS};
 use propagating::Job;
@@ -17,12 +17,9 @@ use states::State;
 fn all_atoms(rules: &[u64], which: u64) -> u64
     requires { Lent rules.now which }
 {
-    let mut rest = which;
     let mut all = 0;
-    while rest != 0 {
-        let rule = atoms::lowest(rest);
+    for rule in atoms::each(which) {
         all = atoms::union(all, rule_atoms(rules, rule));
-        rest = atoms::drop(rest, rule);
     }
     all
 }
@@ -30,10 +27,8 @@ fn all_atoms(rules: &[u64], which: u64) -> u64
 // The inputs of all tables.
 fn all_inputs(rules: &[u64]) -> u64 {
     let mut all = 0;
-    let mut t = 0;
-    while t < MAX_TABLES {
+    for t in 0..MAX_TABLES {
         all = atoms::union(all, word_at(rules, CONTACT_WORDS * t));
-        t += 1;
     }
     all
 }
@@ -43,13 +38,10 @@ fn in_no_rule(rules: &[u64], which: u64, x: u64) -> bool
     requires { Lent rules.now which }
     ensures { result ≡ true → Spare rules.now which x }
 {
-    let mut rest = which;
-    while rest != 0 {
-        let rule = atoms::lowest(rest);
+    for rule in atoms::each(which) {
         if !atoms::are_apart(rule_atoms(rules, rule), x) {
             return false;
         }
-        rest = atoms::drop(rest, rule);
     }
     true
 }
@@ -58,12 +50,10 @@ fn in_no_rule(rules: &[u64], which: u64, x: u64) -> bool
 fn in_no_table(rules: &[u64], x: u64) -> bool
     ensures { result ≡ true → NoInputs rules.now x MAX_TABLES }
 {
-    let mut t = 0;
-    while t < MAX_TABLES {
+    for t in 0..MAX_TABLES {
         if !atoms::are_apart(word_at(rules, CONTACT_WORDS * t), x) {
             return false;
         }
-        t += 1;
     }
     true
 }
@@ -74,34 +64,19 @@ fn are_distinct(pilots: &[u64]) -> bool
     ensures { result ≡ true → DistinctPilots pilots.now }
 {
     let mut all = 0;
-    let mut t = 0;
-    while t < MAX_TABLES {
-        if !atoms::are_apart(all, pilots[t]) {
+    for pilot in &pilots[..MAX_TABLES] {
+        if !atoms::are_apart(all, *pilot) {
             return false;
         }
-        all = atoms::union(all, pilots[t]);
-        t += 1;
+        all = atoms::union(all, *pilot);
     }
     true
-}
-
-// The rows of six inputs with an odd number up.
-const ODD_ROWS: u64 = 0x6996_9669_9669_6996;
-
-// Whether the table says whether an odd number of its inputs is up, or an even one.
-fn is_parity(inputs: u64, truth: u64) -> bool {
-    let rows = agreeing_rows(inputs, 0, 0);
-    let said = atoms::cut(truth, rows);
-    let odd = atoms::cut(ODD_ROWS, rows);
-    if said == odd {
-        return true;
-    }
-    said == atoms::without(rows, odd)
 }
 
 // The tables of one rule that are worth a pilot: all where there are several; the one table of a constraint, unless it is a parity.
 fn worth_of(rules: &[u64], rule: usize) -> u64
     requires { IsLent rules.now rule }
+    ensures { result < 2 ^ MAX_TABLES }
 {
     let used = uses(rules, rule);
     let tables = atoms::cut(
@@ -127,39 +102,22 @@ fn worth_of(rules: &[u64], rule: usize) -> u64
 // The tables that are worth a pilot.
 fn worth_all(rules: &[u64], which: u64) -> u64
     requires { Lent rules.now which }
+    ensures { result < 2 ^ MAX_TABLES }
 {
-    let mut rest = which;
     let mut tables = 0;
-    while rest != 0 {
-        let rule = atoms::lowest(rest);
+    for rule in atoms::each(which) {
         tables = atoms::union(tables, worth_of(rules, rule));
-        rest = atoms::drop(rest, rule);
     }
     tables
 }
 
-// Gives table t one of these atoms, if there is one: the rest of them.
-fn give(t: usize, spare: u64, pilots: &mut [u64; MAX_TABLES]) -> u64 {
-    if MAX_TABLES <= t {
-        return spare;
-    }
-    if spare == 0 {
-        return spare;
-    }
-    let atom = atoms::lowest(spare);
-    pilots[t] = atoms::single(atom);
-    atoms::drop(spare, atom)
-}
-
 // One of these atoms for each of the tables, as far as there are any.
-fn propose(tables: u64, spare: u64) -> [u64; MAX_TABLES] {
+fn propose(tables: u64, spare: u64) -> [u64; MAX_TABLES]
+    requires { tables < 2 ^ MAX_TABLES }
+{
     let mut pilots = [0u64; MAX_TABLES];
-    let mut rest = spare;
-    let mut left = tables;
-    while left != 0 {
-        let t = atoms::lowest(left);
-        rest = give(t, rest, &mut pilots);
-        left = atoms::drop(left, t);
+    for (t, atom) in atoms::each(tables).zip(atoms::each(spare)) {
+        pilots[t] = atoms::single(atom);
     }
     pilots
 }

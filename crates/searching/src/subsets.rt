@@ -5,27 +5,25 @@ ghost use Rattle.atoms.specs.Word.{ATOMS};
 ghost use Rattle.answer_sets.specs.Lent.{lent, Lent};
 ghost use Rattle.answer_sets.specs.Memo.{Memo};
 ghost use Rattle.answer_sets.specs.SubsetTest.{Confines, Finds};
-ghost use Rattle.answer_sets.specs.Test.{SubsetTested, SmallerSet, answer_set, RefutedBy};
+ghost use Rattle.answer_sets.specs.Test.{answer_set, RefutedBy};
 ghost use Rattle.states.specs.Narrowing.{Narrows, Wanted, branch_of};
 ghost use Rattle.learning.specs.Reason.{Remembers};
-ghost use Rattle.propagating.specs.Desk.{Prepared, Wired};
+ghost use Rattle.propagating.specs.Context.{WiredIn};
 ghost use Rattle.searching.specs.Models.{ModelJob, models_of, Asks};
 ghost use Rattle.searching.specs.Witness.{Witnessed};
 
 use crate::enter::enter;
 use crate::node::root;
 use crate::seek::seek;
-use crate::witness::Witness;
-use answer_sets::Judged;
-use answer_sets::memo::write_memo;
-use answer_sets::reduct::{all_satisfied, kept_rules};
-use answer_sets::smaller::{Smaller, UNBOUNDED, is_told, none_smaller, open_test, some_between};
+use answer_sets::smaller::{Smaller, UNBOUNDED, none_smaller, some_between};
+use answer_sets::{Judged, judge_set_by};
 use atoms::EVERY_ATOM;
 use joining::filter::FILTER_WORDS;
 use learning::store::empty_store;
 use plan::{MAX_TABLES, MAX_UNITS};
 use propagating::Job;
 use propagating::agenda::every_step;
+use propagating::context::Context;
 use propagating::desk::lay_out;
 use propagating::front::Front;
 use propagating::propagate::propagate;
@@ -36,10 +34,9 @@ const FEW: u64 = 16;
 
 // What is answered to a question for an atom: a set without it, or what is known of all sets where there is none.
 #[derive(Clone, Copy)]
-pub struct WithoutAtom {
-    pub found: bool,
-    pub set: u64,
-    pub state: State,
+pub enum WithoutAtom {
+    Set(u64),
+    Known(State),
 }
 
 // The job: to satisfy these rules.
@@ -67,117 +64,90 @@ fn front_of(job: Job, s: State) -> Front
 }
 
 // A position that satisfies the rules and completes the state, or that there is none.
-fn find_model(
-    rules: &[u64],
-    table: &[u64],
-    counts: &[usize],
-    desk: &[u64],
-    memory: &mut [u64],
-    job: Job,
-    s: State,
-) -> Witness
-    requires { Prepared rules.now table.now counts.now desk.now job × ModelJob desk.now job
-        × Remembers (Wired rules.now table.now counts.now desk.now job) memory.old }
-    ensures witnessed { Witnessed (Wanted (Wired rules.now table.now counts.now desk.now job) s) result }
-    ensures remembers { Remembers (Wired rules.now table.now counts.now desk.now job)
-        memory.new }
+fn find_model(cx: &Context<'_>, memory: &mut [u64], s: State) -> Option<u64>
+    requires { ModelJob cx.now.desk.now cx.now.unit × Remembers (WiredIn cx.now) memory.old }
+    ensures witnessed { Witnessed (Wanted (WiredIn cx.now) s) result }
+    ensures remembers { Remembers (WiredIn cx.now) memory.new }
 {
     let mut filter = [0u64; FILTER_WORDS];
-    let branch = root(job, 0, front_of(job, s), s);
-    let node = enter(rules, table, counts, desk, memory, &mut filter, branch);
-    let found = seek(rules, table, counts, desk, memory, node);
-    let witness = found.witness;
-    witness
+    let branch = root(0, front_of(cx.unit, s), s);
+    let node = enter(cx, memory, &mut filter, branch);
+    let found = seek(cx, memory, node);
+    found.witness
 }
 
 // What the steps tell of the positions that satisfy the rules and complete the state.
-fn settled(
-    rules: &[u64],
-    table: &[u64],
-    counts: &[usize],
-    desk: &[u64],
-    memory: &mut [u64],
-    job: Job,
-    s: State,
-) -> State
-    requires { Prepared rules.now table.now counts.now desk.now job × ModelJob desk.now job
-        × Remembers (Wired rules.now table.now counts.now desk.now job) memory.old }
-    ensures narrows { Narrows (Wired rules.now table.now counts.now desk.now job) s result }
-    ensures remembers { Remembers (Wired rules.now table.now counts.now desk.now job)
-        memory.new }
+fn settled(cx: &Context<'_>, memory: &mut [u64], s: State) -> State
+    requires { ModelJob cx.now.desk.now cx.now.unit × Remembers (WiredIn cx.now) memory.old }
+    ensures narrows { Narrows (WiredIn cx.now) s result }
+    ensures remembers { Remembers (WiredIn cx.now) memory.new }
 {
     let mut filter = [0u64; FILTER_WORDS];
-    let front = front_of(job, s);
-    let f = propagate(rules, table, counts, desk, job, memory, &mut filter, front);
+    let front = front_of(cx.unit, s);
+    let f = propagate(cx, memory, &mut filter, front);
     f.state
 }
 
 // Whether some position without the atom satisfies the rules and completes the state, and one that does; else what then is known of all that complete it.
-fn ask_without(
-    rules: &[u64],
-    table: &[u64],
-    counts: &[usize],
-    desk: &[u64],
-    memory: &mut [u64],
-    job: Job,
-    t: State,
-    i: usize,
-) -> WithoutAtom
-    requires { Prepared rules.now table.now counts.now desk.now job × ModelJob desk.now job
-        × Remembers (Wired rules.now table.now counts.now desk.now job) memory.old × (i < ATOMS) }
-    ensures asks { Asks (Wired rules.now table.now counts.now desk.now job) t i result }
-    ensures remembers { Remembers (Wired rules.now table.now counts.now desk.now job)
-        memory.new }
+fn ask_without(cx: &Context<'_>, memory: &mut [u64], t: State, i: usize) -> WithoutAtom
+    requires { ModelJob cx.now.desk.now cx.now.unit × Remembers (WiredIn cx.now) memory.old × (i < ATOMS) }
+    ensures asks { Asks (WiredIn cx.now) t i result }
+    ensures remembers { Remembers (WiredIn cx.now) memory.new }
 {
     let lowered = decide(t, i, false);
-    let met = find_model(rules, table, counts, desk, memory, job, lowered);
-    match met {
-        Witness::Member(m) => WithoutAtom {
-            found: true,
-            set: m,
-            state: t,
-        },
-        Witness::Nothing => {
+    match find_model(cx, memory, lowered) {
+        Some(m) => WithoutAtom::Set(m),
+        None => {
             let raised = decide(t, i, true);
-            let state = settled(rules, table, counts, desk, memory, job, raised);
-            WithoutAtom {
-                found: false,
-                set: 0,
-                state,
-            }
+            WithoutAtom::Known(settled(cx, memory, raised))
         },
     }
 }
 
-// Whether some completion of the state is a proper subset of the position and satisfies each rule of the word, and one that does: each atom of the
-// position that is not known to be in all of them is asked for.
+// Whether some completion of the state is a proper subset of the position and satisfies the rules, and one that does: each atom of the position that is not
+// known to be in all of them is asked for.
+fn seek_each(cx: &Context<'_>, memory: &mut [u64], position: u64, s: State) -> Smaller
+    requires { ModelJob cx.now.desk.now cx.now.unit × Remembers (WiredIn cx.now) memory.old × Confines position s.dropped }
+    ensures { Finds (lent cx.now.rules.now) cx.now.unit.rules position s result.found result.set }
+{
+    let mut t = s;
+    for i in atoms::each(position) {
+        if atoms::is_subset(atoms::single(i), t.up) {
+            continue;
+        }
+        match ask_without(cx, memory, t, i) {
+            WithoutAtom::Set(set) => {
+                return Smaller {
+                    found: true,
+                    set,
+                    left: UNBOUNDED,
+                };
+            },
+            WithoutAtom::Known(known) => t = known,
+        }
+    }
+    none_smaller(UNBOUNDED)
+}
+
+// The same for the rules of a word, with nothing learnt yet.
 fn seek_between(rules: &[u64], which: u64, position: u64, s: State) -> Smaller
     requires { Lent rules.now which × Confines position s.dropped }
     ensures { Finds (lent rules.now) which position s result.found result.set }
 {
-    let job = models_of(which);
+    let unit = models_of(which);
     let table = [0u64; 0];
     let counts = [0usize; MAX_UNITS];
     let heads = [0u64; MAX_UNITS];
     let pilots = [0u64; MAX_TABLES];
-    let desk = lay_out(rules, &heads, &pilots, job, 0);
-    let mut memory = empty_store();
-    let mut t = s;
-    let mut rest = atoms::without(position, s.up);
-    while rest != 0 {
-        let i = atoms::lowest(rest);
-        let asked = ask_without(rules, &table, &counts, &desk, &mut memory, job, t, i);
-        if asked.found {
-            return Smaller {
-                found: true,
-                set: asked.set,
-                left: UNBOUNDED,
-            };
-        }
-        t = asked.state;
-        rest = atoms::without(position, t.up);
-    }
-    none_smaller(UNBOUNDED)
+    let desk = lay_out(rules, &heads, &pilots, unit, 0);
+    let cx = Context {
+        rules,
+        table: &table,
+        counts: &counts,
+        desk: &desk,
+        unit,
+    };
+    seek_each(&cx, &mut empty_store(), position, s)
 }
 
 // The same, by the plain test, or where that takes more than a few branchings by the one that learns.
@@ -192,25 +162,6 @@ fn smaller_between(rules: &[u64], which: u64, position: u64, s: State) -> Smalle
     seek_between(rules, which, position, s)
 }
 
-// Whether some proper subset of the position has all the facts and satisfies each rule of the word, and one that does.
-fn some_smaller(rules: &[u64], which: u64, facts: u64, position: u64, memo: &mut [u64]) -> Smaller
-    requires { Lent rules.now which × Memo rules.now memo.old }
-    ensures tested { SubsetTested (lent rules.now) which facts position result.found }
-    ensures set { SmallerSet (lent rules.now) which facts position result.found result.set }
-    ensures memo { Memo rules.now memo.new }
-{
-    let p = open_test(rules, which, facts, position);
-    if is_told(rules, memo, position, p) {
-        return none_smaller(UNBOUNDED);
-    }
-    let smaller = smaller_between(rules, p.left, position, p.state);
-    if smaller.found {
-        return smaller;
-    }
-    write_memo(memo, p);
-    smaller
-}
-
 // Whether the position is an answer set of the rules numbered in `which` with the facts added, and what shows that it is none: as `answer_sets` has it,
 // by the subset test that learns.
 pub fn judge_leaf(rules: &[u64], which: u64, facts: u64, position: u64, memo: &mut [u64]) -> Judged
@@ -219,22 +170,7 @@ pub fn judge_leaf(rules: &[u64], which: u64, facts: u64, position: u64, memo: &m
     ensures refuted { RefutedBy (lent rules.now) which facts position result.answers result.smaller }
     ensures memo { Memo rules.now memo.new }
 {
-    if !atoms::is_subset(facts, position) {
-        return Judged {
-            answers: false,
-            smaller: position,
-        };
-    }
-    let kept = kept_rules(rules, which, position);
-    if !all_satisfied(rules, kept, position) {
-        return Judged {
-            answers: false,
-            smaller: position,
-        };
-    }
-    let smaller = some_smaller(rules, kept, facts, position, memo);
-    Judged {
-        answers: !smaller.found,
-        smaller: smaller.set,
-    }
+    judge_set_by(rules, which, facts, position, memo, |left, s| {
+        smaller_between(rules, left, position, s)
+    })
 }

@@ -1,14 +1,12 @@
-use Rattle.explaining.proofs.Prelude.{subset_refl, taken_less, taken_within, taken_lent, needs}
+use Rattle.explaining.proofs.Prelude.{subset_refl, taken_within, taken_lent}
+use Rattle.atoms.proofs.EachAtom.{each_of}
 use Rattle.explaining.proofs.reasons.excluding.Goals as goal
 
-pub loop-rest-init : goal.loop-rest-init
-loop-rest-init c = subset_refl
+pub loop-rule-init : goal.loop-rule-init
+loop-rule-init c = rw (each_of c.into_iter-rule-iterator.ensures.into_iter_gives c.each-rule-items.ensures) subset_refl
 
 pub excluded_by-seen-requires : goal.excluded_by-seen-requires
-excluded_by-seen-requires c = c.requires.each _ (taken_lent c.loop-rest.invariant c.lowest-rule.ensures.0)
+excluded_by-seen-requires c = c.requires.each _ (taken_lent c.loop-rule.invariant c.in-Some.ensures.steps.lowest)
 
-pub loop-rest-smaller : goal.loop-rest-smaller
-loop-rest-smaller c = search (taken_less, needs)
-
-pub loop-rest-preserved : goal.loop-rest-preserved
-loop-rest-preserved c = search (taken_within, needs)
+pub loop-rule-preserved : goal.loop-rule-preserved
+loop-rule-preserved c = taken_within c.loop-rule.invariant c.in-Some.ensures.steps.lowest c.in-Some.ensures.steps.less

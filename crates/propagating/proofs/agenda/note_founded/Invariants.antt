@@ -1,9 +1,6 @@
--- The loop adds what each rule wakes. The measure is how many are left.
-use Rattle.propagating.proofs.Prelude.{◌≡◌, ones, atom, Adding, FOUNDED_PLACE, WakesFounded}
+-- The loop adds what each rule wakes.
+use Rattle.propagating.proofs.Prelude.{◌≡◌, atom, Adding, FOUNDED_PLACE, WakesFounded}
 use Rattle.propagating.proofs.agenda.note_founded.Given as goal
 
-abbrev pub invariant-loop-rest : goal.invariant-loop-rest
-invariant-loop-rest l = Adding (WakesFounded l.rules l.looped) l.which l.rest l.initial.index l.index × (l.founded ≡ atom FOUNDED_PLACE)
-
-abbrev pub decreases-loop-rest : goal.decreases-loop-rest
-decreases-loop-rest l = ones l.rest
+abbrev pub invariant-loop-rule : goal.invariant-loop-rule
+invariant-loop-rule l = Adding (WakesFounded l.fn.rules l.fn.looped) l.fn.which l.rule-iterator.rest l.initial.index l.index × (l.founded ≡ atom FOUNDED_PLACE)

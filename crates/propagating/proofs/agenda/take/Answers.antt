@@ -8,11 +8,5 @@ returns-then-a-ne0 c = record { less = omega (arith, taken_less c.lowest-rule.en
 pub returns-then-a-ne0-2 : goal.returns-then-a-ne0-2
 returns-then-a-ne0-2 c = record { less = omega (arith, taken_less c.lowest-atom.ensures.0 c.drop-then-a-ne0-2.ensures) }
 
-pub lowest-other-requires : goal.lowest-other-requires
-lowest-other-requires c =
-    λ e.
-    c.requires
-    (record { rules = c.if-a-ne0.false; supports = c.if-a-ne0-2.false; others = e })
-
 pub returns : goal.returns
 returns c = record { less = omega (arith, taken_less c.lowest-other.ensures.0 c.drop-2.ensures) }

@@ -5,11 +5,8 @@ use Rattle.propagating.proofs.propagate.propagate.Goals as goal
 pub loop-i-init : goal.loop-i-init
 loop-i-init c = search (narrows_refl, needs)
 
-pub take_pair-f-requires : goal.take_pair-f-requires
-take_pair-f-requires c = (
-  c.requires.0.long,
-  search needs,
-)
+pub returns-then-i-ge-RING : goal.returns-then-i-ge-RING
+returns-then-i-ge-RING c = search (narrows_trans, remembers_same, needs)
 
 pub loop-i-preserved : goal.loop-i-preserved
 loop-i-preserved c =
@@ -17,5 +14,6 @@ loop-i-preserved c =
       narrows_trans c.loop-i.invariant.0 (narrows_trans c.run_agenda-f.ensures.narrows (remembered_narrows known c.take_pair-f.ensures.narrows)),
       search (filtered_narrows, needs),
       remembers_keeps known known.avoids c.take_pair-f.ensures.keeps,
+      search needs,
       search needs,
     )

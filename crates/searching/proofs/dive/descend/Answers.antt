@@ -4,17 +4,16 @@ use Rattle.searching.proofs.dive.descend.Goals as goal
 
 pub returns-in_default : goal.returns-in_default
 returns-in_default c = record {
-  filtered = filtered_overlap c.args.f.state c.halted.ensures.overlaps c.requires.2;
-  remembers = c.requires.1;
+  filtered = filtered_overlap c.args.f.state c.halted.ensures.overlaps c.requires.1;
+  remembers = c.requires.0;
   onward = ended c.halted.ensures.overlaps;
-  falls = none_falls c.requires.3 c.halted.ensures.decided;
+  falls = none_falls c.requires.2 c.halted.ensures.decided;
 }
 
 pub propagate-requires : goal.propagate-requires
 propagate-requires c = (
   c.requires.0,
-  c.requires.1,
-  filtered_branch c.args.f.state c.in-Open.i c.phase_of-phase.result c.branched-below.ensures c.requires.2,
+  filtered_branch c.args.f.state c.in-Open.i c.phase_of-phase.result c.branched-below.ensures c.requires.1,
 )
 
 pub returns-clause-onward : goal.returns-clause-onward

@@ -5,14 +5,12 @@ use Rattle.searching.proofs.find.find.Goals as goal
 
 pub enter-node-requires : goal.enter-node-requires
 enter-node-requires c =
-    rw c.root-branch.ensures (
-      c.requires.0,
-      c.requires.1,
-      full_filtered _ _ _ _ _ _ (joinable_some c.requires.0.searchable.near c.requires.0.searchable.joinable) c.full_filter-filter.ensures,
-    )
+    let cx = c.args.cx.now in
+    rw c.root-branch.ensures
+    (c.requires, full_filtered _ _ _ _ _ _ (joinable_some cx.searchable.near cx.searchable.joinable) c.full_filter-filter.ensures)
 
 pub explore-found-requires : goal.explore-found-requires
-explore-found-requires c = entered_ready c.root-branch.ensures c.enter-node.ensures c.requires.0 zeros_ordered (c.blank_memo-memo.ensures.memo _)
+explore-found-requires c = entered_ready c.root-branch.ensures c.enter-node.ensures zeros_ordered (c.blank_memo-memo.ensures.memo _)
 
 pub returns-clause-witnessed : goal.returns-clause-witnessed
 returns-clause-witnessed c =

@@ -1,5 +1,6 @@
 -- An overlap; nothing undecided; or what the choice says.
 use Rattle.searching.proofs.Prelude.{sym, ◌∙◌, inl, inr, decides_apart}
+use Rattle.propagating.proofs.Propagation.{linked_lent}
 use Rattle.searching.proofs.outlook.outlook_of.Goals as goal
 
 pub returns-then-not-are_apart : goal.returns-then-not-are_apart
@@ -10,6 +11,9 @@ returns-then-free-eq0 c = (
   (decides_apart _ _).yes (sym c.are_apart.ensures ∙ c.if-not-are_apart.false),
   sym c.undecided-free.ensures ∙ c.if-free-eq0.true,
 )
+
+pub pick-choice-requires : goal.pick-choice-requires
+pick-choice-requires c = (c.args.cx.now.searchable.rules_lent, linked_lent c.args.cx.now, c.requires, c.if-free-eq0.false)
 
 pub returns-in-Stop : goal.returns-in-Stop
 returns-in-Stop c =

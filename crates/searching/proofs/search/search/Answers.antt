@@ -11,26 +11,25 @@ lay_out-desk-requires c =
     rw c.with_inputs-piloted.ensures (pre.rules_lent, pre.joinable.heads_long, (joinable_some pre.near pre.joinable).few)
 
 -- all that the search looks at is prepared
+pub invariant_of-cx : goal.invariant_of-cx
+invariant_of-cx c =
+    let p = piloted_ready c.with_inputs-piloted.ensures c.all_of-all.ensures c.requires.0 c.lay_out-desk.ensures in
+    record { numbered = omega arith; searchable = p.searchable; backed = p.backed; linked = ∣ p.linked ∣₁; within = p.within; long = p.long }
+
 pub begin-f-requires : goal.begin-f-requires
 begin-f-requires c =
     let all = piloted_ready c.with_inputs-piloted.ensures c.all_of-all.ensures c.requires.0 c.lay_out-desk.ensures in (
-      all,
       remembers_empty c.empty_store-memory.ensures,
       full_filtered _ _ _ _ _ _ (joinable_some all.searchable.near all.searchable.joinable) c.full_filter-filter.ensures,
     )
 
 pub enter-node-requires : goal.enter-node-requires
 enter-node-requires c =
-    rw c.root-start.ensures (
-      piloted_ready c.with_inputs-piloted.ensures c.all_of-all.ensures c.requires.0 c.lay_out-desk.ensures,
-      c.begin-f.ensures.remembers,
-      c.begin-f.ensures.filtered,
-    )
+    rw c.root-start.ensures (c.begin-f.ensures.remembers, c.begin-f.ensures.filtered)
 
 pub explore-requires : goal.explore-requires
 explore-requires c =
-    entered_ready c.root-start.ensures c.enter-node.ensures
-    (piloted_ready c.with_inputs-piloted.ensures c.all_of-all.ensures c.requires.0 c.lay_out-desk.ensures) c.requires.1 (c.blank_memo-memo.ensures.memo _)
+    entered_ready c.root-start.ensures c.enter-node.ensures c.requires.1 (c.blank_memo-memo.ensures.memo _)
 
 -- rule numbers and pilots are bits of words
 pub returns : goal.returns

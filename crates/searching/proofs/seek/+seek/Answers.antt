@@ -1,14 +1,14 @@
 -- Each return is a case of the calculus, as in `explore`.
-use Rattle.searching.proofs.Prelude.{refl, sym, ◌∙◌, not, ◌<◌, ◌^◌, arith, ATOMS, decided_falls}
+use Rattle.searching.proofs.Prelude.{refl, sym, ◌∙◌, not, decided_falls}
 use Rattle.searching.proofs.Face.{belongs_answers, enough_met, nothing_wanted, sought_stop, sought_leaf, sought_met, sought_skip}
 use Rattle.searching.proofs.Face.{sought_both, sought_handed, is_stop, is_leaf, is_open, entered_job, sought_branch}
 use Rattle.searching.proofs.seek.+seek.Goals as goal
 
 pub seek-first-requires : goal.seek-first-requires
 seek-first-requires t c =
-    let free = is_open _ _ c.in-Open.is c.requires.2 in (
+    let free = is_open _ _ c.in-Open.is c.requires.1 in (
       rw c.decreases at (decided_falls c.args.node.front.state c.phase_of-phase.result free.0 c.below-one.ensures.decided c.enter-here.ensures.narrows),
-      entered_job c.below-one.ensures.same c.enter-here.ensures c.requires.0 c.requires.3,
+      entered_job c.below-one.ensures.same c.enter-here.ensures c.requires.2,
     )
 
 pub returns-then-is_enough : goal.returns-then-is_enough
@@ -25,21 +25,20 @@ returns-then-lies_within t c =
 
 pub seek-second-requires : goal.seek-second-requires
 seek-second-requires t c =
-    let free = is_open _ _ c.in-Open.is c.requires.2 in (
+    let free = is_open _ _ c.in-Open.is c.requires.1 in (
       rw c.decreases at
           (decided_falls c.args.node.front.state (not c.phase_of-phase.result) free.0 c.below-other.ensures.decided c.enter-there.ensures.narrows),
-      entered_job c.below-other.ensures.same c.enter-there.ensures c.requires.0 c.requires.3,
+      entered_job c.below-other.ensures.same c.enter-there.ensures c.requires.2,
     )
 
 pub returns-in-Stop : goal.returns-in-Stop
 returns-in-Stop t c =
-    let fits : c.args.node.unit.rules < 2 ^ ATOMS = omega arith in
-    sought_stop (nothing_wanted (λ M w. belongs_answers _ _ _ _ _ fits M w.belongs) (is_stop _ _ c.in-Stop.is c.requires.2))
+    sought_stop (nothing_wanted (λ M w. belongs_answers _ _ _ _ _ c.args.cx.now.numbered M w.belongs) (is_stop _ _ c.in-Stop.is c.requires.1))
     c.halt.ensures.is c.halt.ensures.remembers c.halt.ensures.nogood
 
 pub returns-in-Leaf : goal.returns-in-Leaf
 returns-in-Leaf t c =
-    sought_leaf 0 (λ M w. w.belongs.word) (is_leaf _ _ c.in-Leaf.is c.requires.2) c.settle.ensures.witnessed c.requires.1 c.settle.ensures.nogood
+    sought_leaf 0 (λ M w. w.belongs.word) (is_leaf _ _ c.in-Leaf.is c.requires.1) c.settle.ensures.witnessed c.requires.0 c.settle.ensures.nogood
 
 pub returns-else-lies_within : goal.returns-else-lies_within
 returns-else-lies_within t c =

@@ -1,8 +1,5 @@
-use Rattle.searching.proofs.Prelude.{taken_less, taken_within}
+use Rattle.searching.proofs.Prelude.{taken_within}
 use Rattle.searching.proofs.spare.all_atoms.Goals as goal
 
-pub loop-rest-smaller : goal.loop-rest-smaller
-loop-rest-smaller c = taken_less c.lowest-rule.ensures.0 c.drop-rest.ensures
-
-pub loop-rest-preserved : goal.loop-rest-preserved
-loop-rest-preserved c = taken_within c.loop-rest.invariant c.lowest-rule.ensures.0 c.drop-rest.ensures
+pub loop-rule-preserved : goal.loop-rule-preserved
+loop-rule-preserved c = search (taken_within, c.in-Some.ensures)

@@ -1,9 +1,6 @@
--- The measure is how many rules are left.
-use Rattle.searching.proofs.Prelude.{ones, ◌⊆◌}
+-- The rules that are left are rules of the word.
+use Rattle.searching.proofs.Prelude.{◌⊆◌}
 use Rattle.searching.proofs.spare.all_atoms.Given as goal
 
-abbrev pub invariant-loop-rest : goal.invariant-loop-rest
-invariant-loop-rest l = l.rest ⊆ l.which
-
-abbrev pub decreases-loop-rest : goal.decreases-loop-rest
-decreases-loop-rest l = ones l.rest
+abbrev pub invariant-loop-rule : goal.invariant-loop-rule
+invariant-loop-rule l = l.rule-iterator.rest ⊆ l.fn.which

@@ -1,6 +1,6 @@
--- The measure is how many tables are left.
-use Rattle.searching.proofs.Prelude.{ones}
+-- The tables that are left are tables of the word.
+use Rattle.searching.proofs.Prelude.{◌⊆◌}
 use Rattle.searching.proofs.spare.propose.Given as goal
 
-abbrev pub decreases-loop-left : goal.decreases-loop-left
-decreases-loop-left l = ones l.left
+abbrev pub invariant-loop-t : goal.invariant-loop-t
+invariant-loop-t l = l.t-iterator.a.rest ⊆ l.fn.tables

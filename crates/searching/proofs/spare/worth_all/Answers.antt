@@ -1,8 +1,9 @@
-use Rattle.searching.proofs.Prelude.{taken_less, taken_within}
+use Rattle.searching.proofs.Prelude.{taken_within, union_fits, MAX_TABLES}
 use Rattle.searching.proofs.spare.worth_all.Goals as goal
 
-pub loop-rest-smaller : goal.loop-rest-smaller
-loop-rest-smaller c = taken_less c.lowest-rule.ensures.0 c.drop-rest.ensures
-
-pub loop-rest-preserved : goal.loop-rest-preserved
-loop-rest-preserved c = taken_within c.loop-rest.invariant c.lowest-rule.ensures.0 c.drop-rest.ensures
+pub loop-rule-preserved : goal.loop-rule-preserved
+loop-rule-preserved c =
+    let t = c.in-Some.ensures.steps in (
+      taken_within c.loop-rule.invariant.0 t.lowest t.less,
+      rw c.union-tables.ensures (union_fits _ _ MAX_TABLES c.loop-rule.invariant.1 c.worth_of.ensures),
+    )

@@ -6,4 +6,4 @@ pub returns-then-x-eq0-clause-nogood : goal.returns-then-x-eq0-clause-nogood
 returns-then-x-eq0-clause-nogood c = overlap_nogood c.everything.ensures.overlaps
 
 pub stop-requires : goal.stop-requires
-stop-requires c = (c.requires.0, remembers_same (remembers_same c.requires.1 c.note_unfounded.ensures.same) c.note_step-top.ensures.same)
+stop-requires c = remembers_same (remembers_same c.requires c.note_unfounded.ensures.same) c.note_step-top.ensures.same

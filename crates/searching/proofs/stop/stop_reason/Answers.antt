@@ -6,4 +6,4 @@ pub returns-then-at-ge-STEPS : goal.returns-then-at-ge-STEPS
 returns-then-at-ge-STEPS c = overlap_nogood c.everything.ensures.overlaps
 
 pub returns : goal.returns
-returns c = reason_nogood c.requires.1 c.explain.ensures c.everything-goal.ensures.overlaps
+returns c = reason_nogood c.requires c.explain.ensures c.everything-goal.ensures.overlaps

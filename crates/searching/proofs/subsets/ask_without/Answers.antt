@@ -2,10 +2,9 @@
 use Rattle.searching.proofs.Face.{asks_found, asks_none}
 use Rattle.searching.proofs.subsets.ask_without.Goals as goal
 
-pub returns-in-Member-clause-asks : goal.returns-in-Member-clause-asks
-returns-in-Member-clause-asks c = asks_found c.args.i c.decide-lowered.ensures (rw c.in-Member.is at c.find_model-met.ensures.witnessed)
+pub returns-in-Some-clause-asks : goal.returns-in-Some-clause-asks
+returns-in-Some-clause-asks c = asks_found c.args.t c.args.i c.decide-lowered.ensures c.in-Some.ensures.witnessed
 
-pub returns-in-Nothing-clause-asks : goal.returns-in-Nothing-clause-asks
-returns-in-Nothing-clause-asks c =
-    asks_none c.args.i c.decide-lowered.ensures (rw c.in-Nothing.is at c.find_model-met.ensures.witnessed) c.decide-raised.ensures
-    c.settled-state.ensures.narrows
+pub returns-in-None-clause-asks : goal.returns-in-None-clause-asks
+returns-in-None-clause-asks c =
+    asks_none c.args.t c.args.i c.decide-lowered.ensures c.in-None.ensures.witnessed c.decide-raised.ensures c.settled.ensures.narrows
