@@ -10,26 +10,23 @@ use Rattle.atoms.proofs.Lists.{member_get_or, index_of}
 use Rattle.plan.specs.Record.{Fitting}
 use Rattle.plan.specs.declared.record.Plan.{Plan}
 use Rattle.plan.specs.declared.fault.Fault.{Fault}
-use Rattle.plan.specs.declared.fault.Outcome.TheVariants.{Accepted, Refused as RefusedWith}
-use Rattle.reading.specs.Reading.{reading}
-use Rattle.reading.specs.declared.reader.ReadPlan.{ReadPlan}
+use Rattle.plan.specs.Faults.{Accepted}
+use Rattle.reading.specs.Reading.{accepted, reading, refused}
 use Rattle.plan_meaning.specs.Settled.{Settles, settled}
 use Rattle.judge.specs.JudgedSheets.{MAX_POSITIONS, bad_bytes, positions_in, position_at, Laid, SheetJudged, PlacesRight as SheetRight, all_settled, first_not}
-use Rattle.judge.specs.JudgedSheets.{sheet_code}
-use Rattle.judge.specs.declared.sheet.SheetAnswer.{SheetAnswer}
+use Rattle.judge.specs.JudgedSheets.{SheetAnswer, sheet_code, unread}
+use Rattle.judge.specs.declared.sheet.SheetFault.TheVariants.{BadSheet}
 use Rattle.judge.proofs.Settled.{decides_settled}
 use Rattle.judge.proofs.JudgedSheets.{decides_no_sheet, laid_count, laid_at, sheet_laid, bad_answered, sheet_answered}
-use Rattle.searching.specs.declared.witness.Witness.{Witness}
-use Rattle.searching.specs.declared.witness.Witness.TheVariants.{Member, Nothing}
 use Rattle.finding.specs.Least.{LeastOf, least, none as no-least, from_start}
 use Rattle.finding.specs.Gather.{Added, Sought}
-use Rattle.finding.specs.declared.least.From.TheVariants.{Start}
 use Rattle.finding.proofs.Leasts.{least_only, lowest_met, lowest_missed}
 use Rattle.stepping.specs.Followed.{may_be_up}
 use Rattle.stepping.proofs.Nexts.{may_be_up_lem}
-use Rattle.auditing.specs.Audit.{OnSheet, WordsRead, on_sheet, lacking, missing_in, IsFull, AuditRight, is_full, lacks_first, Audited}
-use Rattle.auditing.specs.declared.Audit.{Audit}
-use Rattle.auditing.specs.declared.Audit.TheVariants.{Full, Lacks, Refused, BadSheet}
+use Rattle.auditing.specs.Audit.{OnSheet, WordsRead, on_sheet, lacking, missing_in, IsFull, AuditRight, is_full, lacks_first, Audited, Audit, lack_of}
+use Rattle.std.specs.declared.option.Option.{Option}
+use Rattle.std.specs.declared.option.Option.TheVariants.{None, Some}
+use Rattle.std.specs.declared.result.Result.TheVariants.{Err, Ok}
 
 -- ---- the words of a sheet
 
@@ -70,23 +67,18 @@ module _ {sheet words : List ℕ} {count : ℕ} (w : WordsRead sheet words count
 
   -- all that are sought from the start are those that are not on the sheet
   pub added_missing : (p : Plan) {before after : List ℕ} {r : ℕ}
-      → Added (λ M. Settles p M × Sought Start (take (count - 0) (drop 0 words)) M) before 0 after r
+      → Added (λ M. Settles p M × Sought None (take (count - 0) (drop 0 words)) M) before 0 after r
       → Added (λ M. Settles p M × ¬ OnSheet sheet M) before 0 after r
   added_missing p {before} {after} {r} a =
       added_iff (λ M q. (q.0, λ o. q.1.new (on_words M o)))
       (λ M q. (q.0, record { behind = from_start; new = λ h. q.1 (words_on M h) }))
-      (subst (λ (l : List ℕ). Added (λ M. Settles p M × Sought Start l M) before 0 after r) part_is a)
+      (subst (λ (l : List ℕ). Added (λ M. Settles p M × Sought None l M) before 0 after r) part_is a)
 
 -- what is a sheet has at most 256 positions
 pub sheet_few : (sheet : List ℕ) {t : Bool} → t ≡ bad_bytes (length sheet) → t ≡ false → positions_in sheet ≤ MAX_POSITIONS
 sheet_few sheet t b = let n : ¬ (MAX_POSITIONS < positions_in sheet) = λ l. (decides_no_sheet sheet).no (sym t ∙ b) (inl l) in omega arith
 
 -- ---- the definition, by what is the least that is missing
-
--- what was found, as an answer
-abbrev audit_of : Witness → Audit
-audit_of (Member M) = Lacks M
-audit_of Nothing = Full
 
 decides_on_sheet : (sheet : List ℕ) (M : ℕ) → Decides (OnSheet sheet M) (on_sheet sheet M)
 decides_on_sheet sheet M =
@@ -101,7 +93,7 @@ module _ (p : Plan) (fits : Fitting p) (sheet : List ℕ) where
       go true d = decides false (λ e. absurd (false≢true e)) (λ q. absurd (q.1 (d.yes refl)))
       go false d = decides (settled p M) (λ e. ((decides_settled p M fits).yes e, d.no refl)) (λ q. decided_true (decides_settled p M fits) q.0)
 
-  missing_is : {w : Witness} → LeastOf (λ M. Settles p M × ¬ OnSheet sheet M) w → audit_of w ≡ missing_in p sheet
+  missing_is : {w : Option ℕ} → LeastOf (λ M. Settles p M × ¬ OnSheet sheet M) w → w ≡ missing_in p sheet
   unfolding missing_in
   missing_is {w} k = go (ltb M top) refl
     where
@@ -111,10 +103,10 @@ module _ (p : Plan) (fits : Fitting p) (sheet : List ℕ) where
       M : ℕ
       M = lowest top (lacking p sheet)
 
-      go : (b : Bool) → ltb M top ≡ b → audit_of w ≡ (elim b [ true ↦ Lacks M | false ↦ Full ])
-      go true e = ap audit_of (least_only k (lowest_met (lacking p sheet) top decides_lacking (ltb-true M top e)))
+      go : (b : Bool) → ltb M top ≡ b → w ≡ (elim b [ true ↦ Some M | false ↦ None ])
+      go true e = least_only k (lowest_met (lacking p sheet) top decides_lacking (ltb-true M top e))
       go false e =
-          ap audit_of (least_only k (lowest_missed (lacking p sheet) top decides_lacking (ltb-false M top e) (λ N q. may_be_up_lem p N q.0)))
+          least_only k (lowest_missed (lacking p sheet) top decides_lacking (ltb-false M top e) (λ N q. may_be_up_lem p N q.0))
 
 -- ---- what the answer means
 
@@ -129,7 +121,7 @@ module _ {ps sheet : List ℕ} (laid : Laid ps sheet) where
       let p = index_of ps M m in
       record { place = p.0; within = omega (arith, laid_count laid, p.1); is = laid_at laid p.0 p.1 ∙ p.2 }
 
-  found_right : {p : Plan} {w : Witness} → LeastOf (λ N. Settles p N × ¬ OnSheet sheet N) w → AuditRight p ps (audit_of w)
+  found_right : {p : Plan} {w : Option ℕ} → LeastOf (λ N. Settles p N × ¬ OnSheet sheet N) w → AuditRight p ps (Ok w)
   found_right (least {M = M} q l) = lacks_first (record {
     settles = q.0;
     missing = λ a. q.1 (listed_on M a);
@@ -143,42 +135,32 @@ module _ {ps sheet : List ℕ} (laid : Laid ps sheet) where
 
 -- ---- the answers of the code, from what reading, the test of the sheet and the search gave
 
-module _ (bytes sheet : List ℕ) (small : All IsByte sheet) {r : ReadPlan} (read : r ≡ reading bytes) where
-  pub refused_audited : {f : Fault} → r.outcome ≡ RefusedWith f → Audited bytes sheet (Refused f)
-  refused_audited o = record { answered = refused_answered bytes read o refl; laid = sheet_laid sheet small }
+module _ (bytes sheet : List ℕ) (small : All IsByte sheet) where
+  pub refused_audited : {f : Fault} → refused f ≡ reading bytes → Audited bytes sheet (unread f)
+  refused_audited read = record { answered = refused_answered bytes read refl refl; laid = sheet_laid sheet small }
 
-  pub bad_audited : {t : Bool} → r.outcome ≡ Accepted → t ≡ bad_bytes (length sheet) → t ≡ true → Audited bytes sheet BadSheet
-  bad_audited o t b = record { answered = bad_answered bytes sheet read o t missing_in b; laid = sheet_laid sheet small }
+  module _ {p : Plan} {t : Bool} (read : accepted p ≡ reading bytes) (bad-is : t ≡ bad_bytes (length sheet)) where
+    pub bad_audited : t ≡ true → Audited bytes sheet (Err BadSheet)
+    bad_audited b = record { answered = bad_answered bytes sheet read refl bad-is lack_of b; laid = sheet_laid sheet small }
 
-  module _ {t : Bool} {w : Witness} (o : r.outcome ≡ Accepted) (bad-is : t ≡ bad_bytes (length sheet)) (b : t ≡ false)
-      (k : LeastOf (λ N. Settles r.plan N × ¬ OnSheet sheet N) w) where
-    found_audited : {v : Witness} → w ≡ v → Audited bytes sheet (audit_of v)
-    found_audited q =
-        let found = rw q at k in
-        record {
-          answered = sheet_answered bytes sheet read o bad-is missing_in b (missing_is r.plan (read_fits bytes read) sheet found)
-              (λ ps laid. found_right laid found);
-          laid = sheet_laid sheet small;
-        }
-
-    pub missing_audited : {M : ℕ} → w ≡ Member M → Audited bytes sheet (Lacks M)
-    missing_audited q = found_audited q
-
-    pub full_audited : w ≡ Nothing → Audited bytes sheet Full
-    full_audited q = found_audited q
+    pub found_audited : {w : Option ℕ} → t ≡ false → LeastOf (λ N. Settles p N × ¬ OnSheet sheet N) w → Audited bytes sheet (Ok w)
+    found_audited b found = record {
+      answered = sheet_answered bytes sheet read refl bad-is lack_of b (ap Ok (missing_is p (read_fits bytes read) sheet found))
+          (λ ps laid. found_right laid found);
+      laid = sheet_laid sheet small;
+    }
 
 -- ---- with S-12
 
 -- full is said exactly if each answer set is among the positions
-pub full_iff : {p : Plan} {ps : List ℕ} {answer : Audit} → AuditRight p ps answer → (answer ≡ Full) ↔ IsFull p ps
+pub full_iff : {p : Plan} {ps : List ℕ} {answer : Audit} → AuditRight p ps answer → (answer ≡ Ok None) ↔ IsFull p ps
 full_iff {p} {ps} (is_full f) = (λ e. f, λ f'. refl)
 full_iff {p} {ps} (lacks_first {M} m) = (λ e. absurd (true≢false (sym (ap says_full e))), λ f. absurd (m.missing (f.each M m.settles)))
   where
     says_full : Audit → Bool
-    says_full Full = true
-    says_full (Lacks N) = false
-    says_full (Refused f) = false
-    says_full BadSheet = false
+    says_full (Ok None) = true
+    says_full (Ok (Some N)) = false
+    says_full (Err f) = false
 
 module _ {p : Plan} {ps : List ℕ} (few : length ps ≤ MAX_POSITIONS) where
   -- 256 is said exactly if all positions are answer sets
@@ -195,7 +177,7 @@ module _ {p : Plan} {ps : List ℕ} (few : length ps ≤ MAX_POSITIONS) where
 -- a sheet is judged with 256 and found full exactly if its positions are, as a set, the answer sets of the plan
 pub exact_sheet : {bytes sheet : List ℕ} {judged : SheetAnswer} {answer : Audit} → SheetJudged bytes sheet judged → Audited bytes sheet answer
     → (reading bytes).outcome ≡ Accepted → (ps : List ℕ) → Laid ps sheet
-    → ((sheet_code judged ≡ MAX_POSITIONS) × (answer ≡ Full)) ↔ ((M : ℕ) → List-as-Memᴰ M ps ↔ Settles (reading bytes).plan M)
+    → ((sheet_code judged ≡ MAX_POSITIONS) × (answer ≡ Ok None)) ↔ ((M : ℕ) → List-as-Memᴰ M ps ↔ Settles (reading bytes).plan M)
 exact_sheet j a e ps l =
     let all = all_iff l.few ((j.answered.right e).of_sheet ps l) in
     let full = full_iff ((a.answered.right e).of_sheet ps l) in

@@ -8,21 +8,10 @@ ghost use Rattle.judge.specs.JudgedSheets.{MAX_POSITIONS, positions_in};
 ghost use Rattle.finding.specs.Least.{LeastOf};
 ghost use Rattle.auditing.specs.Audit.{WordsRead, OnSheet, Audited};
 
-use finding::least::From;
-use judge::{MAX_POSITIONS, is_bad_sheet};
-use plan::{Fault, Outcome, Plan};
+use judge::{MAX_POSITIONS, SheetFault, is_bad_sheet};
+use plan::Plan;
 use reading::{WORD_BYTES, read_word};
-use searching::witness::Witness;
 use stepping::gather_of;
-
-// Every answer set is on the sheet, or the least one that is not; or the plan is refused; or the bytes are no sheet.
-#[derive(Clone, Copy)]
-pub enum Audit {
-    Full,
-    Lacks(u64),
-    Refused(Fault),
-    BadSheet,
-}
 
 // Writes the positions of a sheet down as words: how many there are.
 fn read_words(positions: &[u8], words: &mut [u64]) -> usize
@@ -30,45 +19,35 @@ fn read_words(positions: &[u8], words: &mut [u64]) -> usize
     ensures { WordsRead positions.now words.new result }
 {
     let count = positions.len() / WORD_BYTES;
-    let mut place = 0;
-    while place < count {
+    for place in 0..count {
         words[place] = read_word(positions, WORD_BYTES * place);
-        place += 1;
     }
     count
 }
 
-// The least answer set of the record that is not on the sheet, or that there is none.
-fn missing_of(plan: Plan, positions: &[u8]) -> Witness
+// The least answer set of the record that is not on the sheet, if there is one.
+fn missing_of(plan: Plan, positions: &[u8]) -> Option<u64>
     requires { Fitting plan × (positions_in positions.now ≤ MAX_POSITIONS) }
     ensures { LeastOf (λ M. Settles plan M × ¬ OnSheet positions.now M) result }
 {
     let mut words = [0u64; MAX_POSITIONS];
     let count = read_words(positions, &mut words);
     let mut out = [0u64; 1];
-    let found = gather_of(plan, From::Start, &words[0..count], &mut out);
+    let found = gather_of(plan, None, &words[0..count], &mut out);
     if found == 0 {
-        return Witness::Nothing;
+        return None;
     }
-    Witness::Member(out[0])
+    Some(out[0])
 }
 
-// What a sheet lacks of a plan, both as bytes. Units, edges, graph and shown atoms play no part in it.
-pub fn first_missing(plan: &[u8], positions: &[u8]) -> Audit
+// The least position that a sheet lacks of a plan, both as bytes, or none where it is full; or why the question is refused. Units, edges, graph and
+// shown atoms play no part in it.
+pub fn first_missing(plan: &[u8], positions: &[u8]) -> Result<Option<u64>, SheetFault>
     ensures { Audited plan.now positions.now result }
 {
-    let reading = reading::read_plan(plan);
-    let outcome = reading.outcome;
-    if let Outcome::Refused(fault) = outcome {
-        return Audit::Refused(fault);
-    }
+    let read = reading::read_plan(plan)?;
     if is_bad_sheet(positions.len()) {
-        return Audit::BadSheet;
+        return Err(SheetFault::BadSheet);
     }
-    let read = reading.plan;
-    let found = missing_of(read, positions);
-    match found {
-        Witness::Member(m) => Audit::Lacks(m),
-        Witness::Nothing => Audit::Full,
-    }
+    Ok(missing_of(read, positions))
 }

@@ -1,6 +1,6 @@
 -- What is blamed, of the plan's lists.
 use Rattle.blaming.proofs.Prelude.{◌≡◌, sym, ◌∙◌, subst, ◌↔◌, List, ℕ, ◌<◌, arith, length, Has, Collects, some_atom, has_none, Plan, AnswerSet, lent}
-use Rattle.blaming.proofs.Prelude.{Constraint, Among, headed_rule, constraint, Empties, LeavesOne, AmongRules, headed, held, ConstraintsMean}
+use Rattle.blaming.proofs.Prelude.{Constraint, Among, headed_rule, constraint, AmongRules, headed, held, ConstraintsMean}
 use Rattle.blaming.proofs.Prelude.{BlameMeans}
 use Rattle.reading.specs.Layout.{RuleWords, Contents}
 use Rattle.plan_meaning.specs.Meaning.{Number, Means}

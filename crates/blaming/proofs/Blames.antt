@@ -1,10 +1,12 @@
 -- What few_constraints promises is the word of the pass, and it is blamed in document 02's words; there is just one such word, and it is 0 where the
 -- headed rules and given facts alone have no answer set.
+use Rattle.blaming.proofs.Prelude.{Ok, Result}
 use Rattle.blaming.proofs.Prelude.{◌≡◌, sym, ap, subst, true, false, ◌⊎◌, inl, inr, ℕ, zero, suc, ◌≤◌, ◌<◌, arith, ℕ_discrete, dec_lt, Has, ◌⊆◌, ◌∖◌}
 use Rattle.blaming.proofs.Prelude.{atom, below, Collects, ext, empty, has_none, has_dec, has_without, without_left, without_right, has_atom, atom_only}
 use Rattle.blaming.proofs.Prelude.{subset_refl, test_cases, collects_same, Fitting, Plan, AnswerSet, lent, fewer_constraints, FewBlamed, Constraint}
 use Rattle.blaming.proofs.Prelude.{Among, headed_rule, constraint, Empties, LeavesOne, StillHeld, stays, untried, TriedConstraint, Blames}
 use Rattle.blaming.proofs.Prelude.{LeastOrBlamed, with_position, without, constraints_in, leaves, passed, held_in, Position, Held}
+use Rattle.plan.specs.declared.fault.Fault.{Fault}
 use Rattle.blaming.specs.declared.Blame.{Blame}
 use Rattle.blaming.proofs.Passes.{pass_kept, pass_dropped, pass_within, pass_untried, pass_stays, pass_stayed, going_is}
 use Rattle.blaming.proofs.Programs.{constraints_are, constraints_same, top_same, among_rules, whole_rules, leaves_yes, leaves_no, one_leaves}
@@ -99,10 +101,6 @@ module _ (p : Plan) (fits : Fitting p) where
 -- ---- the meaning fixes the word
 
 module _ {p : Plan} where
-  among_same : {v w r : ℕ} → ((i : ℕ) → Has v i → Has w i) → Among p v r → Among p w r
-  among_same f (headed_rule l n) = headed_rule l n
-  among_same {r = r} f (constraint c h) = constraint c (f r h)
-
   -- no answer set and one: not both
   not_both_left : {v w : ℕ} → v ≡ w → Empties p v → LeavesOne p w → ⊥
   not_both_left {v} {w} e x y =
@@ -161,14 +159,14 @@ module _ {p : Plan} where
         ext v w (λ i h. (all_same (suc i)).into i (omega arith) h) (λ i h. (all_same (suc i)).from i (omega arith) h)
 
 -- so does what is said of a plan
-pub says_only : {p : Plan} {a b : Blame} → LeastOrBlamed p a → LeastOrBlamed p b → a ≡ b
-says_only (with_position {M = M} s l) (with_position {M = N} t k) = ap Position (same (l N t) (k M s))
+pub says_only : {p : Plan} {a b : Result Blame Fault} → LeastOrBlamed p a → LeastOrBlamed p b → a ≡ b
+says_only (with_position {M = M} s l) (with_position {M = N} t k) = ap (λ (M : ℕ). Ok (Position M)) (same (l N t) (k M s))
   where
     same : {x y : ℕ} → x ≤ y → y ≤ x → x ≡ y
     same h g = omega arith
 says_only (with_position {M = M} s l) (without n b) = absurd (n.none M s)
 says_only (without n b) (with_position {M = M} s l) = absurd (n.none M s)
-says_only (without n a) (without m b) = ap Held (blames_only a b)
+says_only (without n a) (without m b) = ap (λ (w : ℕ). Ok (Held w)) (blames_only a b)
 
 -- ---- the headed rules and given facts alone
 
@@ -191,8 +189,8 @@ settles_among : (p : Plan) → Collects (Among p (constraints_in p)) (below p.ru
 settles_among p = rw (← whole_rules p) (among_rules p (constraints_in p) subset_refl)
 
 -- S-13: where they have no answer set, the word is 0
-pub headed_alone : {p : Plan} {r : Blame} → Empties p 0 → LeastOrBlamed p r → r ≡ Held 0
+pub headed_alone : {p : Plan} {r : Result Blame Fault} → Empties p 0 → LeastOrBlamed p r → r ≡ Ok (Held 0)
 headed_alone {p} e (with_position {M = M} s l) = absurd (e.none M (alone (settles_among p) e.rules_are s))
-headed_alone {p} e (without {w = w} n b) = ap Held (empty w (λ c h.
+headed_alone {p} e (without {w = w} n b) = ap (λ (w : ℕ). Ok (Held w)) (empty w (λ c h.
     let x = b.each c h in
     absurd (e.none x.position (alone x.rules_are e.rules_are x.answers))))

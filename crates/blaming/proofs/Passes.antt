@@ -1,5 +1,5 @@
 -- The pass over the constraints, as it is computed: one number more, what is held before and behind, and that the pass of `few_constraints` is the same.
-use Rattle.blaming.proofs.Prelude.{◌≡◌, refl, sym, ◌∙◌, subst, Bool, true, false, List, ℕ, zero, suc, ◌-◌, ◌≤◌, ◌<◌, arith, dec_lt, Has, ◌⊆◌, ◌∪◌, ◌∖◌}
+use Rattle.blaming.proofs.Prelude.{◌≡◌, refl, sym, ◌∙◌, subst, Bool, true, false, List, ℕ, zero, suc, ◌≤◌, ◌<◌, arith, dec_lt, Has, ◌⊆◌, ◌∪◌, ◌∖◌}
 use Rattle.blaming.proofs.Prelude.{atom, decides_has, has_dec, has_none, has_without, without_left, without_right, has_atom, atom_only, subset_refl}
 use Rattle.blaming.proofs.Prelude.{subset_trans, decided_true, decided_false, NoneSettled, OneSettled, Tried, drops, keeps, Going, done, tries, tried}
 use Rattle.blaming.proofs.Prelude.{passed}

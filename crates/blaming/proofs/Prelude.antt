@@ -30,3 +30,7 @@ pub use Rattle.plan_meaning.proofs.AskedPlans.{accepted_answered, read_fits, ref
 unfoldable pub use Rattle.reading.specs.Reading.{reading, walk}
 pub use Rattle.stepping.specs.Followed.{Follows, may_be_up}
 unfoldable pub use Rattle.stepping.specs.Followed.{next_in}
+pub use Rattle.std.specs.declared.option.Option.{Option}
+pub use Rattle.std.specs.declared.option.Option.TheVariants.{None, Some}
+pub use Rattle.std.specs.declared.result.Result.{Result}
+pub use Rattle.std.specs.declared.result.Result.TheVariants.{Err, Ok}

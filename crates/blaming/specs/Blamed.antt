@@ -1,6 +1,7 @@
 -- The few constraints that empty a plan (document 02, S-13): "When a plan has no position, its designer wants a small group of constraints to blame. ..
 -- A plan with a position gets that answer instead, with the least one, uncut. Only the reading refusals apply".
 use Rattle.std.specs.Prelude.{◌≡◌, Bool, true, false, ◌↔◌, List, ℕ, zero, suc, ◌≤◌, ◌<◌, eqb}
+use Rattle.std.specs.Prelude.{None, Some, Result, Ok, Err}
 use Rattle.atoms.specs.Word.{Has, has, ◌∪◌, ◌∖◌, atom, below}
 use Rattle.atoms.specs.Bounded.{some_below, word_below}
 use Rattle.atoms.specs.Collected.{Collects}
@@ -8,6 +9,7 @@ use Rattle.answer_sets.specs.AnswerSet.{AnswerSet}
 use Rattle.answer_sets.specs.Lent.{lent}
 use Rattle.answer_sets.specs.Test.{answer_set}
 use Rattle.plan.specs.Faults.{refusal_code}
+use Rattle.plan.specs.declared.fault.Fault.{Fault}
 use Rattle.plan.specs.declared.record.Plan.{Plan}
 use Rattle.reading.specs.Reading.{reading}
 use Rattle.reading.specs.Layout.{RuleWords, Contents, Lays, record_of}
@@ -16,11 +18,9 @@ use Rattle.plan_meaning.specs.AnswerSets.{AnswerSetOf}
 use Rattle.plan_meaning.specs.Settled.{Settles}
 use Rattle.plan_meaning.specs.Read.{ReadMeans}
 use Rattle.plan_meaning.specs.Asked.{asked, Answered}
-use Rattle.finding.specs.declared.least.From.TheVariants.{Start}
 use Rattle.stepping.specs.Followed.{may_be_up, next_in}
-use Rattle.stepping.specs.declared.Next.TheVariants.{Position as NextPosition, NoneLeft, Refused as NextRefused}
 use Rattle.blaming.specs.declared.Blame.{Blame}
-use Rattle.blaming.specs.declared.Blame.TheVariants.{Position, Held, Refused}
+use Rattle.blaming.specs.declared.Blame.TheVariants.{Position, Held}
 
 -- ---- by meaning
 
@@ -71,9 +71,9 @@ pub record Positionless (p : Plan) : Type 0 where
   pub none : (M : ℕ) → ¬ Settles p M
 
 -- the least answer set, uncut, or what is blamed where there is none
-pub data LeastOrBlamed (p : Plan) : Blame → Type 0 where
-  with_position : {M : ℕ} → Settles p M → ((N : ℕ) → Settles p N → M ≤ N) → LeastOrBlamed p (Position M)
-  without : {w : ℕ} → Positionless p → Blames p w → LeastOrBlamed p (Held w)
+pub data LeastOrBlamed (p : Plan) : Result Blame Fault → Type 0 where
+  with_position : {M : ℕ} → Settles p M → ((N : ℕ) → Settles p N → M ≤ N) → LeastOrBlamed p (Ok (Position M))
+  without : {w : ℕ} → Positionless p → Blames p w → LeastOrBlamed p (Ok (Held w))
 
 -- ---- computed
 
@@ -104,11 +104,11 @@ held_in p = passed (leaves p) (constraints_in p) p.rule_count
 
 -- S-8's answer from the start, or the word
 unfoldable pub blame_in : Plan → Blame
-blame_in p = elim (next_in p Start) [ NextPosition M ↦ Position M | NoneLeft ↦ Held (held_in p) | NextRefused f ↦ Refused f ]
+blame_in p = elim (next_in p None) [ Some M ↦ Position M | None ↦ Held (held_in p) ]
 
 -- for the bytes of a plan
-abbrev pub blamed : List ℕ → Blame
-blamed bytes = asked Refused blame_in bytes
+abbrev pub blamed : List ℕ → Result Blame Fault
+blamed bytes = asked Err (λ p. Ok (blame_in p)) bytes
 
 -- ---- of the plan's lists
 
@@ -132,12 +132,12 @@ pub record BlameMeans (bytes : List ℕ) : Type 0 where
 -- ---- the contract
 
 -- The result equals the definition. By meaning: the fault that reading found, or what is said of the plan. Its rules and facts are those of its lists
-pub record Blamed (bytes : List ℕ) (r : Blame) : Type 0 where
-  pub answered : Answered Refused blame_in LeastOrBlamed bytes r
+pub record Blamed (bytes : List ℕ) (r : Result Blame Fault) : Type 0 where
+  pub answered : Answered Err (λ p. Ok (blame_in p)) LeastOrBlamed bytes r
   pub meaning : BlameMeans bytes
 
 -- the result as one number, beside the word
-abbrev pub blame_code : Blame → ℕ
-blame_code (Position M) = 1
-blame_code (Held w) = 0
-blame_code (Refused f) = refusal_code f
+abbrev pub blame_code : Result Blame Fault → ℕ
+blame_code (Ok (Position M)) = 1
+blame_code (Ok (Held w)) = 0
+blame_code (Err f) = refusal_code f

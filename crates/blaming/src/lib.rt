@@ -11,17 +11,14 @@ ghost use Rattle.blaming.specs.Sifted.{unless_headed};
 
 use answer_sets::rule;
 use finding::few::few_constraints;
-use finding::least::From;
-use plan::{Fault, Outcome, Plan};
-use searching::witness::Witness;
+use plan::{Fault, Plan};
 use stepping::next_of;
 
-// The least position, the constraints that are held where there is none, or the fault for which the plan is refused.
+// The least position, or the constraints that are held where there is none.
 #[derive(Clone, Copy)]
 pub enum Blame {
     Position(u64),
     Held(u64),
-    Refused(Fault),
 }
 
 // The word without the rule where it has a head.
@@ -40,12 +37,9 @@ fn constraints_of(rules: &[u64], which: u64) -> u64
     requires { Lent rules.now which }
     ensures { Collects (λ i. Has which i × ((lent rules.now).head i ≡ 0)) result }
 {
-    let mut rest = which;
     let mut word = which;
-    while rest != 0 {
-        let rule = atoms::lowest(rest);
+    for rule in atoms::each(which) {
         word = unless_headed(rules, rule, word);
-        rest = atoms::drop(rest, rule);
     }
     word
 }
@@ -61,19 +55,13 @@ fn held_of(plan: Plan) -> u64
     few_constraints(&plan.rules, headed, constraints, plan.once.given.word)
 }
 
-// What a plan as bytes is blamed on. Units and edges play no part in it, and neither does the graph.
-pub fn blame_plan(plan: &[u8]) -> Blame
+// What a plan as bytes is blamed on, or the fault for which it is refused. Units and edges play no part in it, and neither does the graph.
+pub fn blame_plan(plan: &[u8]) -> Result<Blame, Fault>
     ensures { Blamed plan.now result }
 {
-    let reading = reading::read_plan(plan);
-    let outcome = reading.outcome;
-    if let Outcome::Refused(fault) = outcome {
-        return Blame::Refused(fault);
-    }
-    let read = reading.plan;
-    let found = next_of(read, From::Start);
-    match found {
-        Witness::Member(m) => Blame::Position(m),
-        Witness::Nothing => Blame::Held(held_of(read)),
+    let read = reading::read_plan(plan)?;
+    match next_of(read, None) {
+        Some(position) => Ok(Blame::Position(position)),
+        None => Ok(Blame::Held(held_of(read))),
     }
 }

@@ -1,8 +1,8 @@
 -- Words added rising behind a count: none, one, as many as there is room for, and the higher ones behind the lower ones.
 use Rattle.finding.proofs.Prelude.{◌≡◌, refl, sym, ap, ◌∙◌, subst, ◌⊎◌, inl, inr, List, [], ◌++◌, List-as-Memᴰ, Memᴰ-not-nil, ℕ, ◌+◌, ◌-◌, ◌≤◌, ◌<◌}
 use Rattle.finding.proofs.Prelude.{arith, dec_lt, length, get_or, set, take, drop, length-set, length-take, length-drop, take-append-drop, get_or-set_same}
-use Rattle.finding.proofs.Prelude.{get_or-set_other, get_or-take, get_or-drop, ext_get_or, member_get_or, index_of, rising_by, Member, Nothing, Behind, LeastOf}
-use Rattle.finding.proofs.Prelude.{least, none as no-least, Leasts, From, StandsAmong, Added, Sought}
+use Rattle.finding.proofs.Prelude.{get_or-set_other, get_or-take, get_or-drop, ext_get_or, member_get_or, index_of, rising_by, Some, None, Behind, LeastOf}
+use Rattle.finding.proofs.Prelude.{least, none as no-least, Leasts, Option, StandsAmong, Added, Sought}
 
 -- nothing is to be added
 pub added_none : {Q : ℕ → Type 0} {list : List ℕ} {count : ℕ} → count ≤ length list → ((N : ℕ) → ¬ Q N) → Added Q list count list count
@@ -132,14 +132,14 @@ module _ {A B C : ℕ → Type 0} {list₀ list₁ list₂ : List ℕ} {count₀
 -- ---- one word
 
 module _ {Q : ℕ → Type 0} {before after : List ℕ} {r : ℕ} (a : Added Q before 0 after r) (one : length before ≡ 1) where
-  pub one_none : r ≡ 0 → LeastOf Q Nothing
+  pub one_none : r ≡ 0 → LeastOf Q None
   one_none z = no-least (λ N q. go N (a.all N q))
     where
       go : (N : ℕ) → StandsAmong after 0 r N ⊎ ((r ≡ length before) × ((i : ℕ) → 0 ≤ i → i < r → get_or after i 0 < N)) → ⊥
       go N (inl s) = omega (arith, s.to)
       go N (inr o) = omega (arith, o.0)
 
-  pub one_least : ¬ (r ≡ 0) → LeastOf Q (Member (get_or after 0 0))
+  pub one_least : ¬ (r ≡ 0) → LeastOf Q (Some (get_or after 0 0))
   one_least n = least (a.each 0 (omega arith) (omega arith)) (λ N q. go N (a.all N q))
     where
       go : (N : ℕ) → StandsAmong after 0 r N ⊎ ((r ≡ length before) × ((i : ℕ) → 0 ≤ i → i < r → get_or after i 0 < N)) → get_or after 0 0 ≤ N
@@ -150,10 +150,10 @@ module _ {Q : ℕ → Type 0} {before after : List ℕ} {r : ℕ} (a : Added Q b
       go N (inr o) = omega (arith, o.1 0 (omega arith) (omega arith))
 
 -- nothing is passed over where there are no words
-sought_any : {from : From} {M : ℕ} → Behind from M → Sought from [] M
+sought_any : {from : Option ℕ} {M : ℕ} → Behind from M → Sought from [] M
 sought_any b = record { behind = b; new = λ m. Memᴰ-not-nil m }
 
-pub added_behind : {Q : ℕ → Type 0} {from : From} {before after : List ℕ} {r : ℕ} → Added (λ M. Q M × Sought from [] M) before 0 after r
+pub added_behind : {Q : ℕ → Type 0} {from : Option ℕ} {before after : List ℕ} {r : ℕ} → Added (λ M. Q M × Sought from [] M) before 0 after r
     → Added (λ M. Q M × Behind from M) before 0 after r
 added_behind a = added_iff (λ M q. (q.0, q.1.behind)) (λ M q. (q.0, sought_any q.1)) a
 

@@ -1,7 +1,7 @@
 -- Fewer constraints have no fewer answer sets, and so the greedy pass is right.
 use Rattle.finding.proofs.Prelude.{◌≡◌, refl, subst, ◌⊎◌, inl, inr, List, ℕ, ◌^◌, ◌<◌, ℕ_discrete, get_or, ATOMS, Has, ◌⊆◌, ◌∪◌, ◌∖◌, atom, Lowest}
 use Rattle.finding.proofs.Prelude.{has_none, has_left, has_right, union_cases, has_without, without_left, without_right, has_atom, atom_only}
-use Rattle.finding.proofs.Prelude.{subset_refl, subset_trans, AnswerSet, lent, Lent, State, Job, Witnessed, Witness, Member, Nothing, unit_of}
+use Rattle.finding.proofs.Prelude.{subset_refl, subset_trans, AnswerSet, lent, Lent, State, Job, Witnessed, Option, Some, None, unit_of}
 use Rattle.finding.proofs.Prelude.{Unpiloted, Standing, Rooted}
 use Rattle.answer_sets.proofs.Support.{fewer_constraints}
 use Rattle.searching.specs.Witness.{none}
@@ -11,13 +11,13 @@ use Rattle.finding.specs.Few.{Constraints, NoneSettled, OneSettled, Tried, drops
 
 -- ---- what was asked
 
-met_as : {Q : ℕ → Type 0} {w : Witness} {M : ℕ} → w ≡ Member M → Witnessed Q w → Q M
+met_as : {Q : ℕ → Type 0} {w : Option ℕ} {M : ℕ} → w ≡ Some M → Witnessed Q w → Q M
 met_as {M = M} e k = witnessed_met (record { member = M; is = e }) k
 
-none_as : {Q : ℕ → Type 0} {w : Witness} → w ≡ Nothing → Witnessed Q w → Witnessed Q Nothing
+none_as : {Q : ℕ → Type 0} {w : Option ℕ} → w ≡ None → Witnessed Q w → Witnessed Q None
 none_as {Q} e k = subst (Witnessed Q) e k
 
-nobody : {Q : ℕ → Type 0} → Witnessed Q Nothing → (M : ℕ) → ¬ Q M
+nobody : {Q : ℕ → Type 0} → Witnessed Q None → (M : ℕ) → ¬ Q M
 nobody (none f) = f
 
 -- ---- fewer constraints
@@ -52,9 +52,15 @@ pub record HeldSoFar (rules : List ℕ) (headed constraints facts held rest : �
   pub none : NoneSettled rules (headed ∪ held) facts
   pub each : (c : ℕ) → Has held c → ¬ Has rest c → OneSettled rules (headed ∪ (held ∖ atom c)) facts
 
-pub held_start : {rules : List ℕ} {headed constraints facts : ℕ} → NoneSettled rules (headed ∪ constraints) facts
-    → HeldSoFar rules headed constraints facts constraints constraints
-held_start n = record { going = λ r g. g; within = subset_refl; untried = subset_refl; none = n; each = λ c h m. absurd (m h) }
+pub held_start : {rules : List ℕ} {headed constraints facts rest : ℕ} → rest ≡ constraints → NoneSettled rules (headed ∪ constraints) facts
+    → HeldSoFar rules headed constraints facts constraints rest
+held_start e n = rw e (record {
+  going = λ r g. g;
+  within = subset_refl;
+  untried = subset_refl;
+  none = n;
+  each = λ c h m. absurd (m h);
+})
 
 pub held_end : {rules : List ℕ} {headed constraints facts held rest : ℕ} → HeldSoFar rules headed constraints facts held rest → rest ≡ 0
     → FewBlamed rules headed constraints facts held
@@ -120,15 +126,15 @@ lent_some headed held others f e l = rw e (record { each = λ r h. l.each r (go 
 pub others_within : (held c : ℕ) {others : ℕ} → others ≡ held ∖ atom c → others ⊆ held
 others_within held c e = rw e (record { each = λ i h. without_left held (atom c) h })
 
-pub any_asked : (rules : List ℕ) {desk memory : List ℕ} {unit : Job} {which facts : ℕ} {root : State} {w : Witness}
+pub any_asked : (rules : List ℕ) {desk memory : List ℕ} {unit : Job} {which facts : ℕ} {root : State} {w : Option ℕ}
     → ((i : ℕ) → get_or rules i 0 < 2 ^ ATOMS) → facts < 2 ^ ATOMS → which < 2 ^ ATOMS → unit ≡ unit_of desk which facts
     → Standing rules desk memory unit facts root → Rooted rules desk unit facts root → Witnessed (Unpiloted rules desk unit facts root) w
     → Witnessed (AnswerSet (lent rules) which facts) w
 any_asked rules g f h e y t k = witnessed_iff (λ M q. fits_answers y e h q) (λ M a. answers_fit g f h e t a) k
 
 module _ {rules : List ℕ} {headed held facts c others which : ℕ} (o : others ≡ held ∖ atom c) (e : which ≡ headed ∪ others) where
-  pub tried_keeps : {w : Witness} {M : ℕ} → w ≡ Member M → Witnessed (AnswerSet (lent rules) which facts) w → Tried rules headed held facts c held
+  pub tried_keeps : {w : Option ℕ} {M : ℕ} → w ≡ Some M → Witnessed (AnswerSet (lent rules) which facts) w → Tried rules headed held facts c held
   tried_keeps {M = M} q k = keeps refl (rw (← o) (rw (← e) (record { member = M; answers = met_as q k })))
 
-  pub tried_drops : {w : Witness} → w ≡ Nothing → Witnessed (AnswerSet (lent rules) which facts) w → Tried rules headed held facts c others
+  pub tried_drops : {w : Option ℕ} → w ≡ None → Witnessed (AnswerSet (lent rules) which facts) w → Tried rules headed held facts c others
   tried_drops q k = drops o (rw (← o) (rw (← e) (record { nobody = nobody (none_as q k) })))

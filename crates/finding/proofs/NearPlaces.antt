@@ -1,13 +1,13 @@
 -- Positions that are like the place from an atom on: they are the ones behind it up to the last of them, and all others come later.
-use Rattle.finding.proofs.Prelude.{◌≡◌, sym, ◌∙◌, subst, Bool, false, not, ◌⊎◌, inl, inr, List, [], ℕ, ◌+◌, ◌^◌, ◌≤◌, ◌<◌, arith, dec_lt, ℕ_discrete}
-use Rattle.finding.proofs.Prelude.{length, pow_pos, not-true, not-false, ATOMS, Has, high, ◌∩◌, ◌∪◌, ◌∖◌, outside, below, Decides, has_dec, has_lt}
+use Rattle.finding.proofs.Prelude.{◌≡◌, sym, subst, Bool, false, not, ◌⊎◌, inl, inr, List, ℕ, ◌^◌, ◌≤◌, ◌<◌, arith, dec_lt, ℕ_discrete}
+use Rattle.finding.proofs.Prelude.{pow_pos, not-false, ATOMS, Has, high, ◌∩◌, ◌∪◌, ◌∖◌, outside, below, Decides, has_dec, has_lt}
 use Rattle.finding.proofs.Prelude.{has_left, has_right, union_cases, has_cut, cut_left, cut_right, has_without, without_left, without_right, has_below}
 use Rattle.finding.proofs.Prelude.{below_lt, has_outside, outside_lt, outside_lacks, subset_le, subset_trans, high_same, high_at, high_mono, Completes}
-use Rattle.finding.proofs.Prelude.{undecided, State, Job, Witness, Member, hidden_of, Unpiloted, Standing, Behind, from_start, above, Added, Due}
-use Rattle.finding.proofs.Prelude.{dark_of, PlaceIn, at_place, known, Node, like_of, high_free, last_like, PlaceAt, Further, BetweenPlaces, Reaches, From}
-use Rattle.finding.proofs.Prelude.{Start, Above, WalkNode}
+use Rattle.finding.proofs.Prelude.{undecided, State, Job, Option, Some, hidden_of, Unpiloted, Standing, Behind, from_start, above, Added, Due}
+use Rattle.finding.proofs.Prelude.{dark_of, PlaceIn, at_place, known, Node, like_of, high_free, last_like, PlaceAt, Further, BetweenPlaces, Reaches, Option}
+use Rattle.finding.proofs.Prelude.{None, Some, WalkNode}
 use Rattle.finding.specs.declared.near.Reached.{Reached}
-use Rattle.finding.proofs.AddedWords.{added_none, added_iff, added_both}
+use Rattle.finding.proofs.AddedWords.{added_iff, added_both}
 use Rattle.finding.proofs.Walks.{behind_up, behind_more, above_of}
 use Rattle.finding.proofs.Wholes.{fits_settled}
 use Rattle.finding.proofs.Trees.{fits_dark, dark_free, completion_has}
@@ -183,11 +183,11 @@ module _ {rules desk : List ℕ} {unit : Job} {facts : ℕ} (s : State) where
             without_left f.whole X (subst (λ (w : ℕ). Has w i) f.is (high_at p M (sym e) i (bound_of (dark_of s X) p b l c i h) y))
 
   -- all that are like the place are those up to the last of them
-  pub near_added : {from : From} {passed memory before after : List ℕ} {p count r : ℕ} (b : ℕ) → Standing rules desk memory unit facts s
+  pub near_added : {from : Option ℕ} {passed memory before after : List ℕ} {p count r : ℕ} (b : ℕ) → Standing rules desk memory unit facts s
       → PlaceAt unit facts from s p
       → Added (Due rules desk unit facts from passed (like_of s (high_free s (hidden_of unit facts) b) p)) before count after r
-      → Added (BetweenPlaces rules desk unit facts from (Above (last_like s (hidden_of unit facts) (high_free s (hidden_of unit facts) b) p)) passed s) before count
-      after r
+      → Added (BetweenPlaces rules desk unit facts from (Some (last_like s (hidden_of unit facts) (high_free s (hidden_of unit facts) b) p)) passed s)
+      before count after r
   near_added {from} {passed} {p = p} b y q a =
       added_iff (λ M d. record {
         due = record { fits = fits_back H p d.fits; sought = d.sought };
@@ -204,14 +204,14 @@ module _ {rules desk : List ℕ} {unit : Job} {facts : ℕ} (s : State) where
       H : ℕ
       H = high_free s (hidden_of unit facts) b
 
-      go : (M : ℕ) → BetweenPlaces rules desk unit facts from (Above (last_like s X H p)) passed s M → (high b M ≡ high b p) ⊎ (last_like s X H p < M)
+      go : (M : ℕ) → BetweenPlaces rules desk unit facts from (Some (last_like s X H p)) passed s M → (high b M ≡ high b p) ⊎ (last_like s X H p < M)
           → Due rules desk unit facts from passed (like_of s H p) M
       go M d (inl e) = record { fits = like_fits p b q.word q.completes e d.due.fits; sought = d.due.sought }
       go M d (inr k) = absurd (d.reached (above k))
 
   -- the node of the state that is like the place
-  pub near_node : {from : From} {memory : List ℕ} {p : ℕ} (b : ℕ) {node : WalkNode} → Standing rules desk memory unit facts s → PlaceAt unit facts from s p
-      → node.front.state ≡ like_of s (high_free s (hidden_of unit facts) b) p → node.known ≡ Member p → Node rules desk memory unit facts from node
+  pub near_node : {from : Option ℕ} {memory : List ℕ} {p : ℕ} (b : ℕ) {node : WalkNode} → Standing rules desk memory unit facts s → PlaceAt unit facts from s p
+      → node.front.state ≡ like_of s (high_free s (hidden_of unit facts) b) p → node.known ≡ Some p → Node rules desk memory unit facts from node
   near_node {from} {p = p} b {node} y q e k = record {
     stands = rw e (record {
       serves = y.serves;
@@ -249,36 +249,30 @@ module _ {rules desk : List ℕ} {unit : Job} {facts : ℕ} (s : State) where
 
 -- ---- from place to place
 
-pub further_none : {from : From} → Further from from
-further_none = record { each = λ M b. b }
-
-pub further_more : {from mid to : From} → Further from mid → Further mid to → Further from to
+pub further_more : {from mid to : Option ℕ} → Further from mid → Further mid to → Further from to
 further_more f g = record { each = λ M b. f.each M (g.each M b) }
 
-pub further_last : {from : From} {m : ℕ} {b : Bool} → Decides (Behind from m) b → not b ≡ false → Further from (Above m)
+pub further_last : {from : Option ℕ} {m : ℕ} {b : Bool} → Decides (Behind from m) b → not b ≡ false → Further from (Some m)
 further_last {b = b} d t = record { each = λ M o. behind_more (d.yes (not-false b t)) (above_of o) }
 
-pub place_further : {unit : Job} {facts p : ℕ} {from to : From} {s : State} → Further from to → PlaceAt unit facts from s p → PlaceAt unit facts to s p
-place_further f q = record { word = q.word; completes = q.completes; low = λ M b. q.low M (f.each M b) }
-
 -- the place itself
-pub place_at_lem : {unit : Job} {facts m : ℕ} {from : From} {s t : State} {w : Witness} → t ≡ dark_of s (hidden_of unit facts) → w ≡ Member m
+pub place_at_lem : {unit : Job} {facts m : ℕ} {from : Option ℕ} {s t : State} {w : Option ℕ} → t ≡ dark_of s (hidden_of unit facts) → w ≡ Some m
     → PlaceIn t from w → PlaceAt unit facts from s m
 place_at_lem {unit} {facts} {m} {from} {s} {t} g k h = go (subst (PlaceIn t from) k h)
   where
-    go : PlaceIn t from (Member m) → PlaceAt unit facts from s m
+    go : PlaceIn t from (Some m) → PlaceAt unit facts from s m
     go (at_place l e c) = record { word = l; completes = rw g at c; low = λ M b. above_of (rw e at b) }
 
-behind_dec : (from : From) (M : ℕ) → Dec (Behind from M)
-behind_dec Start M = yes from_start
-behind_dec (Above p) M = go (dec_lt p M)
+behind_dec : (from : Option ℕ) (M : ℕ) → Dec (Behind from M)
+behind_dec None M = yes from_start
+behind_dec (Some p) M = go (dec_lt p M)
   where
-    go : Dec (p < M) → Dec (Behind (Above p) M)
+    go : Dec (p < M) → Dec (Behind (Some p) M)
     go (yes l) = yes (above l)
     go (no n) = no (λ b. n (above_of b))
 
 -- what is reached is below what is behind
-reached_low : {mid : From} (M N : ℕ) → ¬ Behind mid M → Behind mid N → M < N
+reached_low : {mid : Option ℕ} (M N : ℕ) → ¬ Behind mid M → Behind mid N → M < N
 reached_low M N n b = go (dec_lt M N)
   where
     go : Dec (M < N) → M < N
@@ -286,18 +280,14 @@ reached_low M N n b = go (dec_lt M N)
     go (no l) = absurd (n (behind_up (omega arith) b))
 
 module _ {rules desk : List ℕ} {unit : Job} {facts : ℕ} {passed : List ℕ} {s : State} where
-  pub between_none : {from : From} {list : List ℕ} {count : ℕ} → count ≤ length list
-      → Added (BetweenPlaces rules desk unit facts from from passed s) list count list count
-  between_none l = added_none l (λ N d. d.reached d.due.sought.behind)
-
-  module _ {from mid : From} (f : Further from mid) where
+  module _ {from mid : Option ℕ} (f : Further from mid) where
     due_further : (M : ℕ) → Due rules desk unit facts mid passed s M → Due rules desk unit facts from passed s M
     due_further M d = record { fits = d.fits; sought = record { behind = f.each M d.sought.behind; new = d.sought.new } }
 
     due_on : (M : ℕ) → Due rules desk unit facts from passed s M → Behind mid M → Due rules desk unit facts mid passed s M
     due_on M d b = record { fits = d.fits; sought = record { behind = b; new = d.sought.new } }
 
-    pub between_more : {to : From} {list₀ list₁ list₂ : List ℕ} {count₀ count₁ count₂ : ℕ} → Further mid to
+    pub between_more : {to : Option ℕ} {list₀ list₁ list₂ : List ℕ} {count₀ count₁ count₂ : ℕ} → Further mid to
         → Added (BetweenPlaces rules desk unit facts from mid passed s) list₀ count₀ list₁ count₁
         → Added (BetweenPlaces rules desk unit facts mid to passed s) list₁ count₁ list₂ count₂
         → Added (BetweenPlaces rules desk unit facts from to passed s) list₀ count₀ list₂ count₂
@@ -326,15 +316,11 @@ module _ {rules desk : List ℕ} {unit : Job} {facts : ℕ} {passed : List ℕ} 
 
 -- ---- how far it reaches
 
-module _ {rules desk : List ℕ} {unit : Job} {facts : ℕ} {from : From} {passed : List ℕ} {s : State} where
-  pub reaches_none : {list : List ℕ} {count : ℕ} {r : Reached} → count ≤ length list → r.from ≡ from → r.count ≡ count
-      → Reaches rules desk unit facts from passed s list count list r
-  reaches_none l e k = record { added = rw (e, k) (between_none l); further = rw e further_none }
-
+module _ {rules desk : List ℕ} {unit : Job} {facts : ℕ} {from : Option ℕ} {passed : List ℕ} {s : State} where
   pub reaches_near : {memory before after : List ℕ} {p count c m : ℕ} {t : Bool} (b : ℕ) → Standing rules desk memory unit facts s → PlaceAt unit facts from s p
       → m ≡ last_like s (hidden_of unit facts) (high_free s (hidden_of unit facts) b) p → Decides (Behind from m) t → not t ≡ false
       → Added (Due rules desk unit facts from passed (like_of s (high_free s (hidden_of unit facts) b) p)) before count after c
-      → Reaches rules desk unit facts from passed s before count after (record { from = Above m; count = c })
+      → Reaches rules desk unit facts from passed s before count after (record { from = Some m; count = c })
   reaches_near b y q e d t a = record { added = rw e (near_added s b y q a); further = further_last d t }
 
   pub reaches_more : {list₀ list₁ list₂ : List ℕ} {count : ℕ} {r t : Reached} → Reaches rules desk unit facts from passed s list₀ count list₁ r

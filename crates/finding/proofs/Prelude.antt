@@ -20,19 +20,17 @@ pub use Rattle.finding.specs.Gather.{Added, AllPassed, Descended, Due, Hinted, K
 pub use Rattle.finding.specs.Gather.{StandsAmong, at_place, dark_of, elsewhere, kept, known, left, seen, unknown, unseen}
 pub use Rattle.finding.specs.Least.{Behind, LeastOf, Leasts, above, from_start, least, none}
 pub use Rattle.finding.specs.Near.{BetweenPlaces, Further, PlaceAt, Reaches, high_free, last_like, like_of}
-pub use Rattle.finding.specs.Whole.{Darkened, Rooted, Serves, Settled, Standing, Unpiloted, hidden_of, member, no_lists, nothing, unit_of, whole_of}
+pub use Rattle.finding.specs.Whole.{Rooted, Serves, Settled, Standing, Unpiloted, hidden_of, no_lists, unit_of, whole_of}
 pub use Rattle.finding.specs.declared.gather.WalkNode.{WalkNode}
-pub use Rattle.finding.specs.declared.least.From.{From}
-pub use Rattle.finding.specs.declared.least.From.TheVariants.{Above, Start}
 pub use Rattle.joining.proofs.Filters.{full_filtered}
 pub use Rattle.joining.proofs.JoinedLists.{joinable_some, joins_none}
 pub use Rattle.learning.specs.Reason.{Remembers}
 pub use Rattle.propagating.specs.Desk.{LaidOut, Prepared, Wired, pilots_of}
 pub use Rattle.propagating.specs.declared.unit.Job.{Job}
 pub use Rattle.searching.specs.Witness.{Witnessed, met}
-pub use Rattle.searching.specs.declared.witness.Witness.{Witness}
-pub use Rattle.searching.specs.declared.witness.Witness.TheVariants.{Member, Nothing}
 pub use Rattle.states.proofs.Narrows.{completes_back}
 pub use Rattle.states.specs.Narrowing.{Narrows, Wanted, both_of, branch_of}
 pub use Rattle.states.specs.State.{Completes, undecided}
 pub use Rattle.states.specs.declared.state.State.{State}
+pub use Rattle.std.specs.declared.option.Option.{Option}
+pub use Rattle.std.specs.declared.option.Option.TheVariants.{None, Some}

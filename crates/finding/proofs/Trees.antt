@@ -1,59 +1,51 @@
 -- The tree over undecided atoms: what is known at a node, its two branches, and that all below the dropped one are below all below the other.
-use Rattle.finding.proofs.Prelude.{◌≡◌, refl, sym, ◌∙◌, subst, Bool, true, false, not, true≢false, false≢true, ◌⊎◌, inl, inr, List, [], List-as-Memᴰ, ℕ}
-use Rattle.finding.proofs.Prelude.{◌+◌, ◌^◌, ◌≤◌, ◌<◌, arith, dec_lt, ones, length, get_or, set, ltb, not-true, not-false, ltb-true, lt-ltb, ATOMS, Has}
-use Rattle.finding.proofs.Prelude.{◌⊆◌, subset, apart, high, ◌∪◌, ◌∖◌, outside, Highest, Decides, decides, has_dec, has_lt, has_none, has_left}
+use Rattle.finding.proofs.Prelude.{◌≡◌, refl, sym, ◌∙◌, subst, Bool, true, false, not, true≢false, ◌⊎◌, inl, inr, List, [], List-as-Memᴰ, ℕ}
+use Rattle.finding.proofs.Prelude.{◌+◌, ◌^◌, ◌≤◌, ◌<◌, arith, dec_lt, ones, length, get_or, ltb, not-true, not-false, ltb-true, lt-ltb, ATOMS, Has}
+use Rattle.finding.proofs.Prelude.{◌⊆◌, subset, apart, high, ◌∪◌, ◌∖◌, outside, Highest, Decides, decides, has_lt, has_none, has_left}
 use Rattle.finding.proofs.Prelude.{has_right, union_cases, has_without, without_left, without_right, has_atom, has_outside, subset_le, subset_antisym}
 use Rattle.finding.proofs.Prelude.{subset_trans, subset_refl, decides_apart, decides_subset, member_get_or, index_of, high_same, high_with, high_without}
 use Rattle.finding.proofs.Prelude.{high_mono, AnswerSet, lent, Completes, undecided, Narrows, branch_of, State, completes_back, Remembers, Wired, Job}
-use Rattle.finding.proofs.Prelude.{Witnessed, met, Witness, Member, Nothing, no_lists, unit_of, hidden_of, Unpiloted, Standing, Rooted, Behind}
+use Rattle.finding.proofs.Prelude.{Witnessed, met, Option, Some, None, no_lists, unit_of, hidden_of, Unpiloted, Standing, Rooted, Behind}
 use Rattle.finding.proofs.Prelude.{from_start, above, Added, Sought, Due, OfferedNext, AllPassed, dark_of, Likely, Hinted, known, unknown, Looked, seen}
-use Rattle.finding.proofs.Prelude.{unseen, KeptWitness, kept, left, PlaceIn, at_place, elsewhere, Node, Descended, Further, From, Start, Above}
+use Rattle.finding.proofs.Prelude.{unseen, KeptWitness, kept, left, PlaceIn, at_place, elsewhere, Descended, Further, Option, None, Some}
 use Rattle.finding.proofs.Prelude.{WalkNode}
+use Rattle.std.specs.Bool.{Decides as Answers}
+use Rattle.std.specs.List.{HoldsAt}
+use Rattle.std.proofs.lemmas.List.{get_or_default}
 use Rattle.states.proofs.HalfDecided.{decided_cases, undecided_up, undecided_dropped, undecided_lt, undecided_intro}
 use Rattle.states.proofs.Branches.{without_branch, some_branch, decided_falls}
 use Rattle.searching.specs.Witness.{none}
-use Rattle.finding.proofs.AddedWords.{added_none, added_full, added_one, added_iff, added_both}
+use Rattle.finding.proofs.AddedWords.{added_none, added_full, added_iff, added_both}
 use Rattle.finding.proofs.Walks.{behind_up, above_of}
 use Rattle.finding.proofs.Wholes.{fits_settled, fits_answers, answers_fit}
 
 -- ---- what is sought
 
-pub among_here : (words : List ℕ) {i m : ℕ} → i < length words → get_or words i 0 ≡ m → Decides (List-as-Memᴰ m words) true
-among_here words {i} l e = decides true (λ _. subst (λ (x : ℕ). List-as-Memᴰ x words) e (member_get_or words i l)) (λ _. refl)
+pub among_told : (words : List ℕ) {m : ℕ} {r : Bool} → Answers r ((k : ℕ) × (k < length words) × HoldsAt (λ y. y ≡ m) words k)
+    → Decides (List-as-Memᴰ m words) r
+among_told words {m = m} {r = r} d = record {
+  yes = λ e. let p = d.0 e in subst (λ (x : ℕ). List-as-Memᴰ x words) (p.2 0) (member_get_or words p.0 p.1);
+  no = λ e a. let p = index_of words m a in absurd (true≢false (sym (d.1 (p.0, p.1, λ x. get_or_default words p.0 x 0 p.1 ∙ p.2)) ∙ e));
+}
 
-pub among_not : (words : List ℕ) {i m : ℕ} → length words ≤ i → ((j : ℕ) → j < i → ¬ (get_or words j 0 ≡ m)) → Decides (List-as-Memᴰ m words) false
-among_not words {m = m} l f =
-    decides false (λ e. absurd (false≢true e)) (λ a. let p = index_of words m a in absurd (f p.0 (omega (arith, p.1)) p.2))
-
-pub among_more : (words : List ℕ) {i m : ℕ} → ((j : ℕ) → j < i → ¬ (get_or words j 0 ≡ m)) → ¬ (get_or words i 0 ≡ m)
-    → (j : ℕ) → j < i + 1 → ¬ (get_or words j 0 ≡ m)
-among_more words {i} {m} f n j l = go (dec_lt j i)
-  where
-    go : Dec (j < i) → ¬ (get_or words j 0 ≡ m)
-    go (yes h) = f j h
-    go (no h) = let e : j ≡ i = omega arith in subst (λ (k : ℕ). ¬ (get_or words k 0 ≡ m)) (sym e) n
-
-pub behind_from_start : {from : From} {m : ℕ} → from ≡ Start → Decides (Behind from m) true
+pub behind_from_start : {from : Option ℕ} {m : ℕ} → from ≡ None → Decides (Behind from m) true
 behind_from_start e = rw e (decides true (λ _. from_start) (λ _. refl))
 
 pub decides_below : (p m : ℕ) → Decides (p < m) (ltb p m)
 decides_below p m = decides (ltb p m) (λ e. ltb-true p m e) (λ l. lt-ltb p m l)
 
-pub behind_from_above : {from : From} {p m : ℕ} {b : Bool} → from ≡ Above p → Decides (p < m) b → Decides (Behind from m) b
+pub behind_from_above : {from : Option ℕ} {p m : ℕ} {b : Bool} → from ≡ Some p → Decides (p < m) b → Decides (Behind from m) b
 behind_from_above e d = rw e (record { yes = λ t. above (d.yes t); no = λ f q. d.no f (above_of q) })
 
-pub sought_before : {from : From} {passed : List ℕ} {m : ℕ} {b : Bool} → Decides (Behind from m) b → not b ≡ true → Decides (Sought from passed m) false
-sought_before {b = b} d t = decides false (λ e. absurd (false≢true e)) (λ s. absurd (d.no (not-true b t) s.behind))
-
-pub sought_new : {from : From} {passed : List ℕ} {m : ℕ} {a b : Bool} → Decides (Behind from m) b → not b ≡ false → Decides (List-as-Memᴰ m passed) a
+pub sought_new : {from : Option ℕ} {passed : List ℕ} {m : ℕ} {a b : Bool} → Decides (Behind from m) b → b ≡ true → Decides (List-as-Memᴰ m passed) a
     → Decides (Sought from passed m) (not a)
 sought_new {a = a} {b = b} d f e = record {
-  yes = λ t. record { behind = d.yes (not-false b f); new = e.no (not-true a t) };
+  yes = λ t. record { behind = d.yes f; new = e.no (not-true a t) };
   no = λ t s. s.new (e.yes (not-false a t));
 }
 
 -- a completion has no atom that is dropped
-pub passed_all : {from : From} {s : State} {w : ℕ} {b : Bool} → w ≡ outside s.dropped → Decides (Behind from w) b → not b ≡ true → AllPassed s from
+pub passed_all : {from : Option ℕ} {s : State} {w : ℕ} {b : Bool} → w ≡ outside s.dropped → Decides (Behind from w) b → not b ≡ true → AllPassed s from
 passed_all {s = s} {b = b} e d t = record {
   none = λ M l c q.
       d.no (not-true b t)
@@ -63,19 +55,10 @@ passed_all {s = s} {b = b} e d t = record {
       (record { each = λ i h. has_outside s.dropped (has_lt M ATOMS l h) (λ o. c.no_dropped.none i o h) })) q));
 }
 
--- ---- one is put in
-
-module _ {from : From} {passed : List ℕ} {m : ℕ} {b : Bool} (d : Decides (Sought from passed m) b) (list : List ℕ) (count : ℕ) (l : count < length list) where
-  pub put_none : not b ≡ true → Added (OfferedNext from passed m) list count list count
-  put_none t = added_none (omega arith) (λ N o. d.no (not-true b t) (subst (Sought from passed) o.is o.sought))
-
-  pub put_one : not b ≡ false → Added (OfferedNext from passed m) list count (set list count m) (count + 1)
-  put_one t = added_one list count m l (record { is = refl; sought = d.yes (not-false b t) }) (λ N o. o.is)
-
 -- ---- what is known at a node
 
 pub overlap_nothing : {rules desk : List ℕ} {unit : Job} {facts : ℕ} {s : State} {b : Bool} → b ≡ apart s.up s.dropped → not b ≡ true
-    → Witnessed (Unpiloted rules desk unit facts s) Nothing
+    → Witnessed (Unpiloted rules desk unit facts s) None
 overlap_nothing {s = s} {b = b} e t = none (λ M f.
     (decides_apart s.up s.dropped).no (sym e ∙ not-true b t)
     (record { none = λ i u d. f.wanted.completes.no_dropped.none i d (f.wanted.completes.has_up.each i u) }))
@@ -97,44 +80,44 @@ fits_dark {unit = unit} {facts} {s} {M} f = rw f.is (record {
     go i (inl d) m = f.wanted.completes.no_dropped.none i d (without_left f.whole X m)
     go i (inr x) m = without_right f.whole X m x
 
-module _ {rules desk memory : List ℕ} {unit : Job} {facts : ℕ} {from : From} {s : State} (r : Standing rules desk memory unit facts s) where
+module _ {rules desk memory : List ℕ} {unit : Job} {facts : ℕ} {from : Option ℕ} {s : State} (r : Standing rules desk memory unit facts s) where
   likely_fitting : {M : ℕ} → Unpiloted rules desk unit facts s M → Likely rules desk unit facts from s M
   likely_fitting f = record { word = (fits_settled r f).word; completes = fits_dark f; fits = λ b. f }
 
-  pub looked_passed : {t : State} → t ≡ dark_of s (hidden_of unit facts) → AllPassed t from → Looked rules desk unit facts from s Nothing
+  pub looked_passed : {t : State} → t ≡ dark_of s (hidden_of unit facts) → AllPassed t from → Looked rules desk unit facts from s None
   looked_passed e a = unseen (λ M f b. a.none M (fits_settled r f).word (rw e (fits_dark f)) b)
 
-  pub looked_asked : {w : Witness} → Witnessed (Unpiloted rules desk unit facts s) w → Looked rules desk unit facts from s w
+  pub looked_asked : {w : Option ℕ} → Witnessed (Unpiloted rules desk unit facts s) w → Looked rules desk unit facts from s w
   looked_asked (met f) = seen (likely_fitting f)
   looked_asked (none n) = unseen (λ M f b. n M f)
 
-module _ {rules desk : List ℕ} {unit : Job} {facts : ℕ} {from : From} {s : State} where
-  pub looked_known : {w : Witness} {M : ℕ} → w ≡ Member M → Hinted rules desk unit facts from s w → Looked rules desk unit facts from s (Member M)
+module _ {rules desk : List ℕ} {unit : Job} {facts : ℕ} {from : Option ℕ} {s : State} where
+  pub looked_known : {w : Option ℕ} {M : ℕ} → w ≡ Some M → Hinted rules desk unit facts from s w → Looked rules desk unit facts from s (Some M)
   looked_known {M = M} e h = go (subst (Hinted rules desk unit facts from s) e h)
     where
-      go : Hinted rules desk unit facts from s (Member M) → Looked rules desk unit facts from s (Member M)
+      go : Hinted rules desk unit facts from s (Some M) → Looked rules desk unit facts from s (Some M)
       go (known f) = seen f
 
-  pub looked_seen : {w : Witness} {M : ℕ} → w ≡ Member M → Looked rules desk unit facts from s w → Likely rules desk unit facts from s M
+  pub looked_seen : {w : Option ℕ} {M : ℕ} → w ≡ Some M → Looked rules desk unit facts from s w → Likely rules desk unit facts from s M
   looked_seen {M = M} e l = go (subst (Looked rules desk unit facts from s) e l)
     where
-      go : Looked rules desk unit facts from s (Member M) → Likely rules desk unit facts from s M
+      go : Looked rules desk unit facts from s (Some M) → Likely rules desk unit facts from s M
       go (seen f) = f
 
 -- ---- what is known of a branch
 
 module _ {m : ℕ} {s : State} where
-  pub kept_there : {a b : Bool} → m < 2 ^ ATOMS → a ≡ subset s.up m → not a ≡ false → b ≡ apart s.dropped m → not b ≡ false → KeptWitness m s (Member m)
+  pub kept_there : {a b : Bool} → m < 2 ^ ATOMS → a ≡ subset s.up m → not a ≡ false → b ≡ apart s.dropped m → not b ≡ false → KeptWitness m s (Some m)
   kept_there {a} {b} l e f g h = kept l (record {
     has_up = (decides_subset s.up m).yes (sym e ∙ not-false a f);
     no_dropped = (decides_apart s.dropped m).yes (sym g ∙ not-false b h);
   })
 
-pub place_kept : {s : State} {from : From} {p : ℕ} {w : Witness} → from ≡ Above p → KeptWitness p s w → PlaceIn s from w
+pub place_kept : {s : State} {from : Option ℕ} {p : ℕ} {w : Option ℕ} → from ≡ Some p → KeptWitness p s w → PlaceIn s from w
 place_kept e (kept l c) = at_place l e c
 place_kept e left = elsewhere
 
-pub hinted_place : {rules desk : List ℕ} {unit : Job} {facts : ℕ} {from to : From} {s t : State} {w : Witness} → t ≡ dark_of s (hidden_of unit facts)
+pub hinted_place : {rules desk : List ℕ} {unit : Job} {facts : ℕ} {from to : Option ℕ} {s t : State} {w : Option ℕ} → t ≡ dark_of s (hidden_of unit facts)
     → Further from to → PlaceIn t from w → Hinted rules desk unit facts to s w
 hinted_place {from = from} {to} g f (at_place {p} l e c) = known (record { word = l; completes = rw g at c; fits = λ b. absurd (here (f.each p b)) })
   where
@@ -188,7 +171,7 @@ module _ {rules desk : List ℕ} {unit : Job} {facts : ℕ} (s : State) (k : ℕ
           (λ h. d.no_dropped.none k (has_left t.dropped X (n.dropped_grows.each k (has_right s.dropped _ (has_atom k))))
           (subst (λ (w : ℕ). Has w k) (sym f.is) (has_without f.whole X h free)))
 
-pub descended : {rules desk : List ℕ} {unit : Job} {facts : ℕ} {from : From} (s : State) (k : ℕ) (phase : Bool) {memory after : List ℕ} {node : WalkNode}
+pub descended : {rules desk : List ℕ} {unit : Job} {facts : ℕ} {from : Option ℕ} (s : State) (k : ℕ) (phase : Bool) {memory after : List ℕ} {node : WalkNode}
     {m : ℕ} {d : State} → Standing rules desk memory unit facts s → Likely rules desk unit facts from s m → ¬ Has (hidden_of unit facts) k
     → Narrows (Wired rules [] no_lists desk unit) (branch_of s k phase) node.front.state → Remembers (Wired rules [] no_lists desk unit) after
     → d ≡ dark_of node.front.state (hidden_of unit facts) → KeptWitness m d node.known → Descended rules desk after unit facts from s k phase node
@@ -204,7 +187,7 @@ descended {rules} {desk} {unit} {facts} {from} s k phase {node = node} {m} {d} r
   narrows = n;
 }
   where
-    go : (v : Witness) → KeptWitness m d v → Hinted rules desk unit facts from node.front.state v
+    go : (v : Option ℕ) → KeptWitness m d v → Hinted rules desk unit facts from node.front.state v
     go v (kept l c) = known (record {
       word = f.word;
       completes = rw e at c;
@@ -248,7 +231,7 @@ completion_below {s} {M} {N} {k} t m n c d lacks has = go (dec_lt M N)
     go (no l) = let g : N ≤ M = omega arith in absurd (omega (arith, high_mono k g, high_with has, high_without lacks, alike))
 
 -- who fits a branch completes its state
-fits_back : {rules desk memory : List ℕ} {unit : Job} {facts k : ℕ} {from : From} {s : State} {phase : Bool} {node : WalkNode}
+fits_back : {rules desk memory : List ℕ} {unit : Job} {facts k : ℕ} {from : Option ℕ} {s : State} {phase : Bool} {node : WalkNode}
     → Descended rules desk memory unit facts from s k phase node → {M : ℕ} (f : Unpiloted rules desk unit facts node.front.state M)
     → Completes (branch_of s k phase) f.whole
 fits_back n f = completes_back n.narrows f.wanted.completes
@@ -263,16 +246,16 @@ dark_undecided s X {k} h =
     (λ u. undecided_up (s.up ∖ X) (s.dropped ∪ X) h (has_without s.up X u (dark_free s X h)))
     (λ d. undecided_dropped (s.up ∖ X) (s.dropped ∪ X) h (has_left s.dropped X d))
 
-module _ {rules desk : List ℕ} {unit : Job} {facts : ℕ} {from : From} {passed : List ℕ} where
+module _ {rules desk : List ℕ} {unit : Job} {facts : ℕ} {from : Option ℕ} {passed : List ℕ} where
   pub gather_full : {s : State} {list : List ℕ} {count : ℕ} → count ≤ length list → length list ≤ count
       → Added (Due rules desk unit facts from passed s) list count list count
   gather_full l k = added_full l k
 
-  pub gather_none : {s : State} {w : Witness} {list : List ℕ} {count : ℕ} → count ≤ length list → w ≡ Nothing → Looked rules desk unit facts from s w
+  pub gather_none : {s : State} {w : Option ℕ} {list : List ℕ} {count : ℕ} → count ≤ length list → w ≡ None → Looked rules desk unit facts from s w
       → Added (Due rules desk unit facts from passed s) list count list count
   gather_none {s} {w} {list} {count} l e k = go (subst (Looked rules desk unit facts from s) e k)
     where
-      go : Looked rules desk unit facts from s Nothing → Added (Due rules desk unit facts from passed s) list count list count
+      go : Looked rules desk unit facts from s None → Added (Due rules desk unit facts from passed s) list count list count
       go (unseen n) = added_none l (λ N d. n N d.fits d.sought.behind)
 
   module _ {memory : List ℕ} {s : State} (y : Standing rules desk memory unit facts s) where
@@ -366,13 +349,13 @@ module _ {rules desk : List ℕ} {unit : Job} {facts : ℕ} {from : From} {passe
             added_both (due_back false d) (due_back true u) due_split (λ M N p q. low_below M N p (due_back true u N q) (fits_back u q.fits)) a b
 
 -- the branches have fewer undecided atoms
-pub descended_falls : {rules desk memory : List ℕ} {unit : Job} {facts : ℕ} {from : From} (s : State) (X : ℕ) {k n : ℕ} {node : WalkNode} (phase : Bool)
+pub descended_falls : {rules desk memory : List ℕ} {unit : Job} {facts : ℕ} {from : Option ℕ} (s : State) (X : ℕ) {k n : ℕ} {node : WalkNode} (phase : Bool)
     → Highest (undecided (dark_of s X).up (dark_of s X).dropped) k → Descended rules desk memory unit facts from s k phase node
     → ones (undecided s.up s.dropped) ≡ n → ones (undecided node.front.state.up node.front.state.dropped) < n
 descended_falls s X phase h d e = rw e at (decided_falls s phase (dark_undecided s X h.here) refl d.narrows)
 
 -- at the root all answer sets are left
-pub gather_root : (rules : List ℕ) {desk memory : List ℕ} {unit : Job} {which facts : ℕ} {from : From} {passed : List ℕ} {root : State}
+pub gather_root : (rules : List ℕ) {desk memory : List ℕ} {unit : Job} {which facts : ℕ} {from : Option ℕ} {passed : List ℕ} {root : State}
     {before after : List ℕ} {r : ℕ} → ((i : ℕ) → get_or rules i 0 < 2 ^ ATOMS) → facts < 2 ^ ATOMS → which < 2 ^ ATOMS → unit ≡ unit_of desk which facts
     → Standing rules desk memory unit facts root → Rooted rules desk unit facts root
     → Added (Due rules desk unit facts from passed root) before 0 after r

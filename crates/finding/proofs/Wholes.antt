@@ -2,9 +2,9 @@
 use Rattle.finding.proofs.Prelude.{◌≡◌, refl, sym, ap, ◌∙◌, subst, ◌⊎◌, inl, inr, List, [], ℕ, zero, suc, ◌+◌, ◌-◌, ◌*◌, ◌^◌, ◌<◌, min, arith, get_or}
 use Rattle.finding.proofs.Prelude.{replicate, length-replicate, ATOMS, Has, ◌⊆◌, Apart, ◌∩◌, ◌∪◌, ◌∖◌, outside, below, and-true, decided_true, ext}
 use Rattle.finding.proofs.Prelude.{has_cut, cut_right, has_none, has_left, has_right, has_without, without_left, without_right, union_cases}
-use Rattle.finding.proofs.Prelude.{decides_subset, lent, Lent, AnswerSet, Completes, Narrows, both_of, Wanted, State, Remembers, pilots_of, LaidOut}
-use Rattle.finding.proofs.Prelude.{Prepared, Wired, Job, joins_none, Witnessed, met, Witness, Member, Nothing, whole_of, unit_of, hidden_of, no_lists}
-use Rattle.finding.proofs.Prelude.{Settled, Unpiloted, Serves, Standing, Rooted, Darkened, member, nothing}
+use Rattle.finding.proofs.Prelude.{decides_subset, lent, Lent, AnswerSet, Completes, both_of, Wanted, State, Remembers, LaidOut}
+use Rattle.finding.proofs.Prelude.{Wired, Job, joins_none, Witnessed, met, Some, None, whole_of, unit_of, hidden_of, no_lists}
+use Rattle.finding.proofs.Prelude.{Settled, Unpiloted, Serves, Standing, Rooted}
 use Rattle.plan.specs.Limits.{MAX_UNITS}
 use Rattle.answer_sets.specs.Test.{answer_set}
 use Rattle.answer_sets.proofs.JudgedSets.{decides_answer_set}
@@ -132,21 +132,6 @@ desk_serves {rules} {pilots} {desk} {which} {facts} {x} {u = u} {v} l fits small
 
 -- ---- where questions begin
 
-module _ {rules desk : List ℕ} {unit : Job} {facts : ℕ} (y : Serves rules desk unit facts) where
-  -- at first the facts are up, and what is told of that is known of every answer set
-  pub root_stands : {memory : List ℕ} {t : State} → Remembers (Wired rules [] no_lists desk unit) memory
-      → Narrows (Wired rules [] no_lists desk unit) (record { up = facts; dropped = 0 }) t → Standing rules desk memory unit facts t
-  root_stands m n = record { serves = y; remembers = m; facts_up = n.up_grows }
-
-  pub root_rooted : {t : State} → Narrows (Wired rules [] no_lists desk unit) (record { up = facts; dropped = 0 }) t → Rooted rules desk unit facts t
-  root_rooted n = record {
-    each = λ M s. let f = y.complete M s in record {
-      whole = f.whole;
-      wanted = record { belongs = f.wanted.belongs; completes = n.keeps f.whole f.wanted.belongs f.wanted.completes };
-      is = f.is;
-    };
-  }
-
 module _ {rules desk memory : List ℕ} {unit : Job} {facts : ℕ} {s : State} (r : Standing rules desk memory unit facts s) where
   pub stands_still : {after : List ℕ} → Remembers (Wired rules [] no_lists desk unit) after → Standing rules desk after unit facts s
   stands_still m = record { serves = r.serves; remembers = m; facts_up = r.facts_up }
@@ -192,14 +177,9 @@ module _ {s : State} where
   }
 
 module _ {rules desk : List ℕ} {unit : Job} {facts : ℕ} {s : State} where
-  pub asked : {w r : Witness} → Witnessed (Wanted (Wired rules [] no_lists desk unit) (both_of s s)) w → Darkened w (hidden_of unit facts) r
-      → Witnessed (Unpiloted rules desk unit facts s) r
-  asked {w} k (member {N} {M} e f) = go (subst (Witnessed (Wanted (Wired rules [] no_lists desk unit) (both_of s s))) e k)
-    where
-      go : Witnessed (Wanted (Wired rules [] no_lists desk unit) (both_of s s)) (Member N) → Witnessed (Unpiloted rules desk unit facts s) (Member M)
-      go (met g) = met (record { whole = N; wanted = record { belongs = g.belongs; completes = here_both g.completes }; is = f })
-  asked {w} k (nothing e) = go (subst (Witnessed (Wanted (Wired rules [] no_lists desk unit) (both_of s s))) e k)
-    where
-      go : Witnessed (Wanted (Wired rules [] no_lists desk unit) (both_of s s)) Nothing → Witnessed (Unpiloted rules desk unit facts s) Nothing
-      go (none n) =
-          none (λ M f. n f.whole (record { belongs = f.wanted.belongs; completes = both_here f.wanted.completes }))
+  pub asked_some : {N M : ℕ} → Witnessed (Wanted (Wired rules [] no_lists desk unit) (both_of s s)) (Some N) → M ≡ N ∖ hidden_of unit facts
+      → Witnessed (Unpiloted rules desk unit facts s) (Some M)
+  asked_some {N} (met g) f = met (record { whole = N; wanted = record { belongs = g.belongs; completes = here_both g.completes }; is = f })
+
+  pub asked_none : Witnessed (Wanted (Wired rules [] no_lists desk unit) (both_of s s)) None → Witnessed (Unpiloted rules desk unit facts s) None
+  asked_none (none n) = none (λ M f. n f.whole (record { belongs = f.wanted.belongs; completes = both_here f.wanted.completes }))

@@ -1,21 +1,17 @@
 -- The least number with a property behind a place, and the least few (document 02, S-8).
-use Rattle.std.specs.Prelude.{◌≡◌, ◌⊎◌, ℕ, ◌≤◌, ◌<◌, length}
+use Rattle.std.specs.Prelude.{◌≡◌, ◌⊎◌, ℕ, ◌≤◌, ◌<◌, length, None, Option, Some}
 use mathlib.Core.List.{List, Memᴰ}
 use Rattle.atoms.specs.Rising.{Rising}
-use Rattle.searching.specs.declared.witness.Witness.{Witness}
-use Rattle.searching.specs.declared.witness.Witness.TheVariants.{Member, Nothing}
-use Rattle.finding.specs.declared.least.From.{From}
-use Rattle.finding.specs.declared.least.From.TheVariants.{Start, Above}
 
 -- "either "from the start" or a position": every position is behind the start, and those strictly above p are behind p
-pub data Behind : From → ℕ → Type 0 where
-  from_start : {M : ℕ} → Behind Start M
-  above : {p M : ℕ} → p < M → Behind (Above p) M
+pub data Behind : Option ℕ → ℕ → Type 0 where
+  from_start : {M : ℕ} → Behind None M
+  above : {p M : ℕ} → p < M → Behind (Some p) M
 
 -- "the least", or that there is none
-pub data LeastOf (Q : ℕ → Type 0) : Witness → Type 0 where
-  least : {M : ℕ} → Q M → ((N : ℕ) → Q N → M ≤ N) → LeastOf Q (Member M)
-  none : ((N : ℕ) → ¬ Q N) → LeastOf Q Nothing
+pub data LeastOf (Q : ℕ → Type 0) : Option ℕ → Type 0 where
+  least : {M : ℕ} → Q M → ((N : ℕ) → Q N → M ≤ N) → LeastOf Q (Some M)
+  none : ((N : ℕ) → ¬ Q N) → LeastOf Q None
 
 -- the least n, rising; or all, where there are fewer
 pub record Leasts (Q : ℕ → Type 0) (n : ℕ) (xs : List ℕ) : Type 0 where

@@ -6,19 +6,19 @@ ghost use Rattle.answer_sets.specs.Lent.{Lent};
 ghost use Rattle.learning.specs.Store.{Empty};
 ghost use Rattle.propagating.specs.Desk.{DESK_WORDS};
 ghost use Rattle.searching.specs.Witness.{Witnessed};
-ghost use Rattle.finding.specs.Whole.{whole_of, unit_of, hidden_of, Unpiloted, Serves, Standing, Rooted, Darkened};
+ghost use Rattle.finding.specs.Whole.{whole_of, unit_of, hidden_of, Unpiloted, Serves, Standing, Rooted};
 
 use joining::filter::full_filter;
 use narrowing::loops::looped_atoms;
 use plan::MAX_UNITS;
 use propagating::Job;
 use propagating::agenda::{every_step, with_tables};
+use propagating::context::Context;
 use propagating::desk::{DESK_WORDS, LINKED, PILOTS, lay_out};
 use propagating::front::Front;
 use searching::begin::begin;
 use searching::find::find;
 use searching::spare::{all_of, take_pilots, with_inputs};
-use searching::witness::Witness;
 use states::State;
 
 // The unit of a program: its rules, its facts for input, and no predecessors.
@@ -77,29 +77,17 @@ pub fn root_of(rules: &[u64], desk: &[u64], memory: &mut [u64], unit: Job, facts
         agenda: with_tables(&desk[PILOTS..LINKED], every),
         top: 0,
     };
-    begin(
+    let cx = Context {
         rules,
-        &table,
-        &counts,
+        table: &table,
+        counts: &counts,
         desk,
         unit,
-        memory,
-        &mut filter,
-        front,
-    )
+    };
+    begin(&cx, memory, &mut filter, front)
 }
 
-// The position without the hidden atoms, if there is one.
-fn darkened(w: Witness, hidden: u64) -> Witness
-    ensures { Darkened w hidden result }
-{
-    match w {
-        Witness::Member(n) => Witness::Member(atoms::without(n, hidden)),
-        Witness::Nothing => Witness::Nothing,
-    }
-}
-
-// An answer set that fits the state of the front, or that none does.
+// An answer set that fits the state of the front, without the hidden atoms; none if none fits.
 pub fn ask(
     rules: &[u64],
     desk: &[u64],
@@ -107,17 +95,25 @@ pub fn ask(
     unit: Job,
     facts: u64,
     f: Front,
-) -> Witness
+) -> Option<u64>
     requires { Standing rules.now desk.now memory.old unit facts f.state }
     ensures witnessed { Witnessed (Unpiloted rules.now desk.now unit facts f.state) result }
     ensures stands { Standing rules.now desk.now memory.new unit facts f.state }
 {
     let s = f.state;
     if !atoms::are_apart(s.up, s.dropped) {
-        return Witness::Nothing;
+        return None;
     }
     let table = [0u64; 0];
     let counts = [0usize; MAX_UNITS];
-    let found = find(rules, &table, &counts, desk, memory, unit, f, s);
-    darkened(found, atoms::without(unit.inputs, facts))
+    let hidden = atoms::without(unit.inputs, facts);
+    let cx = Context {
+        rules,
+        table: &table,
+        counts: &counts,
+        desk,
+        unit,
+    };
+    let found = find(&cx, memory, f, s)?;
+    Some(atoms::without(found, hidden))
 }

@@ -8,10 +8,9 @@ ghost use Rattle.searching.specs.Witness.{Witnessed};
 
 use crate::ask::{ask, desk_of, root_of, unit_of};
 use learning::store::empty_store;
-use searching::witness::Witness;
 
 // An answer set of the program, or that there is none.
-fn any(rules: &[u64], which: u64, facts: u64) -> Witness
+fn any(rules: &[u64], which: u64, facts: u64) -> Option<u64>
     requires { Lent rules.now which }
     ensures { Witnessed (AnswerSet (lent rules.now) which facts) result }
 {
@@ -30,8 +29,8 @@ fn try_without(rules: &[u64], headed: u64, held: u64, facts: u64, c: usize) -> u
     let others = atoms::drop(held, c);
     let found = any(rules, atoms::union(headed, others), facts);
     match found {
-        Witness::Member(_) => held,
-        Witness::Nothing => others,
+        Some(_) => held,
+        None => others,
     }
 }
 
@@ -41,11 +40,8 @@ pub fn few_constraints(rules: &[u64], headed: u64, constraints: u64, facts: u64)
     ensures { FewBlamed rules.now headed constraints facts result }
 {
     let mut held = constraints;
-    let mut rest = constraints;
-    while rest != 0 {
-        let c = atoms::lowest(rest);
+    for c in atoms::each(constraints) {
         held = try_without(rules, headed, held, facts, c);
-        rest = atoms::drop(rest, c);
     }
     held
 }

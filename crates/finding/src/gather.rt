@@ -2,71 +2,65 @@
 // met rising.
 ghost use Rattle.std.specs.Prelude.{◌≤◌, ◌<◌, ◌≡◌, true, [], length};
 ghost use Rattle.atoms.specs.Word.{ATOMS, Has};
-ghost use Rattle.answer_sets.specs.AnswerSet.{AnswerSet};
-ghost use Rattle.answer_sets.specs.Lent.{lent, Lent};
 ghost use Rattle.states.specs.Narrowing.{Narrows, branch_of};
 ghost use Rattle.learning.specs.Reason.{Remembers};
 ghost use Rattle.propagating.specs.Desk.{DESK_WORDS, Wired};
 ghost use Rattle.finding.specs.Whole.{no_lists, hidden_of, Standing};
-ghost use Rattle.finding.specs.Gather.{Added, Sought, Due, AllPassed, dark_of, Likely, Looked, KeptWitness, PlaceIn, Node, Descended};
+ghost use Rattle.finding.specs.Gather.{Added, Due, AllPassed, dark_of, Likely, Looked, KeptWitness, PlaceIn, Node, Descended};
 
-use crate::ask::{ask, desk_of, root_of, unit_of};
-use crate::least::{From, is_behind, put};
-use crate::near::gather_nearest;
+use crate::ask::ask;
+use crate::least::{is_behind, put};
 use joining::filter::FILTER_WORDS;
-use learning::store::empty_store;
 use plan::MAX_UNITS;
 use propagating::Job;
 use propagating::agenda::woken;
+use propagating::context::Context;
 use propagating::desk::{INDEX, PILOTS};
 use propagating::front::Front;
 use propagating::propagate::propagate;
-use searching::witness::Witness;
 use states::{State, decide, undecided};
 
-// What is asked: the program as one unit, its facts, and the place behind which answer sets are sought.
+// What is asked: the program as one unit, its facts, and the place behind which answer sets are sought; the start where there is none.
 #[derive(Clone, Copy)]
 pub struct Query {
     pub unit: Job,
     pub facts: u64,
-    pub from: From,
+    pub from: Option<u64>,
 }
 
 // A node of the tree: where propagation stands, and a position that completes its state, if one is known: an answer set, or one that is passed.
 #[derive(Clone, Copy)]
 pub struct WalkNode {
     pub front: Front,
-    pub known: Witness,
+    pub known: Option<u64>,
 }
 
 // Whether the greatest completion of the state is not behind the place.
-fn is_passed(s: State, from: From) -> bool
+fn is_passed(s: State, from: Option<u64>) -> bool
     ensures { result ≡ true → AllPassed s from }
 {
     !is_behind(from, atoms::outside(s.dropped))
 }
 
 // The position m, if it completes the state.
-fn kept(m: u64, s: State) -> Witness
+fn kept(m: u64, s: State) -> Option<u64>
     ensures { KeptWitness m s result }
 {
     if !atoms::is_subset(s.up, m) {
-        return Witness::Nothing;
+        return None;
     }
     if !atoms::are_apart(s.dropped, m) {
-        return Witness::Nothing;
+        return None;
     }
-    Witness::Member(m)
+    Some(m)
 }
 
 // The position itself, if it completes the state: no answer set need be looked for on the way to it.
-pub fn place_in(s: State, from: From) -> Witness
+pub fn place_in(s: State, from: Option<u64>) -> Option<u64>
     ensures { PlaceIn s from result }
 {
-    match from {
-        From::Start => Witness::Nothing,
-        From::Above(p) => kept(p, s),
-    }
+    let p = from?;
+    kept(p, s)
 }
 
 // The state as it is without pilots: all of them are dropped.
@@ -94,7 +88,13 @@ pub fn onward(desk: &[u64], f: Front, after: State) -> Front
 }
 
 // The position that is known of the node, or an answer set that completes its state; or that none there is behind the place.
-fn look(rules: &[u64], desk: &[u64], memory: &mut [u64], query: Query, node: WalkNode) -> Witness
+fn look(
+    rules: &[u64],
+    desk: &[u64],
+    memory: &mut [u64],
+    query: Query,
+    node: WalkNode,
+) -> Option<u64>
     requires { Node rules.now desk.now memory.old query.unit query.facts query.from node }
     ensures looked { Looked rules.now desk.now query.unit query.facts query.from node.front.state result }
     ensures stands { Standing rules.now desk.now memory.new query.unit query.facts node.front.state }
@@ -104,13 +104,12 @@ fn look(rules: &[u64], desk: &[u64], memory: &mut [u64], query: Query, node: Wal
     let unit = query.unit;
     let dark = dark_of(f.state, atoms::without(unit.inputs, query.facts));
     if is_passed(dark, from) {
-        return Witness::Nothing;
+        return None;
     }
-    let known = node.known;
-    match known {
-        Witness::Member(m) => Witness::Member(m),
-        Witness::Nothing => ask(rules, desk, memory, unit, query.facts, f),
+    if let Some(m) = node.known {
+        return Some(m);
     }
+    ask(rules, desk, memory, unit, query.facts, f)
 }
 
 // The front with the atom in the phase, after the steps that this wakes; they are not taken where all is passed.
@@ -144,7 +143,14 @@ fn step_down(
     let counts = [0usize; MAX_UNITS];
     let mut filter = [0u64; FILTER_WORDS];
     let g = onward(desk, f, t);
-    propagate(rules, &table, &counts, desk, unit, memory, &mut filter, g)
+    let cx = Context {
+        rules,
+        table: &table,
+        counts: &counts,
+        desk,
+        unit,
+    };
+    propagate(&cx, memory, &mut filter, g)
 }
 
 // The node of the atom in the phase; the position m goes with it if it lies there.
@@ -192,8 +198,7 @@ pub fn gather(
     if out.len() <= at {
         return at;
     }
-    let seen = look(rules, desk, memory, query, node);
-    let Witness::Member(m) = seen else {
+    let Some(m) = look(rules, desk, memory, query, node) else {
         return at;
     };
     let f = node.front;
@@ -211,46 +216,4 @@ pub fn gather(
     }
     let up = descend(rules, desk, memory, query, f, m, k, true);
     gather(rules, desk, memory, query, up, skip, out, mid)
-}
-
-// Fills the words with the least answer sets behind the place that are not passed over, rising: how many there are.
-pub fn gather_all(
-    rules: &[u64],
-    which: u64,
-    facts: u64,
-    from: From,
-    passed: &[u64],
-    out: &mut [u64],
-) -> usize
-    requires { Lent rules.now which }
-    ensures { Added (λ M. AnswerSet (lent rules.now) which facts M × Sought from passed.now M) out.old 0
-        out.new result }
-{
-    let desk = desk_of(rules, which, facts);
-    let unit = unit_of(&desk, which, facts);
-    let mut memory = empty_store();
-    let front = root_of(rules, &desk, &mut memory, unit, facts);
-    let query = Query { unit, facts, from };
-    let near = gather_nearest(rules, &desk, &mut memory, query, front, passed, out);
-    let dark = dark_of(front.state, atoms::without(unit.inputs, facts));
-    let root = WalkNode {
-        front,
-        known: place_in(dark, from),
-    };
-    let further = near.from;
-    let rest = Query {
-        unit,
-        facts,
-        from: further,
-    };
-    gather(
-        rules,
-        &desk,
-        &mut memory,
-        rest,
-        root,
-        passed,
-        out,
-        near.count,
-    )
 }

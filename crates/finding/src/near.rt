@@ -7,10 +7,9 @@ ghost use Rattle.finding.specs.Gather.{dark_of};
 ghost use Rattle.finding.specs.Near.{like_of, high_free, last_like, PlaceAt, Reaches};
 
 use crate::gather::{Query, WalkNode, dark_of, gather, onward, place_in};
-use crate::least::{From, is_behind};
+use crate::least::is_behind;
 use atoms::ATOMS;
 use propagating::front::Front;
-use searching::witness::Witness;
 use states::{State, undecided};
 
 // Where the tree begins, a place that completes its state, and the atom from which on positions are to be like the place.
@@ -24,7 +23,7 @@ pub struct Near {
 // The place behind which the rest is sought, and how many words are filled.
 #[derive(Clone, Copy)]
 pub struct Reached {
-    pub from: From,
+    pub from: Option<u64>,
     pub count: usize,
 }
 
@@ -87,11 +86,11 @@ fn gather_near(
     let t = like_place(f.state, high, near.place);
     let node = WalkNode {
         front: onward(desk, f, t),
-        known: Witness::Member(near.place),
+        known: Some(near.place),
     };
     let count = gather(rules, desk, memory, query, node, skip, out, at);
     Reached {
-        from: From::Above(last),
+        from: Some(last),
         count,
     }
 }
@@ -120,6 +119,7 @@ fn gather_wider(
         count: 0,
     };
     let mut width = 1;
+    // Stays: the width doubles until the bound leaves the word, and a range with a step that grows would say no more than this.
     while near.bound + width < ATOMS {
         let from = reached.from;
         let further = Query {
@@ -165,8 +165,7 @@ pub fn gather_nearest(
 {
     let from = query.from;
     let dark = dark_of(front.state, atoms::without(query.unit.inputs, query.facts));
-    let inside = place_in(dark, from);
-    let Witness::Member(place) = inside else {
+    let Some(place) = place_in(dark, from) else {
         return Reached { from, count: 0 };
     };
     let free = undecided(dark.up, dark.dropped);

@@ -1,94 +1,86 @@
 -- Several positions in one call: what is written is what single calls would find, and calls one after the other walk on.
 use Rattle.stepping.proofs.Prelude.{◌≡◌, refl, sym, ap, ◌∙◌, subst, Bool, true, false, true≢false, ◌⊎◌, inl, inr, List, [], ◌∷◌, ◌++◌, List-as-Memᴰ}
 use Rattle.stepping.proofs.Prelude.{Memᴰ-head, Memᴰ-tail, Memᴰ-not-nil, Memᴰ-cases_cons, ℕ, zero, suc, ◌+◌, ◌≤◌, ◌<◌, arith}
-use Rattle.stepping.proofs.Prelude.{length, take, drop, below, Rising, rising_cons, cut_list, above_at, AnswerSet, lent, Plan, Fault, Accepted}
-use Rattle.stepping.proofs.Prelude.{Refused as RefusedWith, reading, ReadPlan, Settles, not_accepted, outcome_is, refused_answered, accepted_answered}
-use Rattle.stepping.proofs.Prelude.{last_in, Promised, Listing, lays_accepted, Behind, Leasts, above, From, Start, Above, behind_more, above_of}
-use Rattle.stepping.proofs.Prelude.{Follows, position, none_left, followed, Walked, ends, goes, Next, Position, NoneLeft}
+use Rattle.stepping.proofs.Prelude.{length, take, drop, Rising, rising_cons, cut_list, above_at, Plan, Fault, Accepted}
+use Rattle.stepping.proofs.Prelude.{Refused as RefusedWith, reading, accepted, refused, ReadPlan, Settles, not_accepted, outcome_is, refused_answered}
+use Rattle.stepping.proofs.Prelude.{accepted_answered, last_in, Promised, Listing, lays_accepted, Behind, Leasts, above, Option, None, Some, behind_more}
+use Rattle.stepping.proofs.Prelude.{above_of}
+use Rattle.stepping.proofs.Prelude.{Follows, position, none_left, followed, Walked, ends, goes, Result, Ok, Err}
 use Rattle.finding.specs.Gather.{Added, Sought}
 use Rattle.finding.proofs.AddedWords.{added_behind, written_long, written_leasts, written_rest}
 use Rattle.stepping.specs.Batch.{steps, place_after, batch_filled, Stepped}
-use Rattle.stepping.specs.declared.Next.TheVariants.{Refused}
-use Rattle.stepping.specs.declared.Batch.TheVariants.{Written, Refused as BatchRefused}
 use Rattle.stepping.proofs.Nexts.{follows_only, followed_follows, followed_refused}
 use Rattle.stepping.proofs.WalkAgreement.{walk_is_last}
 
--- ---- all rules of the record
-
-pub gathered_of : (p : Plan) {w r : ℕ} {from : From} {passed before after : List ℕ} → w ≡ below p.rule_count
-    → Added (λ M. AnswerSet (lent p.rules) w p.once.given.word M × Sought from passed M) before 0 after r
-    → Added (λ M. Settles p M × Sought from passed M) before 0 after r
-gathered_of p e a = rw e at a
-
 -- ---- one step more
 
-steps_none : (bytes : List ℕ) (from : From) → steps bytes from 0 ≡ []
+steps_none : (bytes : List ℕ) (from : Option ℕ) → steps bytes from 0 ≡ []
 unfolding steps
 steps_none bytes from = refl
 
-steps_position : (bytes : List ℕ) (from : From) (n : ℕ) {M : ℕ} → followed bytes from ≡ Position M
-    → steps bytes from (suc n) ≡ M ∷ steps bytes (Above M) n
+steps_position : (bytes : List ℕ) (from : Option ℕ) (n : ℕ) {M : ℕ} → followed bytes from ≡ Ok (Some M)
+    → steps bytes from (suc n) ≡ M ∷ steps bytes (Some M) n
 unfolding steps
 steps_position bytes from n e = rw (e, steps)
 
-steps_end : (bytes : List ℕ) (from : From) (n : ℕ) → followed bytes from ≡ NoneLeft → steps bytes from (suc n) ≡ []
+steps_end : (bytes : List ℕ) (from : Option ℕ) (n : ℕ) → followed bytes from ≡ Ok None → steps bytes from (suc n) ≡ []
 unfolding steps
 steps_end bytes from n e = rw (e, steps)
 
-steps_fault : (bytes : List ℕ) (from : From) (n : ℕ) {f : Fault} → followed bytes from ≡ Refused f → steps bytes from (suc n) ≡ []
+steps_fault : (bytes : List ℕ) (from : Option ℕ) (n : ℕ) {f : Fault} → followed bytes from ≡ Err f → steps bytes from (suc n) ≡ []
 unfolding steps
 steps_fault bytes from n e = rw (e, steps)
 
-steps_refused : (bytes : List ℕ) (from : From) (n : ℕ) {f : Fault} → (reading bytes).outcome ≡ RefusedWith f → steps bytes from n ≡ []
+steps_refused : (bytes : List ℕ) (from : Option ℕ) (n : ℕ) {f : Fault} → (reading bytes).outcome ≡ RefusedWith f → steps bytes from n ≡ []
 steps_refused bytes from zero e = steps_none bytes from
 steps_refused bytes from (suc n) {f} e = steps_fault bytes from n (followed_refused bytes from f e)
 
 -- ---- calls one after the other
 
 -- a full batch and the one behind its last position are one batch
-pub batches_join : (bytes : List ℕ) (from : From) (n m : ℕ) → length (steps bytes from n) ≡ n
+pub batches_join : (bytes : List ℕ) (from : Option ℕ) (n m : ℕ) → length (steps bytes from n) ≡ n
     → steps bytes from (n + m) ≡ steps bytes from n ++ steps bytes (place_after from (steps bytes from n)) m
 batches_join bytes from zero m e = rw (steps_none bytes from) (ap (steps bytes from) (omega arith))
-batches_join bytes from (suc n) m e = go (followed bytes from) refl (λ M. batches_join bytes (Above M) n m)
+batches_join bytes from (suc n) m e = go (followed bytes from) refl (λ M. batches_join bytes (Some M) n m)
   where
-    go : (x : Next) → followed bytes from ≡ x
-        → ((M : ℕ) → length (steps bytes (Above M) n) ≡ n
-        → steps bytes (Above M) (n + m) ≡ steps bytes (Above M) n ++ steps bytes (place_after (Above M) (steps bytes (Above M) n)) m)
+    go : (x : Result (Option ℕ) Fault) → followed bytes from ≡ x
+        → ((M : ℕ) → length (steps bytes (Some M) n) ≡ n
+        → steps bytes (Some M) (n + m) ≡ steps bytes (Some M) n ++ steps bytes (place_after (Some M) (steps bytes (Some M) n)) m)
         → steps bytes from (suc n + m) ≡ steps bytes from (suc n) ++ steps bytes (place_after from (steps bytes from (suc n))) m
-    go (Position M) f rest =
+    go (Ok (Some M)) f rest =
         let s = steps_position bytes from n f in
         let k : suc n + m ≡ suc (n + m) = omega arith in
         rw (s, k, steps_position bytes from (n + m) f)
-        (ap (λ (l : List ℕ). M ∷ l) (rest M (let l : length (M ∷ steps bytes (Above M) n) ≡ suc n = rw s at e in omega arith)))
-    go NoneLeft f rest = let l : length {A = ℕ} [] ≡ suc n = rw (steps_end bytes from n f) at e in absurd (omega arith)
-    go (Refused g) f rest = let l : length {A = ℕ} [] ≡ suc n = rw (steps_fault bytes from n f) at e in absurd (omega arith)
+        (ap (λ (l : List ℕ). M ∷ l) (rest M (let l : length (M ∷ steps bytes (Some M) n) ≡ suc n = rw s at e in omega arith)))
+    go (Ok None) f rest = let l : length {A = ℕ} [] ≡ suc n = rw (steps_end bytes from n f) at e in absurd (omega arith)
+    go (Err g) f rest = let l : length {A = ℕ} [] ≡ suc n = rw (steps_fault bytes from n f) at e in absurd (omega arith)
 
-abbrev told : Next → Bool
-told (Position M) = true
-told NoneLeft = true
-told (Refused f) = false
+abbrev told : Result (Option ℕ) Fault → Bool
+told (Ok (Some M)) = true
+told (Ok None) = true
+told (Err f) = false
 
-follows_told : {p : Plan} {from : From} {x : Next} → Follows p from x → told x ≡ true
+follows_told : {p : Plan} {from : Option ℕ} {x : Result (Option ℕ) Fault} → Follows p from x → told x ≡ true
 follows_told (position s b l) = refl
 follows_told (none_left n) = refl
 
 -- a batch that is not full is the whole walk
-pub short_walked : (bytes : List ℕ) (from : From) (n : ℕ) → (reading bytes).outcome ≡ Accepted → length (steps bytes from n) < n
+pub short_walked : (bytes : List ℕ) (from : Option ℕ) (n : ℕ) → (reading bytes).outcome ≡ Accepted → length (steps bytes from n) < n
     → Walked bytes from (steps bytes from n)
 short_walked bytes from zero a l = absurd (omega arith)
-short_walked bytes from (suc n) a l = go (followed bytes from) refl (followed_follows bytes from a) (λ M. short_walked bytes (Above M) n a)
+short_walked bytes from (suc n) a l = go (followed bytes from) refl (followed_follows bytes from a) (λ M. short_walked bytes (Some M) n a)
   where
-    go : (x : Next) → followed bytes from ≡ x → Follows (reading bytes).plan from (followed bytes from)
-        → ((M : ℕ) → length (steps bytes (Above M) n) < n → Walked bytes (Above M) (steps bytes (Above M) n)) → Walked bytes from (steps bytes from (suc n))
-    go (Position M) f k rest =
+    go : (x : Result (Option ℕ) Fault) → followed bytes from ≡ x → Follows (reading bytes).plan from (followed bytes from)
+        → ((M : ℕ) → length (steps bytes (Some M) n) < n → Walked bytes (Some M) (steps bytes (Some M) n)) → Walked bytes from (steps bytes from (suc n))
+    go (Ok (Some M)) f k rest =
         let s = steps_position bytes from n f in
-        let m : length (M ∷ steps bytes (Above M) n) < suc n = rw s at l in
+        let m : length (M ∷ steps bytes (Some M) n) < suc n = rw s at l in
         rw s (goes f (rest M (omega arith)))
-    go NoneLeft f k rest = rw (steps_end bytes from n f) (ends f)
-    go (Refused g) f k rest = absurd (true≢false (sym (follows_told k) ∙ ap told f))
+    go (Ok None) f k rest = rw (steps_end bytes from n f) (ends f)
+    go (Err g) f k rest = absurd (true≢false (sym (follows_told k) ∙ ap told f))
 
 -- and a walk is the batch of any room that is enough
-pub walked_steps : (bytes : List ℕ) {from : From} {xs : List ℕ} (n : ℕ) → Walked bytes from xs → length xs ≤ n → steps bytes from n ≡ xs
+pub walked_steps : (bytes : List ℕ) {from : Option ℕ} {xs : List ℕ} (n : ℕ) → Walked bytes from xs → length xs ≤ n → steps bytes from n ≡ xs
 walked_steps bytes {from} zero (ends e) l = steps_none bytes from
 walked_steps bytes {from} (suc n) (ends e) l = steps_end bytes from n e
 walked_steps bytes {from} zero (goes e w) l = absurd (omega arith)
@@ -97,15 +89,15 @@ walked_steps bytes {from} (suc n) (goes {M = M} e w) l =
 
 -- one batch from the start that is not full, cut, is the last list of a plan that the unit work finishes
 pub batch_is_last : (bytes table : List ℕ) {r : Listing} {table' : List ℕ} → Promised bytes table r table' → r.outcome ≡ Accepted → (n : ℕ)
-    → length (steps bytes Start n) < n → cut_list (reading bytes).plan.once.shown.word (steps bytes Start n) ≡ last_in r table'
+    → length (steps bytes None n) < n → cut_list (reading bytes).plan.once.shown.word (steps bytes None n) ≡ last_in r table'
 batch_is_last bytes table h e n l =
-    walk_is_last bytes table h e (short_walked bytes Start n (lays_accepted (h.demand_1.accepts.0 e).1.1.lays) l)
+    walk_is_last bytes table h e (short_walked bytes None n (lays_accepted (h.demand_1.accepts.0 e).1.1.lays) l)
 
 -- ---- what was written
 
 module _ (bytes : List ℕ) (accepted : (reading bytes).outcome ≡ Accepted) where
   -- the least n are those that n calls find
-  pub leasts_steps : (n : ℕ) (from : From) (xs : List ℕ) → Leasts (λ M. Settles (reading bytes).plan M × Behind from M) n xs → xs ≡ steps bytes from n
+  pub leasts_steps : (n : ℕ) (from : Option ℕ) (xs : List ℕ) → Leasts (λ M. Settles (reading bytes).plan M × Behind from M) n xs → xs ≡ steps bytes from n
   leasts_steps zero from [] k = sym (steps_none bytes from)
   leasts_steps zero from (x ∷ xs) k = absurd (omega (arith, k.few))
   leasts_steps (suc n) from [] k =
@@ -114,7 +106,7 @@ module _ (bytes : List ℕ) (accepted : (reading bytes).outcome ≡ Accepted) wh
       go : (N : ℕ) → List-as-Memᴰ N [] ⊎ ((length {A = ℕ} [] ≡ suc n) × ((M : ℕ) → List-as-Memᴰ M [] → M < N)) → ⊥
       go N (inl m) = Memᴰ-not-nil m
       go N (inr o) = omega (arith, o.0)
-  leasts_steps (suc n) from (x ∷ xs) k = go k.rising (leasts_steps n (Above x) xs)
+  leasts_steps (suc n) from (x ∷ xs) k = go k.rising (leasts_steps n (Some x) xs)
     where
       here : Settles (reading bytes).plan x × Behind from x
       here = k.each x (Memᴰ-head refl)
@@ -137,7 +129,7 @@ module _ (bytes : List ℕ) (accepted : (reading bytes).outcome ≡ Accepted) wh
           at (inr q) = inl q
       rest N l (inr o) = inr (omega (arith, o.0), λ M m. o.1 M (Memᴰ-tail m))
 
-      go : Rising (x ∷ xs) → (Leasts (λ M. Settles (reading bytes).plan M × Behind (Above x) M) n xs → xs ≡ steps bytes (Above x) n)
+      go : Rising (x ∷ xs) → (Leasts (λ M. Settles (reading bytes).plan M × Behind (Some x) M) n xs → xs ≡ steps bytes (Some x) n)
           → x ∷ xs ≡ steps bytes from (suc n)
       go (rising_cons a r) more =
           ap (λ (l : List ℕ). x ∷ l)
@@ -152,28 +144,28 @@ module _ (bytes : List ℕ) (accepted : (reading bytes).outcome ≡ Accepted) wh
           (follows_only (followed_follows bytes from accepted)
           (position here.0 here.1 (λ N s b. low N (rising_cons a r) (k.all N (s, b))))))
 
-module _ (bytes : List ℕ) (from : From) {r : ReadPlan} (read : r ≡ reading bytes) (words : List ℕ) where
-  pub refused_stepped : {f : Fault} → r.outcome ≡ RefusedWith f → Stepped bytes from words words (BatchRefused f)
-  refused_stepped e = record {
-    answered = refused_answered bytes read e refl;
-    words_are = rw (steps_refused bytes from (length words) (outcome_is bytes read e)) refl;
+module _ (bytes : List ℕ) (from : Option ℕ) where
+  pub refused_stepped : {f : Fault} → refused f ≡ reading bytes → (words : List ℕ) → Stepped bytes from words words (Err f)
+  refused_stepped read words = record {
+    answered = refused_answered bytes read refl refl;
+    words_are = rw (steps_refused bytes from (length words) (outcome_is bytes read refl)) refl;
     untouched = λ _ _. refl;
   }
 
-  pub written_stepped : {words' : List ℕ} {count : ℕ} → r.outcome ≡ Accepted
-      → Added (λ M. Settles r.plan M × Sought from [] M) words 0 words' count → Stepped bytes from words words' (Written count)
-  written_stepped {words'} {count} e added = record {
-    answered = accepted_answered bytes read e (ap Written (sym (written_long told) ∙ ap length same))
-        (subst (Leasts (λ M. Settles r.plan M × Behind from M) (length words)) same (written_leasts told));
+  pub written_stepped : {p : Plan} → accepted p ≡ reading bytes → (words : List ℕ) {words' : List ℕ} {count : ℕ}
+      → Added (λ M. Settles p M × Sought from [] M) words 0 words' count → Stepped bytes from words words' (Ok count)
+  written_stepped {p} read words {words'} {count} added = record {
+    answered = accepted_answered bytes read refl (ap Ok (sym (written_long told) ∙ ap length same))
+        (subst (Leasts (λ M. Settles p M × Behind from M) (length words)) same (written_leasts told));
     words_are = written_rest told ∙ ap (λ (n : ℕ). take count words' ++ drop n words) (sym (written_long told))
         ∙ ap (λ (l : List ℕ). batch_filled l words) same;
-    untouched = λ f k. absurd (not_accepted f (sym (outcome_is bytes read e) ∙ k));
+    untouched = λ f k. absurd (not_accepted f (sym (outcome_is bytes read refl) ∙ k));
   }
     where
-      told : Added (λ M. Settles r.plan M × Behind from M) words 0 words' count
+      told : Added (λ M. Settles p M × Behind from M) words 0 words' count
       told = added_behind added
 
       same : take count words' ≡ steps bytes from (length words)
       same =
-          leasts_steps bytes (outcome_is bytes read e) (length words) from (take count words')
+          leasts_steps bytes (outcome_is bytes read refl) (length words) from (take count words')
           (subst (λ (y : ReadPlan). Leasts (λ M. Settles y.plan M × Behind from M) (length words) (take count words')) read (written_leasts told))

@@ -1,21 +1,19 @@
 -- The next answer set: there is just one result that follows, the definition computes it, and so does what was found.
 use Rattle.stepping.proofs.Prelude.{◌≡◌, refl, ap, Bool, true, false, inl, inr, List, ℕ, suc, ◌≤◌, ◌<◌, arith, ltb, ltb-true, ltb-false, lt-ltb, Has}
 use Rattle.stepping.proofs.Prelude.{◌⊆◌, below, decides, decided_true, not_both, has_left, has_right, has_below, subset_le, lent, Fitting, Plan, Fault}
-use Rattle.stepping.proofs.Prelude.{Accepted, Refused as RefusedWith, reading, ReadPlan, record_fits, Settles, settled, Headed, settled_headed}
-use Rattle.stepping.proofs.Prelude.{decides_settled, asked_refused, asked_accepted, accepted_answered, read_fits, Member, Nothing, LeastOf, least}
-use Rattle.stepping.proofs.Prelude.{none, Behind, from_start, above, From, Start, Above, Follows, position, none_left, may_be_up, behind, settled_behind}
-use Rattle.stepping.proofs.Prelude.{next_in, followed, Followed, Next, Position, NoneLeft}
+use Rattle.stepping.proofs.Prelude.{Accepted, Refused as RefusedWith, reading, accepted, record_fits, Settles, settled, Headed, settled_headed}
+use Rattle.stepping.proofs.Prelude.{decides_settled, asked_refused, asked_accepted, accepted_answered, read_fits, Some, None, LeastOf, least}
+use Rattle.stepping.proofs.Prelude.{none, Behind, from_start, above, Option, Follows, position, none_left, may_be_up, behind, settled_behind}
+use Rattle.stepping.proofs.Prelude.{next_in, followed, Followed, Result, Ok, Err}
 use Rattle.atoms.specs.Bounded.{Decides, union_in}
 use Rattle.atoms.specs.Collected.{lowest}
 use Rattle.atoms.proofs.Bounded.{union_has}
-use Rattle.searching.specs.declared.witness.Witness.{Witness}
 use Rattle.finding.proofs.Leasts.{lowest_met, lowest_missed}
-use Rattle.stepping.specs.declared.Next.TheVariants.{Refused}
 
 -- ---- one result follows
 
-pub follows_only : {p : Plan} {from : From} {a b : Next} → Follows p from a → Follows p from b → a ≡ b
-follows_only (position {M = M} s b l) (position {M = N} t c k) = ap Position (same (l N t c) (k M s b))
+pub follows_only : {p : Plan} {from : Option ℕ} {a b : Result (Option ℕ) Fault} → Follows p from a → Follows p from b → a ≡ b
+follows_only (position {M = M} s b l) (position {M = N} t c k) = ap (λ (M : ℕ). Ok (Some M)) (same (l N t c) (k M s b))
   where
     same : {x y : ℕ} → x ≤ y → y ≤ x → x ≡ y
     same h g = omega arith
@@ -24,11 +22,15 @@ follows_only (none_left n) (position {M = M} s b l) = absurd (n M s b)
 follows_only (none_left n) (none_left m) = refl
 
 -- what was found follows
-pub found_follows : {p : Plan} {from : From} {M : ℕ} → LeastOf (λ N. Settles p N × Behind from N) (Member M) → Follows p from (Position M)
+pub found_follows : {p : Plan} {from : Option ℕ} {M : ℕ} → LeastOf (λ N. Settles p N × Behind from N) (Some M) → Follows p from (Ok (Some M))
 found_follows (least q l) = position q.0 q.1 (λ N s b. l N (s, b))
 
-pub none_follows : {p : Plan} {from : From} → LeastOf (λ N. Settles p N × Behind from N) Nothing → Follows p from NoneLeft
+pub none_follows : {p : Plan} {from : Option ℕ} → LeastOf (λ N. Settles p N × Behind from N) None → Follows p from (Ok None)
 none_follows (none n) = none_left (λ N s b. n N (s, b))
+
+pub least_follows : {p : Plan} {from w : Option ℕ} → LeastOf (λ N. Settles p N × Behind from N) w → Follows p from (Ok w)
+least_follows (least q l) = found_follows (least q l)
+least_follows (none n) = none_follows (none n)
 
 -- ---- the definition computes it
 
@@ -48,14 +50,14 @@ settled_within p M s = record { each = λ i h. go i (settled_headed p M i s h) }
 pub may_be_up_lem : (p : Plan) (M : ℕ) → Settles p M → M < suc (may_be_up p)
 may_be_up_lem p M s = omega (arith, subset_le (settled_within p M s))
 
-behind_decided : (from : From) (M : ℕ) → Decides (Behind from M) (behind from M)
-behind_decided Start M = decides true (λ _. from_start) (λ _. refl)
-behind_decided (Above p) M = decides (ltb p M) (λ e. above (ltb-true p M e)) back
+behind_decided : (from : Option ℕ) (M : ℕ) → Decides (Behind from M) (behind from M)
+behind_decided None M = decides true (λ _. from_start) (λ _. refl)
+behind_decided (Some p) M = decides (ltb p M) (λ e. above (ltb-true p M e)) back
   where
-    back : Behind (Above p) M → ltb p M ≡ true
+    back : Behind (Some p) M → ltb p M ≡ true
     back (above l) = lt-ltb p M l
 
-module _ (p : Plan) (fits : Fitting p) (from : From) where
+module _ (p : Plan) (fits : Fitting p) (from : Option ℕ) where
   settled_behind_lem : (M : ℕ) → Decides (Settles p M × Behind from M) (settled_behind p from M)
   settled_behind_lem M = go (behind from M) (behind_decided from M)
     where
@@ -63,7 +65,7 @@ module _ (p : Plan) (fits : Fitting p) (from : From) where
       go true d = decides (settled p M) (λ e. ((decides_settled p M fits).yes e, d.yes refl)) (λ q. decided_true (decides_settled p M fits) q.0)
       go false d = decides false (λ e. absurd (not_both e refl)) (λ q. absurd (d.no refl q.1))
 
-  pub next_in_follows : Follows p from (next_in p from)
+  pub next_in_follows : Follows p from (Ok (next_in p from))
   unfolding next_in
   next_in_follows = go (ltb M top) refl
     where
@@ -73,29 +75,24 @@ module _ (p : Plan) (fits : Fitting p) (from : From) where
       M : ℕ
       M = lowest top (settled_behind p from)
 
-      go : (b : Bool) → ltb M top ≡ b → Follows p from (elim b [ true ↦ Position M | false ↦ NoneLeft ])
+      go : (b : Bool) → ltb M top ≡ b → Follows p from (Ok (elim b [ true ↦ Some M | false ↦ None ]))
       go true e = found_follows (lowest_met (settled_behind p from) top settled_behind_lem (ltb-true M top e))
       go false e =
           none_follows (lowest_missed (settled_behind p from) top settled_behind_lem (ltb-false M top e) (λ N q. may_be_up_lem p N q.0))
 
 -- ---- for the bytes of a plan
 
-pub followed_refused : (bytes : List ℕ) (from : From) (f : Fault) → (reading bytes).outcome ≡ RefusedWith f → followed bytes from ≡ Refused f
-followed_refused bytes from = asked_refused Refused (λ p. next_in p from) bytes
+pub followed_refused : (bytes : List ℕ) (from : Option ℕ) (f : Fault) → (reading bytes).outcome ≡ RefusedWith f → followed bytes from ≡ Err f
+followed_refused bytes from = asked_refused Err (λ p. Ok (next_in p from)) bytes
 
-pub followed_follows : (bytes : List ℕ) (from : From) → (reading bytes).outcome ≡ Accepted → Follows (reading bytes).plan from (followed bytes from)
+pub followed_follows : (bytes : List ℕ) (from : Option ℕ) → (reading bytes).outcome ≡ Accepted → Follows (reading bytes).plan from (followed bytes from)
 followed_follows bytes from e =
-    rw (asked_accepted Refused (λ p. next_in p from) bytes e) (next_in_follows (reading bytes).plan (record_fits bytes) from)
+    rw (asked_accepted Err (λ p. Ok (next_in p from)) bytes e) (next_in_follows (reading bytes).plan (record_fits bytes) from)
 
 -- ---- the results of the code, from what reading gave
 
-module _ (bytes : List ℕ) (from : From) {r : ReadPlan} {w : Witness} (read : r ≡ reading bytes) (o : r.outcome ≡ Accepted)
-    (found : LeastOf (λ N. Settles r.plan N × Behind from N) w) where
-  accepted_followed : {x : Next} → Follows r.plan from x → Followed bytes from x
-  accepted_followed k = accepted_answered bytes read o (follows_only k (next_in_follows r.plan (read_fits bytes read) from)) k
-
-  pub position_followed : {M : ℕ} → w ≡ Member M → Followed bytes from (Position M)
-  position_followed q = accepted_followed (found_follows (rw q at found))
-
-  pub none_followed : w ≡ Nothing → Followed bytes from NoneLeft
-  none_followed q = accepted_followed (none_follows (rw q at found))
+pub found_followed : (bytes : List ℕ) (from : Option ℕ) {p : Plan} {w : Option ℕ} → accepted p ≡ reading bytes
+    → LeastOf (λ N. Settles p N × Behind from N) w → Followed bytes from (Ok w)
+found_followed bytes from {p} {w} read found =
+    let k : Follows p from (Ok w) = least_follows found in
+    accepted_answered bytes read refl (follows_only k (next_in_follows p (read_fits bytes read) from)) k

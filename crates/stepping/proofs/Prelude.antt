@@ -16,21 +16,19 @@ pub use Rattle.demands.specs.Promised.{Promised}
 pub use Rattle.demands.specs.declared.listing.Listing.{Listing}
 pub use Rattle.finding.proofs.Walks.{above_of, behind_more, walk_at, walk_has, walk_of}
 pub use Rattle.finding.specs.Least.{Behind, LeastOf, Leasts, above, from_start, least, none}
-pub use Rattle.finding.specs.declared.least.From.{From}
-pub use Rattle.finding.specs.declared.least.From.TheVariants.{Above, Start}
 pub use Rattle.judge.proofs.Settled.{Headed, decides_settled, settled_headed, whole_lent}
 pub use Rattle.plan.specs.Record.{Fitting}
 pub use Rattle.plan.specs.declared.fault.Fault.{Fault}
-pub use Rattle.plan.specs.declared.fault.Outcome.TheVariants.{Accepted, Refused}
+pub use Rattle.plan.specs.Faults.{Accepted, Refused}
 pub use Rattle.plan.specs.declared.record.Plan.{Plan}
 pub use Rattle.plan_meaning.proofs.AskedPlans.{accepted_answered, asked_accepted, asked_refused, not_accepted, outcome_is, read_fits, refused_answered}
 pub use Rattle.plan_meaning.specs.Settled.{Settles, settled}
 pub use Rattle.reading.proofs.Limits.{record_fits}
-pub use Rattle.reading.specs.Reading.{reading}
-pub use Rattle.reading.specs.declared.reader.ReadPlan.{ReadPlan}
-pub use Rattle.searching.specs.declared.witness.Witness.TheVariants.{Member, Nothing}
+pub use Rattle.reading.specs.Reading.{ReadPlan, accepted, reading, refused}
 pub use Rattle.stepping.specs.Followed.{Followed, Follows, behind, followed, may_be_up, none_left, position, settled_behind}
 unfoldable pub use Rattle.stepping.specs.Followed.{next_in}
 pub use Rattle.stepping.specs.PlanWalk.{Walked, ends, goes}
-pub use Rattle.stepping.specs.declared.Next.{Next}
-pub use Rattle.stepping.specs.declared.Next.TheVariants.{NoneLeft, Position}
+pub use Rattle.std.specs.declared.option.Option.{Option}
+pub use Rattle.std.specs.declared.option.Option.TheVariants.{None, Some}
+pub use Rattle.std.specs.declared.result.Result.{Result}
+pub use Rattle.std.specs.declared.result.Result.TheVariants.{Err, Ok}

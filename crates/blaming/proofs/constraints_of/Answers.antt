@@ -1,21 +1,18 @@
 use Rattle.blaming.proofs.Prelude.{needs, sifts_start, sifts_end, taken_lent}
 use Rattle.blaming.proofs.Face.{sifts_unless}
-use Rattle.atoms.proofs.Counts.{taken_less}
+use Rattle.atoms.proofs.EachAtom.{each_of}
 use Rattle.blaming.proofs.constraints_of.Goals as goal
 
-pub loop-rest-init : goal.loop-rest-init
-loop-rest-init c = sifts_start
+pub loop-rule-init : goal.loop-rule-init
+loop-rule-init c = rw (each_of c.into_iter-rule-iterator.ensures.into_iter_gives c.each-rule-items.ensures) sifts_start
 
 pub unless_headed-word-requires : goal.unless_headed-word-requires
-unless_headed-word-requires c = (c.requires.each _ (taken_lent c.loop-rest.invariant.within c.lowest-rule.ensures.0), search needs)
+unless_headed-word-requires c =
+    (c.requires.each _ (taken_lent c.loop-rule.invariant.within c.in-Some.ensures.steps.lowest), c.in-Some.ensures.steps.few)
 
-pub loop-rest-smaller : goal.loop-rest-smaller
-loop-rest-smaller c = search (taken_less, needs)
-
-pub loop-rest-preserved : goal.loop-rest-preserved
-loop-rest-preserved c =
-    sifts_unless _ c.loop-rest.invariant c.lowest-rule.ensures.0 c.drop-rest.ensures
-    c.unless_headed-word.ensures
+pub loop-rule-preserved : goal.loop-rule-preserved
+loop-rule-preserved c =
+    sifts_unless _ c.loop-rule.invariant c.in-Some.ensures.steps.lowest c.in-Some.ensures.steps.less c.unless_headed-word.ensures
 
 pub returns : goal.returns
-returns c = sifts_end c.loop-rest.invariant c.loop-rest-test.false
+returns c = search (sifts_end, needs)

@@ -1,9 +1,6 @@
--- The loop drops from the word the rules with a head. The measure is how many are left.
-use Rattle.blaming.proofs.Prelude.{ones, Sifts, lent, ◌≡◌}
+-- The loop drops from the word the rules with a head.
+use Rattle.blaming.proofs.Prelude.{Sifts, lent, ◌≡◌}
 use Rattle.blaming.proofs.constraints_of.Given as goal
 
-abbrev pub invariant-loop-rest : goal.invariant-loop-rest
-invariant-loop-rest l = Sifts (λ r. (lent l.rules).head r ≡ 0) l.which l.word l.rest
-
-abbrev pub decreases-loop-rest : goal.decreases-loop-rest
-decreases-loop-rest l = ones l.rest
+abbrev pub invariant-loop-rule : goal.invariant-loop-rule
+invariant-loop-rule l = Sifts (λ r. (lent l.fn.rules).head r ≡ 0) l.fn.which l.word l.rule-iterator.rest

@@ -6,8 +6,8 @@ use Rattle.finding.proofs.few.try_without.Goals as goal
 pub any-found-requires : goal.any-found-requires
 any-found-requires c = search (lent_some, others_within, needs)
 
-pub returns-in-Member : goal.returns-in-Member
-returns-in-Member c = search (tried_keeps, needs)
+pub returns-in-Some : goal.returns-in-Some
+returns-in-Some c = search (tried_keeps, needs)
 
-pub returns-in-Nothing : goal.returns-in-Nothing
-returns-in-Nothing c = tried_drops c.drop-others.ensures c.union.ensures c.in-Nothing.is c.any-found.ensures
+pub returns-in-None : goal.returns-in-None
+returns-in-None c = tried_drops c.drop-others.ensures c.union.ensures c.in-None.is c.any-found.ensures

@@ -7,8 +7,8 @@ pub returns-then-is_passed-clause-looked : goal.returns-then-is_passed-clause-lo
 returns-then-is_passed-clause-looked c =
     looked_passed c.requires.stands (rw c.without.ensures at c.dark_of-dark.ensures) (c.is_passed.ensures c.if-is_passed.true)
 
-pub returns-in-Member : goal.returns-in-Member
-returns-in-Member c = search (looked_known, needs)
+pub returns-in-Some : goal.returns-in-Some
+returns-in-Some c = search (looked_known, needs)
 
-pub returns-in-Nothing : goal.returns-in-Nothing
-returns-in-Nothing c = search (looked_asked, needs)
+pub returns-clause-looked : goal.returns-clause-looked
+returns-clause-looked c = search (looked_asked, needs)
