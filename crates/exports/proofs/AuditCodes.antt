@@ -1,10 +1,9 @@
 -- What code and word tell a host of what a sheet lacks, from what `first_missing` promises; and with S-12 that its positions are just the answer sets.
 use Rattle.exports.proofs.Prelude.{◌≡◌, refl, ap, ◌∙◌, subst, ◌↔◌, List, List-as-Memᴰ, ℕ, arith, Plan, IsByte, All, Contents, record_of, Lays, ReadPlan}
-use Rattle.exports.proofs.Prelude.{PlanAnswerSet, Settles, Laid, SheetRight, lays_read, lays_accepted, SheetJudgeHanded, Reply}
+use Rattle.exports.proofs.Prelude.{PlanAnswerSet, Settles, Laid, SheetRight, lays_read, lays_accepted, SheetJudgeHanded, Reply, Err}
 use Rattle.atoms.proofs.Lists.{member_get_or, index_of}
-use Rattle.auditing.specs.Audit.{IsFull, AuditRight, is_full, lacks_first, Audited, audit_code}
-use Rattle.auditing.specs.declared.Audit.{Audit}
-use Rattle.auditing.specs.declared.Audit.TheVariants.{BadSheet}
+use Rattle.auditing.specs.Audit.{Audit, IsFull, AuditRight, is_full, lacks_first, Audited, audit_code}
+use Rattle.judge.specs.declared.sheet.SheetFault.TheVariants.{BadSheet}
 use Rattle.exports.specs.Audits.{lack_in, MissingHanded}
 use Rattle.exports.proofs.HostReplies.{replied}
 
@@ -17,8 +16,8 @@ told_full (lacks_first m) e = (λ z. absurd (omega arith), λ f. absurd (m.missi
 
 module _ (bytes sheet : List ℕ) {found found' : List ℕ} {r : ℕ} {said : Audit} (small : All IsByte bytes) (a : Audited bytes sheet said)
     (t : Reply audit_code lack_in said found found' r) where
-  right : (c : Contents) → Lays bytes c → SheetRight BadSheet AuditRight sheet (record_of c) said
-  right c l = subst (λ (y : ReadPlan). SheetRight BadSheet AuditRight sheet y.plan said) (lays_read l) (a.answered.right (lays_accepted l))
+  right : (c : Contents) → Lays bytes c → SheetRight (Err BadSheet) AuditRight sheet (record_of c) said
+  right c l = subst (λ (y : ReadPlan). SheetRight (Err BadSheet) AuditRight sheet y.plan said) (lays_read l) (a.answered.right (lays_accepted l))
 
   pub missing_handed : MissingHanded bytes sheet found found' r
   missing_handed = record {

@@ -2,7 +2,7 @@
 use Rattle.exports.proofs.Prelude.{◌≡◌, ap, ap₂, ◌∙◌, List, ℕ, ◌+◌, ◌*◌, ◌≤◌, min, arith, MAX_RULES, MAX_UNITS, RefusedBy, CODE_STEP, WIDEST_SPOT}
 use Rattle.exports.proofs.Prelude.{refusal_code, IsByte, All, Contents, record_of, Lays, Stopped, reading_judged, FirstFault, table_place, reading_place}
 use Rattle.exports.proofs.Prelude.{graph_place, work_place}
-use Rattle.plan.specs.declared.fault.Outcome.{Outcome}
+use Rattle.plan.specs.Faults.{Outcome}
 use Rattle.plan.proofs.Refusals.{told}
 use Rattle.reading.specs.Kinds.{rule, unit}
 use Rattle.judge.proofs.Codes.{spot_at_most}

@@ -1,7 +1,7 @@
 -- What code and word tell a host that goes from one position to the next, from what `next_position` promises.
-use Rattle.exports.proofs.Prelude.{◌≡◌, refl, sym, ap, List, [], ◌∷◌, ◌++◌, ℕ, ◌+◌, arith, length, set, take-nil, IsByte, All, From, copied, Reply}
+use Rattle.exports.proofs.Prelude.{◌≡◌, refl, sym, ap, List, [], ◌∷◌, ◌++◌, ℕ, ◌+◌, arith, length, set, take-nil, IsByte, All, Option, Result, copied, Reply}
 use Rattle.stepping.specs.Followed.{Followed, next_code}
-use Rattle.stepping.specs.declared.Next.{Next}
+use Rattle.plan.specs.declared.fault.Fault.{Fault}
 use Rattle.exports.specs.Steps.{found_in, NextHanded}
 use Rattle.exports.proofs.HostReplies.{replied}
 
@@ -19,6 +19,6 @@ first_word M (x ∷ xs) n = ap (λ (t : List ℕ). M ∷ (t ++ xs)) (sym (take-n
 
 -- ---- what is handed over
 
-pub next_handed : (bytes : List ℕ) (from : From) {found found' : List ℕ} {r : ℕ} {next : Next} → All IsByte bytes → Followed bytes from next
-    → Reply next_code found_in next found found' r → NextHanded bytes from found found' r
+pub next_handed : (bytes : List ℕ) (from : Option ℕ) {found found' : List ℕ} {r : ℕ} {next : Result (Option ℕ) Fault} → All IsByte bytes
+    → Followed bytes from next → Reply next_code found_in next found found' r → NextHanded bytes from found found' r
 next_handed bytes from small f t = record { replied = replied bytes (λ _. refl) (λ _. refl) small f t; meaning = f.meaning }

@@ -11,11 +11,10 @@ pub use Rattle.exports.specs.Readings.{CompareHanded, LargestHanded, NumberHande
 pub use Rattle.exports.specs.Readings.{largest_code, largest_words, number_code, order_code, reading_code, refused_code, said_code, sum_code}
 unfoldable pub use Rattle.exports.specs.Readings.{reading_asked}
 pub use Rattle.exports.specs.Replies.{Replied, Reply}
-pub use Rattle.finding.specs.declared.least.From.{From}
-pub use Rattle.judge.specs.Answers.{judge_code, judged, settled_in, yes_no}
+pub use Rattle.judge.specs.Answers.{judge_code, judged, settled_in}
 pub use Rattle.judge.specs.JudgedSheets.{AllSettle, FirstNot, Laid, PlacesRight, SheetJudged, SheetRight, all_settled, first_not, sheet_code}
-pub use Rattle.packed_decimal.specs.declared.largest.Largest.{Largest}
-pub use Rattle.packed_decimal.specs.declared.largest.LargestFound.{LargestFound}
+pub use Rattle.packed_decimal.specs.declared.largest.Placed.{Placed}
+pub use Rattle.packed_decimal.specs.declared.refusal.Refusal.{Refusal}
 pub use Rattle.plan.specs.Faults.{CODE_STEP, RefusedBy, WIDEST_SPOT, refusal_code}
 pub use Rattle.plan.specs.Limits.{COUNTS, MAX_RULES, MAX_UNITS}
 pub use Rattle.plan.specs.declared.record.Plan.{Plan}
@@ -26,4 +25,5 @@ pub use Rattle.reading.proofs.Limits.{all_bytes, record_fits}
 pub use Rattle.reading.specs.Layout.{All, Contents, IsByte, Lays}
 unfoldable pub use Rattle.reading.specs.Layout.{record_of}
 pub use Rattle.reading.specs.Refusals.{Stopped}
-pub use Rattle.reading.specs.declared.reader.ReadPlan.{ReadPlan}
+pub use Rattle.reading.specs.Reading.{ReadPlan}
+pub use Rattle.std.specs.Prelude.{Err, Ok, Option, Result}

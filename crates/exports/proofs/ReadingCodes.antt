@@ -1,46 +1,44 @@
 -- Readings for hosts: what is asked by a number, the two words of what was found, and that no answer is taken for a refusal.
 use Rattle.exports.proofs.Prelude.{◌≡◌, refl, sym, ap, ◌∙◌, subst, List, ◌⊎◌, inl, inr, ℕ, ◌+◌, ◌*◌, ◌≤◌, ◌<◌, min, arith, length, eq-eqb, ne_eqb}
-use Rattle.exports.proofs.Prelude.{CODE_STEP, WIDEST_SPOT, LargestFound, Largest, reading_asked, refused_code, said_code, number_code, reading_code}
+use Rattle.exports.proofs.Prelude.{CODE_STEP, WIDEST_SPOT, reading_asked, refused_code, said_code, number_code, reading_code}
 use Rattle.exports.proofs.Prelude.{sum_code, added_code, order_code, compared_code, found_code, largest_code, largest_words, NumberHanded, ReadingHanded}
 use Rattle.exports.proofs.Prelude.{SumHanded, CompareHanded, LargestHanded}
+use Rattle.std.specs.Prelude.{Option, Some, None, Result, Ok, Err}
+use Rattle.std.specs.declared.cmp.Ordering.{Ordering}
+use Rattle.std.specs.declared.cmp.Ordering.TheVariants.{Less, Equal, Greater}
+use Rattle.std.specs.Option.{unwrap_or}
 use Rattle.packed_decimal.specs.PackedReading.{MODULUS, NOT_MEASURED}
 use Rattle.packed_decimal.specs.ReadingRefusals.{refusal_number, refusal_spot}
 use Rattle.packed_decimal.specs.ReadingAnswers.{number_of, reading_of, added_of}
 use Rattle.packed_decimal.specs.Largest.{READING_BYTES, readings, largest_in}
 use Rattle.packed_decimal.specs.ReadingPromises.{SaysNumber, Numbered, Repacked, ReadingsAdded, HeldAgainst, LargestSought}
-use Rattle.packed_decimal.specs.declared.meter.Reading.{Reading}
-use Rattle.packed_decimal.specs.declared.meter.Reading.TheVariants.{Measured, NotMeasured}
 use Rattle.packed_decimal.specs.declared.refusal.Refusal.{Refusal}
 use Rattle.packed_decimal.specs.declared.refusal.Refusal.TheVariants.{BadReading, LargeNumber}
-use Rattle.packed_decimal.specs.declared.convert.Number.{Number}
-use Rattle.packed_decimal.specs.declared.convert.Number.TheVariants.{Says}
-use Rattle.packed_decimal.specs.declared.convert.Packed.{Packed}
-use Rattle.packed_decimal.specs.declared.convert.Packed.TheVariants.{Word}
 use Rattle.packed_decimal.specs.declared.sum.Sum.{Sum}
-use Rattle.packed_decimal.specs.declared.sum.Added.{Added}
-use Rattle.packed_decimal.specs.declared.sum.Added.TheVariants.{Is as SumIs}
-use Rattle.packed_decimal.specs.declared.limit.Compared.{Compared}
-use Rattle.packed_decimal.specs.declared.limit.Order.{Order}
-use Rattle.packed_decimal.specs.declared.limit.Order.TheVariants.{Below, Equal, Above, NotMeasured as NoOrder}
-use Rattle.packed_decimal.specs.declared.largest.LargestFound.TheVariants.{At, NoneMeasured}
-use Rattle.packed_decimal.specs.declared.largest.Largest.TheVariants.{Refused}
+use Rattle.packed_decimal.specs.declared.largest.Placed.{Placed}
 use Rattle.packed_decimal.proofs.Conversion.{said_is, word_fits}
 use Rattle.packed_decimal.proofs.Sums.{added_fits}
 use Rattle.packed_decimal.proofs.LargestMeaning.{refused_within}
 
 -- ---- what is asked
 
-pub asked_unmeasured : (number : ℕ) → number ≡ NOT_MEASURED → reading_asked number ≡ NotMeasured
+pub asked_unmeasured : (number : ℕ) → number ≡ NOT_MEASURED → reading_asked number ≡ None
 unfolding reading_asked
 asked_unmeasured number e = rw (eq-eqb number NOT_MEASURED e, reading_asked) refl
 
-pub asked_measured : (number : ℕ) → ¬ (number ≡ NOT_MEASURED) → reading_asked number ≡ Measured number
+pub asked_measured : (number : ℕ) → ¬ (number ≡ NOT_MEASURED) → reading_asked number ≡ Some number
 unfolding reading_asked
 asked_measured number n = rw (ne_eqb number NOT_MEASURED n, reading_asked) refl
 
+-- ---- what is said
+
+pub said_or_none : (said : Option ℕ) → unwrap_or said NOT_MEASURED ≡ said_code said
+said_or_none (Some x) = refl
+said_or_none None = refl
+
 -- ---- from what the functions promise to what their codes tell
 
-pub number_handed : {reading r : ℕ} {answer : Number} → Numbered reading answer → r ≡ number_code answer → NumberHanded reading r
+pub number_handed : {reading r : ℕ} {answer : Result (Option ℕ) Refusal} → Numbered reading answer → r ≡ number_code answer → NumberHanded reading r
 number_handed p e = record {
   code_is = e ∙ ap number_code p.is;
   refused = λ h. e ∙ ap number_code (p.bad h);
@@ -48,7 +46,7 @@ number_handed p e = record {
   measured = λ x s. e ∙ ap number_code (p.measured x s);
 }
 
-pub reading_handed : {number r : ℕ} {said : Reading} {answer : Packed} → Repacked said answer → said ≡ reading_asked number → r ≡ reading_code answer
+pub reading_handed : {number r : ℕ} {said : Option ℕ} {answer : Result ℕ Refusal} → Repacked said answer → said ≡ reading_asked number → r ≡ reading_code answer
     → ReadingHanded number r
 reading_handed {number} {r} {said} {answer} p q e = record {
   code_is = e ∙ ap reading_code (p.is ∙ ap reading_of q);
@@ -59,7 +57,7 @@ reading_handed {number} {r} {said} {answer} p q e = record {
       subst (λ (w : ℕ). SaysNumber w number) (sym (e ∙ ap reading_code m.1)) m.2;
 }
 
-pub sum_handed : {a b r : ℕ} {answer : Added} → ReadingsAdded a b answer → r ≡ added_code answer → SumHanded a b r
+pub sum_handed : {a b r : ℕ} {answer : Result Sum Refusal} → ReadingsAdded a b answer → r ≡ added_code answer → SumHanded a b r
 sum_handed p e = record {
   code_is = e ∙ ap added_code p.is;
   refuses = record { first = λ h. e ∙ ap added_code (p.refuses.first h); second = λ g h. e ∙ ap added_code (p.refuses.second g h) };
@@ -67,7 +65,8 @@ sum_handed p e = record {
   measured = λ x y s t. let m = p.measured x y s t in (m.0, e ∙ ap added_code m.1, m.2);
 }
 
-pub compare_handed : {reading limit r : ℕ} {answer : Compared} → HeldAgainst reading limit answer → r ≡ compared_code answer → CompareHanded reading limit r
+pub compare_handed : {reading limit r : ℕ} {answer : Result (Option Ordering) Refusal} → HeldAgainst reading limit answer → r ≡ compared_code answer
+    → CompareHanded reading limit r
 compare_handed p e = record {
   code_is = e ∙ ap compared_code p.is;
   refuses = record { first = λ h. e ∙ ap compared_code (p.refuses.first h); second = λ g h. e ∙ ap compared_code (p.refuses.second g h) };
@@ -77,7 +76,7 @@ compare_handed p e = record {
   above = λ x y s t l. e ∙ ap compared_code (p.above x y s t l);
 }
 
-pub largest_handed : {bytes found found' : List ℕ} {r : ℕ} {answer : Largest} → LargestSought bytes answer → r ≡ largest_code answer
+pub largest_handed : {bytes found found' : List ℕ} {r : ℕ} {answer : Result (Option Placed) Refusal} → LargestSought bytes answer → r ≡ largest_code answer
     → found' ≡ largest_words answer found → LargestHanded bytes found found' r
 largest_handed {bytes} {found} p e w = record {
   code_is = e ∙ ap largest_code p.is;
@@ -86,8 +85,8 @@ largest_handed {bytes} {found} p e w = record {
   sought = λ none. let f = p.found none in (f.0, f.2, e ∙ ap largest_code f.1, w ∙ words f.1);
 }
   where
-    words : {l m : Largest} → l ≡ m → largest_words l found ≡ largest_words m found
-    words q = ap (λ (l : Largest). largest_words l found) q
+    words : {l m : Result (Option Placed) Refusal} → l ≡ m → largest_words l found ≡ largest_words m found
+    words q = ap (λ (l : Result (Option Placed) Refusal). largest_words l found) q
 
 -- ---- refusals and answers
 
@@ -102,31 +101,31 @@ refused_above LargeNumber = omega arith
 
 -- no answer is taken for a refusal
 module _ (r : Refusal) where
-  pub said_no_refusal : (word : ℕ) (said : Reading) → number_of word ≡ Says said → said_code said < refused_code r
+  pub said_no_refusal : (word : ℕ) (said : Option ℕ) → number_of word ≡ Ok said → said_code said < refused_code r
   said_no_refusal word said e = go (said_is word said e)
     where
-      go : (said ≡ NotMeasured) ⊎ ((x : ℕ) × (x < MODULUS) × (said ≡ Measured x)) → said_code said < refused_code r
+      go : (said ≡ None) ⊎ ((x : ℕ) × (x < MODULUS) × (said ≡ Some x)) → said_code said < refused_code r
       go (inl u) = rw u (omega (arith, refused_above r))
       go (inr m) = rw m.2 (omega (arith, m.1, refused_above r))
 
-  pub word_no_refusal : (number word : ℕ) → reading_of (reading_asked number) ≡ Word word → word < refused_code r
+  pub word_no_refusal : (number word : ℕ) → reading_of (reading_asked number) ≡ Ok word → word < refused_code r
   word_no_refusal number word e = omega (arith, word_fits (reading_asked number) word e, refused_above r)
 
-  pub sum_no_refusal : (a b : ℕ) (s : Sum) → added_of a b ≡ SumIs s → sum_code s < refused_code r
+  pub sum_no_refusal : (a b : ℕ) (s : Sum) → added_of a b ≡ Ok s → sum_code s < refused_code r
   sum_no_refusal a b s e = let fits = added_fits a b s e in omega (arith, fits.carry_fits, fits.reading_fits, refused_above r)
 
-  pub order_no_refusal : (order : Order) → order_code order < refused_code r
-  order_no_refusal Below = omega (arith, refused_above r)
-  order_no_refusal Equal = omega (arith, refused_above r)
-  order_no_refusal Above = omega (arith, refused_above r)
-  order_no_refusal NoOrder = omega (arith, refused_above r)
+  pub order_no_refusal : (order : Option Ordering) → order_code order < refused_code r
+  order_no_refusal (Some Less) = omega (arith, refused_above r)
+  order_no_refusal (Some Equal) = omega (arith, refused_above r)
+  order_no_refusal (Some Greater) = omega (arith, refused_above r)
+  order_no_refusal None = omega (arith, refused_above r)
 
-  pub found_no_refusal : (what : LargestFound) → found_code what < refused_code r
-  found_no_refusal (At word place) = omega (arith, refused_above r)
-  found_no_refusal NoneMeasured = omega (arith, refused_above r)
+  pub found_no_refusal : (what : Option Placed) → found_code what < refused_code r
+  found_no_refusal (Some largest) = omega (arith, refused_above r)
+  found_no_refusal None = omega (arith, refused_above r)
 
 -- the code has the very spot of a refused run, if the run has no more readings than 16 bits count
-pub code_exact : (bytes : List ℕ) (r : Refusal) → largest_in bytes ≡ Refused r → length bytes ≤ READING_BYTES * CODE_STEP
+pub code_exact : (bytes : List ℕ) (r : Refusal) → largest_in bytes ≡ Err r → length bytes ≤ READING_BYTES * CODE_STEP
     → refused_code r ≡ CODE_STEP * refusal_number r + refusal_spot r
 code_exact bytes r e l =
     let within : refusal_spot r < readings bytes = refused_within bytes r e in

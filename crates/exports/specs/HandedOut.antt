@@ -1,8 +1,7 @@
 -- What a host is handed back: numbers, and its own lent words and bytes; and what demands 1 to 3 say of them.
-use Rattle.std.specs.Prelude.{◌≡◌, ◌↔◌, List, [], ◌∷◌, ◌++◌, ℕ, ◌+◌, ◌*◌, ◌≤◌, length, take, drop, replicate}
+use Rattle.std.specs.Prelude.{◌≡◌, ◌↔◌, List, [], ◌∷◌, ◌++◌, ℕ, ◌+◌, ◌*◌, ◌≤◌, length, take, drop, replicate, Ok, Err}
 use Rattle.plan.specs.Limits.{TABLE_WORDS}
-use Rattle.plan.specs.declared.fault.Outcome.{Outcome}
-use Rattle.plan.specs.declared.fault.Outcome.TheVariants.{Accepted, Refused}
+use Rattle.plan.specs.Faults.{Accepted, Outcome}
 use Rattle.plan.specs.Faults.{CODE_STEP, refusal_code}
 use Rattle.reading.specs.Layout.{Contents, Lays}
 use Rattle.reading.specs.Refusals.{Stopped}
@@ -22,8 +21,8 @@ use Rattle.questions.specs.declared.common.Common.{Common}
 
 -- the outcome of a listing as one number
 abbrev pub outcome_code : Outcome → ℕ
-outcome_code Accepted = 0
-outcome_code (Refused f) = refusal_code f
+outcome_code (Ok u) = 0
+outcome_code (Err f) = refusal_code f
 
 -- the lent counts afterwards: as many counts as there is room for, and behind them the words that were there
 unfoldable pub copied : List ℕ → List ℕ → List ℕ

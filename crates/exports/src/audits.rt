@@ -4,19 +4,19 @@ ghost use Rattle.exports.specs.Replies.{Reply};
 ghost use Rattle.exports.specs.Audits.{lack_in, MissingHanded};
 
 use crate::steps::hand_word;
-use auditing::{Audit, first_missing};
-use judge::BAD_SHEET;
+use auditing::first_missing;
+use judge::{BAD_SHEET, SheetFault};
 use plan::{CODE_STEP, refusal_code};
 
 // The code of the result; a position goes into the first lent word, if there is room.
-fn hand_audit(said: Audit, found: &mut [u64]) -> u64
+fn hand_audit(said: Result<Option<u64>, SheetFault>, found: &mut [u64]) -> u64
     ensures { Reply audit_code lack_in said found.old found.new result }
 {
     match said {
-        Audit::Full => 0,
-        Audit::Lacks(position) => hand_word(position, found, 1),
-        Audit::Refused(fault) => refusal_code(fault),
-        Audit::BadSheet => CODE_STEP * BAD_SHEET,
+        Ok(None) => 0,
+        Ok(Some(position)) => hand_word(position, found, 1),
+        Err(SheetFault::Refused(fault)) => refusal_code(fault),
+        Err(SheetFault::BadSheet) => CODE_STEP * BAD_SHEET,
     }
 }
 

@@ -1,28 +1,27 @@
 // Several positions in one call, for other languages.
-ghost use Rattle.finding.specs.declared.least.From.TheVariants.{Start, Above};
+ghost use Rattle.std.specs.Prelude.{None, Some};
 ghost use Rattle.exports.specs.Replies.{Reply};
 ghost use Rattle.exports.specs.Batches.{batch_code, count_in, BatchHanded};
 
 use crate::steps::hand_word;
-use finding::least::From;
-use plan::refusal_code;
-use stepping::{Batch, next_positions};
+use plan::{Fault, refusal_code};
+use stepping::next_positions;
 
 // The code of the result; how many positions were written goes into the first word of the count, if there is room.
-fn hand_batch(batch: Batch, count: &mut [u64]) -> u64
+fn hand_batch(batch: Result<usize, Fault>, count: &mut [u64]) -> u64
     ensures { Reply batch_code count_in batch count.old count.new result }
 {
     match batch {
-        Batch::Written(written) => hand_word(written as u64, count, 0),
-        Batch::Refused(fault) => refusal_code(fault),
+        Ok(written) => hand_word(written as u64, count, 0),
+        Err(fault) => refusal_code(fault),
     }
 }
 
 // The least positions of a plan, rising, in the lent words: 0 with their number in the first word of the count, else the code of the refusal.
 pub fn lucarnecress_first_positions(plan: &[u8], found: &mut [u64], count: &mut [u64]) -> u64
-    ensures { BatchHanded plan.now Start found.old found.new count.old count.new result }
+    ensures { BatchHanded plan.now None found.old found.new count.old count.new result }
 {
-    hand_batch(next_positions(plan, From::Start, found), count)
+    hand_batch(next_positions(plan, None, found), count)
 }
 
 // The least positions of a plan above the given one, in the same way.
@@ -32,7 +31,7 @@ pub fn lucarnecress_next_positions(
     found: &mut [u64],
     count: &mut [u64],
 ) -> u64
-    ensures { BatchHanded plan.now (Above position) found.old found.new count.old count.new result }
+    ensures { BatchHanded plan.now (Some position) found.old found.new count.old count.new result }
 {
-    hand_batch(next_positions(plan, From::Above(position), found), count)
+    hand_batch(next_positions(plan, Some(position), found), count)
 }

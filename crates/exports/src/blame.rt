@@ -5,16 +5,16 @@ ghost use Rattle.exports.specs.Blame.{word_in, BlameHanded};
 
 use crate::steps::hand_word;
 use blaming::{Blame, blame_plan};
-use plan::refusal_code;
+use plan::{Fault, refusal_code};
 
 // The code of the result; a position, or the word of held constraints, goes into the first lent word, if there is room.
-fn hand_blame(said: Blame, found: &mut [u64]) -> u64
+fn hand_blame(said: Result<Blame, Fault>, found: &mut [u64]) -> u64
     ensures { Reply blame_code word_in said found.old found.new result }
 {
     match said {
-        Blame::Position(position) => hand_word(position, found, 1),
-        Blame::Held(constraints) => hand_word(constraints, found, 0),
-        Blame::Refused(fault) => refusal_code(fault),
+        Ok(Blame::Position(position)) => hand_word(position, found, 1),
+        Ok(Blame::Held(constraints)) => hand_word(constraints, found, 0),
+        Err(fault) => refusal_code(fault),
     }
 }
 

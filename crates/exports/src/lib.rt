@@ -18,7 +18,7 @@ pub use audits::lucarnecress_missing;
 pub use batches::{lucarnecress_first_positions, lucarnecress_next_positions};
 pub use blame::lucarnecress_blame;
 use judge::answer_code;
-use plan::{COUNTS, Outcome, TABLE_WORDS, refusal_code};
+use plan::{COUNTS, Fault, TABLE_WORDS, refusal_code};
 use plan_sheet::{write_plan_sheet, written_bytes};
 use questions::{common_atoms, count_words, counted_code};
 pub use readings::{
@@ -31,12 +31,12 @@ pub use steps::{lucarnecress_first, lucarnecress_next};
 use unit_lists::list_positions;
 
 // 0 for a plan that is listed, and 65536 times the number plus the spot for a refusal.
-fn outcome_code(outcome: Outcome) -> u64
+fn outcome_code(outcome: Result<(), Fault>) -> u64
     ensures { result ≡ outcome_code outcome }
 {
     match outcome {
-        Outcome::Accepted => 0,
-        Outcome::Refused(fault) => refusal_code(fault),
+        Ok(()) => 0,
+        Err(fault) => refusal_code(fault),
     }
 }
 
@@ -44,10 +44,8 @@ fn outcome_code(outcome: Outcome) -> u64
 fn copy_counts(from: [usize; COUNTS], counts: &mut [u64])
     ensures { counts.new ≡ copied from counts.old }
 {
-    let mut i = 0;
-    while i < COUNTS && i < counts.len() {
+    for i in 0..COUNTS.min(counts.len()) {
         counts[i] = from[i] as u64;
-        i += 1;
     }
 }
 

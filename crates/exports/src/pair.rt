@@ -6,12 +6,7 @@ ghost use Rattle.exports.specs.HandedOut.{copied};
 pub fn write_pair(first: u64, second: u64, found: &mut [u64])
     ensures { found.new ≡ copied (first ∷ second ∷ []) found.old }
 {
-    if found.len() == 0 {
-        return;
-    }
-    found[0] = first;
-    if found.len() == 1 {
-        return;
-    }
-    found[1] = second;
+    let words = [first, second];
+    let n = found.len().min(words.len());
+    found[..n].copy_from_slice(&words[..n]);
 }

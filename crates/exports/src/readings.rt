@@ -5,10 +5,11 @@ ghost use Rattle.exports.specs.Readings.{NumberHanded, ReadingHanded, SumHanded,
 
 use crate::pair::write_pair;
 use packed_decimal::{
-    Added, Compared, Largest, LargestFound, NOT_MEASURED, Number, Order, Packed, Reading, Refusal,
-    Sum, add, compare, find_largest, refusal_number, refusal_spot, to_number, to_reading,
+    NOT_MEASURED, Placed, Reading, Refusal, Sum, add, compare, find_largest, refusal_number,
+    refusal_spot, to_number, to_reading,
 };
 use plan::{CODE_STEP, code_of};
+use std::cmp::Ordering;
 
 // Not measured, as a number.
 const NO_NUMBER: u64 = NOT_MEASURED as u64;
@@ -24,10 +25,7 @@ fn refused_code(refusal: Refusal) -> u64
 fn said_code(said: Reading) -> u64
     ensures { result ≡ said_code said }
 {
-    match said {
-        Reading::Measured(x) => x,
-        Reading::NotMeasured => NO_NUMBER,
-    }
+    said.unwrap_or(NO_NUMBER)
 }
 
 // What a host asks to be said: a whole number, or with 65,535 that nothing was measured.
@@ -35,39 +33,39 @@ fn asked(number: u64) -> Reading
     ensures { result ≡ asked_for number }
 {
     if number == NO_NUMBER {
-        return Reading::NotMeasured;
+        return None;
     }
-    Reading::Measured(number)
+    Some(number)
 }
 
 // A sum: 65,536 times its carry, and its reading.
 fn sum_code(sum: Sum) -> u64
     ensures { result ≡ sum_code sum }
 {
-    CODE_STEP * sum.carry as u64 + sum.reading as u64
+    CODE_STEP * u64::from(sum.carry) + u64::from(sum.reading)
 }
 
 // A comparison: 0 below, 1 equal, 2 above, 65,535 not measured.
-fn order_code(order: Order) -> u64
+fn order_code(order: Option<Ordering>) -> u64
     ensures { result ≡ order_code order }
 {
     match order {
-        Order::Below => 0,
-        Order::Equal => 1,
-        Order::Above => 2,
-        Order::NotMeasured => NO_NUMBER,
+        Some(Ordering::Less) => 0,
+        Some(Ordering::Equal) => 1,
+        Some(Ordering::Greater) => 2,
+        None => NO_NUMBER,
     }
 }
 
 // Hands over what was found: 1 with its word and place, as far as there is room; 0 where nothing was.
-fn hand_found(what: LargestFound, found: &mut [u64]) -> u64
+fn hand_found(what: Option<Placed>, found: &mut [u64]) -> u64
     ensures value { result ≡ found_code what }
     ensures found_after { found.new ≡ found_words what found.old }
 {
-    let LargestFound::At { word, place } = what else {
+    let Some(largest) = what else {
         return 0;
     };
-    write_pair(word as u64, place as u64, found);
+    write_pair(u64::from(largest.word), largest.place as u64, found);
     1
 }
 
@@ -76,8 +74,8 @@ pub fn lucarnecress_reading_number(reading: u16) -> u64
     ensures { NumberHanded reading result }
 {
     match to_number(reading) {
-        Number::Says(said) => said_code(said),
-        Number::Refused(refusal) => refused_code(refusal),
+        Ok(said) => said_code(said),
+        Err(refusal) => refused_code(refusal),
     }
 }
 
@@ -86,8 +84,8 @@ pub fn lucarnecress_reading_of(number: u64) -> u64
     ensures { ReadingHanded number result }
 {
     match to_reading(asked(number)) {
-        Packed::Word(word) => word as u64,
-        Packed::Refused(refusal) => refused_code(refusal),
+        Ok(word) => u64::from(word),
+        Err(refusal) => refused_code(refusal),
     }
 }
 
@@ -96,8 +94,8 @@ pub fn lucarnecress_reading_sum(a: u16, b: u16) -> u64
     ensures { SumHanded a b result }
 {
     match add(a, b) {
-        Added::Is(sum) => sum_code(sum),
-        Added::Refused(refusal) => refused_code(refusal),
+        Ok(sum) => sum_code(sum),
+        Err(refusal) => refused_code(refusal),
     }
 }
 
@@ -106,8 +104,8 @@ pub fn lucarnecress_reading_compare(reading: u16, limit: u16) -> u64
     ensures { CompareHanded reading limit result }
 {
     match compare(reading, limit) {
-        Compared::Is(order) => order_code(order),
-        Compared::Refused(refusal) => refused_code(refusal),
+        Ok(order) => order_code(order),
+        Err(refusal) => refused_code(refusal),
     }
 }
 
@@ -117,7 +115,7 @@ pub fn lucarnecress_reading_largest(bytes: &[u8], found: &mut [u64]) -> u64
     ensures { LargestHanded bytes.now found.old found.new result }
 {
     match find_largest(bytes) {
-        Largest::Is(what) => hand_found(what, found),
-        Largest::Refused(refusal) => refused_code(refusal),
+        Ok(what) => hand_found(what, found),
+        Err(refusal) => refused_code(refusal),
     }
 }

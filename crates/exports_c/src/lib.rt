@@ -9,7 +9,7 @@ ghost use Rattle.exports.specs.ExportedSheets.{SheetJudgeHanded};
 ghost use Rattle.exports.specs.HandedOut.{ListHanded, JudgeHanded, SheetHanded, CountHanded, CommonHanded};
 ghost use Rattle.exports.specs.Readings.{NumberHanded, ReadingHanded, SumHanded, CompareHanded, LargestHanded};
 ghost use Rattle.exports.specs.Steps.{NextHanded};
-ghost use Rattle.finding.specs.declared.least.From.TheVariants.{Start, Above};
+ghost use Rattle.std.specs.Prelude.{None, Some};
 
 // Lists a plan in the lent table; the counts go into the lent counts. The code of the outcome.
 #[unsafe(no_mangle)]
@@ -54,7 +54,7 @@ pub extern "C" fn lucarnecress_common(list: &[u64], atoms: &mut [u64]) -> u64
 // The least position of a plan: 1 with the position in the first lent word, 0 if there is none, else the code of the refusal.
 #[unsafe(no_mangle)]
 pub extern "C" fn lucarnecress_first(plan: &[u8], found: &mut [u64]) -> u64
-    ensures { NextHanded plan.now Start found.old found.new result }
+    ensures { NextHanded plan.now None found.old found.new result }
 {
     exports::lucarnecress_first(plan, found)
 }
@@ -62,7 +62,7 @@ pub extern "C" fn lucarnecress_first(plan: &[u8], found: &mut [u64]) -> u64
 // The least position of a plan above the given one: 1 with the position in the first lent word, 0 if none is left, else the code of the refusal.
 #[unsafe(no_mangle)]
 pub extern "C" fn lucarnecress_next(plan: &[u8], position: u64, found: &mut [u64]) -> u64
-    ensures { NextHanded plan.now (Above position) found.old found.new result }
+    ensures { NextHanded plan.now (Some position) found.old found.new result }
 {
     exports::lucarnecress_next(plan, position, found)
 }
@@ -74,7 +74,7 @@ pub extern "C" fn lucarnecress_first_positions(
     found: &mut [u64],
     count: &mut [u64],
 ) -> u64
-    ensures { BatchHanded plan.now Start found.old found.new count.old count.new result }
+    ensures { BatchHanded plan.now None found.old found.new count.old count.new result }
 {
     exports::lucarnecress_first_positions(plan, found, count)
 }
@@ -87,7 +87,7 @@ pub extern "C" fn lucarnecress_next_positions(
     found: &mut [u64],
     count: &mut [u64],
 ) -> u64
-    ensures { BatchHanded plan.now (Above position) found.old found.new count.old count.new result }
+    ensures { BatchHanded plan.now (Some position) found.old found.new count.old count.new result }
 {
     exports::lucarnecress_next_positions(plan, position, found, count)
 }

@@ -2,10 +2,8 @@
 -- (`read_back`, by induction over the number of digits). What the functions answer cites it at four.
 use Rattle.packed_decimal.proofs.Prelude.{◌≡◌, refl, sym, ap, ◌∙◌, subst, true, false, not, List, [], ◌∷◌, ◌⊎◌, inl, inr, ℕ, ◌^◌, ◌≤◌, ◌<◌, arith}
 use Rattle.packed_decimal.proofs.Prelude.{dec_lt, ℕ_discrete, lt-ltb, le-ltb, decided_true, test_cases, digits, Below, TEN, DIGITS, DIGIT_VALUES}
-use Rattle.packed_decimal.proofs.Prelude.{MODULUS, NOT_MEASURED, unpacked, packed, Decimal, is_reading, says, bad_of, number_of, reading_of, Reading}
-use Rattle.packed_decimal.proofs.Prelude.{Measured, NotMeasured, BadReading, LargeNumber, Says, Word}
-use Rattle.packed_decimal.specs.declared.convert.Number.TheVariants.{Refused as NumberRefused}
-use Rattle.packed_decimal.specs.declared.convert.Packed.TheVariants.{Refused as PackedRefused}
+use Rattle.packed_decimal.proofs.Prelude.{MODULUS, NOT_MEASURED, unpacked, packed, Decimal, is_reading, says, bad_of, number_of, reading_of, Option}
+use Rattle.packed_decimal.proofs.Prelude.{Some, None, Ok, Err, BadReading, LargeNumber}
 use Rattle.packed_decimal.proofs.Positional.{digits_below, digits_kept, read_back, number_lt, number_order}
 use Rattle.packed_decimal.proofs.Readings.{decides_decimal, unmeasured_says, decimal_measured, measured_is, measured_says, measured_decimal}
 use Rattle.packed_decimal.proofs.FirstBad.{unless_first, unless_none}
@@ -44,27 +42,27 @@ unpacked_order n v w hv hw dv dw l = number_order DIGIT_VALUES TEN n v w (omega 
 
 -- ---- the answers, at four
 
-pub number_bad : (word : ℕ) → is_reading word ≡ false → number_of word ≡ NumberRefused (BadReading 0)
+pub number_bad : (word : ℕ) → is_reading word ≡ false → number_of word ≡ Err (BadReading 0)
 unfolding number_of
 number_bad word e =
-    unless_first 1 (bad_of (word ∷ [])) NumberRefused (Says (says word)) 0 (omega arith) (ap not e) (λ j l. absurd (omega arith))
+    unless_first 1 (bad_of (word ∷ [])) (says word) 0 (omega arith) (ap not e) (λ j l. absurd (omega arith))
 
-pub number_says : (word : ℕ) → is_reading word ≡ true → number_of word ≡ Says (says word)
+pub number_says : (word : ℕ) → is_reading word ≡ true → number_of word ≡ Ok (says word)
 unfolding number_of
-number_says word e = unless_none 1 (bad_of (word ∷ [])) NumberRefused (Says (says word)) only
+number_says word e = unless_none 1 (bad_of (word ∷ [])) (says word) only
   where
     only : (j : ℕ) → j < 1 → bad_of (word ∷ []) j ≡ false
     only j l = let z : j ≡ 0 = omega arith in rw z (ap not e)
 
-pub reading_large : (x : ℕ) → MODULUS ≤ x → reading_of (Measured x) ≡ PackedRefused LargeNumber
+pub reading_large : (x : ℕ) → MODULUS ≤ x → reading_of (Some x) ≡ Err LargeNumber
 unfolding reading_of
 reading_large x l = rw (le-ltb x MODULUS l, reading_of) refl
 
-pub reading_word : (x : ℕ) → x < MODULUS → reading_of (Measured x) ≡ Word (packed DIGITS x)
+pub reading_word : (x : ℕ) → x < MODULUS → reading_of (Some x) ≡ Ok (packed DIGITS x)
 unfolding reading_of
 reading_word x l = rw (lt-ltb x MODULUS l, reading_of) refl
 
-pub reading_unmeasured : reading_of NotMeasured ≡ Word NOT_MEASURED
+pub reading_unmeasured : reading_of None ≡ Ok NOT_MEASURED
 unfolding reading_of
 reading_unmeasured = refl
 
@@ -72,36 +70,36 @@ reading_unmeasured = refl
 
 -- a whole number to a reading and back: "on all 10,000 values"
 pub number_of_reading : (x : ℕ) → x < MODULUS
-    → (reading_of (Measured x) ≡ Word (packed DIGITS x)) × (number_of (packed DIGITS x) ≡ Says (Measured x))
+    → (reading_of (Some x) ≡ Ok (packed DIGITS x)) × (number_of (packed DIGITS x) ≡ Ok (Some x))
 number_of_reading x l =
     let keeps : Decimal DIGITS (packed DIGITS x) = packed_decimal DIGITS x in
     let other : ¬ (packed DIGITS x ≡ NOT_MEASURED) = decimal_measured (packed DIGITS x) keeps in (
       reading_word x l,
       number_says (packed DIGITS x) (measured_is (packed DIGITS x) other ∙ decided_true (decides_decimal DIGITS (packed DIGITS x)) keeps)
-          ∙ ap Says (measured_says (packed DIGITS x) other ∙ ap Measured (unpacked_packed DIGITS x l)),
+          ∙ ap Ok (measured_says (packed DIGITS x) other ∙ ap Some (unpacked_packed DIGITS x l)),
     )
 
 -- a reading to what it says and back, "not measured stays so"
 pub reading_of_number : (word : ℕ) → word < DIGIT_VALUES ^ DIGITS → is_reading word ≡ true
-    → (number_of word ≡ Says (says word)) × (reading_of (says word) ≡ Word word)
+    → (number_of word ≡ Ok (says word)) × (reading_of (says word) ≡ Ok word)
 reading_of_number word h e = (number_says word e, back (ℕ_discrete word NOT_MEASURED))
   where
-    back : Dec (word ≡ NOT_MEASURED) → reading_of (says word) ≡ Word word
-    back (yes u) = ap reading_of (unmeasured_says word u) ∙ reading_unmeasured ∙ ap Word (sym u)
+    back : Dec (word ≡ NOT_MEASURED) → reading_of (says word) ≡ Ok word
+    back (yes u) = ap reading_of (unmeasured_says word u) ∙ reading_unmeasured ∙ ap Ok (sym u)
     back (no u) =
         let keeps : Decimal DIGITS word = measured_decimal word u e in
         ap reading_of (measured_says word u)
         ∙ reading_word (unpacked DIGITS word) (unpacked_fits DIGITS word keeps)
-        ∙ ap Word (packed_unpacked DIGITS word h keeps)
+        ∙ ap Ok (packed_unpacked DIGITS word h keeps)
 
 -- ---- bounds
 
 -- what a word says is not measured or a number up to 9999
-pub said_is : (word : ℕ) (said : Reading) → number_of word ≡ Says said → (said ≡ NotMeasured) ⊎ ((x : ℕ) × (x < MODULUS) × (said ≡ Measured x))
+pub said_is : (word : ℕ) (said : Option ℕ) → number_of word ≡ Ok said → (said ≡ None) ⊎ ((x : ℕ) × (x < MODULUS) × (said ≡ Some x))
 said_is word said e = go (test_cases (is_reading word)) (ℕ_discrete word NOT_MEASURED)
   where
     go : (is_reading word ≡ true) ⊎ (is_reading word ≡ false) → Dec (word ≡ NOT_MEASURED)
-        → (said ≡ NotMeasured) ⊎ ((x : ℕ) × (x < MODULUS) × (said ≡ Measured x))
+        → (said ≡ None) ⊎ ((x : ℕ) × (x < MODULUS) × (said ≡ Some x))
     go (inl r) (yes u) =
         let answered = number_says word r in
         let unmeasured = unmeasured_says word u in
@@ -116,12 +114,12 @@ said_is word said e = go (test_cases (is_reading word)) (ℕ_discrete word NOT_M
         absurd (omega arith)
 
 -- the word of a reading fits 16 bits
-pub word_fits : (asked : Reading) (word : ℕ) → reading_of asked ≡ Word word → word < DIGIT_VALUES ^ DIGITS
-word_fits NotMeasured word e =
+pub word_fits : (asked : Option ℕ) (word : ℕ) → reading_of asked ≡ Ok word → word < DIGIT_VALUES ^ DIGITS
+word_fits None word e =
     let given = reading_unmeasured in
     let same : word ≡ NOT_MEASURED = cc in
     omega arith
-word_fits (Measured x) word e = go (dec_lt x MODULUS)
+word_fits (Some x) word e = go (dec_lt x MODULUS)
   where
     go : Dec (x < MODULUS) → word < DIGIT_VALUES ^ DIGITS
     go (yes l) =

@@ -2,10 +2,9 @@
 use Rattle.packed_decimal.proofs.Prelude.{◌≡◌, refl, sym, ap, ap₂, ◌∙◌, subst, Bool, true, false, cond, List, ℕ, zero, suc, ◌+◌, ◌*◌, ◌≤◌, ◌<◌, arith}
 use Rattle.packed_decimal.proofs.Prelude.{dec_lt, ℕ_discrete, ltb, leb, length, ltb-true, ltb-false, leb-true, le-leb, Decides, lowest, decides}
 use Rattle.packed_decimal.proofs.Prelude.{decides_iff, decides_or, decides_not, DIGITS, NOT_MEASURED, unpacked, says, READING_BYTES, readings}
-use Rattle.packed_decimal.proofs.Prelude.{reading_at, BadAt, bad_at, larger, largest_of, largest_in, IsLargest, LargestRight, refusal_spot, Measured}
-use Rattle.packed_decimal.proofs.Prelude.{Refusal, BadReading, Refused, LargestFound, At}
+use Rattle.packed_decimal.proofs.Prelude.{reading_at, BadAt, bad_at, larger, largest_of, largest_in, IsLargest, LargestRight, refusal_spot, Some}
+use Rattle.packed_decimal.proofs.Prelude.{Refusal, BadReading, Option, Placed, Err}
 use Rattle.packed_decimal.specs.Largest.{LargestRight.largest, LargestRight.none_measured}
-use Rattle.packed_decimal.specs.declared.largest.Largest.TheVariants.{Is}
 use Rattle.packed_decimal.proofs.FirstBad.{unless_refused_lem, unless_answered}
 use Rattle.packed_decimal.proofs.Readings.{decides_reading, unmeasured_says, measured_says}
 
@@ -31,7 +30,7 @@ module _ (words : ℕ → ℕ) (n : ℕ) where
     none_before = r.none_before;
   }
 
-  unmeasured_more : {found : LargestFound} → words n ≡ NOT_MEASURED → LargestRight words n found → LargestRight words (suc n) found
+  unmeasured_more : {found : Option Placed} → words n ≡ NOT_MEASURED → LargestRight words n found → LargestRight words (suc n) found
   unmeasured_more e (largest r) = largest (stays_largest r (λ m. absurd (m e)))
   unmeasured_more e (none_measured f) = none_measured (one_more n f e)
 
@@ -56,14 +55,14 @@ module _ (words : ℕ → ℕ) (n : ℕ) where
       none_before = λ i k m. omega (arith, r.none_larger i k m);
     }
 
-    either_more : {best at : ℕ} (b : Bool) → ltb (unpacked DIGITS best) (unpacked DIGITS (words n)) ≡ b → IsLargest words n best at
-        → LargestRight words (suc n) (cond b (At (words n) n) (At best at))
+    either_more : {best : Placed} (b : Bool) → ltb (unpacked DIGITS best.word) (unpacked DIGITS (words n)) ≡ b → IsLargest words n best.word best.place
+        → LargestRight words (suc n) (cond b (Some (record { word = words n; place = n })) (Some best))
     either_more true e r = largest (larger_more r (ltb-true _ _ e))
     either_more false e r = largest (stays_largest r (λ m. ltb-false _ _ e))
 
-    measured_more : {found : LargestFound} → LargestRight words n found
-        → LargestRight words (suc n) (larger found (Measured (unpacked DIGITS (words n))) (words n) n)
-    measured_more (largest {word = best} r) = either_more (ltb (unpacked DIGITS best) (unpacked DIGITS (words n))) refl r
+    measured_more : {found : Option Placed} → LargestRight words n found
+        → LargestRight words (suc n) (larger found (Some (unpacked DIGITS (words n))) (words n) n)
+    measured_more (largest {best = best} r) = either_more (ltb (unpacked DIGITS best.word) (unpacked DIGITS (words n))) refl r
     measured_more (none_measured f) = largest (first_more f)
 
 -- what the definition gives is right
@@ -87,15 +86,15 @@ module _ {words : ℕ → ℕ} {n : ℕ} where
       let second' : unpacked DIGITS w ≤ unpacked DIGITS v = rw b.here at second in
       omega arith
 
-  right_same : {f g : LargestFound} → LargestRight words n f → LargestRight words n g → f ≡ g
-  right_same (largest {word = v} {place = p} a) (largest {word = w} {place = q} b) =
-      let e : p ≡ q = omega (arith, not-before a b, not-before b a) in
-      ap₂ At (sym a.here ∙ ap words e ∙ b.here) e
-  right_same (largest {place = p} a) (none_measured g) = absurd (a.measured (sym a.here ∙ g p a.within))
-  right_same (none_measured f) (largest {place = q} b) = absurd (b.measured (sym b.here ∙ f q b.within))
+  right_same : {f g : Option Placed} → LargestRight words n f → LargestRight words n g → f ≡ g
+  right_same (largest {best = v} a) (largest {best = w} b) =
+      let e : v.place ≡ w.place = omega (arith, not-before a b, not-before b a) in
+      ap₂ (λ (word place : ℕ). Some (record { word = word; place = place })) (sym a.here ∙ ap words e ∙ b.here) e
+  right_same (largest {best = v} a) (none_measured g) = absurd (a.measured (sym a.here ∙ g v.place a.within))
+  right_same (none_measured f) (largest {best = w} b) = absurd (b.measured (sym b.here ∙ f w.place b.within))
   right_same (none_measured f) (none_measured g) = refl
 
-pub largest_only : {words : ℕ → ℕ} {n : ℕ} {found : LargestFound} → LargestRight words n found → found ≡ largest_of words n
+pub largest_only : {words : ℕ → ℕ} {n : ℕ} {found : Option Placed} → LargestRight words n found → found ≡ largest_of words n
 largest_only {words} {n} r = right_same r (largest_right words n)
 
 -- ---- bad readings of a run
@@ -108,16 +107,16 @@ decides_bad bytes i =
     decides_iff (λ b. record { bad = b }) (λ h. h.bad) (decides_or lone (decides_not (decides_reading (reading_at bytes i))))
 
 -- a run is refused at one of its readings
-pub refused_within : (bytes : List ℕ) (r : Refusal) → largest_in bytes ≡ Refused r → refusal_spot r < readings bytes
+pub refused_within : (bytes : List ℕ) (r : Refusal) → largest_in bytes ≡ Err r → refusal_spot r < readings bytes
 unfolding largest_in
 refused_within bytes r e = go (dec_lt (lowest (readings bytes) (bad_at bytes)) (readings bytes))
   where
     go : Dec (lowest (readings bytes) (bad_at bytes) < readings bytes) → refusal_spot r < readings bytes
     go (yes l) =
-        let refused = unless_refused_lem (readings bytes) (bad_at bytes) Refused (Is (largest_of (reading_at bytes) (readings bytes))) l in
+        let refused = unless_refused_lem (readings bytes) (bad_at bytes) (largest_of (reading_at bytes) (readings bytes)) l in
         let same : r ≡ BadReading (lowest (readings bytes) (bad_at bytes)) = cc in
         rw same l
     go (no l) =
-        let answered = unless_answered (readings bytes) (bad_at bytes) Refused (Is (largest_of (reading_at bytes) (readings bytes))) (omega arith) in
+        let answered = unless_answered (readings bytes) (bad_at bytes) (largest_of (reading_at bytes) (readings bytes)) (omega arith) in
         let z : ◌≡◌ {A = ℕ} 0 1 = cc in
         absurd (omega arith)

@@ -18,17 +18,13 @@ pub use Rattle.packed_decimal.specs.PackedReading.{DIGITS, DIGIT_VALUES, Decimal
 unfoldable pub use Rattle.packed_decimal.specs.PackedReading.{is_decimal, is_reading, says}
 pub use Rattle.packed_decimal.specs.ReadingAnswers.{order_by, reading_order, sum_of}
 unfoldable pub use Rattle.packed_decimal.specs.ReadingAnswers.{added_of, compared_of, number_of, reading_of}
-pub use Rattle.packed_decimal.specs.ReadingRefusals.{bad_of, first_bad, refusal_spot}
+pub use Rattle.packed_decimal.specs.ReadingRefusals.{bad_of, refusal_spot, unless_bad_of}
 unfoldable pub use Rattle.packed_decimal.specs.ReadingRefusals.{unless_bad}
-pub use Rattle.packed_decimal.specs.declared.convert.Number.TheVariants.{Says}
-pub use Rattle.packed_decimal.specs.declared.convert.Packed.TheVariants.{Word}
-pub use Rattle.packed_decimal.specs.declared.largest.Largest.TheVariants.{Refused}
-pub use Rattle.packed_decimal.specs.declared.largest.LargestFound.{LargestFound}
-pub use Rattle.packed_decimal.specs.declared.largest.LargestFound.TheVariants.{At, NoneMeasured}
-pub use Rattle.packed_decimal.specs.declared.limit.Order.TheVariants.{Above, Equal}
-pub use Rattle.packed_decimal.specs.declared.meter.Reading.{Reading}
-pub use Rattle.packed_decimal.specs.declared.meter.Reading.TheVariants.{Measured, NotMeasured}
 pub use Rattle.packed_decimal.specs.declared.refusal.Refusal.{Refusal}
 pub use Rattle.packed_decimal.specs.declared.refusal.Refusal.TheVariants.{BadReading, LargeNumber}
-pub use Rattle.packed_decimal.specs.declared.sum.Added.TheVariants.{Is}
+pub use Rattle.packed_decimal.specs.declared.largest.Placed.{Placed}
+pub use Rattle.packed_decimal.specs.declared.sum.Sum.{Sum}
+pub use Rattle.std.specs.Prelude.{Err, None, Ok, Option, Result, Some}
+pub use Rattle.std.specs.declared.cmp.Ordering.{Ordering}
+pub use Rattle.std.specs.declared.cmp.Ordering.TheVariants.{Equal, Greater, Less}
 pub use mathlib.Core.Bool.{cond}

@@ -1,7 +1,7 @@
 -- What a word says as a reading, by cases: 0xFFFF, or four decimal digits.
 use Rattle.packed_decimal.proofs.Prelude.{◌≡◌, refl, sym, ◌∙◌, true, ℕ, zero, suc, ◌/◌, ◌%◌, ◌^◌, ◌<◌, ltb, ltb-true, lt-ltb, eq-eqb, ne_eqb, Decides}
 use Rattle.packed_decimal.proofs.Prelude.{decides, decided_true, decides_iff, decides_and, decides_or, decides_equal, TEN, DIGITS, DIGIT_VALUES}
-use Rattle.packed_decimal.proofs.Prelude.{NOT_MEASURED, unpacked, Decimal, is_decimal, IsReading, is_reading, says, MeasuredWord, Measured, NotMeasured}
+use Rattle.packed_decimal.proofs.Prelude.{NOT_MEASURED, unpacked, Decimal, is_decimal, IsReading, is_reading, says, MeasuredWord, Some, None}
 use Rattle.packed_decimal.proofs.Positional.{below_none, below_suc, below_last, below_rest}
 
 -- ---- the computing twins
@@ -25,7 +25,7 @@ pub unmeasured_is : (word : ℕ) → word ≡ NOT_MEASURED → is_reading word �
 unfolding is_reading
 unmeasured_is word e = rw (eq-eqb word NOT_MEASURED e) refl
 
-pub unmeasured_says : (word : ℕ) → word ≡ NOT_MEASURED → says word ≡ NotMeasured
+pub unmeasured_says : (word : ℕ) → word ≡ NOT_MEASURED → says word ≡ None
 unfolding says
 unmeasured_says word e = rw (eq-eqb word NOT_MEASURED e, says) refl
 
@@ -41,7 +41,7 @@ module _ (word : ℕ) (other : ¬ (word ≡ NOT_MEASURED)) where
   unfolding is_reading
   measured_is = rw (ne_eqb word NOT_MEASURED other) refl
 
-  pub measured_says : says word ≡ Measured (unpacked DIGITS word)
+  pub measured_says : says word ≡ Some (unpacked DIGITS word)
   unfolding says
   measured_says = rw (ne_eqb word NOT_MEASURED other, says) refl
 

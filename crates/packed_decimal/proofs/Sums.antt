@@ -1,10 +1,9 @@
 -- Sums through the numbers: what two readings say together is 10,000 times the carry and what the sum says.
-use Rattle.packed_decimal.proofs.Prelude.{◌≡◌, refl, sym, ap, ap₂, ◌∙◌, true, [], ◌∷◌, ℕ, ◌+◌, ◌-◌, ◌*◌, ◌/◌, ◌%◌, ◌^◌, ◌≤◌, ◌<◌, arith, dec_lt}
-use Rattle.packed_decimal.proofs.Prelude.{ℕ_discrete, DIGITS, DIGIT_VALUES, MODULUS, NOT_MEASURED, unpacked, packed, Decimal, is_reading, says, bad_of}
-use Rattle.packed_decimal.proofs.Prelude.{first_bad, sum_of, added_of, Reading, Measured, NotMeasured, BadReading, Is}
+use Rattle.packed_decimal.proofs.Prelude.{◌≡◌, refl, sym, ap₂, ◌∙◌, true, [], ◌∷◌, ℕ, ◌+◌, ◌-◌, ◌*◌, ◌/◌, ◌%◌, ◌^◌, ◌≤◌, ◌<◌, arith}
+use Rattle.packed_decimal.proofs.Prelude.{ℕ_discrete, DIGITS, DIGIT_VALUES, MODULUS, NOT_MEASURED, unpacked, packed, Decimal, is_reading, says}
+use Rattle.packed_decimal.proofs.Prelude.{unless_bad_of, sum_of, added_of, Option, Some, None, Ok, Err, Refusal}
 use Rattle.packed_decimal.specs.declared.sum.Sum.{Sum}
-use Rattle.packed_decimal.specs.declared.sum.Added.TheVariants.{Refused}
-use Rattle.packed_decimal.proofs.FirstBad.{unless_refused_lem, unless_answered, pair_good}
+use Rattle.packed_decimal.proofs.FirstBad.{pair_none, pair_good, pair_refused}
 use Rattle.packed_decimal.proofs.Conversion.{unpacked_packed, packed_decimal, packed_fits, unpacked_fits}
 use Rattle.packed_decimal.proofs.Readings.{unmeasured_says, measured_says, measured_decimal}
 
@@ -12,36 +11,36 @@ use Rattle.packed_decimal.proofs.Readings.{unmeasured_says, measured_says, measu
 abbrev pub unmeasured_sum : Sum
 unmeasured_sum = record { reading = NOT_MEASURED; carry = 0 }
 
-pub sum_unmeasured_left : (r s : Reading) → r ≡ NotMeasured → sum_of r s ≡ unmeasured_sum
+pub sum_unmeasured_left : (r s : Option ℕ) → r ≡ None → sum_of r s ≡ unmeasured_sum
 sum_unmeasured_left r s e = rw e refl
 
-pub sum_unmeasured_right : (r s : Reading) → s ≡ NotMeasured → sum_of r s ≡ unmeasured_sum
+pub sum_unmeasured_right : (r s : Option ℕ) → s ≡ None → sum_of r s ≡ unmeasured_sum
 sum_unmeasured_right r s e = rw e (go r)
   where
-    go : (r : Reading) → sum_of r NotMeasured ≡ unmeasured_sum
-    go (Measured x) = refl
-    go NotMeasured = refl
+    go : (r : Option ℕ) → sum_of r None ≡ unmeasured_sum
+    go (Some x) = refl
+    go None = refl
 
 module _ (x y : ℕ) (hx : x < MODULUS) (hy : y < MODULUS) where
   -- up to 9999 it is the sum itself
-  pub sum_plain : x + y < MODULUS → sum_of (Measured x) (Measured y) ≡ record { reading = packed DIGITS (x + y); carry = 0 }
+  pub sum_plain : x + y < MODULUS → sum_of (Some x) (Some y) ≡ record { reading = packed DIGITS (x + y); carry = 0 }
   sum_plain l =
       let rest : (x + y) % MODULUS ≡ x + y = omega arith in
       let carried : (x + y) / MODULUS ≡ 0 = omega arith in
       rw (rest, carried) refl
 
   -- "with a carry of 1 past 9999"
-  pub sum_carries : MODULUS ≤ x + y → sum_of (Measured x) (Measured y) ≡ record { reading = packed DIGITS (x + y - MODULUS); carry = 1 }
+  pub sum_carries : MODULUS ≤ x + y → sum_of (Some x) (Some y) ≡ record { reading = packed DIGITS (x + y - MODULUS); carry = 1 }
   sum_carries l =
       let rest : (x + y) % MODULUS ≡ x + y - MODULUS = omega arith in
       let carried : (x + y) / MODULUS ≡ 1 = omega arith in
       rw (rest, carried) refl
 
   -- with its carry it says what both say together, and it keeps the digit rule
-  pub sum_adds : MODULUS * (sum_of (Measured x) (Measured y)).carry + unpacked DIGITS (sum_of (Measured x) (Measured y)).reading ≡ x + y
+  pub sum_adds : MODULUS * (sum_of (Some x) (Some y)).carry + unpacked DIGITS (sum_of (Some x) (Some y)).reading ≡ x + y
   sum_adds = rw (unpacked_packed DIGITS ((x + y) % MODULUS) (omega arith)) (omega arith)
 
-  pub sum_decimal : Decimal DIGITS (sum_of (Measured x) (Measured y)).reading
+  pub sum_decimal : Decimal DIGITS (sum_of (Some x) (Some y)).reading
   sum_decimal = packed_decimal DIGITS ((x + y) % MODULUS)
 
 -- ---- two measured words
@@ -53,7 +52,7 @@ module _ (a b : ℕ) (ra : is_reading a ≡ true) (rb : is_reading b ≡ true) (
   pub right_fits : unpacked DIGITS b < MODULUS
   right_fits = unpacked_fits DIGITS b (measured_decimal b nb rb)
 
-  both_say : sum_of (says a) (says b) ≡ sum_of (Measured (unpacked DIGITS a)) (Measured (unpacked DIGITS b))
+  both_say : sum_of (says a) (says b) ≡ sum_of (Some (unpacked DIGITS a)) (Some (unpacked DIGITS b))
   both_say = ap₂ sum_of (measured_says a na) (measured_says b nb)
 
   module _ (x y word : ℕ) (ex : x ≡ unpacked DIGITS a) (ey : y ≡ unpacked DIGITS b) where
@@ -65,15 +64,13 @@ module _ (a b : ℕ) (ra : is_reading a ≡ true) (rb : is_reading b ≡ true) (
 
 -- ---- the answer for two words
 
-pub added_refused : (a b : ℕ) {spot : ℕ} → spot ≡ first_bad (a ∷ b ∷ []) → spot < 2 → added_of a b ≡ Refused (BadReading spot)
+pub added_refused : {A : Type 0} (a b : ℕ) (x : A) {r : Refusal} → Err r ≡ unless_bad_of (a ∷ b ∷ []) x → Err r ≡ added_of a b
 unfolding added_of
-added_refused a b e l =
-    unless_refused_lem 2 (bad_of (a ∷ b ∷ [])) Refused (Is (sum_of (says a) (says b))) (omega arith)
-    ∙ ap (λ (s : ℕ). Refused (BadReading s)) (sym e)
+added_refused a b x e = pair_refused a b x (sum_of (says a) (says b)) e
 
-pub added_is : (a b : ℕ) → 2 ≤ first_bad (a ∷ b ∷ []) → added_of a b ≡ Is (sum_of (says a) (says b))
+pub added_is : (a b : ℕ) → is_reading a ≡ true → is_reading b ≡ true → added_of a b ≡ Ok (sum_of (says a) (says b))
 unfolding added_of
-added_is a b l = unless_answered 2 (bad_of (a ∷ b ∷ [])) Refused (Is (sum_of (says a) (says b))) l
+added_is a b ra rb = pair_none a b (sum_of (says a) (says b)) ra rb
 
 -- ---- bounds
 
@@ -85,7 +82,7 @@ pub record SumFits (s : Sum) : Type 0 where
 unmeasured_fits : SumFits unmeasured_sum
 unmeasured_fits = record { carry_fits = omega arith; reading_fits = omega arith }
 
-measured_fits : (x y : ℕ) → x < MODULUS → y < MODULUS → SumFits (sum_of (Measured x) (Measured y))
+measured_fits : (x y : ℕ) → x < MODULUS → y < MODULUS → SumFits (sum_of (Some x) (Some y))
 measured_fits x y hx hy = record { carry_fits = omega arith; reading_fits = packed_fits DIGITS ((x + y) % MODULUS) }
 
 said_fits : (a b : ℕ) → is_reading a ≡ true → is_reading b ≡ true → SumFits (sum_of (says a) (says b))
@@ -98,16 +95,10 @@ said_fits a b ra rb = go (ℕ_discrete a NOT_MEASURED) (ℕ_discrete b NOT_MEASU
         rw (both_say a b ra rb na nb)
         (measured_fits (unpacked DIGITS a) (unpacked DIGITS b) (left_fits a b ra rb na nb) (right_fits a b ra rb na nb))
 
-pub added_fits : (a b : ℕ) (s : Sum) → added_of a b ≡ Is s → SumFits s
-added_fits a b s e = go (dec_lt (first_bad (a ∷ b ∷ [])) 2)
-  where
-    go : Dec (first_bad (a ∷ b ∷ []) < 2) → SumFits s
-    go (yes l) =
-        let refused = added_refused a b refl l in
-        let z : ◌≡◌ {A = ℕ} 0 1 = cc in
-        absurd (omega arith)
-    go (no l) =
-        let good = pair_good a b (omega arith) in
-        let answered = added_is a b (omega arith) in
-        let same : s ≡ sum_of (says a) (says b) = cc in
-        rw same (said_fits a b good.0 good.1)
+pub added_fits : (a b : ℕ) (s : Sum) → added_of a b ≡ Ok s → SumFits s
+unfolding added_of
+added_fits a b s e =
+    let good = pair_good a b (sum_of (says a) (says b)) (sym e) in
+    let answered = added_is a b good.0 good.1 in
+    let same : s ≡ sum_of (says a) (says b) = cc in
+    rw same (said_fits a b good.0 good.1)

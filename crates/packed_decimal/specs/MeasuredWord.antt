@@ -1,8 +1,7 @@
 -- Inner: what the functions ask that compare words in place of numbers.
-use Rattle.std.specs.Prelude.{ℕ, ◌^◌, ◌<◌}
+use Rattle.std.specs.Prelude.{ℕ, ◌^◌, ◌<◌, Option, MatchOption}
 use Rattle.packed_decimal.specs.PackedReading.{DIGITS, DIGIT_VALUES, Decimal}
-use Rattle.packed_decimal.specs.declared.largest.LargestFound.{LargestFound}
-use Rattle.packed_decimal.specs.declared.largest.LargestFound.TheVariants.{At, NoneMeasured}
+use Rattle.packed_decimal.specs.declared.largest.Placed.{Placed}
 
 -- the word of a measured reading
 pub record MeasuredWord (word : ℕ) : Type 0 where
@@ -10,6 +9,5 @@ pub record MeasuredWord (word : ℕ) : Type 0 where
   pub rule : Decimal DIGITS word
 
 -- what was found, if anything, is measured
-abbrev pub MeasuredFound : LargestFound → Type 0
-MeasuredFound NoneMeasured = Unit {0}
-MeasuredFound (At word place) = MeasuredWord word
+abbrev pub MeasuredFound : Option Placed → Type 0
+MeasuredFound found = MatchOption found (Unit {0}) (λ best. MeasuredWord best.word)

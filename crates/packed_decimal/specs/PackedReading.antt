@@ -1,9 +1,7 @@
 -- One reading of the panel meter. Document 02, S-5: "tenths of a millisecond as four decimal digits, four bits each, highest digit first,
 -- in two bytes. 0xFFFF means not measured, the one exception to the digit rule." A word is the two bytes as one number, the first the high one.
-use Rattle.std.specs.Prelude.{◌≡◌, Bool, true, false, ◌&&◌, ◌||◌, ◌⊎◌, ℕ, zero, suc, ◌/◌, ◌%◌, ◌^◌, ltb, eqb}
+use Rattle.std.specs.Prelude.{◌≡◌, Bool, true, false, ◌&&◌, ◌||◌, ◌⊎◌, ℕ, zero, suc, ◌/◌, ◌%◌, ◌^◌, ltb, eqb, Option, Some, None}
 use Rattle.packed_decimal.specs.Digits.{digits, value_of, Below}
-use Rattle.packed_decimal.specs.declared.meter.Reading.{Reading}
-use Rattle.packed_decimal.specs.declared.meter.Reading.TheVariants.{Measured, NotMeasured}
 
 -- "four decimal digits"
 abbrev pub DIGITS : ℕ
@@ -51,5 +49,5 @@ unfoldable pub is_reading : ℕ → Bool
 is_reading word = eqb word NOT_MEASURED || is_decimal DIGITS word
 
 -- what a reading says: a whole number, or that nothing was measured
-unfoldable pub says : ℕ → Reading
-says word = elim (eqb word NOT_MEASURED) [ true ↦ NotMeasured | false ↦ Measured (unpacked DIGITS word) ]
+unfoldable pub says : ℕ → Option ℕ
+says word = elim (eqb word NOT_MEASURED) [ true ↦ None | false ↦ Some (unpacked DIGITS word) ]

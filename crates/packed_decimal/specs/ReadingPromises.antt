@@ -1,26 +1,15 @@
 -- What each function promises: its answer is the definition's, and the same said in the words of document 02, S-5, without what computes it.
-use Rattle.std.specs.Prelude.{◌≡◌, List, ◌⊎◌, ℕ, ◌+◌, ◌*◌, ◌^◌, ◌≤◌, ◌<◌}
+use Rattle.std.specs.Prelude.{◌≡◌, List, ◌⊎◌, ℕ, ◌+◌, ◌*◌, ◌^◌, ◌≤◌, ◌<◌, Option, Some, None, Result, Ok, Err}
+use Rattle.std.specs.declared.cmp.Ordering.{Ordering}
+use Rattle.std.specs.declared.cmp.Ordering.TheVariants.{Less, Equal, Greater}
 use Rattle.atoms.specs.Collected.{Least}
 use Rattle.packed_decimal.specs.PackedReading.{DIGITS, DIGIT_VALUES, MODULUS, NOT_MEASURED, unpacked, Decimal, IsReading}
 use Rattle.packed_decimal.specs.ReadingAnswers.{number_of, reading_of, added_of, compared_of}
 use Rattle.packed_decimal.specs.Largest.{readings, reading_at, BadAt, largest_in, LargestRight}
-use Rattle.packed_decimal.specs.declared.meter.Reading.{Reading}
-use Rattle.packed_decimal.specs.declared.meter.Reading.TheVariants.{Measured, NotMeasured}
 use Rattle.packed_decimal.specs.declared.refusal.Refusal.{Refusal}
 use Rattle.packed_decimal.specs.declared.refusal.Refusal.TheVariants.{BadReading, LargeNumber}
-use Rattle.packed_decimal.specs.declared.convert.Number.{Number}
-use Rattle.packed_decimal.specs.declared.convert.Number.TheVariants.{Says, Refused as NumberRefused}
-use Rattle.packed_decimal.specs.declared.convert.Packed.{Packed}
-use Rattle.packed_decimal.specs.declared.convert.Packed.TheVariants.{Word, Refused as PackedRefused}
 use Rattle.packed_decimal.specs.declared.sum.Sum.{Sum}
-use Rattle.packed_decimal.specs.declared.sum.Added.{Added}
-use Rattle.packed_decimal.specs.declared.sum.Added.TheVariants.{Is as SumIs, Refused as SumRefused}
-use Rattle.packed_decimal.specs.declared.limit.Order.TheVariants.{Below, Equal, Above, NotMeasured as NoOrder}
-use Rattle.packed_decimal.specs.declared.limit.Compared.{Compared}
-use Rattle.packed_decimal.specs.declared.limit.Compared.TheVariants.{Is as OrderIs, Refused as CompareRefused}
-use Rattle.packed_decimal.specs.declared.largest.LargestFound.{LargestFound}
-use Rattle.packed_decimal.specs.declared.largest.Largest.{Largest}
-use Rattle.packed_decimal.specs.declared.largest.Largest.TheVariants.{Is as FoundIs, Refused as LargestRefused}
+use Rattle.packed_decimal.specs.declared.largest.Placed.{Placed}
 
 -- a word that keeps the digit rule and says x
 pub record SaysNumber (word x : ℕ) : Type 0 where
@@ -29,18 +18,18 @@ pub record SaysNumber (word x : ℕ) : Type 0 where
   pub says_is : unpacked DIGITS word ≡ x
 
 -- "Convert one reading to a whole number"
-pub record Numbered (word : ℕ) (r : Number) : Type 0 where
+pub record Numbered (word : ℕ) (r : Result (Option ℕ) Refusal) : Type 0 where
   pub is : r ≡ number_of word
-  pub bad : ¬ IsReading word → r ≡ NumberRefused (BadReading 0)
-  pub unmeasured : word ≡ NOT_MEASURED → r ≡ Says NotMeasured
-  pub measured : (x : ℕ) → SaysNumber word x → r ≡ Says (Measured x)
+  pub bad : ¬ IsReading word → r ≡ Err (BadReading 0)
+  pub unmeasured : word ≡ NOT_MEASURED → r ≡ Ok None
+  pub measured : (x : ℕ) → SaysNumber word x → r ≡ Ok (Some x)
 
 -- "and back (not measured stays so)", "or a whole number above 9999 to convert back, spot 0"
-pub record Repacked (number : Reading) (r : Packed) : Type 0 where
+pub record Repacked (number : Option ℕ) (r : Result ℕ Refusal) : Type 0 where
   pub is : r ≡ reading_of number
-  pub unmeasured : number ≡ NotMeasured → r ≡ Word NOT_MEASURED
-  pub large : (x : ℕ) → number ≡ Measured x → MODULUS ≤ x → r ≡ PackedRefused LargeNumber
-  pub measured : (x : ℕ) → number ≡ Measured x → x < MODULUS → (word : ℕ) × (r ≡ Word word) × SaysNumber word x
+  pub unmeasured : number ≡ None → r ≡ Ok NOT_MEASURED
+  pub large : (x : ℕ) → number ≡ Some x → MODULUS ≤ x → r ≡ Err LargeNumber
+  pub measured : (x : ℕ) → number ≡ Some x → x < MODULUS → (word : ℕ) × (r ≡ Ok word) × SaysNumber word x
 
 -- "spot the number from 0 of the first such reading among those given", of two
 pub record RefusesBad {A : Type 0} (a b : ℕ) (refused : Refusal → A) (r : A) : Type 0 where
@@ -54,25 +43,25 @@ pub record IsSum (x y : ℕ) (s : Sum) : Type 0 where
   pub total : x + y ≡ MODULUS * s.carry + rest
 
 -- "add two modulo 10,000 into a reading, with a carry of 1 past 9999"; "With a reading not measured, a sum (carry 0) .. is not measured"
-pub record ReadingsAdded (a b : ℕ) (r : Added) : Type 0 where
+pub record ReadingsAdded (a b : ℕ) (r : Result Sum Refusal) : Type 0 where
   pub is : r ≡ added_of a b
-  pub refuses : RefusesBad a b SumRefused r
+  pub refuses : RefusesBad a b Err r
   pub unmeasured : IsReading a → IsReading b → (a ≡ NOT_MEASURED) ⊎ (b ≡ NOT_MEASURED)
-      → r ≡ SumIs (record { reading = NOT_MEASURED; carry = 0 })
-  pub measured : (x y : ℕ) → SaysNumber a x → SaysNumber b y → (s : Sum) × (r ≡ SumIs s) × IsSum x y s
+      → r ≡ Ok (record { reading = NOT_MEASURED; carry = 0 })
+  pub measured : (x y : ℕ) → SaysNumber a x → SaysNumber b y → (s : Sum) × (r ≡ Ok s) × IsSum x y s
 
 -- "compare one with a limit that is itself a reading (below, equal, above)"; "With a reading not measured, .. a comparison is not measured"
-pub record HeldAgainst (word limit : ℕ) (r : Compared) : Type 0 where
+pub record HeldAgainst (word limit : ℕ) (r : Result (Option Ordering) Refusal) : Type 0 where
   pub is : r ≡ compared_of word limit
-  pub refuses : RefusesBad word limit CompareRefused r
-  pub unmeasured : IsReading word → IsReading limit → (word ≡ NOT_MEASURED) ⊎ (limit ≡ NOT_MEASURED) → r ≡ OrderIs NoOrder
-  pub below : (x y : ℕ) → SaysNumber word x → SaysNumber limit y → x < y → r ≡ OrderIs Below
-  pub equal : (x y : ℕ) → SaysNumber word x → SaysNumber limit y → x ≡ y → r ≡ OrderIs Equal
-  pub above : (x y : ℕ) → SaysNumber word x → SaysNumber limit y → y < x → r ≡ OrderIs Above
+  pub refuses : RefusesBad word limit Err r
+  pub unmeasured : IsReading word → IsReading limit → (word ≡ NOT_MEASURED) ⊎ (limit ≡ NOT_MEASURED) → r ≡ Ok None
+  pub below : (x y : ℕ) → SaysNumber word x → SaysNumber limit y → x < y → r ≡ Ok (Some Less)
+  pub equal : (x y : ℕ) → SaysNumber word x → SaysNumber limit y → x ≡ y → r ≡ Ok (Some Equal)
+  pub above : (x y : ℕ) → SaysNumber word x → SaysNumber limit y → y < x → r ≡ Ok (Some Greater)
 
 -- "the largest measured reading with its lowest place, .. or that none was measured"
-pub record LargestSought (bytes : List ℕ) (r : Largest) : Type 0 where
+pub record LargestSought (bytes : List ℕ) (r : Result (Option Placed) Refusal) : Type 0 where
   pub is : r ≡ largest_in bytes
-  pub refused : (i : ℕ) → i < readings bytes → Least (BadAt bytes) i → r ≡ LargestRefused (BadReading i)
+  pub refused : (i : ℕ) → i < readings bytes → Least (BadAt bytes) i → r ≡ Err (BadReading i)
   pub found : ((i : ℕ) → i < readings bytes → ¬ BadAt bytes i)
-      → (what : LargestFound) × (r ≡ FoundIs what) × LargestRight (reading_at bytes) (readings bytes) what
+      → (what : Option Placed) × (r ≡ Ok what) × LargestRight (reading_at bytes) (readings bytes) what

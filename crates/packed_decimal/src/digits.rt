@@ -17,14 +17,12 @@ pub const MODULUS: u64 = TEN * TEN * TEN * TEN;
 pub fn is_decimal(word: u16) -> bool
     ensures { result ≡ is_decimal Reading-as-DIGITS word }
 {
-    let mut rest = word as u64;
-    let mut i = 0;
-    while i < DIGITS {
+    let mut rest = u64::from(word);
+    for _digit in 0..DIGITS {
         if TEN <= rest % DIGIT_VALUES {
             return false;
         }
         rest /= DIGIT_VALUES;
-        i += 1;
     }
     true
 }
@@ -33,7 +31,7 @@ pub fn is_decimal(word: u16) -> bool
 pub fn unpack(word: u16) -> u64
     ensures { result ≡ unpacked Reading-as-DIGITS word }
 {
-    respell(word as u64, DIGIT_VALUES, TEN)
+    respell(u64::from(word), DIGIT_VALUES, TEN)
 }
 
 // The packed digits of a whole number.
@@ -51,12 +49,10 @@ fn respell(x: u64, from: u64, to: u64) -> u64
     let mut rest = x;
     let mut place = 1;
     let mut result = 0;
-    let mut i = 0;
-    while i < DIGITS {
+    for _digit in 0..DIGITS {
         result += rest % from * place;
         rest /= from;
         place *= to;
-        i += 1;
     }
     result
 }

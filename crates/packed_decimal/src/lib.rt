@@ -10,9 +10,9 @@ mod pair;
 mod refusal;
 mod sum;
 
-pub use convert::{Number, Packed, to_number, to_reading};
-pub use largest::{Largest, LargestFound, find_largest};
-pub use limit::{Compared, Order, compare};
+pub use convert::{to_number, to_reading};
+pub use largest::{Placed, find_largest};
+pub use limit::compare;
 pub use meter::{NOT_MEASURED, Reading};
 pub use refusal::{Refusal, refusal_number, refusal_spot};
-pub use sum::{Added, Sum, add};
+pub use sum::{Sum, add};

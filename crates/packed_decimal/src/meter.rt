@@ -5,11 +5,7 @@ ghost use Rattle.packed_decimal.specs.PackedReading.{is_reading, says as says_of
 use crate::digits::{is_decimal, unpack};
 
 // What a reading says: tenths of a millisecond as a whole number, or that nothing was measured.
-#[derive(Clone, Copy)]
-pub enum Reading {
-    Measured(u64),
-    NotMeasured,
-}
+pub type Reading = Option<u64>;
 
 pub const NOT_MEASURED: u16 = 0xffff;
 
@@ -17,10 +13,7 @@ pub const NOT_MEASURED: u16 = 0xffff;
 pub fn is_reading(word: u16) -> bool
     ensures { result ≡ is_reading word }
 {
-    if word != NOT_MEASURED {
-        return is_decimal(word);
-    }
-    true
+    word == NOT_MEASURED || is_decimal(word)
 }
 
 // What the reading says.
@@ -28,7 +21,7 @@ pub fn says(word: u16) -> Reading
     ensures { result ≡ says_of word }
 {
     if word == NOT_MEASURED {
-        return Reading::NotMeasured;
+        return None;
     }
-    Reading::Measured(unpack(word))
+    Some(unpack(word))
 }

@@ -1,21 +1,19 @@
 // Two readings given together.
 ghost use Rattle.std.specs.Prelude.{◌≡◌, [], ◌∷◌};
-ghost use Rattle.packed_decimal.specs.ReadingRefusals.{first_bad as first_bad_of};
+ghost use Rattle.packed_decimal.specs.ReadingRefusals.{unless_bad_of};
 
 use crate::meter::is_reading;
+use crate::refusal::Refusal;
 
-// How many readings that is.
-pub const PAIR: usize = 2;
-
-// The number, from 0, of the first of the two that is bad; PAIR if neither is.
-pub fn first_bad(a: u16, b: u16) -> usize
-    ensures { result ≡ first_bad_of (a ∷ b ∷ []) }
+// Refuses the first of the two that is bad, by its number from 0.
+pub fn refuse_bad(a: u16, b: u16) -> Result<(), Refusal>
+    ensures { result ≡ unless_bad_of (a ∷ b ∷ []) tt }
 {
     if !is_reading(a) {
-        return 0;
+        return Err(Refusal::BadReading(0));
     }
     if !is_reading(b) {
-        return 1;
+        return Err(Refusal::BadReading(1));
     }
-    PAIR
+    Ok(())
 }

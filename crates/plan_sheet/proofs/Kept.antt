@@ -3,7 +3,8 @@ use Rattle.plan_sheet.proofs.Prelude.{◌≡◌, sym, ap, ◌∙◌, subst, List
 use Rattle.plan_sheet.proofs.Prelude.{replicate, length-replicate, length-append, take_at, drop_at, take_all, TABLE_WORDS, SHEET_BYTES, KEPT_BYTES}
 use Rattle.plan_sheet.proofs.Prelude.{SheetSays, Printed, written_bytes, plan_sheet, SheetKept}
 use Rattle.sheet.specs.LentSheet.{bytes_written as written, filled}
-use Rattle.sheet.specs.declared.Written.{Written}
+use Rattle.std.specs.Prelude.{Result}
+use Rattle.sheet.specs.declared.TooShort.{TooShort}
 use Rattle.plan_sheet.specs.declared.Sheet.{Sheet}
 use Rattle.plan_sheet.proofs.SheetPrefix.{first_4096_decide}
 use Rattle.plan_sheet.proofs.Said.{sheet_says}
@@ -37,7 +38,7 @@ module _ (bytes : List ℕ) (size : ℕ) (fits : length bytes ≤ size) where
       rw (le-leb (length bytes) (length (replicate {A = ℕ} size 0)) room, filled)
       (ap (λ (zs : List ℕ). bytes ++ zs) (drop_zeros size (length bytes)))
 
-pub sheet_kept : (area : List ℕ) (read count : ℕ) (table' sheet' : List ℕ) (w : Written) (r : Sheet) → length area ≡ KEPT_BYTES
+pub sheet_kept : (area : List ℕ) (read count : ℕ) (table' sheet' : List ℕ) (w : Result ℕ TooShort) (r : Sheet) → length area ≡ KEPT_BYTES
     → count ≡ min read KEPT_BYTES
     → Printed (take (count - 0) (drop 0 area)) (replicate {A = ℕ} TABLE_WORDS 0) table' (replicate {A = ℕ} SHEET_BYTES 0) sheet' w
     → r.bytes ≡ sheet' → r.length ≡ written_bytes w → SheetKept area read r

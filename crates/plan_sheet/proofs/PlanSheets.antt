@@ -5,7 +5,7 @@ use Rattle.plan_sheet.proofs.Prelude.{Answer, answer, sheet_for, sheet_of, SHEET
 use Rattle.plan.specs.Faults.{number, spot}
 use Rattle.plan.specs.declared.fault.Fault.{Fault}
 use Rattle.plan.specs.declared.fault.Fault.TheVariants.{TableShort}
-use Rattle.plan.specs.declared.fault.Outcome.{Outcome}
+use Rattle.plan.specs.Faults.{Outcome}
 use Rattle.sheet.proofs.Sheets.{positions_at_most, refusal_at_most}
 use Rattle.demands.proofs.Answers.{short_answer}
 use Rattle.demands.proofs.LastCount.{last_count_at_most}

@@ -5,7 +5,7 @@ pub use Rattle.atoms.proofs.Kit.{ℕ}
 pub use Rattle.demands.specs.Answer.{Answer}
 unfoldable pub use Rattle.demands.specs.Answer.{answer}
 pub use Rattle.plan.specs.Limits.{LAST_COUNT, LAST_LIST, LIST_WORDS, TABLE_WORDS}
-pub use Rattle.plan.specs.declared.fault.Outcome.TheVariants.{Accepted, Refused}
+pub use Rattle.plan.specs.Faults.{Accepted, Refused}
 pub use Rattle.plan_sheet.specs.PlanSheets.{KEPT_BYTES, Positions, Printed, SHEET_BYTES, SheetKept, SheetSays, written_bytes}
 unfoldable pub use Rattle.plan_sheet.specs.PlanSheets.{plan_sheet, sheet_for, sheet_of}
 pub use Rattle.sheet.specs.Sheet.{positions_sheet, refusal_sheet}

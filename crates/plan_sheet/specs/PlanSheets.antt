@@ -1,19 +1,17 @@
 -- The sheet of an answer (document 01, The sheet it prints).
-use Rattle.std.specs.Prelude.{◌≡◌, ◌↔◌, ℕ, ◌+◌, ◌-◌, ◌*◌, ◌≤◌, length, take, drop, get_or, replicate}
+use Rattle.std.specs.Prelude.{◌≡◌, ◌↔◌, ℕ, ◌+◌, ◌-◌, ◌*◌, ◌≤◌, length, take, drop, get_or, replicate, Result, Ok, Err}
 use mathlib.Core.List.{List, Memᴰ}
 use Rattle.plan.specs.Limits.{LIST_WORDS, LAST_LIST, LAST_COUNT, TABLE_WORDS}
 use Rattle.plan.specs.Faults.{number, spot}
 use Rattle.plan.specs.declared.record.Plan.{Plan}
-use Rattle.plan.specs.declared.fault.Outcome.{Outcome}
-use Rattle.plan.specs.declared.fault.Outcome.TheVariants.{Accepted, Refused}
+use Rattle.plan.specs.Faults.{Outcome}
 use Rattle.atoms.specs.Rising.{Rising}
 use Rattle.atoms.specs.Cuts.{CutOf}
 use Rattle.plan_meaning.specs.Settled.{Settles}
 use Rattle.reading.specs.Layout.{Contents, record_of, IsByte, All}
 use Rattle.sheet.specs.Sheet.{line_length, positions_sheet, refusal_sheet}
 use Rattle.sheet.specs.LentSheet.{bytes_written as written, filled}
-use Rattle.sheet.specs.declared.Written.{Written}
-use Rattle.sheet.specs.declared.Written.TheVariants.{Bytes, TooShort}
+use Rattle.sheet.specs.declared.TooShort.{TooShort}
 use Rattle.plan_sheet.specs.declared.Sheet.{Sheet}
 use Rattle.demands.specs.Answer.{Answer, answer}
 use Rattle.demands.specs.Demand1.{Listable, FirstFault}
@@ -21,8 +19,8 @@ use Rattle.demands.specs.UnitsMean.{ListsMean}
 
 -- by outcome: the last list's positions, or the refusal
 unfoldable pub sheet_for : Outcome → List ℕ → List ℕ → List ℕ
-sheet_for (Refused f) counts table = refusal_sheet (number f) (spot f)
-sheet_for Accepted counts table = positions_sheet (take (get_or counts LAST_COUNT 0) (drop LAST_LIST table))
+sheet_for (Err f) counts table = refusal_sheet (number f) (spot f)
+sheet_for (Ok u) counts table = positions_sheet (take (get_or counts LAST_COUNT 0) (drop LAST_LIST table))
 
 unfoldable pub sheet_of : Answer → List ℕ
 sheet_of a = sheet_for a.outcome a.counts a.table
@@ -44,7 +42,7 @@ pub record SheetSays (bytes table sheet : List ℕ) : Type 0 where
   pub meaning : ListsMean bytes
 
 -- the table is the answer's, and the sheet its sheet, where the buffer has room for it; SHEET_BYTES are always enough
-pub record Printed (bytes table table' sheet sheet' : List ℕ) (r : Written) : Type 0 where
+pub record Printed (bytes table table' sheet sheet' : List ℕ) (r : Result ℕ TooShort) : Type 0 where
   pub table_is : table' ≡ (answer bytes table).table
   pub written_is : r ≡ written (sheet_of (answer bytes table)) sheet
   pub sheet_is : sheet' ≡ filled (sheet_of (answer bytes table)) sheet
@@ -52,9 +50,9 @@ pub record Printed (bytes table table' sheet sheet' : List ℕ) (r : Written) : 
   pub says : SheetSays bytes table (sheet_of (answer bytes table))
 
 -- how many bytes were written, none where the buffer is too short
-abbrev pub written_bytes : Written → ℕ
-written_bytes (Bytes n) = n
-written_bytes TooShort = 0
+abbrev pub written_bytes : Result ℕ TooShort → ℕ
+written_bytes (Ok n) = n
+written_bytes (Err short) = 0
 
 -- the sheet of a plan; the table is the function's own
 unfoldable pub plan_sheet : List ℕ → List ℕ

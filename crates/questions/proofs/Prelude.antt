@@ -29,6 +29,7 @@ unfoldable pub use Rattle.questions.specs.Counts.{counts_of, fits, fitting_count
 pub use Rattle.questions.specs.Questions.{QuestionsAnswered, with_its_count}
 unfoldable pub use Rattle.questions.specs.Questions.{answered, asked_of, counted, outcome, with_counts}
 pub use Rattle.questions.specs.declared.counter.Asked.{Asked}
-pub use Rattle.questions.specs.declared.question.Counted.TheVariants.{Filled, TooManyQuestions}
+pub use Rattle.questions.specs.declared.question.TooManyQuestions.{TooManyQuestions}
+pub use Rattle.std.specs.Prelude.{Err, Ok, Result}
 pub use Rattle.questions.specs.declared.question.Question.{Question}
 pub use types.Kit.{drop, some}

@@ -1,7 +1,7 @@
 -- The laws of questions as words: what stands where, a count written, and the whole put together again.
 use Rattle.questions.proofs.Prelude.{◌≡◌, refl, sym, ap, ap₂, ◌∙◌, List, [], ◌∷◌, ◌++◌, ℕ, zero, suc, ◌+◌, ◌*◌, ◌/◌, ◌≤◌, ◌<◌, arith, length, get_or}
 use Rattle.questions.proofs.Prelude.{set, replicate, length-append, MAX_QUESTIONS, counts_of, with_its_count, with_counts, asked_of, Asked, Question}
-use Rattle.questions.proofs.Prelude.{Filled, TooManyQuestions}
+use Rattle.questions.proofs.Prelude.{Ok, Err}
 use Rattle.questions.specs.QuestionWords.{questions_in, words_behind, in_words, Whole, AnsweredWords}
 use Rattle.questions.proofs.Questions.{blank, filling, filling_long, filling_more, filling_end, refused, filled, taking, taking_start, taking_long}
 use Rattle.questions.proofs.Questions.{taking_more, taking_end}
@@ -176,7 +176,7 @@ module _ {before : List ℕ} {n : ℕ} {counts : List ℕ} where
 pub whole_third : (ws : List ℕ) (n : ℕ) → n ≡ length ws / 3 → n ≤ MAX_QUESTIONS → Whole ws n
 whole_third ws n e l = record { count_is = e ∙ sym (third ws); at_most = l }
 
-pub refused_words : (list ws : List ℕ) → MAX_QUESTIONS < length ws / 3 → AnsweredWords list ws ws TooManyQuestions
+pub refused_words : (list ws : List ℕ) → MAX_QUESTIONS < length ws / 3 → AnsweredWords list ws ws (Err (record {}))
 refused_words list ws l =
     let a = refused list (questions_in ws) (omega (arith, third ws)) in
     record {
@@ -186,7 +186,7 @@ refused_words list ws l =
     }
 
 pub filled_words : (list ws zs : List ℕ) (asked : Asked) (cs : List ℕ) (n : ℕ) → Whole ws n → asked ≡ asked_of (questions_in ws)
-    → cs ≡ counts_of list n asked.up asked.dropped → zs ≡ in_words (with_counts (questions_in ws) cs) ++ words_behind ws → AnsweredWords list ws zs Filled
+    → cs ≡ counts_of list n asked.up asked.dropped → zs ≡ in_words (with_counts (questions_in ws) cs) ++ words_behind ws → AnsweredWords list ws zs (Ok tt)
 filled_words list ws zs asked cs n w ea ec ez =
     let right = ec ∙ ap (λ (k : ℕ). counts_of list k asked.up asked.dropped) w.count_is in
     let a = filled list (questions_in ws) (with_counts (questions_in ws) cs) asked cs (few w) ea right refl in

@@ -3,8 +3,7 @@ use Rattle.questions.proofs.Prelude.{◌≡◌, refl, sym, ap, ap₂, ◌∙◌,
 use Rattle.questions.proofs.Prelude.{◌<◌, arith, add-one, lt-ltb, le-ltb, length, get_or, take, set, length-append, length-take, length-drop, length-map}
 use Rattle.questions.proofs.Prelude.{drop_of_length-le, replicate, take-suc, drop-cons, append_snoc, set_at, take_all, length-take-le, ext_get_or}
 use Rattle.questions.proofs.Prelude.{get_or_at, padded, padded_nil, padded_long, padded_at, padded_snoc, MAX_QUESTIONS, fitting_count, counts_of}
-use Rattle.questions.proofs.Prelude.{with_its_count, counted, outcome, answered, QuestionsAnswered, asked_of, with_counts, Asked, Question, Filled}
-use Rattle.questions.proofs.Prelude.{TooManyQuestions}
+use Rattle.questions.proofs.Prelude.{with_its_count, counted, outcome, answered, QuestionsAnswered, asked_of, with_counts, Asked, Question, Ok, Err}
 use lib.ListN.{drop}
 use Rattle.questions.proofs.QuestionCounts.{counts_mean}
 use Rattle.questions.proofs.Held.{counts_long, count_is}
@@ -66,7 +65,8 @@ module _ (qs : List Question) (cs : List ℕ) (few : length qs ≤ length cs) wh
   pub filling_at : (i : ℕ) → i < length qs → get_or (filling qs cs i) i blank ≡ get_or qs i blank
   filling_at i l = over_at (with_counts qs cs) qs i blank (omega (arith, with_counts_long qs cs)) l
 
-  pub filling_more : (i : ℕ) → i < length qs → set (filling qs cs i) i (with_its_count (get_or (filling qs cs i) i blank) (get_or cs i 0)) ≡ filling qs cs (i + 1)
+  pub filling_more : (i : ℕ) → i < length qs
+      → set (filling qs cs i) i (with_its_count (get_or (filling qs cs i) i blank) (get_or cs i 0)) ≡ filling qs cs (i + 1)
   filling_more i l =
       ap (set (filling qs cs i) i) (ap (λ (q : Question). with_its_count q (get_or cs i 0)) (filling_at i l) ∙ sym (with_counts_at qs cs i l (omega arith)))
       ∙ over_more (with_counts qs cs) qs i blank (omega (arith, with_counts_long qs cs)) l
@@ -160,18 +160,19 @@ module _ {qs : List Question} where
 
 -- ---- the answer
 
-pub refused : (list : List ℕ) (qs : List Question) → MAX_QUESTIONS < length qs → QuestionsAnswered list qs qs TooManyQuestions
+pub refused : (list : List ℕ) (qs : List Question) → MAX_QUESTIONS < length qs → QuestionsAnswered list qs qs (Err (record {}))
 unfolding outcome answered
 refused list qs l =
     record {
-      outcome_is = ap (λ (b : Bool). elim b [ true ↦ TooManyQuestions | false ↦ Filled ]) (sym (lt-ltb MAX_QUESTIONS (length qs) l));
+      outcome_is = ap (λ (b : Bool). elim b [ true ↦ Err (record {}) | false ↦ Ok tt ]) (sym (lt-ltb MAX_QUESTIONS (length qs) l));
       questions_are = ap (λ (b : Bool). elim b [ true ↦ qs | false ↦ map (counted list) qs ]) (sym (lt-ltb MAX_QUESTIONS (length qs) l));
       meaning = counts_mean list;
     }
 
 -- counts that are right, filled in, are the answer
 counted_all : (list : List ℕ) (qs : List Question) (cs : List ℕ) → length qs ≤ length cs
-    → ((i : ℕ) → i < length qs → get_or cs i 0 ≡ fitting_count list (get_or qs i blank).up (get_or qs i blank).dropped) → with_counts qs cs ≡ map (counted list) qs
+    → ((i : ℕ) → i < length qs → get_or cs i 0 ≡ fitting_count list (get_or qs i blank).up (get_or qs i blank).dropped)
+    → with_counts qs cs ≡ map (counted list) qs
 unfolding counted
 counted_all list qs cs l right =
     ext_get_or blank (with_counts qs cs) (map (counted list) qs) (with_counts_long qs cs ∙ sym (length-map qs (counted list))) (λ i k.
@@ -193,11 +194,11 @@ word_at f qs i l = padded_at MAX_QUESTIONS (map f qs) i (omega (arith, length-ma
     map_at (y ∷ ys) (suc i) k = map_at ys i (omega arith)
 
 pub filled : (list : List ℕ) (qs zs : List Question) (asked : Asked) (cs : List ℕ) → length qs ≤ MAX_QUESTIONS → asked ≡ asked_of qs
-    → cs ≡ counts_of list (length qs) asked.up asked.dropped → zs ≡ with_counts qs cs → QuestionsAnswered list qs zs Filled
+    → cs ≡ counts_of list (length qs) asked.up asked.dropped → zs ≡ with_counts qs cs → QuestionsAnswered list qs zs (Ok tt)
 unfolding outcome answered asked_of
 filled list qs zs asked cs l ea ec ez =
     record {
-      outcome_is = ap (λ (b : Bool). elim b [ true ↦ TooManyQuestions | false ↦ Filled ]) (sym (le-ltb MAX_QUESTIONS (length qs) l));
+      outcome_is = ap (λ (b : Bool). elim b [ true ↦ Err (record {}) | false ↦ Ok tt ]) (sym (le-ltb MAX_QUESTIONS (length qs) l));
       questions_are =
           ez ∙ counted_all list qs cs (omega (arith, ap length ec, counts_long list (length qs) asked.up asked.dropped)) right
           ∙ ap (λ (b : Bool). elim b [ true ↦ qs | false ↦ map (counted list) qs ]) (sym (le-ltb MAX_QUESTIONS (length qs) l));

@@ -1,9 +1,9 @@
 -- Questions as words: "three words to a question in the order up, dropped, count".
-use Rattle.std.specs.Prelude.{◌≡◌, List, [], ◌∷◌, ◌++◌, ℕ, ◌≤◌, length}
+use Rattle.std.specs.Prelude.{◌≡◌, List, [], ◌∷◌, ◌++◌, ℕ, ◌≤◌, length, Result}
 use Rattle.questions.specs.Counts.{MAX_QUESTIONS, CountsMean}
 use Rattle.questions.specs.Questions.{outcome, answered}
 use Rattle.questions.specs.declared.question.Question.{Question}
-use Rattle.questions.specs.declared.question.Counted.{Counted}
+use Rattle.questions.specs.declared.question.TooManyQuestions.{TooManyQuestions}
 
 -- the whole questions
 unfoldable pub questions_in : List ℕ → List Question
@@ -30,7 +30,7 @@ pub record Whole (words : List ℕ) (n : ℕ) : Type 0 where
   pub at_most : n ≤ MAX_QUESTIONS
 
 -- a call: what it answers, and every lent word afterwards
-pub record AnsweredWords (list before after : List ℕ) (r : Counted) : Type 0 where
+pub record AnsweredWords (list before after : List ℕ) (r : Result (Unit {0}) TooManyQuestions) : Type 0 where
   pub outcome_is : r ≡ outcome (questions_in before)
   pub words_are : after ≡ in_words (answered list (questions_in before)) ++ words_behind before
   pub meaning : CountsMean list

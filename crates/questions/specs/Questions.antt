@@ -1,12 +1,11 @@
 -- The answer to a caller's questions. Document 02, S-2.
-use Rattle.std.specs.Prelude.{◌≡◌, true, false, List, [], ◌∷◌, map, ℕ, ◌+◌, ◌*◌, length, ltb}
+use Rattle.std.specs.Prelude.{◌≡◌, true, false, List, [], ◌∷◌, map, ℕ, ◌+◌, ◌*◌, length, ltb, Result, Ok, Err}
 use Rattle.atoms.specs.Lists.{padded}
 use Rattle.plan.specs.Faults.{CODE_STEP}
 use Rattle.questions.specs.Counts.{MAX_QUESTIONS, fitting_count, CountsMean}
 use Rattle.questions.specs.declared.counter.Asked.{Asked}
 use Rattle.questions.specs.declared.question.Question.{Question}
-use Rattle.questions.specs.declared.question.Counted.{Counted}
-use Rattle.questions.specs.declared.question.Counted.TheVariants.{Filled, TooManyQuestions}
+use Rattle.questions.specs.declared.question.TooManyQuestions.{TooManyQuestions}
 
 -- "only the count is filled in"
 abbrev pub with_its_count : Question → ℕ → Question
@@ -17,28 +16,28 @@ unfoldable pub counted : List ℕ → Question → Question
 counted list q = with_its_count q (fitting_count list q.up q.dropped)
 
 -- "Errors: 17, more than 64 questions, spot 0": the number and the spot of an answer; 0 is no refusal
-abbrev pub count_number : Counted → ℕ
-count_number Filled = 0
-count_number TooManyQuestions = 17
+abbrev pub count_number : Result (Unit {0}) TooManyQuestions → ℕ
+count_number (Ok filled) = 0
+count_number (Err refused) = 17
 
-abbrev pub count_spot : Counted → ℕ
-count_spot Filled = 0
-count_spot TooManyQuestions = 0
+abbrev pub count_spot : Result (Unit {0}) TooManyQuestions → ℕ
+count_spot (Ok filled) = 0
+count_spot (Err refused) = 0
 
 -- the answer as one number, a refusal's as that of a plan
-abbrev pub count_code : Counted → ℕ
+abbrev pub count_code : Result (Unit {0}) TooManyQuestions → ℕ
 count_code r = CODE_STEP * count_number r + count_spot r
 
 -- more than 64 questions are refused
-unfoldable pub outcome : List Question → Counted
-outcome questions = elim (ltb MAX_QUESTIONS (length questions)) [ true ↦ TooManyQuestions | false ↦ Filled ]
+unfoldable pub outcome : List Question → Result (Unit {0}) TooManyQuestions
+outcome questions = elim (ltb MAX_QUESTIONS (length questions)) [ true ↦ Err (record {}) | false ↦ Ok tt ]
 
 -- the questions afterwards: each is counted, or "nothing filled in"
 unfoldable pub answered : List ℕ → List Question → List Question
 answered list questions = elim (ltb MAX_QUESTIONS (length questions)) [ true ↦ questions | false ↦ map (counted list) questions ]
 
 -- a call: what it answers, and the lent questions afterwards; the counts are numbers of places
-pub record QuestionsAnswered (list : List ℕ) (before after : List Question) (r : Counted) : Type 0 where
+pub record QuestionsAnswered (list : List ℕ) (before after : List Question) (r : Result (Unit {0}) TooManyQuestions) : Type 0 where
   pub outcome_is : r ≡ outcome before
   pub questions_are : after ≡ answered list before
   pub meaning : CountsMean list

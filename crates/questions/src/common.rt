@@ -13,12 +13,9 @@ pub fn common_atoms(list: &[u64]) -> Common
 {
     let mut all = atoms::first(atoms::ATOMS);
     let mut some = 0;
-    let mut at = 0;
-    while at < list.len() {
-        let position = list[at];
+    for &position in list {
         all = atoms::cut(all, position);
         some = atoms::union(some, position);
-        at += 1;
     }
     Common { all, some }
 }

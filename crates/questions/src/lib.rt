@@ -8,5 +8,5 @@ mod words;
 
 pub use common::{Common, common_atoms};
 pub use counter::{Asked, MAX_QUESTIONS};
-pub use question::{Counted, Question, count_questions, counted_code};
+pub use question::{Question, TooManyQuestions, count_questions, counted_code};
 pub use words::{QUESTION_WORDS, count_words};

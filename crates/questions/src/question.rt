@@ -14,23 +14,20 @@ pub struct Question {
     pub count: u64,
 }
 
-// The counts are filled in, or nothing is.
+// Why nothing is filled in.
 #[derive(Clone, Copy)]
-pub enum Counted {
-    Filled,
-    TooManyQuestions,
-}
+pub struct TooManyQuestions;
 
 // The number of the refusal, document 02, S-2; its spot is 0.
 const TOO_MANY_QUESTIONS: u64 = 17;
 
 // 0 where the counts are filled in, else the code of the refusal.
-pub fn counted_code(counted: Counted) -> u64
+pub fn counted_code(counted: Result<(), TooManyQuestions>) -> u64
     ensures { result ≡ count_code counted }
 {
     match counted {
-        Counted::Filled => 0,
-        Counted::TooManyQuestions => CODE_STEP * TOO_MANY_QUESTIONS,
+        Ok(()) => 0,
+        Err(_) => CODE_STEP * TOO_MANY_QUESTIONS,
     }
 }
 
@@ -41,12 +38,9 @@ fn words_of(questions: &[Question]) -> Asked
 {
     let mut up = [0u64; MAX_QUESTIONS];
     let mut dropped = [0u64; MAX_QUESTIONS];
-    let mut i = 0;
-    while i < questions.len() {
-        let question = questions[i];
+    for (i, question) in questions.iter().enumerate() {
         up[i] = question.up;
         dropped[i] = question.dropped;
-        i += 1;
     }
     Asked { up, dropped }
 }
@@ -56,22 +50,20 @@ fn fill_counts(questions: &mut [Question], counts: [u64; MAX_QUESTIONS])
     requires { length questions.old ≤ Counts-as-MAX_QUESTIONS }
     ensures { questions.new ≡ with_counts questions.old counts }
 {
-    let mut i = 0;
-    while i < questions.len() {
-        questions[i].count = counts[i];
-        i += 1;
+    for (i, question) in questions.iter_mut().enumerate() {
+        question.count = counts[i];
     }
 }
 
 // How many listed positions fit each question, filled in; more than MAX_QUESTIONS questions are left as they are.
-pub fn count_questions(list: &[u64], questions: &mut [Question]) -> Counted
+pub fn count_questions(list: &[u64], questions: &mut [Question]) -> Result<(), TooManyQuestions>
     ensures { QuestionsAnswered list.now questions.old questions.new result }
 {
     let n = questions.len();
     if MAX_QUESTIONS < n {
-        return Counted::TooManyQuestions;
+        return Err(TooManyQuestions);
     }
     let counts = counts_of(list, words_of(questions), n);
     fill_counts(questions, counts);
-    Counted::Filled
+    Ok(())
 }

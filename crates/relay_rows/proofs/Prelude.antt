@@ -2,7 +2,8 @@
 pub use Rattle.atoms.proofs.Bounded.{all-at, word_at, word_has}
 pub use Rattle.atoms.proofs.Kit.{Bool, List, ◌%◌, ◌&&◌, ◌*◌, ◌++◌, ◌+◌, ◌-◌, ◌/◌, ◌<◌, ◌^◌, ◌↔◌, ◌∙◌, ◌≡◌, ◌≤◌, ◌⊎◌, and_shifted, ap, ap₂, arith, dec_lt}
 pub use Rattle.atoms.proofs.Kit.{div-add-mod, div-add-mod', div-eq_of_lt, div-lt_iff_lt-mul, drop, ext_get_or, false, false≢true, get_or, get_or-append-add}
-pub use Rattle.atoms.proofs.Kit.{get_or-drop, get_or-set_other, get_or-set_same, inl, inr, le-ltb, length, length-append, length-drop, length-replicate, length-set}
+pub use Rattle.atoms.proofs.Kit.{get_or-drop, get_or-set_other, get_or-set_same, inl, inr, le-ltb, length, length-append, length-drop, length-replicate}
+pub use Rattle.atoms.proofs.Kit.{length-set}
 pub use Rattle.atoms.proofs.Kit.{lt-ltb, ltb, ltb-true, mod-eq_of_lt, mod-lt, mul-add-div, mul-add-div_right, mul-add-mod_self_left, mul-add-mod_self_right}
 pub use Rattle.atoms.proofs.Kit.{mul-lt-mul_of_pos_left, needs, not, not-false, not-true, pow_mono, pow_pos, pow-suc, refl, replicate, set, shl_exact}
 pub use Rattle.atoms.proofs.Kit.{shl-shr, subst, suc, sym, true, true≢false, zero, ℕ, ℕ_discrete}
@@ -21,3 +22,4 @@ pub use Rattle.relay_rows.specs.RelaySheet.{AREA_WORDS, ROW_WORDS, position_shap
 pub use Rattle.relay_rows.specs.RowAnswers.{PositionsWritten, Rearranges, Refusable, RowBit, RowsWritten, Suits, Untouched, rows_code}
 pub use Rattle.relay_rows.specs.Turned.{Bit, Shape, Turned, columns}
 unfoldable pub use Rattle.relay_rows.specs.Turned.{bit, turned_area, turned_word}
+pub use Rattle.std.specs.Prelude.{Err, Ok}

@@ -3,7 +3,7 @@ use Rattle.relay_rows.proofs.Prelude.{◌≡◌, refl, sym, ◌∙◌, subst, �
 use Rattle.relay_rows.proofs.Prelude.{get_or, ltb-true, lt-ltb, ATOMS, Has, Decides, decides, has_none, Turned, turned_area, AREA_WORDS, position_shape}
 use Rattle.relay_rows.proofs.Prelude.{row_shape, row_word, position_word, FilledColumns, Refusable, Suits, RowBit, Untouched, RowsWritten}
 use Rattle.relay_rows.proofs.Prelude.{PositionsWritten, Rearranges}
-use Rattle.relay_rows.specs.declared.area.Rearranged.TheVariants.{Written, Refused}
+use Rattle.relay_rows.proofs.Prelude.{Ok, Err}
 use Rattle.relay_rows.proofs.Turning.{turned_is, bit_back, word_back}
 use Rattle.relay_rows.proofs.Filling.{filled_list}
 use Rattle.relay_rows.proofs.SheetWords.{position_rest}
@@ -16,11 +16,11 @@ suits_or_not s (inr (inl h)) = omega (arith, s.written_long)
 suits_or_not s (inr (inr h)) = omega (arith, s.count-le)
 
 pub answer_refused : {read before : List ℕ} {count : ℕ} {Right : Type 0} → ¬ Suits (length read) (length before) count
-    → Rearranges read before before count Right Refused
+    → Rearranges read before before count Right (Err (record {}))
 answer_refused amiss = record { refused = λ h. (refl, refl); written = λ s. absurd (amiss s) }
 
 pub answer_written : {read before after : List ℕ} {count : ℕ} {Right : Type 0} → Suits (length read) (length before) count → Right
-    → Rearranges read before after count Right Written
+    → Rearranges read before after count Right (Ok tt)
 answer_written s right = record { refused = λ h. absurd (suits_or_not s h); written = λ t. (refl, right) }
 
 -- ---- what is written

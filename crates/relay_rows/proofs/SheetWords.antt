@@ -45,7 +45,8 @@ row_word_is list count at l =
         ap₂ (λ (x b : ℕ). has (get_or list x 0) b) e d
 
 pub row_word_lem : (list : List ℕ) (count at : ℕ) {n word : ℕ} → at < AREA_WORDS
-    → word ≡ word_below n (column list (at % ROW_WORDS * ATOMS) 1 (at / ROW_WORDS)) → n ≡ kept_from count (at % ROW_WORDS * ATOMS) → word ≡ row_word count list at
+    → word ≡ word_below n (column list (at % ROW_WORDS * ATOMS) 1 (at / ROW_WORDS)) → n ≡ kept_from count (at % ROW_WORDS * ATOMS)
+    → word ≡ row_word count list at
 row_word_lem list count at l e d =
     e ∙ ap (λ (m : ℕ). word_below m (column list (at % ROW_WORDS * ATOMS) 1 (at / ROW_WORDS))) d ∙ row_word_is list count at l
 

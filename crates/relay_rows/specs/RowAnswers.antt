@@ -1,23 +1,22 @@
 -- What a caller gets, by the sentences of document 02, S-9.
-use Rattle.std.specs.Prelude.{◌≡◌, List, ◌++◌, ◌↔◌, ◌⊎◌, ℕ, ◌+◌, ◌*◌, ◌/◌, ◌%◌, ◌≤◌, ◌<◌, length, get_or, drop}
+use Rattle.std.specs.Prelude.{◌≡◌, List, ◌++◌, ◌↔◌, ◌⊎◌, ℕ, ◌+◌, ◌*◌, ◌/◌, ◌%◌, ◌≤◌, ◌<◌, length, get_or, drop, Result, Ok, Err}
 use Rattle.atoms.specs.Word.{ATOMS, Has}
 use Rattle.plan.specs.Faults.{CODE_STEP}
 use Rattle.relay_rows.specs.RelaySheet.{AREA_WORDS, ROW_WORDS, row_word, rows_of, position_word, positions_of}
 use Rattle.relay_rows.specs.Columns.{Scattered}
-use Rattle.relay_rows.specs.declared.area.Rearranged.{Rearranged}
-use Rattle.relay_rows.specs.declared.area.Rearranged.TheVariants.{Written, Refused}
+use Rattle.relay_rows.specs.declared.area.NoSheet.{NoSheet}
 
 -- "Errors: 22, .. spot 0": the number and the spot of an answer; 0 is no refusal
-abbrev pub rows_number : Rearranged → ℕ
-rows_number Written = 0
-rows_number Refused = 22
+abbrev pub rows_number : Result (Unit {0}) NoSheet → ℕ
+rows_number (Ok written) = 0
+rows_number (Err refused) = 22
 
-abbrev pub rows_spot : Rearranged → ℕ
-rows_spot Written = 0
-rows_spot Refused = 0
+abbrev pub rows_spot : Result (Unit {0}) NoSheet → ℕ
+rows_spot (Ok written) = 0
+rows_spot (Err refused) = 0
 
 -- the answer as one number, a refusal's as that of a plan
-abbrev pub rows_code : Rearranged → ℕ
+abbrev pub rows_code : Result (Unit {0}) NoSheet → ℕ
 rows_code r = CODE_STEP * rows_number r + rows_spot r
 
 -- "either lent area below 256 words or a count above 256"
@@ -67,12 +66,12 @@ pub record PositionsWritten (rows : List ℕ) (count : ℕ) (before after : List
   pub is : after ≡ positions_of count rows ++ drop AREA_WORDS before
 
 -- a call: "22 .. nothing written", or all that is to be written
-pub record Rearranges (read before after : List ℕ) (count : ℕ) (Right : Type 0) (r : Rearranged) : Type 0 where
-  pub refused : Refusable (length read) (length before) count → (r ≡ Refused) × (after ≡ before)
-  pub written : Suits (length read) (length before) count → (r ≡ Written) × Right
+pub record Rearranges (read before after : List ℕ) (count : ℕ) (Right : Type 0) (r : Result (Unit {0}) NoSheet) : Type 0 where
+  pub refused : Refusable (length read) (length before) count → (r ≡ Err (record {})) × (after ≡ before)
+  pub written : Suits (length read) (length before) count → (r ≡ Ok tt) × Right
 
-abbrev pub RowsAnswered : List ℕ → ℕ → List ℕ → List ℕ → Rearranged → Type 0
+abbrev pub RowsAnswered : List ℕ → ℕ → List ℕ → List ℕ → Result (Unit {0}) NoSheet → Type 0
 RowsAnswered list count before after = Rearranges list before after count (RowsWritten list count before after)
 
-abbrev pub PositionsAnswered : List ℕ → ℕ → List ℕ → List ℕ → Rearranged → Type 0
+abbrev pub PositionsAnswered : List ℕ → ℕ → List ℕ → List ℕ → Result (Unit {0}) NoSheet → Type 0
 PositionsAnswered rows count before after = Rearranges rows before after count (PositionsWritten rows count before after)

@@ -15,23 +15,20 @@ pub const ROW_WORDS: usize = 4;
 
 const MAX_COUNT: u64 = AREA_WORDS as u64;
 
-// The area is written, or nothing is.
+// Why nothing is written: an area is too short, or the count too large.
 #[derive(Clone, Copy)]
-pub enum Rearranged {
-    Written,
-    Refused,
-}
+pub struct NoSheet;
 
 // The number of the refusal, document 02, S-9; its spot is 0.
 const NO_SHEET: u64 = 22;
 
 // 0 where the area is written, else the code of the refusal.
-pub fn rearranged_code(rearranged: Rearranged) -> u64
+pub fn rearranged_code(rearranged: Result<(), NoSheet>) -> u64
     ensures { result ≡ rows_code rearranged }
 {
     match rearranged {
-        Rearranged::Written => 0,
-        Rearranged::Refused => CODE_STEP * NO_SHEET,
+        Ok(()) => 0,
+        Err(_) => CODE_STEP * NO_SHEET,
     }
 }
 
@@ -39,27 +36,12 @@ pub fn rearranged_code(rearranged: Rearranged) -> u64
 pub fn suits(read: usize, written: usize, count: u64) -> bool
     ensures { Decides (Suits read written count) result }
 {
-    if read < AREA_WORDS {
-        return false;
-    }
-    if written < AREA_WORDS {
-        return false;
-    }
-    if MAX_COUNT < count {
-        return false;
-    }
-    true
+    AREA_WORDS <= read && AREA_WORDS <= written && count <= MAX_COUNT
 }
 
 // How many of the 64 positions from `from` on are below the count.
 pub fn kept(count: usize, from: usize) -> usize
     ensures { result ≡ kept_of count from }
 {
-    if count <= from {
-        return 0;
-    }
-    if ATOMS <= count - from {
-        return ATOMS;
-    }
-    count - from
+    count.saturating_sub(from).min(ATOMS)
 }

@@ -26,10 +26,8 @@ fn exchange(block: &[u64], e: usize, mask: u64, exchanged: &mut [u64])
     requires { RoundTakes block.now exchanged.old e mask }
     ensures { FilledColumns (exchanged_word e block.now) exchanged.old exchanged.new Word-as-ATOMS }
 {
-    let mut k = 0;
-    while k < ATOMS {
+    for k in 0..ATOMS {
         exchanged[k] = exchanged_row(block, k, e, mask);
-        k += 1;
     }
 }
 

@@ -7,6 +7,6 @@ mod positions;
 mod rows;
 mod strided;
 
-pub use area::{AREA_WORDS, ROW_WORDS, Rearranged, rearranged_code};
+pub use area::{AREA_WORDS, NoSheet, ROW_WORDS, rearranged_code};
 pub use positions::to_positions;
 pub use rows::to_rows;

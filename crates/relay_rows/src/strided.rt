@@ -11,10 +11,8 @@ pub fn read_block(area: &[u64], at: usize, stride: usize, n: usize, mask: u64) -
     ensures { BlockRead area.now at stride mask n result }
 {
     let mut block = [0u64; ATOMS];
-    let mut k = 0;
-    while k < n {
+    for k in 0..n {
         block[k] = cut(area[at + stride * k], mask);
-        k += 1;
     }
     block
 }
@@ -24,9 +22,7 @@ pub fn write_block(block: [u64; ATOMS], at: usize, stride: usize, area: &mut [u6
     requires { Writable area.old at stride }
     ensures { Scattered (λ k. get_or block k 0) at stride area.old area.new Word-as-ATOMS }
 {
-    let mut k = 0;
-    while k < ATOMS {
+    for k in 0..ATOMS {
         area[at + stride * k] = block[k];
-        k += 1;
     }
 }

@@ -2,4 +2,4 @@
 pub use Rattle.sheet.proofs.DecimalDigits.{decimal_made, decimal_places, hexadecimal_made, length_hexadecimal}
 pub use Rattle.sheet.proofs.Sheets.{length_position_line, length_positions_sheet, length_refusal_sheet, put_next_line, put_no_line, put_position_line}
 pub use Rattle.sheet.proofs.Sheets.{put_positions_sheet, put_refusal_sheet}
-pub use Rattle.sheet.proofs.WrittenBytes.{put_fills, put_next, too_short_keeps}
+pub use Rattle.sheet.proofs.WrittenBytes.{put_fills, put_over, too_short_keeps}

@@ -8,8 +8,8 @@ unfoldable pub use Rattle.sheet.specs.Sheet.{positions_word, refusal_sheet, refu
 pub use borrow.Author.Rules.{rules}
 pub use borrow.Author.Tests.{le-leb, le-ltb, leb-false, leb-true, lt-leb, lt-ltb}
 pub use lib.Dec.{leb, lit<, lit≤}
-pub use lib.ListN.{get_or, length, length-append, set, take}
-pub use lib.Seq.{sets, sets-eq, take-suc}
+pub use lib.ListN.{drop, get_or, length, length-append, set, take}
+pub use lib.Seq.{sets, sets-eq, take_all, take-suc}
 pub use mathlib.Core.Bool.{Bool, false, true}
 pub use mathlib.Core.List.{List, [], ◌++◌, ◌∷◌, append_assoc, append-nil}
 pub use mathlib.Core.Path.{◌∙◌, ◌≡◌, ap, refl, sym}

@@ -5,12 +5,9 @@ ghost use Rattle.std.specs.Prelude.{◌+◌, ◌*◌, ◌≤◌, ◌≡◌, leng
 ghost use Rattle.sheet.specs.Sheet.{decimal, hexadecimal, line_length, position_line, position_lines, positions_sheet, refusal_sheet};
 ghost use Rattle.sheet.specs.LentSheet.{Put, bytes_written, filled};
 
-// How many bytes were written; or that the buffer is too short for the sheet, which leaves it as it was.
+// Why nothing is written: the buffer is too short for the sheet, which leaves it as it was.
 #[derive(Clone, Copy)]
-pub enum Written {
-    Bytes(usize),
-    TooShort,
-}
+pub struct TooShort;
 
 // Hexadecimal digits of a position: 64 bits, four to a digit.
 const HEX_DIGITS: usize = 64 / 4;
@@ -27,50 +24,47 @@ pub const POSITIONS_FRAME: usize = 11;
 // Bytes of a refusal beside its two numbers.
 const REFUSAL_FRAME: usize = 13;
 
-// Writes the sheet of the first `count` of the words, or of all where there are fewer.
-pub fn write_positions(words: &[u64], count: usize, sheet: &mut [u8]) -> Written
+// Writes the sheet of the first `count` of the words, or of all where there are fewer, and returns how many bytes it has.
+pub fn write_positions(words: &[u64], count: usize, sheet: &mut [u8]) -> Result<usize, TooShort>
     ensures value { result ≡ bytes_written (positions_sheet (take count words.now)) sheet.old }
     ensures sheet_after { sheet.new ≡ filled (positions_sheet (take count words.now)) sheet.old }
 {
-    if words.len() < count {
-        return write_words(words, sheet);
-    }
-    write_words(&words[..count], sheet)
+    write_words(&words[..count.min(words.len())], sheet)
 }
 
-// Writes the sheet of a refusal.
-pub fn write_refusal(number: u64, spot: u64, sheet: &mut [u8]) -> Written
+// Writes the sheet of a refusal, and returns how many bytes it has.
+pub fn write_refusal(number: u64, spot: u64, sheet: &mut [u8]) -> Result<usize, TooShort>
     ensures value { result ≡ bytes_written (refusal_sheet number spot) sheet.old }
     ensures sheet_after { sheet.new ≡ filled (refusal_sheet number spot) sheet.old }
 {
     if sheet.len() < decimal_length(number) + decimal_length(spot) + REFUSAL_FRAME {
-        return Written::TooShort;
+        return Err(TooShort);
     }
     let number_at = put(b"refused ", 0, sheet);
     let word_at = put_decimal(number, number_at, sheet);
     let spot_at = put(b" at ", word_at, sheet);
     let end_at = put_decimal(spot, spot_at, sheet);
-    Written::Bytes(put(b"\n", end_at, sheet))
+    Ok(put(b"\n", end_at, sheet))
 }
 
 // Writes the sheet of all the words.
-fn write_words(words: &[u64], sheet: &mut [u8]) -> Written
+fn write_words(words: &[u64], sheet: &mut [u8]) -> Result<usize, TooShort>
     ensures value { result ≡ bytes_written (positions_sheet words.now) sheet.old }
     ensures sheet_after { sheet.new ≡ filled (positions_sheet words.now) sheet.old }
 {
     let count = words.len();
     let head = decimal_length(count as u64) + POSITIONS_FRAME;
     if sheet.len() < head {
-        return Written::TooShort;
+        return Err(TooShort);
     }
     // Divides, since LINE * count may wrap.
     if (sheet.len() - head) / LINE < count {
-        return Written::TooShort;
+        return Err(TooShort);
     }
     let count_at = put(b"positions ", 0, sheet);
     let end_at = put_decimal(count as u64, count_at, sheet);
     let lines_at = put(b"\n", end_at, sheet);
-    Written::Bytes(put_lines(words, lines_at, sheet))
+    Ok(put_lines(words, lines_at, sheet))
 }
 
 // How many decimal digits n has.
@@ -87,10 +81,8 @@ fn put_lines(words: &[u64], at: usize, sheet: &mut [u8]) -> usize
     ensures { Put (position_lines words.now) at sheet.old sheet.new result }
 {
     let mut next = at;
-    let mut i = 0;
-    while i < words.len() {
-        next = put_line(words[i], next, sheet);
-        i += 1;
+    for &word in words {
+        next = put_line(word, next, sheet);
     }
     next
 }
@@ -129,10 +121,7 @@ fn put(bytes: &[u8], at: usize, sheet: &mut [u8]) -> usize
     requires { at + length bytes.now ≤ length sheet.old }
     ensures { Put bytes.now at sheet.old sheet.new result }
 {
-    let mut i = 0;
-    while i < bytes.len() {
-        sheet[at + i] = bytes[i];
-        i += 1;
-    }
-    at + i
+    let end = at + bytes.len();
+    sheet[at..end].copy_from_slice(bytes);
+    end
 }

@@ -1,12 +1,9 @@
-use Rattle.exports.proofs.Prelude.{needs}
-use Rattle.exports.proofs.CopiedCounts.{copying_more, copying_all, copying_full}
+use Rattle.exports.proofs.Prelude.{arith}
+use Rattle.exports.proofs.CopiedCounts.{copying_more, copying_end}
 use Rattle.exports.proofs.copy_counts.Goals as goal
 
 pub loop-i-preserved : goal.loop-i-preserved
-loop-i-preserved c = search (copying_more, needs)
+loop-i-preserved c = copying_more c.loop-i.invariant (omega arith) (omega arith)
 
-pub returns-else-i-counts : goal.returns-else-i-counts
-returns-else-i-counts c = search (copying_full, needs)
-
-pub returns-after-loop-i : goal.returns-after-loop-i
-returns-after-loop-i c = search (copying_all, needs)
+pub returns : goal.returns
+returns c = copying_end c.loop-i.invariant (omega arith)

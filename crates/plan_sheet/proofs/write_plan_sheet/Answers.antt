@@ -5,11 +5,11 @@ use Rattle.plan_sheet.proofs.Said.{sheet_says}
 use Rattle.plan_sheet.proofs.PlanSheets.{sheet_refused, sheet_of_part, refused_at_most, listed_at_most}
 use Rattle.plan_sheet.proofs.write_plan_sheet.Goals as goal
 
-pub returns-in-Refused : goal.returns-in-Refused
-returns-in-Refused c =
+pub returns-in-Err : goal.returns-in-Err
+returns-in-Err c =
     let handed = c.list_positions-listing.ensures.answered in
     let e : refusal_sheet c.fault_number.result c.fault_spot.result ≡ sheet_of (answer c.args.plan.now c.args.table.now) =
-    ap₂ refusal_sheet c.fault_number.ensures c.fault_spot.ensures ∙ sheet_refused _ _ (sym handed.outcome_is ∙ c.in-Refused.is) in
+    ap₂ refusal_sheet c.fault_number.ensures c.fault_spot.ensures ∙ sheet_refused _ _ (sym handed.outcome_is ∙ c.in-Err.is) in
     record {
       table_is = handed.table_is;
       written_is = rw e at c.write_refusal.ensures.value;

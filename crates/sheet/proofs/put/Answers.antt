@@ -1,7 +1,6 @@
--- `put` meets its contract: after i turns the first i bytes are written.
-use Rattle.sheet.proofs.Prelude.{rules}
-use Rattle.sheet.proofs.Face.{put_next}
+-- `put` meets its contract: a part of the sheet is written over with the bytes.
+use Rattle.sheet.proofs.Face.{put_over}
 use Rattle.sheet.proofs.put.Goals as goal
 
-pub loop-i-preserved : goal.loop-i-preserved
-loop-i-preserved c = search (put_next, rules)
+pub returns : goal.returns
+returns c = put_over c.requires c.copy_from_slice.ensures.after

@@ -3,12 +3,12 @@ use Rattle.exports.proofs.Prelude.{sym, ap, ◌∙◌, added_code}
 use Rattle.exports.proofs.Face.{sum_handed}
 use Rattle.exports.proofs.readings.lucarnecress_reading_sum.Goals as goal
 
-pub returns-in-Is : goal.returns-in-Is
-returns-in-Is c =
+pub returns-in-Ok : goal.returns-in-Ok
+returns-in-Ok c =
     sum_handed c.add.ensures
-    (c.sum_code.ensures ∙ ap added_code (sym c.in-Is.is))
+    (c.sum_code.ensures ∙ ap added_code (sym c.in-Ok.is))
 
-pub returns-in-Refused : goal.returns-in-Refused
-returns-in-Refused c =
+pub returns-in-Err : goal.returns-in-Err
+returns-in-Err c =
     sum_handed c.add.ensures
-    (c.refused_code.ensures ∙ ap added_code (sym c.in-Refused.is))
+    (c.refused_code.ensures ∙ ap added_code (sym c.in-Err.is))

@@ -8,11 +8,9 @@ loop-place-init c = seeking_start _
 pub returns-then-not-is_reading : goal.returns-then-not-is_reading
 returns-then-not-is_reading c = search (sought_bad, tested_bad, needs)
 
-pub larger-found-requires : goal.larger-found-requires
-larger-found-requires c = search (tested_good, needs)
-
 pub loop-place-preserved : goal.loop-place-preserved
-loop-place-preserved c = seeking_more c.loop-place.invariant (search needs) c.loop-place-test.true (omega arith) (search (tested_good, needs)) c.larger-found.ensures
+loop-place-preserved c =
+    seeking_more c.loop-place.invariant (search needs) c.loop-place-test.true (omega arith) (search (tested_good, needs)) c.larger-found.ensures
 
 pub returns-then-whole-bytes : goal.returns-then-whole-bytes
 returns-then-whole-bytes c = search (sought_lone, needs)

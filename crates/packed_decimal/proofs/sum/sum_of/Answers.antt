@@ -1,13 +1,14 @@
 -- By what the two words say: one is not measured; or the sum of the numbers, with or without a carry.
-use Rattle.packed_decimal.proofs.Prelude.{sym, arith, needs}
+use Rattle.packed_decimal.proofs.Prelude.{sym, inl, inr, arith, needs}
 use Rattle.packed_decimal.proofs.Face.{unmeasured_says, sum_unmeasured_left, sum_unmeasured_right, left_fits, right_fits, words_plain, words_carry}
 use Rattle.packed_decimal.proofs.sum.sum_of.Goals as goal
 
 pub returns-then-a-eq-NOT_MEASURED : goal.returns-then-a-eq-NOT_MEASURED
-returns-then-a-eq-NOT_MEASURED c = search (sum_unmeasured_left, unmeasured_says, needs)
-
-pub returns-then-b-eq-NOT_MEASURED : goal.returns-then-b-eq-NOT_MEASURED
-returns-then-b-eq-NOT_MEASURED c = search (sum_unmeasured_right, unmeasured_says, needs)
+returns-then-a-eq-NOT_MEASURED c =
+    elim c.then-a-eq-NOT_MEASURED.either [
+      | inl e ↦ sym (sum_unmeasured_left _ _ (unmeasured_says c.args.a e))
+      | inr h ↦ sym (sum_unmeasured_right _ _ (unmeasured_says c.args.b h.1))
+    ]
 
 pub overflow_add-total : goal.overflow_add-total
 overflow_add-total c =

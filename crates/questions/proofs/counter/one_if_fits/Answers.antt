@@ -5,6 +5,7 @@ use Rattle.questions.proofs.counter.one_if_fits.Goals as goal
 
 pub returns : goal.returns
 returns c =
-    byte_is_one (eqb c.union-amiss.result 0)
+    c.from.ensures
+    ∙ byte_is_one (eqb c.union-amiss.result 0)
     ∙ ap one (ap (λ (word : ℕ). eqb word 0) (c.union-amiss.ensures ∙ ap₂ ◌∪◌ c.without.ensures c.cut.ensures))
     ∙ ap one (fits_test c.args.up c.args.dropped c.args.position)

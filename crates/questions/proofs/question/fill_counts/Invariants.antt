@@ -1,10 +1,6 @@
--- The counts of the first i questions are filled in (FilledIn). The measure is how many questions are left.
-use Rattle.questions.proofs.Prelude.{◌-◌, length}
+-- The counts of the first i questions are filled in (FilledIn).
 use Rattle.questions.proofs.Face.{FilledIn}
 use Rattle.questions.proofs.question.fill_counts.Given as goal
 
 abbrev pub invariant-loop-i : goal.invariant-loop-i
 invariant-loop-i l = FilledIn l.initial.questions l.counts l.questions l.i
-
-abbrev pub decreases-loop-i : goal.decreases-loop-i
-decreases-loop-i l = length l.initial.questions - l.i

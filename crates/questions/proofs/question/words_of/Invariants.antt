@@ -1,10 +1,6 @@
--- The words of the first i questions are taken out (TakenOut). The measure is how many questions are left.
-use Rattle.questions.proofs.Prelude.{◌-◌, length}
+-- The words of the first i questions are taken out (TakenOut).
 use Rattle.questions.proofs.Face.{TakenOut}
 use Rattle.questions.proofs.question.words_of.Given as goal
 
 abbrev pub invariant-loop-i : goal.invariant-loop-i
 invariant-loop-i l = TakenOut l.questions l.up l.dropped l.i
-
-abbrev pub decreases-loop-i : goal.decreases-loop-i
-decreases-loop-i l = length l.questions - l.i

@@ -1,9 +1,12 @@
 -- Refused where the areas and the count do not suit; else the area is written.
 use Rattle.relay_rows.proofs.Prelude.{needs}
-use Rattle.relay_rows.proofs.Face.{answer_written, positions_written}
+use Rattle.relay_rows.proofs.Face.{answer_written, positions_written, list_parts_more, list_parts_end}
 use Rattle.relay_rows.proofs.positions.to_positions.Goals as goal
+
+pub loop-q-preserved : goal.loop-q-preserved
+loop-q-preserved c = search (list_parts_more, needs)
 
 pub returns : goal.returns
 returns c =
     let s = c.suits.ensures.yes c.if-not-suits.false in
-    answer_written s (search (positions_written, needs))
+    answer_written s (search (positions_written, list_parts_end, needs))
