@@ -9,7 +9,8 @@ use Rattle.atoms.specs.Lists.{padded, tabulate}
 use Rattle.answer_sets.specs.Lent.{used_table, asks, used_inputs, lent}
 use Rattle.reading.specs.Words.{BYTE_VALUES, spelled, word_at}
 use Rattle.plan.specs.Record.{empty_plan, with_table, with_rule, with_use, with_unit, with_edge, with_show}
-use Rattle.reading.specs.Commands.{kind_of, carrying, late, empty_rule, contradictory, bad_table, bad_use, absent_rule, bad_edge, miscounted, of_kind, command_at}
+use Rattle.reading.specs.Commands.{kind_of, carrying, late, empty_rule, contradictory, bad_table, bad_use, absent_rule, bad_edge, miscounted, of_kind}
+use Rattle.reading.specs.Commands.{command_at}
 use Rattle.dependency_graph.specs.Offenders.{twice_below, seen, unseen_heads, nonmonotonic_unseen_in, monotonic_seen_in, given_in_head, rule_in_no_unit}
 use Rattle.dependency_graph.specs.Offenders.{headed_rule_in_several, cycle, nonmonotonic_unseen, monotonic_unseen}
 use Rattle.dependency_graph.specs.Check.{fault_or, verdict}
@@ -35,8 +36,10 @@ abbrev head_count : List ℕ → ℕ
 head_count bytes = ones (head_atoms_of (units_of (reading bytes).plan))
 
 pub head_counts : (head_count circuit_7 ≡ 5) × (head_count circuit_12 ≡ 16)
-unfolding head_atoms_of units_of lent reading walk command_at of_kind kind_of carrying late empty_rule contradictory absent_rule bad_edge bad_table bad_use miscounted
-    empty_plan with_table with_rule with_use with_unit with_edge with_show spelled word_at padded tabulate union_in has subset apart ◌∩◌ ◌∪◌ ◌∖◌ atom below ones flat_map
+unfolding head_atoms_of units_of lent reading walk command_at of_kind kind_of carrying late empty_rule contradictory absent_rule bad_edge bad_table
+    bad_use miscounted
+    empty_plan with_table with_rule with_use with_unit with_edge with_show spelled word_at padded tabulate union_in has subset apart ◌∩◌ ◌∪◌ ◌∖◌ atom
+    below ones flat_map
 head_counts = (refl, refl)
 
 -- ---- circuit 7 is such a plan
@@ -54,9 +57,11 @@ are_bytes_lem (b ∷ bytes) e = go (ltb b BYTE_VALUES) refl (are_bytes_lem bytes
     go false t rest = absurd (true≢false (sym (rw (t, are_bytes) at e)))
 
 pub circuit_7_ten_headed : (c : Contents) × TenHeaded circuit_7 c
-unfolding head_atoms_of units_of lent reading walk command_at of_kind kind_of carrying late empty_rule contradictory absent_rule bad_edge bad_table bad_use miscounted
+unfolding head_atoms_of units_of lent reading walk command_at of_kind kind_of carrying late empty_rule contradictory absent_rule bad_edge bad_table
+    bad_use miscounted
     empty_plan with_table with_rule with_use with_unit with_edge with_show spelled word_at padded tabulate union_in has subset apart ◌∩◌ ◌∪◌ ◌∖◌ atom below ones
-    used_table asks used_inputs all_below some_below word_below twice_below own reach reach_via through verdict fault_or given_in_head rule_in_no_unit headed_rule_in_several
+    used_table asks used_inputs all_below some_below word_below twice_below own reach reach_via through verdict fault_or given_in_head rule_in_no_unit
+    headed_rule_in_several
     cycle nonmonotonic_unseen monotonic_unseen nonmonotonic_unseen_in monotonic_seen_in seen unseen_heads lowest_of lowest
 circuit_7_ten_headed =
     ten_headed circuit_7 (are_bytes_lem circuit_7 refl) refl (passes_of_verdict (units_of (reading circuit_7).plan) refl)

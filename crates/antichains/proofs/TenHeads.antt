@@ -7,8 +7,7 @@ use Rattle.atoms.proofs.Lists.{get_or_tabulate}
 use Rattle.plan.specs.Limits.{MAX_RULES, MAX_UNITS, TABLE_WORDS, COUNTS, LAST_COUNT}
 use Rattle.plan.specs.Faults.{RefusedBy, CODE_STEP}
 use Rattle.plan.specs.declared.record.Plan.{Plan}
-use Rattle.plan.specs.declared.fault.Outcome.{Outcome}
-use Rattle.plan.specs.declared.fault.Outcome.TheVariants.{Accepted}
+use Rattle.plan.specs.Faults.{Accepted, Outcome}
 use Rattle.plan.proofs.Refusals.{told, refused_for}
 use Rattle.reading.specs.Kinds.{rule, unit}
 use Rattle.reading.proofs.Accepted.{accepted_is_plan}

@@ -2,7 +2,7 @@
 use Rattle.std.specs.Prelude.{◌≡◌, List, ℕ, ◌/◌, ◌≤◌, ◌<◌, length, get_or}
 use Rattle.plan.specs.Limits.{TABLE_WORDS, COUNTS}
 use Rattle.plan.specs.Faults.{RefusedBy, CODE_STEP}
-use Rattle.plan.specs.declared.fault.Outcome.TheVariants.{Accepted}
+use Rattle.plan.specs.Faults.{Accepted}
 use Rattle.reading.specs.Layout.{Contents, record_of, Lays}
 use Rattle.dependency_graph.specs.Graph.{Passes}
 use Rattle.demands.specs.Demand1.{units_in, TableFixed}

@@ -1,7 +1,6 @@
 // A plan of data/ read, and judged at one position: one line.
 use crate::files;
-use judge::Answer;
-use plan::{Fault, Outcome};
+use plan::Fault;
 use std::fs::File;
 use std::os::fd::AsRawFd;
 use std::rt::Files;
@@ -23,12 +22,9 @@ fn write_number(label: &[u8], number: u64) {
 // Writes the numbers of COUNT, the words of GIVEN and SHOW and how many tables and uses there are, if any, and how many rules, units and edges, if the
 // plan reads.
 fn write_counts(plan: &[u8]) {
-    let reading = reading::read_plan(plan);
-    let outcome = reading.outcome;
-    let Outcome::Accepted = outcome else {
+    let Ok(read) = reading::read_plan(plan) else {
         return;
     };
-    let read = reading.plan;
     if 0 < read.once.declared.count {
         write_number(b" declared ", read.once.declared.rules as u64);
         write_number(b" ", read.once.declared.units as u64);
@@ -60,17 +56,16 @@ fn write_refusal(fault: Fault) {
 
 // Writes the answer for the plan at the position.
 fn write_answer(plan: &[u8], position: u64) {
-    let answer = judge::judge(plan, position);
-    match answer {
-        Answer::Settled => {
+    match judge::judge(plan, position) {
+        Ok(true) => {
             write_number(b" position ", position);
             write(b" settled\n");
         }
-        Answer::NotSettled => {
+        Ok(false) => {
             write_number(b" position ", position);
             write(b" not settled\n");
         }
-        Answer::Refused(fault) => write_refusal(fault),
+        Err(fault) => write_refusal(fault),
     }
 }
 

@@ -68,11 +68,9 @@ fn chain(first: u64) -> [u64; CHAIN_WORDS] {
     let mut rules = [0u64; CHAIN_WORDS];
     rules[FIRST_RULE] = 0x1;
     rules[FIRST_RULE + 1] = first;
-    let mut atom = 1;
-    while atom < CHAIN_ATOMS {
+    for atom in 1..CHAIN_ATOMS {
         rules[FIRST_RULE + RULE_WORDS * atom] = atoms::single(atom);
         rules[FIRST_RULE + RULE_WORDS * atom + 1] = atoms::single(atom - 1);
-        atom += 1;
     }
     rules
 }

@@ -7,12 +7,12 @@ use check::{expect, same};
 fn main() {
     let words = [2u64, 5u64];
     let mut listed = [0u8; 46];
-    sheet::write_positions(&words, 2, &mut listed);
+    let _ = sheet::write_positions(&words, 2, &mut listed);
     expect(same(
         &listed,
         b"positions 2\n0000000000000002\n0000000000000005\n",
     ));
     let mut refused = [0u8; 16];
-    sheet::write_refusal(14, 1, &mut refused);
+    let _ = sheet::write_refusal(14, 1, &mut refused);
     expect(same(&refused, b"refused 14 at 1\n"));
 }

@@ -4,6 +4,7 @@
 use Prim.Native.Nat.{ℕ, zero, suc}
 use mathlib.Core.Path.{◌≡◌, refl}
 use mathlib.Core.List.{List, [], ◌∷◌, ◌++◌, map}
+use Rattle.std.specs.Prelude.{false, Some, None, Ok}
 use lib.Count.{ones}
 use lib.ListN.{take, drop, get_or, replicate}
 use Rattle.plan.specs.Limits.{LAST_LIST, LAST_COUNT, TABLE_WORDS}
@@ -18,12 +19,12 @@ use Rattle.answer_sets.specs.Lent.{used_table, asks, use_holds, uses_hold, used_
 use Rattle.answer_sets.specs.Test.{body, satisfies, satisfies_all, kept, kept_if, some_smaller, answer_set}
 use Rattle.reading.specs.Words.{spelled, word_at}
 use Rattle.plan.specs.Record.{empty_plan, with_count, with_given, with_table, with_rule, with_use, with_unit, with_edge, with_show}
-use Rattle.reading.specs.Commands.{kind_of, carrying, late, empty_rule, contradictory, bad_table, bad_use, absent_rule, bad_edge, miscounted, of_kind, command_at}
+use Rattle.reading.specs.Commands.{kind_of, carrying, late, empty_rule, contradictory, bad_table, bad_use, absent_rule, bad_edge, miscounted, of_kind}
+use Rattle.reading.specs.Commands.{command_at}
 use Rattle.reading.specs.Reading.{walk, reading}
 use Rattle.plan.specs.declared.fault.Fault.TheVariants.{Truncated, UnknownCommand, OutOfOrder, TooMany, Cycle, NonmonotonicUnseen, MonotonicUnseen}
 use Rattle.plan.specs.declared.fault.Fault.TheVariants.{WrongCount}
-use Rattle.plan.specs.declared.fault.Outcome.{Outcome}
-use Rattle.plan.specs.declared.fault.Outcome.TheVariants.{Accepted, Refused}
+use Rattle.plan.specs.Faults.{Accepted, Outcome, Refused}
 use Rattle.dependency_graph.specs.Heads.{through, reach_via, reach, own, heads, input_heads}
 use Rattle.dependency_graph.specs.Order.{ready, next_unit, order_from, working_order}
 use Rattle.dependency_graph.specs.PlanUnits.{units_of}
@@ -34,8 +35,6 @@ use Rattle.splitting.specs.UnitList.{with_last}
 use Rattle.plan_meaning.specs.Asked.{asked}
 use Rattle.judge.specs.Answers.{judged}
 use Rattle.judge.specs.JudgedSheets.{bad_bytes, places_judged, sheet_in, sheet_judged}
-use Rattle.judge.specs.declared.Answer.TheVariants.{NotSettled}
-use Rattle.judge.specs.declared.sheet.SheetAnswer.TheVariants.{AllSettled, NotSettledAt}
 use Rattle.demands.specs.UnitLists.{is_input, in_list, unit_list_of, last_list_of}
 use Rattle.demands.specs.LentTable.{list_at, runs, table_with, counts_with, no_counts_of}
 use Rattle.demands.specs.Answer.{unless_refused, work_from, table_outcome, answer}
@@ -179,10 +178,12 @@ answered bytes =
     let a = answer bytes (replicate {A = ℕ} TABLE_WORDS 0) in (a.outcome, take (get_or a.counts LAST_COUNT 0) (drop LAST_LIST a.table))
 
 -- the results of all of them; and of circuit 2: "Position 3 isn't settled."
-pub circuits : (map answered plans ≡ results) × (judged circuit_2 3 ≡ NotSettled)
+pub circuits : (map answered plans ≡ results) × (judged circuit_2 3 ≡ Ok false)
 unfolding asked answered answer table_outcome reading walk command_at of_kind kind_of carrying late empty_rule contradictory absent_rule bad_edge bad_table
-    bad_use miscounted empty_plan with_count with_given with_table with_rule with_use with_unit with_edge with_show spelled word_at unless_refused work_from no_counts_of
-    table_with counts_with list_at runs padded tabulate last_list_of cut_list insert_into unit_list_of in_list is_input members all_below some_below word_below union_in twice_below
+    bad_use miscounted empty_plan with_count with_given with_table with_rule with_use with_unit with_edge with_show spelled word_at unless_refused
+    work_from no_counts_of
+    table_with counts_with list_at runs padded tabulate last_list_of cut_list insert_into unit_list_of in_list is_input members all_below some_below
+    word_below union_in twice_below
     heads input_heads own reach reach_via through with_last units_of lent uses_hold use_holds used_table asks used_inputs said table_row place ones answer_set
     some_smaller satisfies_all satisfies body kept kept_if has subset apart ◌∩◌ ◌∪◌ ◌∖◌ atom below verdict fault_or given_in_head rule_in_no_unit
     headed_rule_in_several cycle nonmonotonic_unseen monotonic_unseen nonmonotonic_unseen_in monotonic_seen_in seen unseen_heads lowest_of lowest working_order
@@ -223,15 +224,18 @@ pub first_rows :
     × ((reading (times 16 (table 1 2) ++ (rule 1 0 0 ++ table 1 2))).outcome ≡ Refused (OutOfOrder 297))
     × ((reading (times 64 (rule 1 0 0) ++ (1 ∷ []))).outcome ≡ Refused (TooMany 1600))
     × ((reading (1 ∷ word 0 ++ word 0)).outcome ≡ Refused (Truncated 0))
-unfolding reading walk command_at of_kind kind_of carrying late empty_rule contradictory bad_table miscounted empty_plan with_table with_rule with_show spelled word_at
+unfolding reading walk command_at of_kind kind_of carrying late empty_rule contradictory bad_table miscounted empty_plan with_table with_rule with_show
+    spelled word_at
     padded tabulate ones apart ◌∩◌ has
 first_rows = (refl, refl, refl, refl)
 
 -- ---- whole sheets (02, S-12)
 
 -- "Each position is a word as in the plan, lowest byte first": 1 and 2, and 2 and 3, of circuit 2
-pub sheets : (sheet_judged circuit_2 (word 1 ++ word 2) ≡ AllSettled) × (sheet_judged circuit_2 (word 2 ++ word 3) ≡ NotSettledAt 1)
-unfolding asked sheet_in bad_bytes places_judged lowest reading walk command_at of_kind kind_of carrying late empty_rule contradictory absent_rule miscounted empty_plan
-    with_rule with_unit spelled word_at padded tabulate lent uses_hold use_holds used_table asks answer_set some_smaller satisfies_all satisfies body kept kept_if has
+pub sheets : (sheet_judged circuit_2 (word 1 ++ word 2) ≡ Ok None) × (sheet_judged circuit_2 (word 2 ++ word 3) ≡ Ok (Some 1))
+unfolding asked sheet_in bad_bytes places_judged lowest reading walk command_at of_kind kind_of carrying late empty_rule contradictory absent_rule
+    miscounted empty_plan
+    with_rule with_unit spelled word_at padded tabulate lent uses_hold use_holds used_table asks answer_set some_smaller satisfies_all satisfies body
+    kept kept_if has
     subset apart ◌∩◌ ◌∪◌ ◌∖◌ atom below all_below some_below word_below union_in said table_row place ones members
 sheets = (refl, refl)

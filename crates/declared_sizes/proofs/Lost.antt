@@ -1,5 +1,6 @@
 -- "a plan sent over a noisy link lost one whole EDGE and still read well": with a COUNT no such plan reads. If reading accepted what is left, its bytes
 -- would be a layout with the same COUNT and one command fewer, and that COUNT would be wrong.
+use Rattle.std.specs.Prelude.{Ok, Err}
 use Rattle.declared_sizes.proofs.Prelude.{◌≡◌, refl, ap, sym, ◌∙◌, subst, List, [], ◌∷◌, ◌++◌, flat_map, List-as-Memᴰ, Memᴰ-tail}
 use Rattle.declared_sizes.proofs.Prelude.{Memᴰ-append_cases, Memᴰ-append_left, Memᴰ-append_right, true, ◌⊎◌, inl, inr, ℕ, suc, ◌+◌, ◌≤◌, ◌<◌}
 use Rattle.declared_sizes.proofs.Prelude.{arith, length, get_or, length-append, Accepted, Refused, Kind, single, sizes, table, rule, usage, unit, edge}
@@ -10,7 +11,7 @@ use Rattle.atoms.proofs.Tests.{decided_true}
 use Rattle.plan.specs.Faults.{RefusedBy}
 use Rattle.plan.specs.declared.fault.Fault.{Fault}
 use Rattle.plan.specs.declared.fault.Fault.TheVariants.{WrongCount}
-use Rattle.plan.specs.declared.fault.Outcome.{Outcome}
+use Rattle.plan.specs.Faults.{Outcome}
 use Rattle.reading.specs.declared.command.Command.TheVariants.{Fault as Faulty}
 use Rattle.reading.proofs.Commands.{known_command}
 use Rattle.reading.proofs.Sizes.{decides_miscounted}
@@ -99,8 +100,8 @@ module _ (c d : Contents) (whole : Declares c) (lost : Lost c d) where
   lost_noticed small = go (reading (layout d)).outcome refl
     where
       go : (o : Outcome) → (reading (layout d)).outcome ≡ o → (f : Fault) × ((reading (layout d)).outcome ≡ Refused f)
-      go Accepted e = absurd (not_accepted small e)
-      go (Refused f) e = (f, e)
+      go (Ok u) e = absurd (not_accepted small e)
+      go (Err f) e = (f, e)
 
   -- ---- by 23 at 0, where no other command is at fault
 

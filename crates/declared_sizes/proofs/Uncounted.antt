@@ -1,35 +1,32 @@
 -- A COUNT changes no answer: what is read of a plan with a right COUNT differs from what is read without it in the declared sizes alone, and nothing
 -- above reading looks at these.
-use Rattle.declared_sizes.proofs.Prelude.{◌≡◌, refl, ap, sym, ◌∙◌, List, [], ℕ, ◌≤◌, arith, length, replicate, Accepted, Refused as RefusedWith}
+use Rattle.declared_sizes.proofs.Prelude.{◌≡◌, refl, ap, sym, ◌∙◌, List, [], ℕ, ◌≤◌, arith, length, replicate, Accepted}
 use Rattle.declared_sizes.proofs.Prelude.{OnceElement, Contents, layout, record_of, All, GoodOnce, WithinLimits, CountRight, reading, accepted}
 use Rattle.declared_sizes.proofs.Prelude.{ReadPlan, layout_is_read}
+use Rattle.std.specs.Prelude.{Option, Result, Ok, Err}
 use Rattle.plan.specs.Limits.{TABLE_WORDS}
+use Rattle.plan.specs.declared.fault.Fault.{Fault}
 use Rattle.reading.specs.Kinds.{Single, sizes, single-discrete, single, table as tabled, rule, usage, unit, edge, end}
 use Rattle.dependency_graph.specs.Units.{Units}
 use Rattle.dependency_graph.specs.PlanUnits.{units_of}
 use Rattle.plan_meaning.specs.Settled.{settled}
 use Rattle.plan_meaning.specs.Asked.{asked}
-use Rattle.judge.specs.Answers.{yes_no, judged}
-use Rattle.judge.specs.declared.Answer.{Answer}
-use Rattle.judge.specs.declared.Answer.TheVariants.{Refused}
+use Rattle.judge.specs.Answers.{JudgeAnswer, judged}
 use Rattle.demands.specs.Answer.{Answer as Listed, unless_refused, after_graph, table_outcome, answer}
 use Rattle.plan_sheet.specs.PlanSheets.{sheet_of, plan_sheet}
-use Rattle.finding.specs.declared.least.From.{From}
-use Rattle.stepping.specs.declared.Next.{Next}
-use Rattle.stepping.specs.declared.Next.TheVariants.{Refused as NextRefused}
 use Rattle.stepping.specs.Followed.{next_in, followed}
 use Rattle.declared_sizes.specs.Uncounted.{no_count, uncounted, AnsweredAlike}
 
 -- ---- the answers, from what was read
 
-abbrev judged_of : ℕ → ReadPlan → Answer
-judged_of M r = elim r.outcome [ RefusedWith f ↦ Refused f | Accepted ↦ yes_no (settled r.plan M) ]
+abbrev judged_of : ℕ → ReadPlan → JudgeAnswer
+judged_of M r = elim r.outcome [ Err f ↦ Err f | Ok u ↦ Ok (settled r.plan M) ]
 
 abbrev listed_of : List ℕ → ReadPlan → Listed
 listed_of table r = unless_refused (table_outcome table) table (unless_refused r.outcome table (after_graph (units_of r.plan) table))
 
-abbrev next_of : From → ReadPlan → Next
-next_of from r = elim r.outcome [ RefusedWith f ↦ NextRefused f | Accepted ↦ next_in r.plan from ]
+abbrev next_of : Option ℕ → ReadPlan → Result (Option ℕ) Fault
+next_of from r = elim r.outcome [ Err f ↦ Err f | Ok u ↦ Ok (next_in r.plan from) ]
 
 -- ---- a plan and the same without its COUNT
 
@@ -43,7 +40,7 @@ module _ (c : Contents) where
   unfolding record_of
   settled_alike M = refl
 
-  next_alike : (from : From) → next_in (record_of c) from ≡ next_in (record_of (uncounted c)) from
+  next_alike : (from : Option ℕ) → next_in (record_of c) from ≡ next_in (record_of (uncounted c)) from
   unfolding record_of next_in
   next_alike from = refl
 
@@ -100,11 +97,11 @@ module _ (c : Contents) where
 
     judged_so : (M : ℕ) → judged (layout c) M ≡ judged (layout (uncounted c)) M
     unfolding asked
-    judged_so M = ap (judged_of M) whole ∙ ap yes_no (settled_alike M) ∙ sym (ap (judged_of M) plain)
+    judged_so M = ap (judged_of M) whole ∙ ap Ok (settled_alike M) ∙ sym (ap (judged_of M) plain)
 
-    next_so : (from : From) → followed (layout c) from ≡ followed (layout (uncounted c)) from
+    next_so : (from : Option ℕ) → followed (layout c) from ≡ followed (layout (uncounted c)) from
     unfolding asked
-    next_so from = ap (next_of from) whole ∙ next_alike from ∙ sym (ap (next_of from) plain)
+    next_so from = ap (next_of from) whole ∙ ap Ok (next_alike from) ∙ sym (ap (next_of from) plain)
 
     sheet_so : plan_sheet (layout c) ≡ plan_sheet (layout (uncounted c))
     unfolding plan_sheet

@@ -1,11 +1,10 @@
 -- A plan without its COUNT, and what the two have in common.
-use Rattle.std.specs.Prelude.{◌≡◌, List, [], ℕ}
+use Rattle.std.specs.Prelude.{◌≡◌, List, [], ℕ, Option}
 use Rattle.reading.specs.Kinds.{Single, sizes, single-discrete}
 use Rattle.reading.specs.Layout.{OnceElement, Contents}
 use Rattle.judge.specs.Answers.{judged}
 use Rattle.demands.specs.Answer.{answer}
 use Rattle.plan_sheet.specs.PlanSheets.{plan_sheet}
-use Rattle.finding.specs.declared.least.From.{From}
 use Rattle.stepping.specs.Followed.{followed}
 
 -- what may stand once, and no COUNT
@@ -29,4 +28,4 @@ pub record AnsweredAlike (bytes plain : List ℕ) : Type 0 where
   pub judged_alike : (M : ℕ) → judged bytes M ≡ judged plain M
   pub listed_alike : (table : List ℕ) → answer bytes table ≡ answer plain table
   pub sheet_alike : plan_sheet bytes ≡ plan_sheet plain
-  pub next_alike : (from : From) → followed bytes from ≡ followed plain from
+  pub next_alike : (from : Option ℕ) → followed bytes from ≡ followed plain from
