@@ -98,26 +98,26 @@ enum {
 /* Bytes of stack that a call takes at most, with some to spare: worked out from the frames of the machine code and the proved depth of its recursions,
  * some 4 KiB for memcpy and memset included (host/stack.py of the repository). What the caller and its signal handlers take comes on top, and for a new
  * thread PTHREAD_STACK_MIN. */
-#define LUCARNECRESS_LIST_STACK 286720u
+#define LUCARNECRESS_LIST_STACK 249856u
 #define LUCARNECRESS_JUDGE_STACK 40960u
 #define LUCARNECRESS_JUDGE_SHEET_STACK 40960u
-#define LUCARNECRESS_FIRST_STACK 303104u
-#define LUCARNECRESS_NEXT_STACK 303104u
-#define LUCARNECRESS_FIRST_POSITIONS_STACK 303104u
-#define LUCARNECRESS_NEXT_POSITIONS_STACK 303104u
-#define LUCARNECRESS_MISSING_STACK 307200u
-#define LUCARNECRESS_BLAME_STACK 327680u
-#define LUCARNECRESS_SHEET_STACK 323584u
+#define LUCARNECRESS_FIRST_STACK 274432u
+#define LUCARNECRESS_NEXT_STACK 274432u
+#define LUCARNECRESS_FIRST_POSITIONS_STACK 274432u
+#define LUCARNECRESS_NEXT_POSITIONS_STACK 274432u
+#define LUCARNECRESS_MISSING_STACK 278528u
+#define LUCARNECRESS_BLAME_STACK 299008u
+#define LUCARNECRESS_SHEET_STACK 290816u
 #define LUCARNECRESS_COUNT_STACK 8192u
-#define LUCARNECRESS_COMMON_STACK 4096u
+#define LUCARNECRESS_COMMON_STACK 8192u
 #define LUCARNECRESS_ROWS_STACK 8192u
 #define LUCARNECRESS_POSITIONS_OF_ROWS_STACK 8192u
 #define LUCARNECRESS_READING_NUMBER_STACK 4096u
 #define LUCARNECRESS_READING_OF_STACK 4096u
 #define LUCARNECRESS_READING_SUM_STACK 4096u
 #define LUCARNECRESS_READING_COMPARE_STACK 4096u
-#define LUCARNECRESS_READING_LARGEST_STACK 4096u
-#define LUCARNECRESS_STACK 327680u /* enough for each of them */
+#define LUCARNECRESS_READING_LARGEST_STACK 8192u
+#define LUCARNECRESS_STACK 299008u /* enough for each of them */
 
 /* ---- lists ------------------------------------------------------------------------------------------------------------------- */
 
