@@ -1,7 +1,7 @@
 -- Which case of a computing definition the tests of the code pick: the answers' equations come in the order of the code.
 use Rattle.answer_sets.proofs.Prelude.{◌≡◌, refl, sym, ◌∙◌, Bool, true, false, not, false≢true, inl, inr, ℕ, not-true, not-false, subset, apart, ◌∖◌}
 use Rattle.answer_sets.proofs.Prelude.{atom, decides_subset, Program, body, satisfies, satisfies_all, kept, kept_if, some_smaller, answer_set, SmallerSet}
-use Rattle.answer_sets.proofs.Prelude.{RefutedBy, ◌<◌, ◌^◌, ATOMS, decided_true, decided_false, not_is_true, true_of_not_false}
+use Rattle.answer_sets.proofs.Prelude.{RefutedBy, TestDue, TestSettled, ◌<◌, ◌^◌, ATOMS, decided_true, decided_false, not_is_true, true_of_not_false}
 use Rattle.std.proofs.Common.{Option, Some, None, is_some}
 use Rattle.answer_sets.specs.SubsetTest.{Unsatisfied}
 use Rattle.answer_sets.proofs.JudgedSets.{decides_all_satisfied, kept_fits}
@@ -48,6 +48,9 @@ module _ (P : Program) (which facts M : ℕ) {f : Bool} (has-facts : f ≡ subse
     none = λ g. absurd (false≢true g);
   }
 
+  pub unmet_facts : not f ≡ true → TestSettled P which facts M
+  unmet_facts e = record { answers = sym (no_facts e); refuted = refuted_facts e }
+
   module _ {word : ℕ} {model : Bool} (e : not f ≡ false) (keeps : word ≡ kept P which M) (tested : model ≡ satisfies_all P word M) where
     pub no_model : not model ≡ true → false ≡ answer_set P which facts M
     unfolding answer_set
@@ -60,9 +63,20 @@ module _ (P : Program) (which facts M : ℕ) {f : Bool} (has-facts : f ≡ subse
       none = λ h. absurd (false≢true h);
     }
 
+    pub unmet_model : not model ≡ true → TestSettled P which facts M
+    unmet_model g = record { answers = sym (no_model g); refuted = refuted_model g }
+
+    pub met : not model ≡ false → TestDue P which facts M word
+    met g = record { kept_is = keeps; has_facts = sym has-facts ∙ not-false f e; satisfied = sym tested ∙ not-false model g }
+
     pub model_judged : {smaller : Bool} → not model ≡ false → smaller ≡ some_smaller P word facts M → not smaller ≡ answer_set P which facts M
     unfolding answer_set
     model_judged g s = simp (sym has-facts, not-false f e, ← keeps, sym tested, not-false model g, s)
+
+pub met_judged : {P : Program} {which facts M word : ℕ} {smaller : Bool} → TestDue P which facts M word → smaller ≡ some_smaller P word facts M
+    → not smaller ≡ answer_set P which facts M
+unfolding answer_set
+met_judged m s = simp (m.has_facts, ← m.kept_is, m.satisfied, s)
 
 pub refuted_smaller : {P : Program} {which facts M word set : ℕ} {smaller : Bool} → word ≡ kept P which M
     → SmallerSet P word facts M smaller set → RefutedBy P which facts M (not smaller) set

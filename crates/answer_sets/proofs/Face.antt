@@ -4,7 +4,7 @@ pub use Rattle.answer_sets.proofs.Between.{lent_part, passed_confines, tested_pa
 pub use Rattle.answer_sets.proofs.Bodies.{said, table_first, table_second, used_inputs_read, wanted_false, wanted_true}
 pub use Rattle.answer_sets.proofs.Candidates.{candidates_body, candidates_head, some_free}
 pub use Rattle.answer_sets.proofs.Cases.{all_unless_found, kept_if_fails, kept_if_holds, model_judged, no_facts, no_model}
-pub use Rattle.answer_sets.proofs.Cases.{refuted_facts, refuted_model, refuted_smaller}
+pub use Rattle.answer_sets.proofs.Cases.{met, met_judged, refuted_facts, refuted_model, refuted_smaller, unmet_facts, unmet_model}
 pub use Rattle.answer_sets.proofs.Cases.{satisfies_fails, satisfies_holds}
 pub use Rattle.answer_sets.proofs.JudgedSets.{kept_collected, satisfies_denied, satisfies_said, sifts_kept_if}
 pub use Rattle.answer_sets.proofs.Lent.{lent_kept, numbered_cut}

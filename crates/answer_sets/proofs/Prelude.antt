@@ -8,7 +8,7 @@ pub use Rattle.answer_sets.specs.Program.{Body, Program, Satisfies, SatisfiesAll
 pub use Rattle.answer_sets.specs.RulePass.{AlwaysSatisfied, HeldInAll, RuleStepped, Sifted}
 pub use Rattle.answer_sets.specs.SubsetTest.{Between, Candidates, Confines, Finds, InRule, Lasts, Tries, UNBOUNDED, in_head, in_looks, in_positive}
 pub use Rattle.answer_sets.specs.SubsetTest.{subsets_of}
-pub use Rattle.answer_sets.specs.Test.{RefutedBy, Smaller, SmallerSet, SubsetTested}
+pub use Rattle.answer_sets.specs.Test.{RefutedBy, Smaller, SmallerSet, SubsetTested, TestDue, TestSettled}
 unfoldable pub use Rattle.answer_sets.specs.Test.{answer_set, body, kept, kept_if, satisfies, satisfies_all, some_smaller}
 pub use Rattle.answer_sets.specs.declared.rule_pass.Passed.{Passed}
 pub use Rattle.answer_sets.specs.declared.truth.Truth.{Truth}

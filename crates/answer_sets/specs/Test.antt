@@ -57,3 +57,14 @@ pub record RefutedBy (P : Program) (which facts M : ℕ) (answer : Bool) (set : 
   pub refuted : answer ≡ false
       → ((set ≡ M) × ¬ ((facts ⊆ M) × SatisfiesAll P (kept P which M) M)) ⊎ ((s : Smaller P (kept P which M) facts M) × (s.set ≡ set))
   pub none : answer ≡ true → set ≡ 0
+
+-- the subset test is settled before it is run: M lacks a fact or does not satisfy a kept rule, so that it is no answer set and shows that itself
+pub record TestSettled (P : Program) (which facts M : ℕ) : Type 0 where
+  pub answers : answer_set P which facts M ≡ false
+  pub refuted : RefutedBy P which facts M false M
+
+-- or it is due: M has the facts and satisfies the rules of the word, which are those kept
+pub record TestDue (P : Program) (which facts M word : ℕ) : Type 0 where
+  pub kept_is : word ≡ kept P which M
+  pub has_facts : subset facts M ≡ true
+  pub satisfied : satisfies_all P word M ≡ true

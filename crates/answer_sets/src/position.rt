@@ -1,14 +1,14 @@
 // The answer-set test of one position, over lent rules and a word of their numbers; and the same for any lent words and any numbers.
-ghost use Rattle.std.specs.Prelude.{◌≡◌};
+ghost use Rattle.std.specs.Prelude.{◌≡◌, false, not, MatchOption};
 ghost use Rattle.answer_sets.specs.Lent.{lent, Lent, numbered};
 ghost use Rattle.answer_sets.specs.Memo.{Memo};
 ghost use Rattle.answer_sets.specs.SubsetTest.{TestsBetween};
-ghost use Rattle.answer_sets.specs.Test.{SubsetTested, answer_set, RefutedBy};
+ghost use Rattle.answer_sets.specs.Test.{SubsetTested, TestDue, TestSettled, answer_set, RefutedBy};
 
 use crate::memo::blank_memo;
 use crate::reduct::{all_satisfied, kept_rules};
 use crate::rule::rule_count;
-use crate::smaller::{Smaller, UNBOUNDED, some_between, some_smaller, some_smaller_by};
+use crate::smaller::{Smaller, some_smaller, some_smaller_by};
 use plan::MAX_RULES;
 use states::State;
 
@@ -19,8 +19,57 @@ pub struct Judged {
     pub smaller: u64,
 }
 
+// The rules that the reduct at the position keeps, where it has the facts and satisfies them. Where nothing is handed out it is no answer set, and shows
+// that itself.
+fn kept_where_met(rules: &[u64], which: u64, facts: u64, position: u64) -> Option<u64>
+    requires { Lent rules.now which }
+    ensures { MatchOption result (TestSettled (lent rules.now) which facts position) (λ word. TestDue (lent rules.now) which facts position word) }
+{
+    if !atoms::is_subset(facts, position) {
+        return None;
+    }
+    let kept = kept_rules(rules, which, position);
+    if !all_satisfied(rules, kept, position) {
+        return None;
+    }
+    Some(kept)
+}
+
+// The position itself shows that it is no answer set.
+fn unmet(position: u64) -> Judged
+    ensures { result ≡ record { answers = false; smaller = position } }
+{
+    Judged {
+        answers: false,
+        smaller: position,
+    }
+}
+
+// What the subset test of the kept rules says.
+fn judged_by(smaller: Smaller) -> Judged
+    ensures { result ≡ record { answers = not smaller.found; smaller = smaller.set } }
+{
+    Judged {
+        answers: !smaller.found,
+        smaller: smaller.set,
+    }
+}
+
 // Whether the position is an answer set of the rules numbered in `which` with the facts added, and what shows that it is none. The subset test's memo
-// may go from one position to the next; what the test has to try is left to `between`.
+// may go from one position to the next.
+pub fn judge_set(rules: &[u64], which: u64, facts: u64, position: u64, memo: &mut [u64]) -> Judged
+    requires { Lent rules.now which × Memo rules.now memo.old }
+    ensures answers { result.answers ≡ answer_set (lent rules.now) which facts position }
+    ensures refuted { RefutedBy (lent rules.now) which facts position result.answers result.smaller }
+    ensures memo { Memo rules.now memo.new }
+{
+    let Some(kept) = kept_where_met(rules, which, facts, position) else {
+        return unmet(position);
+    };
+    judged_by(some_smaller(rules, kept, facts, position, memo))
+}
+
+// The same, where what the subset test has to try is left to `between`.
 pub fn judge_set_by<F: Fn(u64, State) -> Smaller>(
     rules: &[u64],
     which: u64,
@@ -35,36 +84,11 @@ pub fn judge_set_by<F: Fn(u64, State) -> Smaller>(
     ensures refuted { RefutedBy (lent rules.now) which facts position result.answers result.smaller }
     ensures memo { Memo rules.now memo.new }
 {
-    if !atoms::is_subset(facts, position) {
-        return Judged {
-            answers: false,
-            smaller: position,
-        };
-    }
-    let kept = kept_rules(rules, which, position);
-    if !all_satisfied(rules, kept, position) {
-        return Judged {
-            answers: false,
-            smaller: position,
-        };
-    }
+    let Some(kept) = kept_where_met(rules, which, facts, position) else {
+        return unmet(position);
+    };
     let smaller = some_smaller_by(rules, kept, facts, position, memo, between);
-    Judged {
-        answers: !smaller.found,
-        smaller: smaller.set,
-    }
-}
-
-// The same by the plain subset test.
-pub fn judge_set(rules: &[u64], which: u64, facts: u64, position: u64, memo: &mut [u64]) -> Judged
-    requires { Lent rules.now which × Memo rules.now memo.old }
-    ensures answers { result.answers ≡ answer_set (lent rules.now) which facts position }
-    ensures refuted { RefutedBy (lent rules.now) which facts position result.answers result.smaller }
-    ensures memo { Memo rules.now memo.new }
-{
-    judge_set_by(rules, which, facts, position, memo, |left, s| {
-        some_between(rules, left, position, s, UNBOUNDED)
-    })
+    judged_by(smaller)
 }
 
 // Only whether the position is an answer set.
