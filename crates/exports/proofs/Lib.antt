@@ -8,6 +8,8 @@ pub mod CopiedCounts
 pub mod ExportedSpots
 -- What the codes tell a host, from what the functions below promise
 pub mod HostCodes
+-- Two words handed back as far as there is room
+pub mod PairedWords
 -- Readings for hosts: what is asked by a number, and that no answer is taken for a refusal
 pub mod ReadingCodes
 -- What code and words tell a host of a question to a plan
