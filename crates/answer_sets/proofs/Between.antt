@@ -76,6 +76,10 @@ module _ {P : Program} {which M : ℕ} where
   between_clash {t} {r} e f =
       finds_none (λ b. overlap_none (record { overlap = (decides_apart t.up t.dropped).no (sym e ∙ not-true r f) }) b.completes)
 
+  -- all atoms of M are up: none
+  pub between_whole : {t : State} → t.up ≡ M → Finds P which M t false 0
+  between_whole e = finds_none (λ b. b.proper.short (rw e at b.completes.has_up))
+
   -- the atoms that are up satisfy the rules, and are not all of M: they are such a set
   pub between_model : {t : State} → t.up < 2 ^ ATOMS → Confines M t.dropped → Apart t.up t.dropped → ¬ (t.up ≡ M)
       → SatisfiesAll P which t.up → Finds P which M t true t.up

@@ -1,5 +1,5 @@
 -- Which rules are lent, and that answer sets of lent words are words.
-use Rattle.answer_sets.proofs.Prelude.{◌≡◌, ◌↔◌, inl, inr, List, ℕ, ◌^◌, ◌<◌, min, arith, get_or, ATOMS, Has, ◌⊆◌, ◌∩◌, below, Lowest}
+use Rattle.answer_sets.proofs.Prelude.{◌≡◌, ◌↔◌, inl, inr, List, ℕ, ◌^◌, ◌<◌, ◌≤◌, min, arith, length, get_or, ATOMS, Has, ◌⊆◌, ◌∩◌, below, Lowest}
 use Rattle.answer_sets.proofs.Prelude.{has_cut, cut_left, cut_right, has_below, below_lt, has_lt, lt_of_has, MAX_RULES, AnswerSet, lent, rule_at}
 use Rattle.answer_sets.proofs.Prelude.{rule_count_of, IsLent, Lent, numbered, kept}
 use Rattle.std.proofs.Math.Nat.{min_comm}
@@ -12,6 +12,10 @@ lent_within f l = record { each = λ r h. l.each r (f.each r h) }
 -- a rule that a loop takes from the word
 pub lent_taken : {rules : List ℕ} {which rest r : ℕ} → Lent rules which → rest ⊆ which → Lowest rest r → IsLent rules r
 lent_taken {r = r} l f low = l.each r (f.each r low.here)
+
+-- the first n rules, where their words are there
+pub lent_below : (rules : List ℕ) (n : ℕ) → rule_at n ≤ length rules → Lent rules (below n)
+lent_below rules n long = record { each = λ r h. let l : r < n = below_lt n h in omega arith }
 
 pub lent_kept : {rules : List ℕ} {which word : ℕ} (M : ℕ) → word ≡ kept (lent rules) which M → Lent rules which → Lent rules word
 lent_kept {rules} {which} M e l = rw e (record { each = λ r h. l.each r (kept_at (lent rules) which M r h).numbered })

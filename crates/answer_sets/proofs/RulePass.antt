@@ -1,5 +1,5 @@
 -- The rule pass: what each of its steps does to a state keeps every position that satisfies the rule.
-use Rattle.answer_sets.proofs.Prelude.{Decides, ◌≡◌, sym, ◌∙◌, subst, Bool, true, false, not, ◌↔◌, List, ℕ, not-true, not-false, Has, ◌⊆◌}
+use Rattle.answer_sets.proofs.Prelude.{Decides, ◌≡◌, refl, sym, ◌∙◌, subst, Bool, true, false, not, ◌↔◌, List, ℕ, not-true, not-false, Has, ◌⊆◌}
 use Rattle.answer_sets.proofs.Prelude.{subset, Apart, apart, ◌∪◌, ◌∖◌, atom, AtMostOne, has_without, without_left, has_dec, decides_subset}
 use Rattle.answer_sets.proofs.Prelude.{decides_apart, shared_atom, apart_of_cut, subset_refl, subset_trans, has_atom, atom_only, Program, Body}
 use Rattle.answer_sets.proofs.Prelude.{Satisfies, SatisfiesAll, lent, Completes, half_decided, Narrows, OneGoes, SomeUp, BodySays, HeldInAll}
@@ -26,6 +26,10 @@ pub held_known : {rules : List ℕ} {r up dropped : ℕ} {t : Truth} {answer : B
 held_known k e = record { exactly = (λ f. k.holds.0 (e.0 f), λ f. e.1 (k.holds.1 f)) }
 
 module _ (rules : List ℕ) (r : ℕ) {s : State} where
+  -- a body that is known to hold is told so
+  held_told : {t : Truth} → BodySays rules r s.up s.dropped t → HeldInAll rules r s.up s.dropped true → t ≡ Holds
+  held_told k h = k.holds.1 (h.exactly.0 refl)
+
   -- a head atom is up already
   pub head_met : {h : ℕ} {a : Bool} → h ≡ (lent rules).head r → a ≡ apart h s.up → not a ≡ true → RuleStepped rules r s s
   head_met {h} {a} reads e f = record {
@@ -47,6 +51,11 @@ module _ (rules : List ℕ) (r : ℕ) {s : State} where
       up N k p =
           let a = k.head_up (known_holds rules r s.up s.dropped e N (completes_known p) f) in
           record { atom = a.0; in_word = rw reads a.1; is_up = a.2 }
+
+  -- where it is not, there is no stop
+  pub not_held : {t : State} {k : Truth} → BodySays rules r s.up s.dropped k → ¬ (k ≡ Holds) → Narrows (Satisfies (lent rules) r) s t
+      → RuleStepped rules r s t
+  not_held k n m = record { narrows = m; stops = λ h d. absurd (n (held_told k h)) }
 
 -- ---- the last open atom
 
@@ -111,6 +120,9 @@ module _ (rules : List ℕ) (r : ℕ) {s : State} where
 -- a rule that is met stays so in a larger state
 met_later : {P : Program} {K : ℕ → Type 0} {r : ℕ} {s t : State} → Narrows K s t → AlwaysSatisfied P r s → AlwaysSatisfied P r t
 met_later n m = record { each = λ N c. m.each N (completes_back n c) }
+
+pub sifted_start : {P : Program} {which : ℕ} {s : State} → Sifted P which s which (record { state = s; left = which })
+sifted_start = record { narrows = narrows_refl; part = subset_refl; gone = λ r h n. absurd (n h) }
 
 pub sifted_next : {P : Program} {which word r : ℕ} {s : State} {p q : Passed} → Has which r → Sifted P which s word p
     → Sifted P (atom r) p.state p.left q → Sifted P which s word q

@@ -1,7 +1,7 @@
 -- The laws of "each" and "some" below a bound, of "each in a word", and of the word of those of which a test holds.
 use Rattle.atoms.proofs.Prelude.{◌≡◌, refl, sym, ap, ◌∙◌, subst, Bool, true, false, not, ◌||◌, ◌⊎◌, inl, inr, ℕ, zero, suc, ◌<◌, arith, ℕ_discrete}
 use Rattle.atoms.proofs.Prelude.{Has, has, ◌∩◌, ◌∪◌, ◌∖◌, atom, below, Decides, all_below, some_below, all_in, word_below, union_in}
-use Rattle.atoms.proofs.Tests.{decides, decided_true, false_of_not_true, not_both, implies_true}
+use Rattle.atoms.proofs.Tests.{decides, decided_true, false_of_not_true, not_both, bool_ext, implies_true}
 use Rattle.atoms.proofs.Sets.{decides_has, has_cut, cut_left, has_left, has_right, union_cases, has_without, without_left, has_atom, atom_only}
 use Rattle.atoms.proofs.Sets.{has_none, has_below, ext, empty}
 
@@ -52,6 +52,12 @@ some_none n p h = false_of_not_true (some_below n p) (λ e. let s = some_at n p 
 
 -- ---- as tests of statements
 
+pub decides_all : (n : ℕ) (p : ℕ → Bool) {P : ℕ → Type 0} → ((i : ℕ) → i < n → Decides (P i) (p i))
+    → Decides ((i : ℕ) → i < n → P i) (all_below n p)
+decides_all n p d =
+    decides (all_below n p) (λ e i l. (d i l).yes (all-at n p e i l))
+    (λ f. all_intro n p (λ i l. decided_true (d i l) (f i l)))
+
 pub decides_some : (n : ℕ) (p : ℕ → Bool) {P : ℕ → Type 0} → ((i : ℕ) → i < n → Decides (P i) (p i))
     → Decides ((i : ℕ) × (i < n) × P i) (some_below n p)
 decides_some n p d =
@@ -76,6 +82,19 @@ pub decides_all_in : (n w : ℕ) (p : ℕ → Bool) {P : ℕ → Type 0} → ((i
 decides_all_in n w p d =
     decides (all_in n w p) (λ e i l h. (d i l).yes (all_in_at n w p e i l h))
     (λ f. all_in_intro n w p (λ i l h. decided_true (d i l) (f i l h)))
+
+-- words with the same members below n are alike
+pub all_in_same : (n v w : ℕ) (p : ℕ → Bool) → ((i : ℕ) → i < n → Has v i → Has w i)
+    → ((i : ℕ) → i < n → Has w i → Has v i) → all_in n v p ≡ all_in n w p
+all_in_same n v w p f g =
+    bool_ext (all_in n v p) (all_in n w p)
+    (λ e. all_in_intro n w p (λ i l h. all_in_at n v p e i l (g i l h)))
+    (λ e. all_in_intro n v p (λ i l h. all_in_at n w p e i l (f i l h)))
+
+-- "bits with no rule are ignored"
+pub all_in_cut : (n w : ℕ) (p : ℕ → Bool) → all_in n (w ∩ below n) p ≡ all_in n w p
+all_in_cut n w p =
+    all_in_same n (w ∩ below n) w p (λ i l h. cut_left w (below n) h) (λ i l h. has_cut w (below n) h (has_below n i l))
 
 pub all_in_none : (n : ℕ) (p : ℕ → Bool) → all_in n 0 p ≡ true
 all_in_none n p = all_in_intro n 0 p (λ i l h. absurd (has_none h))

@@ -1,9 +1,9 @@
 -- The laws of words that collect the numbers with a property, and of the least number with one.
 use Rattle.atoms.proofs.Prelude.{◌≡◌, refl, subst, Bool, true, false, ◌↔◌, ◌⊎◌, inl, inr, ℕ, zero, suc, ◌≤◌, ◌<◌, arith, dec_lt, ATOMS, Has, has, ◌∩◌}
-use Rattle.atoms.proofs.Prelude.{◌∪◌, ◌∖◌, below, Lowest, Decides, word_below, union_in, Collects, Least, lowest, lowest_of}
+use Rattle.atoms.proofs.Prelude.{◌∪◌, ◌∖◌, below, outside, Lowest, Decides, word_below, union_in, Collects, Least, lowest, lowest_of}
 use Rattle.atoms.proofs.Tests.{decided_true, decided_false, not_both}
 use Rattle.atoms.proofs.Sets.{decides_has, has_dec, has_cut, cut_left, cut_right, has_left, has_right, union_cases, has_without, without_left}
-use Rattle.atoms.proofs.Sets.{without_right, has_none, has_below, below_lt, ext, empty, some_atom}
+use Rattle.atoms.proofs.Sets.{without_right, has_none, has_below, below_lt, has_outside, outside_lt, outside_lacks, ext, empty, some_atom}
 use Rattle.atoms.proofs.Bounded.{union_has, union_at, word_has, word_at}
 
 -- ---- what a word that collects K says of K
@@ -81,6 +81,12 @@ collects_without {v = v} {w = w} c d = record {
   all = λ a k. has_without v w (c.all a k.0) (λ h. k.1 (d.each a h));
 }
 
+pub collects_outside : {K : ℕ → Type 0} {w : ℕ} → Collects K w → Collects (λ a. (a < ATOMS) × ¬ K a) (outside w)
+collects_outside {w = w} c = record {
+  each = λ a h. (outside_lt w h, λ k. outside_lacks w h (c.all a k));
+  all = λ a k. has_outside w k.0 (λ h. k.1 (c.each a h));
+}
+
 -- of the words f i, for the numbers i below n that are in w, each of which collects K i
 pub collects_union_in : (n w : ℕ) (f : ℕ → ℕ) {K : ℕ → ℕ → Type 0} → ((i : ℕ) → i < n → Collects (K i) (f i))
     → Collects (λ a. (i : ℕ) × (i < n) × Has w i × K i a) (union_in n w f)
@@ -138,6 +144,10 @@ lowest_none n p f = go (dec_lt (lowest n p) n)
     go : Dec (lowest n p < n) → lowest n p ≡ n
     go (yes k) = absurd (not_both (lowest_here n p k) (f (lowest n p) k))
     go (no k) = let l : lowest n p ≤ n = lowest_le n p in omega arith
+
+-- where no number is left, none passed the test
+pub lowest_none_at : (n : ℕ) (p : ℕ → Bool) → lowest n p ≡ n → (j : ℕ) → j < n → p j ≡ false
+lowest_none_at n p e j l = lowest_least n p j (omega arith)
 
 -- ---- the lowest atom of a word
 

@@ -1,5 +1,5 @@
 -- The part of a word from an atom on, as a number: it is fixed by the atoms there, and one atom more doubles it.
-use Rattle.atoms.proofs.Prelude.{◌≡◌, refl, sym, ap, ◌∙◌, ℕ, ◌+◌, ◌-◌, ◌*◌, ◌/◌, ◌%◌, ◌^◌, ◌≤◌, arith, div-one, le-div_iff_mul-le}
+use Rattle.atoms.proofs.Prelude.{◌≡◌, refl, sym, ap, ◌∙◌, ℕ, ◌+◌, ◌-◌, ◌*◌, ◌/◌, ◌%◌, ◌^◌, ◌≤◌, ◌<◌, arith, div-one, div-eq_of_lt, le-div_iff_mul-le}
 use Rattle.atoms.proofs.Prelude.{shr-shr, pow_pos, digit, Has, high}
 use Rattle.atoms.proofs.Digits.{digit_lt, same_digits, shifted_digit}
 use Rattle.atoms.proofs.Sets.{has_dec}
@@ -7,6 +7,10 @@ use Rattle.atoms.proofs.Sets.{has_dec}
 pub high_none : (w : ℕ) → high 0 w ≡ w
 unfolding high
 high_none w = div-one w
+
+pub high_all : {w : ℕ} (n : ℕ) → w < 2 ^ n → high n w ≡ 0
+unfolding high
+high_all n l = div-eq_of_lt l
 
 -- one atom more
 high_half : (n w : ℕ) → high n w / 2 ≡ high (n + 1) w
@@ -24,6 +28,9 @@ pub high_without : {w n : ℕ} → ¬ Has w n → high n w ≡ 2 * high (n + 1) 
 high_without {w} {n} h =
     let o : ¬ (digit w n ≡ 1) = λ e. h (record { bit = e }) in
     omega (arith, high_half n w, high_digit n w, digit_lt w n)
+
+pub high_bounds : (n w : ℕ) → (2 * high (n + 1) w ≤ high n w) × (high n w ≤ 2 * high (n + 1) w + 1)
+high_bounds n w = (omega (arith, high_half n w), omega (arith, high_half n w))
 
 -- words with the same atoms from n on
 pub high_same : (n a b : ℕ) → ((i : ℕ) → n ≤ i → Has a i → Has b i) → ((i : ℕ) → n ≤ i → Has b i → Has a i) → high n a ≡ high n b
@@ -46,6 +53,14 @@ high_at {n} a b e i l h =
       bit = ap (digit b) (sym k) ∙ sym (shifted_digit b n (i - n)) ∙ ap (λ (x : ℕ). digit x (i - n)) (sym e) ∙ shifted_digit a n (i - n)
           ∙ ap (digit a) k ∙ h.bit;
     }
+
+-- from a higher atom on
+pub high_higher : {a b : ℕ} (x y : ℕ) → high a x ≡ high a y → a ≤ b → high b x ≡ high b y
+unfolding high
+high_higher {a} {b} x y e l =
+    let k : a + (b - a) ≡ b = omega arith in
+    ap (λ (n : ℕ). x / 2 ^ n) (sym k) ∙ sym (shr-shr x a (b - a)) ∙ ap (λ (w : ℕ). w / 2 ^ (b - a)) e ∙ shr-shr y a (b - a)
+    ∙ ap (λ (n : ℕ). y / 2 ^ n) k
 
 pub high_mono : {a b : ℕ} (n : ℕ) → a ≤ b → high n a ≤ high n b
 unfolding high

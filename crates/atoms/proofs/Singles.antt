@@ -33,6 +33,12 @@ not_apart_is_has w k = decides_same (decides_not (decides_has_atom w k)) (decide
     go h (yes p) = p
     go h (no n) = absurd (h n)
 
+pub lacks_of_apart : (w k : ℕ) → apart w (atom k) ≡ true → has w k ≡ false
+lacks_of_apart w k e = sym (not_apart_is_has w k) ∙ ap not e
+
+pub has_of_not_apart : (w k : ℕ) → apart w (atom k) ≡ false → has w k ≡ true
+has_of_not_apart w k e = sym (not_apart_is_has w k) ∙ ap not e
+
 -- the same as code makes the test: t ≡ are_apart(w, s) with s ≡ single(k)
 pub has_is_test : (w k : ℕ) {s : ℕ} {t : Bool} → s ≡ atom k → t ≡ apart w s → not t ≡ has w k
 has_is_test w k p q = ap not (q ∙ ap (λ (x : ℕ). apart w x) p) ∙ not_apart_is_has w k

@@ -72,6 +72,10 @@ some_ready S a done (suc k) u b l h = go (some_ready S a done k) (decided (decid
 
 -- ---- the next unit
 
+pub next_le : (S : Units) (done : ℕ) → next_unit S done ≤ S.units
+unfolding next_unit
+next_le S done = lowest_le S.units (ready S done)
+
 pub next_ready : (S : Units) (done : ℕ) → next_unit S done < S.units → Ready S done (next_unit S done)
 unfolding next_unit
 next_ready S done l = (decides_ready S done (next_unit S done) l).yes (lowest_here S.units (ready S done) l)

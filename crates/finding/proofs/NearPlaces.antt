@@ -1,5 +1,5 @@
 -- Positions that are like the place from an atom on: they are the ones behind it up to the last of them, and all others come later.
-use Rattle.finding.proofs.Prelude.{◌≡◌, sym, subst, Bool, false, not, ◌⊎◌, inl, inr, List, ℕ, ◌^◌, ◌≤◌, ◌<◌, arith, dec_lt, ℕ_discrete}
+use Rattle.finding.proofs.Prelude.{◌≡◌, sym, subst, Bool, false, not, ◌⊎◌, inl, inr, List, ℕ, length, ◌^◌, ◌≤◌, ◌<◌, arith, dec_lt, ℕ_discrete}
 use Rattle.finding.proofs.Prelude.{pow_pos, not-false, ATOMS, Has, high, ◌∩◌, ◌∪◌, ◌∖◌, outside, below, Decides, has_dec, has_lt}
 use Rattle.finding.proofs.Prelude.{has_left, has_right, union_cases, has_cut, cut_left, cut_right, has_without, without_left, without_right, has_below}
 use Rattle.finding.proofs.Prelude.{below_lt, has_outside, outside_lt, outside_lacks, subset_le, subset_trans, high_same, high_at, high_mono, Completes}
@@ -7,7 +7,7 @@ use Rattle.finding.proofs.Prelude.{undecided, State, Job, Option, Some, hidden_o
 use Rattle.finding.proofs.Prelude.{dark_of, PlaceIn, at_place, known, Node, like_of, high_free, last_like, PlaceAt, Further, BetweenPlaces, Reaches, Option}
 use Rattle.finding.proofs.Prelude.{None, Some, WalkNode}
 use Rattle.finding.specs.declared.near.Reached.{Reached}
-use Rattle.finding.proofs.AddedWords.{added_iff, added_both}
+use Rattle.finding.proofs.AddedWords.{added_none, added_iff, added_both}
 use Rattle.finding.proofs.Walks.{behind_up, behind_more, above_of}
 use Rattle.finding.proofs.Wholes.{fits_settled}
 use Rattle.finding.proofs.Trees.{fits_dark, dark_free, completion_has}
@@ -249,11 +249,17 @@ module _ {rules desk : List ℕ} {unit : Job} {facts : ℕ} (s : State) where
 
 -- ---- from place to place
 
+pub further_none : {from : Option ℕ} → Further from from
+further_none = record { each = λ M b. b }
+
 pub further_more : {from mid to : Option ℕ} → Further from mid → Further mid to → Further from to
 further_more f g = record { each = λ M b. f.each M (g.each M b) }
 
 pub further_last : {from : Option ℕ} {m : ℕ} {b : Bool} → Decides (Behind from m) b → not b ≡ false → Further from (Some m)
 further_last {b = b} d t = record { each = λ M o. behind_more (d.yes (not-false b t)) (above_of o) }
+
+pub place_further : {unit : Job} {facts p : ℕ} {from to : Option ℕ} {s : State} → Further from to → PlaceAt unit facts from s p → PlaceAt unit facts to s p
+place_further f q = record { word = q.word; completes = q.completes; low = λ M b. q.low M (f.each M b) }
 
 -- the place itself
 pub place_at_lem : {unit : Job} {facts m : ℕ} {from : Option ℕ} {s t : State} {w : Option ℕ} → t ≡ dark_of s (hidden_of unit facts) → w ≡ Some m
@@ -280,6 +286,10 @@ reached_low M N n b = go (dec_lt M N)
     go (no l) = absurd (n (behind_up (omega arith) b))
 
 module _ {rules desk : List ℕ} {unit : Job} {facts : ℕ} {passed : List ℕ} {s : State} where
+  pub between_none : {from : Option ℕ} {list : List ℕ} {count : ℕ} → count ≤ length list
+      → Added (BetweenPlaces rules desk unit facts from from passed s) list count list count
+  between_none l = added_none l (λ N d. d.reached d.due.sought.behind)
+
   module _ {from mid : Option ℕ} (f : Further from mid) where
     due_further : (M : ℕ) → Due rules desk unit facts mid passed s M → Due rules desk unit facts from passed s M
     due_further M d = record { fits = d.fits; sought = record { behind = f.each M d.sought.behind; new = d.sought.new } }
@@ -317,6 +327,10 @@ module _ {rules desk : List ℕ} {unit : Job} {facts : ℕ} {passed : List ℕ} 
 -- ---- how far it reaches
 
 module _ {rules desk : List ℕ} {unit : Job} {facts : ℕ} {from : Option ℕ} {passed : List ℕ} {s : State} where
+  pub reaches_none : {list : List ℕ} {count : ℕ} {r : Reached} → count ≤ length list → r.from ≡ from → r.count ≡ count
+      → Reaches rules desk unit facts from passed s list count list r
+  reaches_none l e k = record { added = rw (e, k) (between_none l); further = rw e further_none }
+
   pub reaches_near : {memory before after : List ℕ} {p count c m : ℕ} {t : Bool} (b : ℕ) → Standing rules desk memory unit facts s → PlaceAt unit facts from s p
       → m ≡ last_like s (hidden_of unit facts) (high_free s (hidden_of unit facts) b) p → Decides (Behind from m) t → not t ≡ false
       → Added (Due rules desk unit facts from passed (like_of s (high_free s (hidden_of unit facts) b) p)) before count after c

@@ -1,6 +1,6 @@
 -- The tree over undecided atoms: what is known at a node, its two branches, and that all below the dropped one are below all below the other.
-use Rattle.finding.proofs.Prelude.{◌≡◌, refl, sym, ◌∙◌, subst, Bool, true, false, not, true≢false, ◌⊎◌, inl, inr, List, [], List-as-Memᴰ, ℕ}
-use Rattle.finding.proofs.Prelude.{◌+◌, ◌^◌, ◌≤◌, ◌<◌, arith, dec_lt, ones, length, get_or, ltb, not-true, not-false, ltb-true, lt-ltb, ATOMS, Has}
+use Rattle.finding.proofs.Prelude.{◌≡◌, refl, sym, ◌∙◌, subst, Bool, true, false, not, true≢false, false≢true, ◌⊎◌, inl, inr, List, [], List-as-Memᴰ, ℕ}
+use Rattle.finding.proofs.Prelude.{◌+◌, ◌^◌, ◌≤◌, ◌<◌, arith, dec_lt, ones, length, get_or, set, ltb, not-true, not-false, ltb-true, lt-ltb, ATOMS, Has}
 use Rattle.finding.proofs.Prelude.{◌⊆◌, subset, apart, high, ◌∪◌, ◌∖◌, outside, Highest, Decides, decides, has_lt, has_none, has_left}
 use Rattle.finding.proofs.Prelude.{has_right, union_cases, has_without, without_left, without_right, has_atom, has_outside, subset_le, subset_antisym}
 use Rattle.finding.proofs.Prelude.{subset_trans, subset_refl, decides_apart, decides_subset, member_get_or, index_of, high_same, high_with, high_without}
@@ -15,7 +15,7 @@ use Rattle.std.proofs.lemmas.List.{get_or_default}
 use Rattle.states.proofs.HalfDecided.{decided_cases, undecided_up, undecided_dropped, undecided_lt, undecided_intro}
 use Rattle.states.proofs.Branches.{without_branch, some_branch, decided_falls}
 use Rattle.searching.specs.Witness.{none}
-use Rattle.finding.proofs.AddedWords.{added_none, added_full, added_iff, added_both}
+use Rattle.finding.proofs.AddedWords.{added_none, added_full, added_one, added_iff, added_both}
 use Rattle.finding.proofs.Walks.{behind_up, above_of}
 use Rattle.finding.proofs.Wholes.{fits_settled, fits_answers, answers_fit}
 
@@ -37,6 +37,9 @@ decides_below p m = decides (ltb p m) (λ e. ltb-true p m e) (λ l. lt-ltb p m l
 pub behind_from_above : {from : Option ℕ} {p m : ℕ} {b : Bool} → from ≡ Some p → Decides (p < m) b → Decides (Behind from m) b
 behind_from_above e d = rw e (record { yes = λ t. above (d.yes t); no = λ f q. d.no f (above_of q) })
 
+pub sought_before : {from : Option ℕ} {passed : List ℕ} {m : ℕ} {b : Bool} → Decides (Behind from m) b → not b ≡ true → Decides (Sought from passed m) false
+sought_before {b = b} d t = decides false (λ e. absurd (false≢true e)) (λ s. absurd (d.no (not-true b t) s.behind))
+
 pub sought_new : {from : Option ℕ} {passed : List ℕ} {m : ℕ} {a b : Bool} → Decides (Behind from m) b → b ≡ true → Decides (List-as-Memᴰ m passed) a
     → Decides (Sought from passed m) (not a)
 sought_new {a = a} {b = b} d f e = record {
@@ -54,6 +57,16 @@ passed_all {s = s} {b = b} e d t = record {
       (subset_le
       (record { each = λ i h. has_outside s.dropped (has_lt M ATOMS l h) (λ o. c.no_dropped.none i o h) })) q));
 }
+
+-- ---- one is put in
+
+module _ {from : Option ℕ} {passed : List ℕ} {m : ℕ} {b : Bool} (d : Decides (Sought from passed m) b) (list : List ℕ) (count : ℕ)
+    (l : count < length list) where
+  pub put_none : not b ≡ true → Added (OfferedNext from passed m) list count list count
+  put_none t = added_none (omega arith) (λ N o. d.no (not-true b t) (subst (Sought from passed) o.is o.sought))
+
+  pub put_one : not b ≡ false → Added (OfferedNext from passed m) list count (set list count m) (count + 1)
+  put_one t = added_one list count m l (record { is = refl; sought = d.yes (not-false b t) }) (λ N o. o.is)
 
 -- ---- what is known at a node
 

@@ -2,7 +2,7 @@
 use Rattle.finding.proofs.Prelude.{◌≡◌, refl, sym, ap, ◌∙◌, subst, ◌⊎◌, inl, inr, List, [], ℕ, zero, suc, ◌+◌, ◌-◌, ◌*◌, ◌^◌, ◌<◌, min, arith, get_or}
 use Rattle.finding.proofs.Prelude.{replicate, length-replicate, ATOMS, Has, ◌⊆◌, Apart, ◌∩◌, ◌∪◌, ◌∖◌, outside, below, and-true, decided_true, ext}
 use Rattle.finding.proofs.Prelude.{has_cut, cut_right, has_none, has_left, has_right, has_without, without_left, without_right, union_cases}
-use Rattle.finding.proofs.Prelude.{decides_subset, lent, Lent, AnswerSet, Completes, both_of, Wanted, State, Remembers, LaidOut}
+use Rattle.finding.proofs.Prelude.{decides_subset, lent, Lent, AnswerSet, Completes, Narrows, both_of, Wanted, State, Remembers, LaidOut}
 use Rattle.finding.proofs.Prelude.{Wired, Job, joins_none, Witnessed, met, Some, None, whole_of, unit_of, hidden_of, no_lists}
 use Rattle.finding.proofs.Prelude.{Settled, Unpiloted, Serves, Standing, Rooted}
 use Rattle.plan.specs.Limits.{MAX_UNITS}
@@ -131,6 +131,21 @@ desk_serves {rules} {pilots} {desk} {which} {facts} {x} {u = u} {v} l fits small
     (pilots_serve l fits (rw g at small) (rw e at p) a.not_up (rw (h, g, e) at laid))
 
 -- ---- where questions begin
+
+module _ {rules desk : List ℕ} {unit : Job} {facts : ℕ} (y : Serves rules desk unit facts) where
+  -- at first the facts are up, and what is told of that is known of every answer set
+  pub root_stands : {memory : List ℕ} {t : State} → Remembers (Wired rules [] no_lists desk unit) memory
+      → Narrows (Wired rules [] no_lists desk unit) (record { up = facts; dropped = 0 }) t → Standing rules desk memory unit facts t
+  root_stands m n = record { serves = y; remembers = m; facts_up = n.up_grows }
+
+  pub root_rooted : {t : State} → Narrows (Wired rules [] no_lists desk unit) (record { up = facts; dropped = 0 }) t → Rooted rules desk unit facts t
+  root_rooted n = record {
+    each = λ M s. let f = y.complete M s in record {
+      whole = f.whole;
+      wanted = record { belongs = f.wanted.belongs; completes = n.keeps f.whole f.wanted.belongs f.wanted.completes };
+      is = f.is;
+    };
+  }
 
 module _ {rules desk memory : List ℕ} {unit : Job} {facts : ℕ} {s : State} (r : Standing rules desk memory unit facts s) where
   pub stands_still : {after : List ℕ} → Remembers (Wired rules [] no_lists desk unit) after → Standing rules desk after unit facts s

@@ -78,6 +78,15 @@ module _ (words : List ℕ) (at bits up decided : ℕ) (before : Sifted) where
   pub sifting_end : (r : Sifted) (rest : ℕ) → Sifting r rest → rest ≡ 0 → BlockSifted words at bits up decided before r
   sifting_end r rest s e = record { still = s.still; new = λ i h a. (taking_end s.done e i h).kept a }
 
+-- which bits were kept before does not matter
+pub sifted_from : {words : List ℕ} {at bits up decided kept : ℕ} (before : Sifted) {r : Sifted}
+    → BlockSifted words at bits up decided (record { all = before.all; some = before.some; kept = kept }) r
+    → BlockSifted words at bits up decided before r
+sifted_from before b = record {
+  still = λ e s. b.still e (record { from_all = s.from_all; to_some = s.to_some });
+  new = b.new;
+}
+
 -- ---- the words of one list
 
 module _ (words : List ℕ) (base up decided at : ℕ) (before : List ℕ) where

@@ -59,6 +59,12 @@ pub joins_all : (table counts heads : List ℕ) (w M : ℕ) {rest : ℕ}
     → Taking w rest (λ v. is_listed table (LIST_WORDS * v) (get_or counts v 0) (M ∩ get_or heads v 0) ≡ true) → rest ≡ 0 → true ≡ joins table counts heads w M
 joins_all table counts heads w M t e = sym (joins_each table counts heads w M (taking_end t e))
 
+-- a word at a place of the list
+pub listed_here : (words : List ℕ) (base count value i : ℕ) → i < count → get_or words (base + i) 0 ≡ value → true ≡ is_listed words base count value
+unfolding is_listed
+listed_here words base count value i l e =
+    sym (some_intro count (λ (k : ℕ). eqb (get_or words (base + k) 0) value) i l (eq-eqb (get_or words (base + i) 0) value e))
+
 -- a word of the list
 pub among_here : (list : List ℕ) (value i : ℕ) → i < length list → get_or list i 0 ≡ value → true ≡ is_among list value
 unfolding is_among

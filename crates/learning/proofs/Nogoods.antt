@@ -3,6 +3,7 @@ use Rattle.learning.proofs.Prelude.{◌≡◌, refl, sym, subst, ◌∙◌, ℕ,
 use Rattle.learning.proofs.Prelude.{has_without, without_left, without_right, has_dec, atom_only, some_atom, shared_atom, apart_of_cut, Completes}
 use Rattle.learning.proofs.Prelude.{Narrows, Within, Overlaps, SomeUp, SomeDown, OneGoes, State, narrows_when, overlap_none}
 use Rattle.learning.proofs.Prelude.{completes_within, Avoids, Nogood, resolvent, Resolves}
+use Rattle.states.proofs.Narrows.{narrows_for}
 use Rattle.states.proofs.OneAtom.{none_left}
 
 -- ---- what lies within what
@@ -11,6 +12,9 @@ use Rattle.states.proofs.OneAtom.{none_left}
 pub avoids_larger : {n m : State} {N : ℕ} → Within n m → Avoids n N → Avoids m N
 avoids_larger w a = record { never = λ c. a.never (completes_within w c) }
 
+pub nogood_larger : {K : ℕ → Type 0} {n m : State} → Within n m → Nogood K n → Nogood K m
+nogood_larger w g = record { avoided = λ N k. avoids_larger w (g.avoided N k) }
+
 -- nothing of interest completes a state with a nogood within it
 pub nogood_stops : {K : ℕ → Type 0} {n s : State} → Nogood K n → Within n s → (N : ℕ) → K N → ¬ Completes s N
 nogood_stops g w N k c = (g.avoided N k).never (completes_within w c)
@@ -18,6 +22,10 @@ nogood_stops g w N k c = (g.avoided N k).never (completes_within w c)
 -- a state that overlaps is a nogood
 pub overlap_avoided : {s : State} (N : ℕ) → Overlaps s → Avoids s N
 overlap_avoided N o = record { never = λ c. overlap_none o c }
+
+-- a step that keeps who avoids the pair keeps whoever has K
+pub nogood_narrows : {K : ℕ → Type 0} {n s t : State} → Nogood K n → Narrows (Avoids n) s t → Narrows K s t
+nogood_narrows g m = narrows_for (λ N k. g.avoided N k) m
 
 -- ---- a pair that is avoided
 

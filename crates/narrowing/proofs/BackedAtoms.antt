@@ -1,7 +1,7 @@
 -- The table of the rules that may back an atom: one rule more is noted at each turn.
 use Rattle.narrowing.proofs.Prelude.{◌≡◌, refl, sym, subst, ◌∙◌, ◌⊎◌, inl, inr, List, ℕ, zero, suc, zero-add, length, get_or, replicate, ATOMS, Has, ◌∪◌}
 use Rattle.narrowing.proofs.Prelude.{◌∖◌, atom, Lowest, has_none, has_atom, atom_only, has_without, without_left, without_right, has_left, has_right}
-use Rattle.narrowing.proofs.Prelude.{union_cases, Taking, taking_next, taken_lent, lent, negative, NotedAt, Marked, Backs}
+use Rattle.narrowing.proofs.Prelude.{union_cases, Taking, taking_start, taking_next, taking_end, taken_lent, lent, negative, NotedAt, Marked, Backs}
 use Rattle.narrowing.proofs.Prelude.{RuleBacks, RulesBack, Backers}
 
 -- one rule
@@ -47,6 +47,9 @@ pub record Backing (rules : List ℕ) (which rest : ℕ) (before table : List �
   pub noted : Taking which rest (λ r. (a : ℕ) → Backs rules r a → Has (get_or table a 0) r)
   pub no_more : (a q : ℕ) → Has (get_or table a 0) q → Has (get_or before a 0) q ⊎ (Has which q × Backs rules q a)
 
+pub backing_start : {rules : List ℕ} {which : ℕ} {table : List ℕ} → Backing rules which which table table
+backing_start = record { same_length = refl; noted = taking_start; no_more = λ a q h. inl h }
+
 pub backing_next : {rules : List ℕ} {which rest rest' r : ℕ} {before table after : List ℕ} → Backing rules which rest before table
     → Lowest rest r → rest' ≡ rest ∖ atom r → RuleBacks rules r table after → Backing rules which rest' before after
 backing_next {rules} {which} {r = r} {before} {table} b low e n = record {
@@ -59,6 +62,14 @@ backing_next {rules} {which} {r = r} {before} {table} b low e n = record {
     less a q (inl k) = b.no_more a q k
     less a q (inr k) =
         inr (subst (λ (x : ℕ). Has which x × Backs rules x a) k.0 (taken_lent b.noted.within low, k.1))
+
+pub backing_end : {rules : List ℕ} {which rest : ℕ} {before table : List ℕ} → Backing rules which rest before table → rest ≡ 0
+    → RulesBack rules which before table
+backing_end b e = record {
+  same_length = b.same_length;
+  noted = λ r a h. taking_end b.noted e r h a;
+  no_more = b.no_more;
+}
 
 -- a table of zeros has no rule
 pub zeros_at : (n a : ℕ) → get_or (replicate {A = ℕ} n 0) a 0 ≡ 0

@@ -2,7 +2,7 @@
 use Rattle.narrowing.proofs.Prelude.{◌≡◌, sym, subst, ◌∙◌, Bool, true, false, List, ◌⊎◌, inl, inr, ℕ, ◌^◌, ◌<◌, ATOMS, Has, ◌⊆◌, apart, ◌∩◌, ◌∪◌, ◌∖◌}
 use Rattle.narrowing.proofs.Prelude.{atom, below, Lowest, has_lt, has_below, has_none, has_atom, has_left, has_right, has_cut, cut_left, cut_right}
 use Rattle.narrowing.proofs.Prelude.{union_cases, subset_refl, has_without, without_left, without_right, decides_apart, shared_atom, apart_of_cut}
-use Rattle.narrowing.proofs.Prelude.{taken_within, none_done, all_done, done_cases, taken_lent, lent, HeldBy, HeldOn, HoldsUp, HeldMore}
+use Rattle.narrowing.proofs.Prelude.{taken_within, none_done, all_done, done_cases, taken_lent, lent, HeldBy, HeldOn, HoldsUp, Looped, HeldMore}
 use Rattle.narrowing.proofs.Prelude.{HeldAmong}
 
 -- ---- one rule
@@ -120,3 +120,10 @@ above_next {rules} {which} {within} m k = record {
 
 pub held_within : {rules : List ℕ} {which within held : ℕ} → HeldAmong rules which within held → held ⊆ within
 held_within m = record { each = λ a h. (m.each a h).0 }
+
+pub looped_end : {rules : List ℕ} {which within held : ℕ} → HeldAmong rules which within held → Above rules which within → held ≡ within
+    → Looped rules which within
+looped_end m k e = record {
+  holds_up = record { held = λ a h. (m.each a (rw e h)).1 };
+  largest = k.each;
+}

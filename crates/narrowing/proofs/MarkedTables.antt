@@ -1,8 +1,12 @@
 -- Tables of words to which numbers are added: one after the other, by a loop over the numbers of a word, and one word at a place.
-use Rattle.narrowing.proofs.Prelude.{◌≡◌, refl, sym, subst, ◌∙◌, ◌⊎◌, inl, inr, List, ℕ, ◌+◌, ◌<◌, ℕ_discrete, length, get_or, set, length-set}
+use Rattle.narrowing.proofs.Prelude.{◌≡◌, refl, sym, subst, ◌∙◌, ◌⊎◌, inl, inr, List, ℕ, ◌+◌, ◌<◌, ◌≤◌, ℕ_discrete, length, get_or, set, length-set}
 use Rattle.narrowing.proofs.Prelude.{get_or-set_same, get_or-set_other, Has, ◌⊆◌, ◌∪◌, ◌∖◌, atom, Lowest, subset_refl, subset_trans, has_left, has_right}
 use Rattle.narrowing.proofs.Prelude.{union_cases, has_without, without_left, without_right, has_atom, taken_within, none_done, all_done, done_cases}
 use Rattle.narrowing.proofs.Prelude.{taken_lent, AddsAt, ByOne, Marked}
+
+-- a table that keeps its length is still long enough
+pub still_long : (n : ℕ) (before table : List ℕ) → length table ≡ length before → n ≤ length before → n ≤ length table
+still_long n before table e l = rw e l
 
 -- ---- one after the other
 

@@ -1,6 +1,6 @@
 -- The steps by number: what each promises holds of every answer set that has its inputs as facts.
-use Rattle.narrowing.proofs.Prelude.{◌≡◌, List, ℕ, ◌^◌, ◌<◌, get_or, ATOMS, Has, ◌⊆◌, ◌∩◌, cut_left, Satisfies}
-use Rattle.narrowing.proofs.Prelude.{SatisfiesAll, lent, Narrows, State, narrows_for, satisfied, AnswersInputs, Backers, SupportedIfUp}
+use Rattle.narrowing.proofs.Prelude.{◌≡◌, List, ◌⊎◌, inl, inr, ℕ, ◌^◌, ◌<◌, get_or, ATOMS, Has, ◌⊆◌, ◌∩◌, ◌∪◌, cut_left, union_cases, Satisfies}
+use Rattle.narrowing.proofs.Prelude.{SatisfiesAll, lent, Lent, Narrows, State, narrows_for, satisfied, AnswersInputs, Backers, SupportedIfUp}
 use Rattle.narrowing.proofs.SupportSteps.{answers_held}
 
 module _ (rules : List ℕ) (which inputs : ℕ) {s t : State} where
@@ -18,7 +18,18 @@ pub rule_narrows : (rules : List ℕ) {which r : ℕ} {s t : State} → Has whic
     → Narrows (SatisfiesAll (lent rules) which) s t
 rule_narrows rules h n = narrows_for (λ M k. k.each _ h) n
 
+pub backers_lent : {rules : List ℕ} {which : ℕ} {backers : List ℕ} → Lent rules which → Backers rules which backers → (a : ℕ)
+    → Lent rules (get_or backers a 0)
+backers_lent l b a = record { each = λ r h. l.each r ((b.numbered a).each r h) }
+
 -- ---- advice: words that stay within another
 
 pub cut_within : (a b : ℕ) {w : ℕ} → w ≡ a ∩ b → w ⊆ a
 cut_within a b e = record { each = λ i h. cut_left a b (rw e at h) }
+
+pub union_within : {a b c w : ℕ} → a ⊆ c → w ≡ a ∪ b → b ⊆ c → w ⊆ c
+union_within {a} {b} {c} f e g = record { each = λ i h. go i (union_cases a b (rw e at h)) }
+  where
+    go : (i : ℕ) → Has a i ⊎ Has b i → Has c i
+    go i (inl h) = f.each i h
+    go i (inr h) = g.each i h

@@ -1,12 +1,14 @@
 -- Rules at a stop (document 02, S-7): what that means, where a rule stands, and that no answer set completes the state there.
 use Rattle.narrowing.proofs.Prelude.{◌≡◌, refl, sym, ◌∙◌, subst, Bool, true, false, not, ◌↔◌, List, ℕ, not-true}
-use Rattle.narrowing.proofs.Prelude.{not-false, Has, subset, Apart, apart, ◌∩◌, has_without, without_left, without_right}
+use Rattle.narrowing.proofs.Prelude.{not-false, Has, ◌⊆◌, subset, Apart, apart, ◌∩◌, has_without, without_left, without_right}
 use Rattle.narrowing.proofs.Prelude.{decides_subset, decides_apart, lent, Completes, half_decided, Part}
 use Rattle.narrowing.proofs.Prelude.{PartHolds, InBody, BodySays, State, Truth, Holds, Fails, Open, up_apart, up_completes, completes_known, satisfied}
-use Rattle.narrowing.proofs.Prelude.{AnswersInputs, AtStop, IsSpent, IsLive, head_up, body_fails, Stands}
+use Rattle.narrowing.proofs.Prelude.{AnswersInputs, AtStop, IsSpent, IsLive, Chosen, head_up, body_fails, Stands}
 use Rattle.narrowing.proofs.Prelude.{Standing, Spent, Stopped, Live}
 use Rattle.answer_sets.proofs.Truths.{holds_not_fails, open_not_holds, open_not_fails}
 use Rattle.answer_sets.proofs.HalfKnown.{none_satisfies}
+use Rattle.narrowing.specs.declared.choice.Choice.{Choice}
+use Rattle.narrowing.specs.declared.choice.Choice.TheVariants.{Atom, Stop}
 
 module _ (rules : List ℕ) (r : ℕ) (s : State) where
   -- every part of the body is true in every completion, and every head atom is dropped and not up: just then the rule is at a stop
@@ -47,6 +49,9 @@ module _ (rules : List ℕ) (r : ℕ) (s : State) where
   spent_no_stop (head_up n) a = n (record { none = λ i h u. without_right s.dropped s.up (a.gone.each i h) u })
   spent_no_stop (body_fails k) a = holds_not_fails (sym (holds_told k a))
 
+  pub failing_spent : {t : Truth} → BodySays rules r s.up s.dropped t → t ≡ Fails → IsSpent rules r s
+  failing_spent k e = body_fails (told k e)
+
   module _ {head : ℕ} {a : Bool} (reads : head ≡ (lent rules).head r) (ea : a ≡ apart head s.up) where
     pub met_spent : not a ≡ true → IsSpent rules r s
     met_spent t = head_up (λ n. (decides_apart head s.up).no (sym ea ∙ not-true a t) (rw reads n))
@@ -85,6 +90,12 @@ pub stands_no_stop : (rules : List ℕ) (r : ℕ) (s : State) (t : Standing) →
 stands_no_stop rules r s Spent k n = spent_no_stop rules r s k
 stands_no_stop rules r s Stopped k n = absurd (n refl)
 stands_no_stop rules r s Live k n = k.unstopped
+
+-- what comes next of some of the free atoms comes next of all
+pub chosen_within : (rules : List ℕ) (which : ℕ) (s : State) {some free : ℕ} (c : Choice) → some ⊆ free → Chosen rules which s some c
+    → Chosen rules which s free c
+chosen_within rules which s (Atom i) f k = (f.each i k.0, k.1, k.2)
+chosen_within rules which s (Stop r) f k = k
 
 -- ---- "show that no completion there satisfies that rule": so none is an answer set
 

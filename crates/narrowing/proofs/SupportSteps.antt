@@ -1,8 +1,8 @@
 -- The support step: which rules may support an atom, and what follows where none or one is left.
-use Rattle.narrowing.proofs.Prelude.{◌≡◌, sym, subst, ◌∙◌, Bool, true, false, not, ◌⊎◌, inl, inr, List, ℕ, ◌^◌, ◌<◌, get_or, not-true, ATOMS}
+use Rattle.narrowing.proofs.Prelude.{◌≡◌, sym, subst, ◌∙◌, Bool, true, false, not, true≢false, ◌⊎◌, inl, inr, List, ℕ, ◌^◌, ◌<◌, get_or, not-true, ATOMS}
 use Rattle.narrowing.proofs.Prelude.{Has, ◌∩◌, ◌∪◌, ◌∖◌, apart, atom, below, below_lt, has_without, Lowest, numbered_by, decides_apart}
-use Rattle.narrowing.proofs.Prelude.{cut_right, has_none, has_atom}
-use Rattle.narrowing.proofs.Prelude.{atom_only, without_left, without_right, union_cases, taken_cases, taken_within, lent, Lent, negative}
+use Rattle.narrowing.proofs.Prelude.{subset_refl, cut_right, has_none, has_atom}
+use Rattle.narrowing.proofs.Prelude.{atom_only, without_left, without_right, union_cases, taken_cases, taken_within, lent, IsLent, Lent, negative}
 use Rattle.narrowing.proofs.Prelude.{Completes, Narrows, BodySays, State, Truth, Fails, known_fails, completes_known, negative_down, narrows_trans}
 use Rattle.narrowing.proofs.Prelude.{narrows_when, up_narrows, down_narrows, AnswersInputs, Backs, Backers, Supports, Excluded, Supporters}
 use Rattle.narrowing.proofs.Prelude.{SupportedIfUp}
@@ -11,6 +11,9 @@ use Rattle.narrowing.proofs.Supports.{supporter}
 -- ---- one rule
 
 module _ (rules : List ℕ) (r a : ℕ) (s : State) where
+  pub may : (b : Bool) → b ≡ true → Excluded rules r a s b
+  may b e = record { never = λ f. absurd (true≢false (sym e ∙ f)) }
+
   -- another head atom is up
   pub not_alone : (b : Bool) {head others : ℕ} {t : Bool} → head ≡ (lent rules).head r → others ≡ head ∖ atom a → t ≡ apart others s.up → not t ≡ true
       → Excluded rules r a s b
@@ -32,6 +35,9 @@ module _ (rules : List ℕ) (r a : ℕ) (s : State) where
 -- ---- the rules that are left
 
 module _ {rules : List ℕ} {backing a : ℕ} {s : State} where
+  pub supporters_all : Supporters rules backing a s backing
+  supporters_all = record { within = subset_refl; every = λ r M h c p. h }
+
   pub supporters_next : {rest rest' r : ℕ} {b : Bool} → Supporters rules backing a s rest → Lowest rest r → rest' ≡ rest ∖ atom r
       → Excluded rules r a s b → b ≡ false → Supporters rules backing a s rest'
   supporters_next {rest} {rest'} {r} w low e x f = record {
@@ -51,9 +57,17 @@ module _ {rules : List ℕ} {backing a : ℕ} {s : State} where
     every = λ q M h c p. has_without backing (below r) h (λ b. low.least q (below_lt r b) (k.every q M h c p));
   })
 
+  -- the lowest of the rules left is lent
+  pub supporter_lent : {w r : ℕ} → Lent rules backing → Supporters rules backing a s w → Lowest w r → IsLent rules r
+  supporter_lent {r = r} l w low = l.each r (w.within.each r low.here)
+
   -- without one of them the rules left are lent
   pub others_lent : (r : ℕ) {w v : ℕ} → Lent rules backing → Supporters rules backing a s w → v ≡ w ∖ atom r → Lent rules v
   others_lent r {w} l k e = record { each = λ q h. l.each q (k.within.each q (without_left w (atom r) (rw e at h))) }
+
+  -- none is left
+  pub supporters_end : {rest : ℕ} → Supporters rules backing a s rest → rest ≡ 0 → Supporters rules backing a s 0
+  supporters_end w e = subst (Supporters rules backing a s) e w
 
 -- ---- the step
 

@@ -12,6 +12,8 @@ pub mod Witnesses
 pub mod SearchSteps
 -- The theorem of the search: what was met is what is wanted, as far as it shows
 pub mod Calculus
+-- Nodes: what they hand back
+pub mod Nodes
 -- The cases of the calculus with all that is said of a node
 pub mod ExploredNodes
 -- Spare atoms: bodies and answer sets do not look at them
@@ -22,5 +24,7 @@ pub mod PilotedUnits
 pub mod TestedPilots
 -- Searches with pilots: the cuts of what is wired are those of what belongs to the list
 pub mod PilotedSearches
+-- What is wired: what belongs to the list, where the pilots follow their tables
+pub mod WiredPositions
 -- The job of the subset test: who is wired there is who satisfies the rules
 pub mod Models

@@ -1,8 +1,10 @@
 -- The job of the subset test: with every atom an input all of a position are facts, so that who is wired is who satisfies the rules; and what one question
 -- after the other says of the proper subsets of a position.
 use Rattle.searching.proofs.Prelude.{◌≡◌, refl, sym, ◌∙◌, subst, Bool, true, false, true≢false, List, [], ℕ, zero, suc, ◌<◌}
-use Rattle.searching.proofs.Prelude.{◌^◌, lt_of_le_of_lt, arith, get_or, replicate, ATOMS, Has, ◌∩◌, atom}
-use Rattle.searching.proofs.Prelude.{cut_all, has_dec, has_lt, has_none, has_left, has_right, has_atom}
+use Rattle.searching.proofs.Prelude.{◌≤◌, ◌^◌, lt_of_le_of_lt, arith, ones, length, get_or, replicate, ATOMS, Has, ◌⊆◌, ◌∩◌, ◌∖◌, atom}
+use Rattle.atoms.proofs.Counts.{count_lt}
+use Rattle.joining.specs.Filter.{FILTER_WORDS, Filtered}
+use Rattle.searching.proofs.Prelude.{cut_all, has_dec, has_lt, has_none, has_left, has_right, has_atom, has_without, without_left, without_right}
 use Rattle.searching.proofs.Prelude.{subset_refl, subset_le, decided_true, MAX_UNITS, MAX_TABLES, AnswerSet, lent, Lent}
 use Rattle.searching.proofs.Prelude.{SatisfiesAll, Between, Confines, Finds, finds_none, satisfies_all, decides_answer_set, decides_all_satisfied}
 use Rattle.searching.proofs.Prelude.{Narrows, Wanted, branch_of, Completes, State, completes_back, narrows_trans, with_up_lem, with_dropped_lem}
@@ -55,10 +57,19 @@ module _ {rules table counts desk : List ℕ} {unit : Job} (job : ModelJob desk 
 
 -- ---- what is lent
 
+-- there is no list, so that every filter has each entry
+pub unfiltered : {table counts desk filter : List ℕ} {unit : Job} {s : State} → ModelJob desk unit → length filter ≡ FILTER_WORDS
+    → Filtered table counts desk unit.nearest s filter
+unfiltered job l = record { long = l; each = λ M j c v h. absurd (has_none (rw job.no_list at h)) }
+
 zero_at : (n v : ℕ) → get_or (replicate {A = ℕ} n 0) v 0 ≡ 0
 zero_at zero v = refl
 zero_at (suc n) zero = refl
 zero_at (suc n) (suc v) = zero_at n v
+
+pub models_lent : {rules : List ℕ} {which : ℕ} {unit : Job} → unit ≡ models_of which → Lent rules which
+    → Lent rules unit.rules × (MAX_UNITS ≤ length (replicate {A = ℕ} MAX_UNITS 0)) × (unit.nearest < 2 ^ MAX_UNITS)
+models_lent e k = rw e (k, omega arith, omega arith)
 
 module _ {rules desk : List ℕ} {which : ℕ} {unit : Job} (e : unit ≡ models_of which)
     (l : LaidOut rules (replicate MAX_UNITS 0) (replicate MAX_TABLES 0) unit desk) where
@@ -142,3 +153,12 @@ module _ {rules table counts desk : List ℕ} {M : ℕ} {unit : Job} {s t : Stat
     where
       kept : (b : Between (lent rules) unit.rules M s) → Completes t b.set
       kept b = n.keeps b.set (model_wired job fits (lt_of_le_of_lt (subset_le b.proper.within) word) b.satisfied) b.completes
+
+-- with each question fewer atoms are left
+pub asked_less : (M : ℕ) (t u : State) {i rest rest₂ : ℕ} → rest ≡ M ∖ t.up → Has rest i → rest₂ ≡ M ∖ u.up → t.up ⊆ u.up → Has u.up i
+    → ones rest₂ < ones rest
+asked_less M t u {i} e h f k up =
+    rw (e, f)
+    (count_lt i (M ∖ u.up) (M ∖ t.up)
+    (record { each = λ j p. has_without M t.up (without_left M u.up p) (λ q. without_right M u.up p (k.each j q)) }) (rw e at h)
+    (λ p. without_right M u.up p up))

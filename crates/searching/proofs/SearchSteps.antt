@@ -1,6 +1,8 @@
 -- One position: whether it belongs to the list, and what it adds there if it is offered.
-use Rattle.searching.proofs.Prelude.{◌≡◌, refl, sym, ap, ◌∙◌, subst, false, List, ℕ, ◌<◌, ◌^◌, ATOMS, ◌∩◌, Decides}
-use Rattle.searching.proofs.Prelude.{CutOf, lent, decides_answer_set, State, AnswersInputs, Nogood, Remembers, Belongs, Job}
+use Rattle.searching.proofs.Prelude.{◌≡◌, refl, sym, ap, ◌∙◌, subst, Bool, true, false, true≢false, false≢true, List, ℕ, ◌<◌, ◌^◌, ATOMS, ◌∩◌, Decides}
+use Rattle.searching.proofs.Prelude.{CutOf, lent, decides_answer_set, State, AnswersInputs, Nogood, Remembers, joins, Belongs, Job}
+use Rattle.answer_sets.specs.Test.{answer_set}
+use Rattle.atoms.proofs.Tests.{decides}
 use Rattle.searching.proofs.Prelude.{Ordered, Inserted, Gathered, Grown, Offered, Witnessed, met, none, Found, Some, None}
 use Rattle.searching.proofs.Gathered.{gathered_insert, gathered_same, gathered_iff}
 use Rattle.searching.proofs.Witnesses.{grown_for}
@@ -8,6 +10,16 @@ use Rattle.searching.proofs.Witnesses.{grown_for}
 -- ---- belonging
 
 module _ (rules table counts heads : List ℕ) (unit : Job) where
+  pub not_joined : (M : ℕ) → joins table counts heads unit.predecessors M ≡ false
+      → Decides (Belongs rules table counts heads unit M) false
+  not_joined M e =
+      decides false (λ f. absurd (false≢true f)) (λ b. absurd (true≢false (sym b.joined ∙ e)))
+
+  pub joined_answers : (M : ℕ) (r : Bool) → M < 2 ^ ATOMS → joins table counts heads unit.predecessors M ≡ true
+      → r ≡ answer_set (lent rules) unit.rules (M ∩ unit.inputs) M → Decides (Belongs rules table counts heads unit M) r
+  joined_answers M r w j e =
+      decides r (λ t. record { word = w; joined = j; answers = sym e ∙ t }) (λ b. e ∙ b.answers)
+
   -- who belongs is an answer set of the unit's rules
   pub belongs_answers : unit.rules < 2 ^ ATOMS → (M : ℕ) → Belongs rules table counts heads unit M
       → AnswersInputs rules unit.rules unit.inputs M

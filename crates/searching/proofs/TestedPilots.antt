@@ -1,10 +1,10 @@
 -- Pilots that were tested: spare atoms, each of one table.
-use Rattle.searching.proofs.Prelude.{◌≡◌, sym, subst, ◌∙◌, Bool, true, List, ℕ, ◌+◌, ◌^◌, ◌≤◌, ◌<◌, arith}
+use Rattle.searching.proofs.Prelude.{◌≡◌, refl, sym, subst, ◌∙◌, Bool, true, List, ℕ, ◌+◌, ◌^◌, ◌≤◌, ◌<◌, arith}
 use Rattle.searching.proofs.Prelude.{ℕ_discrete, get_or, replicate, get_or-replicate, Has, ◌⊆◌, subset, Apart, apart, ◌∪◌}
 use Rattle.searching.proofs.Prelude.{below, union_in, has_none, has_left, has_right, has_lt, has_below, decides_apart}
-use Rattle.searching.proofs.Prelude.{decides_subset, union_has, union_at, MAX_TABLES, MAX_UNITS, lent, looks, inputs}
+use Rattle.searching.proofs.Prelude.{decides_subset, union_has, union_at, Taking, taking_end, MAX_TABLES, MAX_UNITS, lent, looks, inputs}
 use Rattle.searching.proofs.Prelude.{InRule, in_head, in_positive, in_looks, State, PilotsWithin, Job, Spare, NoInputs, DistinctPilots, Piloted}
-use Rattle.searching.proofs.Prelude.{AllDown, all_pilots}
+use Rattle.searching.proofs.Prelude.{AllDown, all_pilots, with_inputs}
 
 -- ---- rules
 
@@ -22,7 +22,13 @@ rule_clear {rules} {x} {w} {r} {t} e f g i k h =
     go (in_positive q) = has_right ((lent rules).head r) ((lent rules).positive r ∪ looks rules r) (has_left ((lent rules).positive r) (looks rules r) q)
     go (in_looks q) = has_right ((lent rules).head r) ((lent rules).positive r ∪ looks rules r) (has_right ((lent rules).positive r) (looks rules r) q)
 
+pub all_clear : {rules : List ℕ} {which rest x : ℕ} → Taking which rest (Clear rules x) → rest ≡ 0 → Spare rules which x
+all_clear t e = record { in_no_rule = λ r i h k. taking_end t e r h i k }
+
 -- ---- tables
+
+pub no_table : {rules : List ℕ} {x : ℕ} → NoInputs rules x 0
+no_table = record { each = λ t l. absurd (omega (arith, l)) }
 
 pub next_table : {rules : List ℕ} {x t w : ℕ} {b : Bool} → NoInputs rules x t → w ≡ inputs rules t → b ≡ apart w x → b ≡ true → NoInputs rules x (t + 1)
 next_table {rules} {x} {t} {w} {b} k e f g = record { each = λ u l. go u l (ℕ_discrete t u) }
@@ -31,12 +37,18 @@ next_table {rules} {x} {t} {w} {b} k e f g = record { each = λ u l. go u l (ℕ
     go u l (yes q) = subst (λ (v : ℕ). Apart (inputs rules v) x) q (rw e at ((decides_apart w x).yes (sym f ∙ g)))
     go u l (no n) = k.each u (omega (arith, l, n))
 
+pub all_tables : {rules : List ℕ} {x t : ℕ} → NoInputs rules x t → MAX_TABLES ≤ t → NoInputs rules x MAX_TABLES
+all_tables k l = record { each = λ u m. k.each u (omega (arith, l, m)) }
+
 -- ---- no atom twice
 
 -- the first t pilots are in the word, and distinct
 pub record DistinctBelow (pilots : List ℕ) (all t : ℕ) : Type 0 where
   pub in_all : (u : ℕ) → u < t → get_or pilots u 0 ⊆ all
   pub same : (u v a : ℕ) → u < t → v < t → Has (get_or pilots u 0) a → Has (get_or pilots v 0) a → u ≡ v
+
+pub distinct_start : {pilots : List ℕ} → DistinctBelow pilots 0 0
+distinct_start = record { in_all = λ u l. absurd (omega (arith, l)); same = λ u v a l. absurd (omega (arith, l)) }
 
 pub distinct_next : {pilots : List ℕ} {all all' t : ℕ} {b : Bool} → DistinctBelow pilots all t → b ≡ apart all (get_or pilots t 0) → b ≡ true
     → all' ≡ all ∪ get_or pilots t 0 → DistinctBelow pilots all' (t + 1)
@@ -109,6 +121,10 @@ pub none_down : {s : State} → AllDown (all_pilots (replicate MAX_TABLES 0)) s
 none_down = record { dropped = record { each = λ i h. absurd (all_nothing i h) }; not_up = record { none = λ i h. all_nothing i } }
 
 -- ---- more inputs
+
+pub more_inputs : (unit : Job) (X : ℕ) {w : ℕ} → w ≡ unit.inputs ∪ X
+    → ◌≡◌ {A = Job} (record { rules = unit.rules; inputs = w; predecessors = unit.predecessors; nearest = unit.nearest }) (with_inputs unit X)
+more_inputs unit X e = rw e refl
 
 pub pilots_within : (pilots : List ℕ) (inputs : ℕ) → PilotsWithin pilots (inputs ∪ all_pilots pilots)
 pilots_within pilots inputs = record {

@@ -4,6 +4,7 @@ use Rattle.searching.proofs.Prelude.{Memᴰ-tail, Memᴰ-not-nil, ℕ, ◌≤◌
 use Rattle.searching.proofs.Prelude.{ext, empty, has_cut, cut_left, cut_right, has_lt, has_none, above_cons, Rising, rising_cons, CutOf, LIST_WORDS}
 use Rattle.searching.proofs.Prelude.{OVERFULL, Completes, undecided, State, decided_cases, Gathered, fits, over, Grown, Witnessed, met, none, Met}
 use Rattle.searching.proofs.Prelude.{Option, Some, None}
+use Rattle.atoms.proofs.Kit.{eqb}
 use Rattle.searching.specs.Witness.{enough}
 
 -- ---- cuts
@@ -41,6 +42,9 @@ witnessed_met {Q} m q = go (subst (Witnessed Q) m.is q)
 pub enough_met : (w : Option ℕ) {left : ℕ} → enough w left ≡ true → (left ≡ 0) × Met w
 enough_met (Some M) {left} e = (eqb-true left 0 e, record { member = M; is = refl })
 enough_met None e = absurd (false≢true e)
+
+pub enough_is : {w : Option ℕ} {M : ℕ} (left : ℕ) → w ≡ Some M → eqb left 0 ≡ enough w left
+enough_is left e = rw e refl
 
 -- ---- nothing shows: the list has one member at most
 

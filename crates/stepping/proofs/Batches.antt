@@ -1,7 +1,7 @@
 -- Several positions in one call: what is written is what single calls would find, and calls one after the other walk on.
 use Rattle.stepping.proofs.Prelude.{◌≡◌, refl, sym, ap, ◌∙◌, subst, Bool, true, false, true≢false, ◌⊎◌, inl, inr, List, [], ◌∷◌, ◌++◌, List-as-Memᴰ}
 use Rattle.stepping.proofs.Prelude.{Memᴰ-head, Memᴰ-tail, Memᴰ-not-nil, Memᴰ-cases_cons, ℕ, zero, suc, ◌+◌, ◌≤◌, ◌<◌, arith}
-use Rattle.stepping.proofs.Prelude.{length, take, drop, Rising, rising_cons, cut_list, above_at, Plan, Fault, Accepted}
+use Rattle.stepping.proofs.Prelude.{length, take, drop, below, Rising, rising_cons, cut_list, above_at, AnswerSet, lent, Plan, Fault, Accepted}
 use Rattle.stepping.proofs.Prelude.{Refused as RefusedWith, reading, accepted, refused, ReadPlan, Settles, not_accepted, outcome_is, refused_answered}
 use Rattle.stepping.proofs.Prelude.{accepted_answered, last_in, Promised, Listing, lays_accepted, Behind, Leasts, above, Option, None, Some, behind_more}
 use Rattle.stepping.proofs.Prelude.{above_of}
@@ -11,6 +11,13 @@ use Rattle.finding.proofs.AddedWords.{added_behind, written_long, written_leasts
 use Rattle.stepping.specs.Batch.{steps, place_after, batch_filled, Stepped}
 use Rattle.stepping.proofs.Nexts.{follows_only, followed_follows, followed_refused}
 use Rattle.stepping.proofs.WalkAgreement.{walk_is_last}
+
+-- ---- all rules of the record
+
+pub gathered_of : (p : Plan) {w r : ℕ} {from : Option ℕ} {passed before after : List ℕ} → w ≡ below p.rule_count
+    → Added (λ M. AnswerSet (lent p.rules) w p.once.given.word M × Sought from passed M) before 0 after r
+    → Added (λ M. Settles p M × Sought from passed M) before 0 after r
+gathered_of p e a = rw e at a
 
 -- ---- one step more
 
